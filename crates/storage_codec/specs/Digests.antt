@@ -1,0 +1,24 @@
+-- Digest functions, and the one way in which a check may be deceived.
+use Rattle.std.specs.Prelude.{◌≡◌, ◌≢◌, ℕ, List, length, Contains, refl}
+use Rattle.sha2.specs.Sha256.{sha256, digest_bytes}
+
+-- a digest function, over lists of bytes
+abbrev pub HashFunction : Type 0
+HashFunction = List ℕ → List ℕ
+
+-- each answer has d bytes
+abbrev pub IsSized : ℕ → HashFunction → Type 0
+IsSized d h = (x : List ℕ) → length (h x) ≡ d
+
+-- the cross collision: a string of the first list and a different one of the second have one digest
+pub record Cross (h : HashFunction) (xs ys : List (List ℕ)) : Type 0 where
+  pub x : List ℕ
+  pub y : List ℕ
+  pub in_first : Contains xs x
+  pub in_second : Contains ys y
+  pub differ : x ≢ y
+  pub same_digest : h x ≡ h y
+
+pub sha256_sized : IsSized 32 sha256
+unfolding sha256 digest_bytes
+sha256_sized x = refl

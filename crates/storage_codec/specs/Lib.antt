@@ -1,0 +1,6 @@
+pub mod Faults
+pub mod Parts
+pub mod Codec
+pub mod Laws
+pub mod VarintLaws
+pub mod Digests

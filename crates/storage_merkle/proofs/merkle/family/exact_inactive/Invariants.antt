@@ -1,0 +1,14 @@
+use Rattle.std.proofs.Common.{◌+◌, ◌-◌, ◌≤◌}
+use Rattle.storage_merkle.proofs.Inactive.{Reached}
+use Rattle.storage_merkle.proofs.merkle.family.exact_inactive.Given as goal
+
+abbrev pub invariant-loop-left : goal.invariant-loop-left
+invariant-loop-left g l = record {
+  below : l.left ≤ l.leaves;
+  small : l.count + l.left ≤ l.leaves;
+  reached : Reached g.F.Family.shape l.leaves l.left l.count;
+  early : l.leaves - l.left ≤ l.floor;
+}
+
+abbrev pub decreases-loop-left : goal.decreases-loop-left
+decreases-loop-left g l = l.left

@@ -1,0 +1,9 @@
+use Rattle.std.proofs.Common.{arith}
+use Rattle.storage_merkle.specs.ShapeLaws.{node_small}
+use Rattle.storage_merkle.proofs.merkle.family.node_at.Goals as goal
+
+pub returns-clause-small : goal.returns-clause-small
+returns-clause-small g c = (node_small g.F.Family.shape g.met.F.Family.laws _ _ _ c.node_after.ensures (omega arith)).0
+
+pub returns-clause-few : goal.returns-clause-few
+returns-clause-few g c = (node_small g.F.Family.shape g.met.F.Family.laws _ _ _ c.node_after.ensures (omega arith)).1

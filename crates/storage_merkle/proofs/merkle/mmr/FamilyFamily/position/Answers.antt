@@ -1,0 +1,5 @@
+use Rattle.storage_merkle.specs.MmrLaws.{mmr_height}
+use Rattle.storage_merkle.proofs.merkle.mmr.FamilyFamily.position.Goals as goal
+
+pub power-requires : goal.power-requires
+power-requires c = mmr_height c.args.first c.args.height c.requires.fits

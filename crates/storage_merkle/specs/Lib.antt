@@ -1,0 +1,10 @@
+pub mod Shape
+pub mod Mmr
+pub mod Mmb
+pub mod Nodes
+pub mod Digits
+pub mod Inactive
+pub mod Multiples
+pub mod ShapeLaws
+pub mod MmrLaws
+pub mod MmbLaws

@@ -1,0 +1,24 @@
+-- The nodes of a tree by position.
+use Rattle.std.specs.Prelude.{◌≡◌, ℕ, ◌+◌, ◌*◌, ◌%◌, ◌^◌, ◌<◌, ◌↔◌, List, [], ◌∷◌}
+use Rattle.storage_merkle.specs.Shape.{Shape, Inside}
+
+-- the node of height k with first leaf a stands at p
+pub record IsNode (S : Shape) (p a k : ℕ) : Type 0 where
+  pub aligned : a % 2 ^ k ≡ 0
+  pub at : S.position a k ≡ p
+
+-- the positions and heights of peaks of these heights, the first of which begins at the leaf s
+abbrev pub placed : Shape → ℕ → List ℕ → List (ℕ × ℕ)
+placed S s [] = []
+placed S s (h ∷ hs) = (S.position s h, h) ∷ placed S (s + 2 ^ h) hs
+
+-- the chunks of 2 ^ g leaves that lie inside one of the peaks over n leaves are just the first r
+abbrev pub AreGraftable : Shape → ℕ → ℕ → ℕ → Type 0
+AreGraftable S n g r = (j : ℕ) → (Inside (S.peaks n) 0 (j * 2 ^ g) g ↔ (j < r))
+
+-- the node at p, of height g at least, covers the leaves that the chunks below the node at q cover
+pub record CoversSame (S : Shape) (g q p : ℕ) : Type 0 where
+  pub first : ℕ
+  pub height : ℕ
+  pub grafted : IsNode S q first height
+  pub node : IsNode S p (first * 2 ^ g) (height + g)

@@ -1,0 +1,252 @@
+-- What holds of every list of peaks.
+use Rattle.std.proofs.Common.{◌≡◌, ℕ, zero, suc, ◌+◌, ◌-◌, ◌*◌, ◌%◌, ◌^◌, ◌<◌, ◌≤◌, List, [], ◌∷◌, length, refl, sym, ap, ◌∙◌, inl, inr, ⊎_elim, arith}
+use Rattle.std.proofs.Common.{add-one}
+use Rattle.std.proofs.lemmas.Bool.{cases_lt}
+use Rattle.std.proofs.lemmas.Nat.{pow_pos}
+use Rattle.std.proofs.Common.{◌/◌, ◌↔◌}
+use Rattle.storage_merkle.specs.Shape.{leaves_of, Inside, AreAligned, Shape, Laws, size}
+use Rattle.storage_merkle.specs.Nodes.{IsNode, CoversSame}
+use Rattle.storage_merkle.specs.Multiples.{is_multiple, pow_le, quotient_at_least, in_units, out_of_units, pow_two, pow_order, multiple_down, multiple_add, power_multiple}
+use Rattle.std.proofs.lemmas.Nat.{le-div, shl-shr, shr_le, mul-le, pow-add}
+
+pub length_at_most : (hs : List ℕ) → length hs ≤ leaves_of hs
+unfolding leaves_of
+length_at_most [] = omega arith
+length_at_most (h ∷ hs) = omega (arith, length_at_most hs, pow_pos h)
+
+pub inside_between : (hs : List ℕ) (s a k : ℕ) → Inside hs s a k → (s ≤ a) × (a + 2 ^ k ≤ s + leaves_of hs)
+unfolding leaves_of Inside
+inside_between [] s a k h = absurd h
+inside_between (h ∷ hs) s a k (inl p) = (p.0, omega (arith, p.1))
+inside_between (h ∷ hs) s a k (inr q) = let r = inside_between hs (s + 2 ^ h) a k q in (omega (arith, r), omega (arith, r))
+
+-- a number that grows at each step
+module _ (f : ℕ → ℕ) (grows : (n : ℕ) → f n < f (n + 1)) where
+  pub grows_below : (m n : ℕ) → m < n → f m < f n
+  grows_below m zero h = absurd (omega arith)
+  grows_below m (suc n) h =
+      let g : f n < f (suc n) = rw add-one at (grows n) in
+      ⊎_elim (λ l. let r : f m < f n = grows_below m n l in omega arith)
+      (λ q. let e : m ≡ n = omega arith in rw e g) (cases_lt m n)
+
+  pub grows_at_most : (m n : ℕ) → m ≤ n → f m ≤ f n
+  grows_at_most m n h =
+      ⊎_elim (λ l. let r : f m < f n = grows_below m n l in omega arith)
+      (λ q. let e : m ≡ n = omega arith in rw e (omega arith)) (cases_lt m n)
+
+  pub grows_back : (m n : ℕ) → f m < f n → m < n
+  grows_back m n h = ⊎_elim (λ l. l) (λ q. absurd (let r : f n ≤ f m = grows_at_most n m q in omega arith)) (cases_lt m n)
+
+-- ---- what follows from the laws
+
+module _ (S : Shape) (L : Laws S) where
+  pub valid_birth : (a k : ℕ) → a % 2 ^ k ≡ 0 → S.position a k ≤ size S (2 ^ 62) → S.birth a k ≤ 2 ^ 62 + 1
+  valid_birth a k ha h =
+      let g : size S (2 ^ 62) < size S (2 ^ 62 + 1) = L.grows (2 ^ 62) in
+      let b : S.position a k < size S (2 ^ 62 + 1) = omega arith in
+      (L.born (2 ^ 62 + 1) a k ha).0 b
+
+  pub valid_leaves : (a k : ℕ) → a % 2 ^ k ≡ 0 → S.position a k ≤ size S (2 ^ 62) → a + 2 ^ k ≤ 2 ^ 62 + 1
+  valid_leaves a k ha h = omega (arith, valid_birth a k ha h, L.late a k)
+
+  pub valid_height : (a k : ℕ) → a % 2 ^ k ≡ 0 → S.position a k ≤ size S (2 ^ 62) → k ≤ 62
+  valid_height a k ha h = ⊎_elim (λ (l : 62 < k). absurd (let p : 2 ^ 63 ≤ 2 ^ k = pow_le 63 k l in omega (arith, valid_leaves a k ha h))) (λ g. g) (cases_lt 62 k)
+
+  -- a node over few leaves has a position that fits
+  pub early_fits : (a k : ℕ) → a % 2 ^ k ≡ 0 → a + 2 * 2 ^ k ≤ 2 ^ 63 → S.position a k < 2 ^ 64
+  early_fits a k ha h =
+      let b : S.position a k < size S (a + 2 * 2 ^ k) = (L.born (a + 2 * 2 ^ k) a k ha).1 (L.soon a k) in
+      omega arith
+
+  pub chunk_birth : (g : ℕ) → g ≤ 62 → S.birth 0 g ≤ 2 ^ 63
+  chunk_birth g h = let p : 2 ^ g ≤ 2 ^ 62 = pow_le g 62 h in omega (arith, L.soon 0 g)
+
+  chunk_inside : (n g j : ℕ) → (Inside (S.peaks n) 0 (j * 2 ^ g) g → j * 2 ^ g + S.birth 0 g ≤ n) × (j * 2 ^ g + S.birth 0 g ≤ n → Inside (S.peaks n) 0 (j * 2 ^ g) g)
+  chunk_inside n g j =
+      let l = L.inside n (j * 2 ^ g) g (is_multiple j (2 ^ g) (pow_pos g)) in
+      ((λ i. let b : S.birth (j * 2 ^ g) g ≤ n = l.0 i in omega (arith, L.moves (j * 2 ^ g) g)), (λ h. l.1 (omega (arith, L.moves (j * 2 ^ g) g))))
+
+  pub graftable_none : (n g : ℕ) → n < S.birth 0 g → (j : ℕ) → (Inside (S.peaks n) 0 (j * 2 ^ g) g ↔ (j < 0))
+  graftable_none n g h j = ((λ i. absurd (let b = (chunk_inside n g j).0 i in omega (arith, b))), (λ z. absurd (omega arith)))
+
+  pub graftable_some : (n g : ℕ) → S.birth 0 g ≤ n → (j : ℕ) → (Inside (S.peaks n) 0 (j * 2 ^ g) g ↔ (j < (n - S.birth 0 g) / 2 ^ g + 1))
+  graftable_some n g h j = (
+    (λ i. let b : j * 2 ^ g + S.birth 0 g ≤ n = (chunk_inside n g j).0 i in let d : j ≤ (n - S.birth 0 g) / 2 ^ g = le-div j (n - S.birth 0 g) (2 ^ g) (pow_pos g) (omega arith) in omega arith),
+    (λ l. (chunk_inside n g j).1 (let q : j * 2 ^ g ≤ n - S.birth 0 g = quotient_at_least j (n - S.birth 0 g) g (omega arith) in omega arith)),
+  )
+
+  pub covers_down : (a k g p q : ℕ) → IsNode S p a k → g ≤ k → S.position (a / 2 ^ g) (k - g) ≡ q → CoversSame S g q p
+  covers_down a k g p q n le h =
+      let u = in_units a k g le n.aligned in
+      let e : k - g + g ≡ k = omega arith in
+      record {
+        first = a / 2 ^ g;
+        height = k - g;
+        grafted = record { aligned = u.1; at = h };
+        node = rw (u.0, e) n;
+      }
+
+  pub covers_up : (a k g p q : ℕ) → IsNode S q a k → S.position (a * 2 ^ g) (k + g) ≡ p → CoversSame S g q p
+  covers_up a k g p q n h = record { first = a; height = k; grafted = n; node = record { aligned = out_of_units a k g n.aligned; at = h } }
+
+  -- what the way down needs
+  pub record Down (a k g : ℕ) : Type 0 where
+    pub small : k ≤ 62
+    pub units : a / 2 ^ g % 2 ^ (k - g) ≡ 0
+    pub fits : S.position (a / 2 ^ g) (k - g) < 2 ^ 64
+
+  pub down : (a k g p : ℕ) → IsNode S p a k → g ≤ k → 1 ≤ g → p ≤ size S (2 ^ 62) → Down a k g
+  down a k g p n le one v =
+      let v' : S.position a k ≤ size S (2 ^ 62) = omega (arith, n.at) in
+      let u = in_units a k g le n.aligned in
+      let x : a + 2 ^ k ≤ 2 ^ 62 + 1 = valid_leaves a k n.aligned v' in
+      let y : 2 ^ suc (k - g) ≤ 2 ^ k = pow_le (suc (k - g)) k (omega arith) in
+      let z : a / 2 ^ g ≤ a = shr_le a g in
+      record { small = valid_height a k n.aligned v'; units = u.1; fits = early_fits (a / 2 ^ g) (k - g) u.1 (omega (arith, pow_two (k - g))) }
+
+  -- what the way up needs
+  pub record Up (a k g : ℕ) : Type 0 where
+    pub small : k + g ≤ 62
+    pub first : a * 2 ^ g ≤ 2 ^ 62
+    pub units : a * 2 ^ g % 2 ^ (k + g) ≡ 0
+    pub fits : S.position (a * 2 ^ g) (k + g) < 2 ^ 64
+
+  pub up : (a k g q : ℕ) → IsNode S q a k → ((p : ℕ) → CoversSame S g q p → p ≤ size S (2 ^ 62)) → Up a k g
+  up a k g q n v =
+      let o : a * 2 ^ g % 2 ^ (k + g) ≡ 0 = out_of_units a k g n.aligned in
+      let v' : S.position (a * 2 ^ g) (k + g) ≤ size S (2 ^ 62) = v (S.position (a * 2 ^ g) (k + g)) (covers_up a k g _ q n refl) in
+      let x : a * 2 ^ g + 2 ^ (k + g) ≤ 2 ^ 62 + 1 = valid_leaves (a * 2 ^ g) (k + g) o v' in
+      record { small = valid_height (a * 2 ^ g) (k + g) o v'; first = omega (arith, pow_pos (k + g)); units = o; fits = omega arith }
+
+  -- there and back
+  pub covers_once : (g p q q' : ℕ) → CoversSame S g q p → CoversSame S g q' p → q ≡ q'
+  covers_once g p q q' x y =
+      let e : S.position (x.first * 2 ^ g) (x.height + g) ≡ S.position (y.first * 2 ^ g) (y.height + g) = x.node.at ∙ sym y.node.at in
+      let i = L.injective (x.first * 2 ^ g) (x.height + g) (y.first * 2 ^ g) (y.height + g) x.node.aligned y.node.aligned e in
+      let f : x.first ≡ y.first = sym (shl-shr x.first g) ∙ ap (λ w. w / 2 ^ g) i.0 ∙ shl-shr y.first g in
+      let h : x.height ≡ y.height = omega (arith, i.1) in
+      sym x.grafted.at ∙ ap (λ w. S.position w x.height) f ∙ ap (λ w. S.position y.first w) h ∙ y.grafted.at
+
+  pub covers_back : (g p p' q : ℕ) → CoversSame S g q p → CoversSame S g q p' → p ≡ p'
+  covers_back g p p' q x y =
+      let e : S.position x.first x.height ≡ S.position y.first y.height = x.grafted.at ∙ sym y.grafted.at in
+      let i = L.injective x.first x.height y.first y.height x.grafted.aligned y.grafted.aligned e in
+      sym x.node.at ∙ ap (λ w. S.position (w * 2 ^ g) (x.height + g)) i.0 ∙ ap (λ w. S.position (y.first * 2 ^ g) (w + g)) i.1 ∙ y.node.at
+
+  no_peaks_of : (hs : List ℕ) → leaves_of hs ≡ 0 → hs ≡ []
+  unfolding leaves_of
+  no_peaks_of [] h = refl
+  no_peaks_of (x ∷ hs) h = absurd (omega (arith, pow_pos x))
+
+  pub no_peaks : S.peaks 0 ≡ []
+  no_peaks = no_peaks_of (S.peaks 0) (L.sum 0)
+
+  -- one step along the peaks
+  pub record Step (s r h : ℕ) : Type 0 where
+    pub within : 2 ^ h ≤ r
+    pub small : h ≤ 62
+    pub aligned : s % 2 ^ h ≡ 0
+    pub fits : S.position s h < 2 ^ 64
+    pub rest : AreAligned (S.peaks (r - 2 ^ h)) (s + 2 ^ h)
+
+  pub step : (s r h : ℕ) → s + r ≤ 2 ^ 62 → AreAligned (S.peaks r) s → S.peaks r ≡ h ∷ S.peaks (r - 2 ^ h) → Step s r h
+  unfolding AreAligned leaves_of
+  step s r h few al e =
+      let x : leaves_of (h ∷ S.peaks (r - 2 ^ h)) ≡ r = ap leaves_of (sym e) ∙ L.sum r in
+      let w : 2 ^ h ≤ r = omega arith in
+      let y = rw e at al in
+      record { within = w; small = pow_order h 62 (let z : 2 ^ h ≤ 2 ^ 62 = omega arith in z); aligned = y.0; fits = early_fits s h y.0 (omega arith); rest = y.1 }
+
+  -- the number of leaves of a size
+  pub leaves_of_size : (m n p : ℕ) → size S n ≡ p → size S m ≤ p → p < size S (m + 1) → m ≡ n
+  leaves_of_size m n p e lo hi =
+      let a : m < n + 1 = grows_back (size S) L.grows m (n + 1) (let g : size S n < size S (n + 1) = L.grows n in omega arith) in
+      let b : n < m + 1 = grows_back (size S) L.grows n (m + 1) (omega arith) in
+      omega arith
+
+  pub valid_size : (n p : ℕ) → n ≤ 2 ^ 62 → size S n ≡ p → p ≤ size S (2 ^ 62)
+  valid_size n p h e = let g : size S n ≤ size S (2 ^ 62) = grows_at_most (size S) L.grows n (2 ^ 62) h in omega arith
+
+  -- the children of a node
+  pub record Children (a k : ℕ) : Type 0 where
+    pub small : k ≤ 62
+    pub left : a % 2 ^ (k - 1) ≡ 0
+    pub right : (a + 2 ^ (k - 1)) % 2 ^ (k - 1) ≡ 0
+    pub first : a + 2 ^ (k - 1) < 2 ^ 63
+    pub left_fits : S.position a (k - 1) < 2 ^ 64
+    pub right_fits : S.position (a + 2 ^ (k - 1)) (k - 1) < 2 ^ 64
+
+  pub children : (a k p : ℕ) → IsNode S p a k → 1 ≤ k → p ≤ size S (2 ^ 62) → Children a k
+  children a zero p n one v = absurd (omega arith)
+  children a (suc k) p n one v =
+      let v' : S.position a (suc k) ≤ size S (2 ^ 62) = omega (arith, n.at) in
+      let e : suc k - 1 ≡ k = omega arith in
+      let x : a + 2 ^ suc k ≤ 2 ^ 62 + 1 = valid_leaves a (suc k) n.aligned v' in
+      let c = L.children a k n.aligned in
+      let l : a % 2 ^ k ≡ 0 = multiple_down a k (suc k) (omega arith) n.aligned in
+      record {
+        small = valid_height a (suc k) n.aligned v';
+        left = rw e l;
+        right = rw e (multiple_add a (2 ^ k) (2 ^ k) (pow_pos k) l (power_multiple k k (omega arith)));
+        first = rw e (omega (arith, pow_two k));
+        left_fits = rw e (omega (arith, c));
+        right_fits = rw e (omega (arith, c));
+      }
+
+  -- two nodes at one position are one
+  pub same_node : (p a k b j : ℕ) → IsNode S p a k → IsNode S p b j → (a ≡ b) × (k ≡ j)
+  same_node p a k b j x y = L.injective a k b j x.aligned y.aligned (x.at ∙ sym y.at)
+
+  -- a node found at a position, at the height that the caller gave
+  pub at_height : (p p' a k b j : ℕ) → p' ≡ p → IsNode S p' a k → IsNode S p b j → IsNode S p a j
+  at_height p p' a k b j e x y =
+      let i = L.injective a k b j x.aligned y.aligned (x.at ∙ e ∙ sym y.at) in
+      record { aligned = rw i.0 y.aligned; at = rw i.0 y.at }
+
+  pub birth_fits : (a k p : ℕ) → IsNode S p a k → p ≤ size S (2 ^ 62) → S.birth a k ≤ 2 ^ 63
+  birth_fits a k p n v = omega (arith, valid_birth a k n.aligned (omega (arith, n.at)))
+
+  -- each position is a node's
+  pub place : (n p : ℕ) → p < size S n → (m : ℕ) × (m < n) × (size S m ≤ p) × (p < size S (m + 1))
+  place zero p h = absurd (omega arith)
+  place (suc n) p h = ⊎_elim
+      (λ (l : p < size S n). let r = place n p l in (r.0, omega (arith, r.1), r.2, r.3))
+      (λ (g : size S n ≤ p). (n, omega arith, g, rw add-one h))
+      (cases_lt p (size S n))
+
+  pub every : (n p : ℕ) → p < size S n → (a : ℕ) × (k : ℕ) × IsNode S p a k
+  every n p h =
+      let r = place n p h in
+      let e : size S r.0 + (p - size S r.0) ≡ p = omega (arith, r.2) in
+      let b = L.brings r.0 (p - size S r.0) (rw e r.3) in
+      (b.0, b.1, record { aligned = b.2; at = b.3 ∙ e })
+
+  -- a node that is born before another stands before it
+  pub before : (a k b j : ℕ) → a % 2 ^ k ≡ 0 → b % 2 ^ j ≡ 0 → S.birth a k < S.birth b j → S.position a k < S.position b j
+  before a k b j ha hb h = ⊎_elim
+      (λ l. l)
+      (λ (g : S.position b j ≤ S.position a k). absurd (
+      let x : S.position a k < size S (S.birth a k) = (L.born (S.birth a k) a k ha).1 (omega arith) in
+      let y : S.birth b j ≤ S.birth a k = (L.born (S.birth a k) b j hb).0 (omega arith) in
+      omega arith))
+      (cases_lt (S.position a k) (S.position b j))
+
+  -- what the node at a valid position needs
+  pub node_small : (a k p : ℕ) → IsNode S p a k → p ≤ size S (2 ^ 62) → (k ≤ 62) × (a + 2 ^ k ≤ 2 ^ 62 + 1)
+  node_small a k p n v = let v' : S.position a k ≤ size S (2 ^ 62) = omega (arith, n.at) in (valid_height a k n.aligned v', valid_leaves a k n.aligned v')
+
+module _ (S : Shape) (L : Laws S) where
+  -- a node at a small position may be moved up by few levels
+  pub low_fits : (q g p : ℕ) → q ≤ 1000 → g ≤ 20 → CoversSame S g q p → p ≤ size S (2 ^ 62)
+  low_fits q g p hq hg c =
+      let n : ℕ = 1001 in
+      let l : length (S.peaks 1001) ≤ 1001 = omega (arith, length_at_most (S.peaks 1001), L.sum 1001) in
+      let b : S.birth c.first c.height ≤ 1001 = (L.born 1001 c.first c.height c.grafted.aligned).0 (omega (arith, c.grafted.at)) in
+      let d : c.first + 2 ^ c.height ≤ 1001 = omega (arith, L.late c.first c.height) in
+      let w : 2 ^ g ≤ 1048576 = pow_le g 20 hg in
+      let x : c.first * 2 ^ g ≤ 1001 * 1048576 = mul-le c.first (2 ^ g) 1001 1048576 (omega arith) w in
+      let y : 2 ^ c.height * 2 ^ g ≤ 1001 * 1048576 = mul-le (2 ^ c.height) (2 ^ g) 1001 1048576 (omega arith) w in
+      let e : 2 ^ (c.height + g) ≡ 2 ^ c.height * 2 ^ g = pow-add 2 c.height g in
+      let z : S.birth (c.first * 2 ^ g) (c.height + g) ≤ 2 ^ 62 = omega (arith, L.soon (c.first * 2 ^ g) (c.height + g)) in
+      let v : S.position (c.first * 2 ^ g) (c.height + g) < size S (2 ^ 62) = (L.born (2 ^ 62) (c.first * 2 ^ g) (c.height + g) c.node.aligned).1 z in
+      omega (arith, c.node.at)

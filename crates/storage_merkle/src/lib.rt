@@ -1,0 +1,4 @@
+//! Merkle trees of two append-only families, and proofs over them.
+#![tactic(auto)]
+
+pub mod merkle;

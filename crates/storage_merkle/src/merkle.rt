@@ -1,0 +1,19 @@
+//! Tree families: locations, positions and the arithmetic between them.
+
+pub mod family;
+mod location;
+pub mod mmb;
+pub mod mmr;
+mod order;
+mod peaks;
+
+pub use family::{Family, Graftable};
+pub use location::{Location, Position};
+pub use order::peaks_ascending;
+pub use peaks::{NodesToPin, Peaks};
+
+/// The most leaves that a tree may have.
+pub const MAX_LEAVES: u64 = 0x4000_0000_0000_0000;
+
+#[cfg(test)]
+mod tests;

@@ -1,0 +1,260 @@
+//! What the tree families share.
+ghost use Rattle.std.specs.Prelude.{◌≡◌, ℕ, ◌+◌, ◌-◌, ◌*◌, ◌%◌, ◌^◌, ◌<◌, ◌≤◌, ◌∷◌, List, map};
+ghost use Rattle.storage_merkle.specs.Shape.{Shape, Laws, size};
+ghost use Rattle.storage_merkle.specs.Inactive.{IsExact, IsAligned};
+ghost use Rattle.storage_merkle.specs.Nodes.{IsNode, AreGraftable, CoversSame, placed};
+
+use crate::merkle::{Location, NodesToPin, Peaks, Position};
+
+/// A family of append-only trees.
+pub trait Family: Copy {
+    ghost shape: { Shape };
+
+    /// How many nodes the tree over so many leaves has.
+    fn nodes_over(leaves: u64) -> u64
+        requires { size shape leaves < 2 ^ 64 }
+        ensures { result ≡ size shape leaves };
+
+    /// The height of the first peak over so many leaves.
+    fn first_peak(leaves: u64) -> u32
+        requires some { 0 < leaves }
+        requires few { leaves ≤ 2 ^ 62 }
+        ensures first { shape.peaks leaves ≡ result ∷ shape.peaks (leaves - 2 ^ result) }
+        ensures within { 2 ^ result ≤ leaves }
+        ensures small { result ≤ 62 };
+
+    /// At how many leaves the node of that height with that first leaf comes.
+    fn birth(first: u64, height: u32) -> u64
+        requires { shape.birth first height ≤ 2 ^ 63 }
+        ensures { result ≡ shape.birth first height };
+
+    /// Its position.
+    fn position(first: u64, height: u32) -> u64
+        requires aligned { first % 2 ^ height ≡ 0 }
+        requires fits { shape.position first height < 2 ^ 64 }
+        ensures { result ≡ shape.position first height };
+
+    /// The node that stands so many places after the first node that comes with the leaf past `leaves` leaves: its
+    /// first leaf and its height.
+    fn node_after(leaves: u64, offset: u64) -> (u64, u32)
+        requires few { leaves ≤ 2 ^ 62 }
+        requires within { size shape leaves + offset < size shape (leaves + 1) }
+        ensures { IsNode shape (size shape leaves + offset) result.0 result.1 };
+
+    /// The height of the node at a position.
+    final fn pos_to_height(position: Position<Self>) -> u32
+    where
+        Self: Sized,
+        requires { position ≤ size shape (2 ^ 62) }
+        ensures { (first : ℕ) × IsNode shape position first result }
+    {
+        let (_, height) = node_at::<Self>(position.as_u64());
+        height
+    }
+
+    /// The peaks of the tree with so many nodes: the position and the height of each.
+    final fn peaks(nodes: Position<Self>) -> Peaks<Self>
+    where
+        Self: Sized,
+        requires { (leaves : ℕ) × (leaves ≤ 2 ^ 62) × (size shape leaves ≡ nodes) }
+        ensures { (leaves : ℕ) → size shape leaves ≡ nodes → result ≡ placed shape 0 (shape.peaks leaves) }
+    {
+        Peaks::over(leaves_within::<Self>(nodes.as_u64()))
+    }
+
+    /// The positions of the left and the right child of the node at a position.
+    final fn children(position: Position<Self>, height: u32) -> (Position<Self>, Position<Self>)
+    where
+        Self: Sized,
+        requires inner { 1 ≤ height }
+        requires valid { position ≤ size shape (2 ^ 62) }
+        requires own { (first : ℕ) × IsNode shape position first height }
+        ensures { (first : ℕ) → IsNode shape position first height → (result.0 ≡ shape.position first (height - 1)) × (result.1 ≡ shape.position (first + 2 ^ (height - 1)) (height - 1)) }
+    {
+        let (first, _) = node_at::<Self>(position.as_u64());
+        let left = Self::position(first, height - 1);
+        let right = Self::position(first + power(height - 1), height - 1);
+        (Position::new(left), Position::new(right))
+    }
+
+    /// The positions of the nodes that are kept when the leaves below a location are forgotten: the peaks over them.
+    final fn nodes_to_pin(location: Location<Self>) -> NodesToPin<Self>
+    where
+        Self: Sized,
+        requires { location ≤ 2 ^ 62 }
+        ensures { result ≡ map (λ p. p.0) (placed shape 0 (shape.peaks location)) }
+    {
+        NodesToPin::of(Peaks::over(location.as_u64()))
+    }
+
+    ghost laws: { Laws shape };
+}
+
+/// A family whose chunks of leaves may be hashed as leaves of another tree.
+pub trait Graftable: Family {
+    /// The first leaf below the node at a position.
+    final fn leftmost_leaf(position: Position<Self>, height: u32) -> Location<Self>
+    where
+        Self: Sized,
+        requires valid { position ≤ size Self.shape (2 ^ 62) }
+        requires own { (first : ℕ) × IsNode Self.shape position first height }
+        ensures { IsNode Self.shape position result height }
+    {
+        let (first, _) = node_at::<Self>(position.as_u64());
+        Location::new(first)
+    }
+
+    /// The position of the node of that height with that first leaf.
+    final fn subtree_root_position(first: Location<Self>, height: u32) -> Position<Self>
+    where
+        Self: Sized,
+        requires aligned { first % 2 ^ height ≡ 0 }
+        requires fits { Self.shape.position first height < 2 ^ 64 }
+        ensures { result ≡ Self.shape.position first height }
+    {
+        Position::new(Self::position(first.as_u64(), height))
+    }
+
+    /// At how many leaves the node at a position comes.
+    final fn peak_birth_size(position: Position<Self>, height: u32) -> u64
+    where
+        Self: Sized,
+        requires inner { 1 ≤ height }
+        requires valid { position ≤ size Self.shape (2 ^ 62) }
+        requires own { (first : ℕ) × IsNode Self.shape position first height }
+        ensures { (first : ℕ) → IsNode Self.shape position first height → result ≡ Self.shape.birth first height }
+    {
+        let (first, _) = node_at::<Self>(position.as_u64());
+        Self::birth(first, height)
+    }
+
+    /// How many bytes something takes.
+    fn slot_size() -> usize;
+}
+
+/// How many leaves the largest tree with at most so many nodes has.
+pub fn leaves_within<F: Family>(nodes: u64) -> u64
+    requires { nodes ≤ size F.shape (2 ^ 62) }
+    ensures few { result ≤ 2 ^ 62 }
+    ensures low { size F.shape result ≤ nodes }
+    ensures high { nodes < size F.shape (result + 1) }
+{
+    let mut low: u64 = 0;
+    let mut high: u64 = crate::merkle::MAX_LEAVES + 1;
+    while low + 1 < high {
+        let middle = (low + high) / 2;
+        if F::nodes_over(middle) <= nodes {
+            low = middle;
+        } else {
+            high = middle;
+        }
+    }
+    low
+}
+
+/// The first leaf and the height of the node at a position.
+pub fn node_at<F: Family>(position: u64) -> (u64, u32)
+    requires { position ≤ size F.shape (2 ^ 62) }
+    ensures node { IsNode F.shape position result.0 result.1 }
+    ensures small { result.1 ≤ 62 }
+    ensures few { result.0 + 2 ^ result.1 ≤ 2 ^ 62 + 1 }
+{
+    let leaves = leaves_within::<F>(position);
+    F::node_after(leaves, position - F::nodes_over(leaves))
+}
+
+/// How many chunks of `2^height` leaves lie inside one peak of the tree over so many leaves.
+pub fn graftable_chunks<F: Family>(leaves: u64, height: u32) -> u64
+    requires few { leaves ≤ 2 ^ 62 }
+    requires low { 1 ≤ height }
+    requires high { height ≤ 62 }
+    ensures { AreGraftable F.shape leaves height result }
+{
+    let birth = F::birth(0, height);
+    if leaves < birth {
+        0
+    } else {
+        ((leaves - birth) >> height) + 1
+    }
+}
+
+/// The position among the chunks' nodes of the node that covers the same leaves.
+pub fn ops_to_grafted_pos<F: Family>(position: u64, height: u32) -> u64
+    requires low { 1 ≤ height }
+    requires valid { position ≤ size F.shape (2 ^ 62) }
+    requires above { (a k : ℕ) → IsNode F.shape position a k → height ≤ k }
+    ensures { CoversSame F.shape height result position }
+{
+    let (first, own) = node_at::<F>(position);
+    F::position(first >> height, own - height)
+}
+
+/// The position among the operations' nodes of the node that covers the same leaves.
+pub fn grafted_to_ops_pos<F: Family>(position: u64, height: u32) -> u64
+    requires low { 1 ≤ height }
+    requires valid { position ≤ size F.shape (2 ^ 62) }
+    requires fits { (p : ℕ) → CoversSame F.shape height position p → p ≤ size F.shape (2 ^ 62) }
+    ensures { CoversSame F.shape height position result }
+{
+    let (first, own) = node_at::<F>(position);
+    F::position(first * power(height), own + height)
+}
+
+/// A position that is mapped up and down again.
+pub fn up_and_down<F: Family>(position: u64, height: u32) -> u64
+    requires low { 1 ≤ height }
+    requires valid { position ≤ size F.shape (2 ^ 62) }
+    requires fits { (p : ℕ) → CoversSame F.shape height position p → p ≤ size F.shape (2 ^ 62) }
+    ensures { result ≡ position }
+{
+    ops_to_grafted_pos::<F>(grafted_to_ops_pos::<F>(position, height), height)
+}
+
+/// How many of the leading peaks over so many leaves end at or before a floor.
+pub fn exact_inactive<F: Family>(leaves: u64, floor: u64) -> usize
+    requires { leaves ≤ 2 ^ 62 }
+    ensures { IsExact F.shape leaves floor result }
+{
+    let mut left = leaves;
+    let mut count: usize = 0;
+    while left > 0 {
+        let rest = left - power(F::first_peak(left));
+        if leaves - rest > floor {
+            break;
+        }
+        left = rest;
+        count += 1;
+    }
+    count
+}
+
+/// How many of the leading peaks end at or before a floor and on a multiple of `2^height`, counted up to the last such.
+pub fn aligned_inactive<F: Family>(leaves: u64, floor: u64, height: u32) -> usize
+    requires few { leaves ≤ 2 ^ 62 }
+    requires low { height ≤ 62 }
+    ensures { IsAligned F.shape leaves floor height result }
+{
+    let mut left = leaves;
+    let mut count: usize = 0;
+    let mut best: usize = 0;
+    while left > 0 {
+        let rest = left - power(F::first_peak(left));
+        if leaves - rest > floor {
+            break;
+        }
+        left = rest;
+        count += 1;
+        if (leaves - rest).is_multiple_of(power(height)) {
+            best = count;
+        }
+    }
+    best
+}
+
+/// A power of two.
+pub(crate) fn power(exponent: u32) -> u64
+    requires { exponent ≤ 63 }
+    ensures { result ≡ 2 ^ exponent }
+{
+    1 << exponent
+}

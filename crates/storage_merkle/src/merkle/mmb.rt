@@ -1,0 +1,71 @@
+//! The family whose peaks follow the digits of one more than the number of leaves.
+ghost use Rattle.std.specs.Prelude.{◌≡◌, ◌+◌, ◌-◌, ◌*◌, ◌%◌, ◌^◌, ◌<◌, ◌≤◌, ◌∷◌};
+ghost use Rattle.storage_merkle.specs.Shape.{Shape, Laws, size};
+ghost use Rattle.storage_merkle.specs.Digits.{mmb_digits};
+ghost use Rattle.storage_merkle.specs.Mmb.{mmb};
+ghost use Rattle.storage_merkle.specs.MmbLaws.{mmb_laws};
+ghost use Rattle.storage_merkle.specs.Nodes.{IsNode};
+
+use crate::merkle::family::power;
+
+/// The family.
+#[derive(Clone, Copy, Drop)]
+pub struct Family;
+
+impl crate::merkle::Family for Family {
+    ghost shape = { mmb };
+
+    fn nodes_over(leaves: u64) -> u64 {
+        leaves + (leaves - (leaves + 1).ilog2() as u64)
+    }
+
+    fn first_peak(leaves: u64) -> u32 {
+        let places = (leaves + 1).ilog2();
+        if (leaves + 1) >> (places - 1) >= 3 {
+            places
+        } else {
+            places - 1
+        }
+    }
+
+    fn birth(first: u64, height: u32) -> u64 {
+        if height == 0 {
+            first + 1
+        } else {
+            first + (3 * power(height - 1) - 1)
+        }
+    }
+
+    fn position(first: u64, height: u32) -> u64 {
+        if height == 0 {
+            Self::nodes_over(first)
+        } else {
+            Self::nodes_over(first + (3 * power(height - 1) - 2)) + 1
+        }
+    }
+
+    fn node_after(leaves: u64, offset: u64) -> (u64, u32) {
+        if offset == 0 {
+            (leaves, 0)
+        } else {
+            let below = (leaves + 2).trailing_zeros();
+            (leaves + 2 - 3 * power(below), below + 1)
+        }
+    }
+
+    ghost laws = { mmb_laws };
+}
+
+impl crate::merkle::Graftable for Family {
+    fn slot_size() -> usize {
+        1
+    }
+}
+
+/// How many peaks there are: they follow the digits of one more than the number of leaves below its highest one.
+pub fn places(leaves: u64) -> u32
+    requires { leaves < 2 ^ 63 }
+    ensures { mmb.peaks leaves ≡ mmb_digits result (leaves + 1) }
+{
+    (leaves + 1).ilog2()
+}

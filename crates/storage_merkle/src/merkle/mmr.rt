@@ -1,0 +1,53 @@
+//! The family whose peaks are the 1 digits of the number of leaves.
+ghost use Rattle.std.specs.Prelude.{◌≡◌, ◌+◌, ◌-◌, ◌*◌, ◌%◌, ◌^◌, ◌<◌, ◌≤◌, ◌∷◌};
+ghost use Rattle.storage_merkle.specs.Shape.{Shape, Laws, size};
+ghost use Rattle.storage_merkle.specs.Digits.{mmr_digits};
+ghost use Rattle.storage_merkle.specs.Mmr.{mmr};
+ghost use Rattle.storage_merkle.specs.MmrLaws.{mmr_laws};
+ghost use Rattle.storage_merkle.specs.Nodes.{IsNode};
+
+use crate::merkle::family::power;
+
+/// The family.
+#[derive(Clone, Copy, Drop)]
+pub struct Family;
+
+impl crate::merkle::Family for Family {
+    ghost shape = { mmr };
+
+    fn nodes_over(leaves: u64) -> u64 {
+        leaves + (leaves - leaves.count_ones() as u64)
+    }
+
+    fn first_peak(leaves: u64) -> u32 {
+        leaves.ilog2()
+    }
+
+    fn birth(first: u64, height: u32) -> u64 {
+        first + power(height)
+    }
+
+    fn position(first: u64, height: u32) -> u64 {
+        Self::nodes_over(first) + 2 * (power(height) - 1)
+    }
+
+    fn node_after(leaves: u64, offset: u64) -> (u64, u32) {
+        let height = offset as u32;
+        (leaves + 1 - power(height), height)
+    }
+
+    ghost laws = { mmr_laws };
+}
+
+impl crate::merkle::Graftable for Family {
+    fn slot_size() -> usize {
+        0
+    }
+}
+
+/// How many binary digits a number of leaves has at most: the peaks are the places of the 1 digits among them.
+pub fn places(leaves: u64) -> u32
+    ensures { mmr.peaks leaves ≡ mmr_digits result leaves }
+{
+    if leaves == 0 { 0 } else { leaves.ilog2() + 1 }
+}
