@@ -8,3 +8,7 @@ pub mod Multiples
 pub mod ShapeLaws
 pub mod MmrLaws
 pub mod MmbLaws
+pub mod Calc
+pub mod Trees
+pub mod RangeProofs
+pub mod Hashing

@@ -1,12 +1,15 @@
 //! Tree families: locations, positions and the arithmetic between them.
 
+mod bagging;
 pub mod family;
+pub mod hasher;
 mod location;
 pub mod mmb;
 pub mod mmr;
 mod order;
 mod peaks;
 
+pub use bagging::Bagging;
 pub use family::{Family, Graftable};
 pub use location::{Location, Position};
 pub use order::peaks_ascending;
