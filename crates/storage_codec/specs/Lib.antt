@@ -1,6 +1,7 @@
 pub mod Faults
 pub mod Parts
 pub mod Codec
+pub mod Digests
 pub mod Laws
 pub mod VarintLaws
-pub mod Digests
+pub mod DigestLaws

@@ -1,52 +1,82 @@
 //! Digests, and the functions that make them.
 
-ghost use Rattle.std.specs.Prelude.{◌≡◌, ℕ, List, length, ◌↔◌, replicate, flat_map, true, Ok};
+ghost use Rattle.std.specs.Prelude.{◌≡◌, ℕ, List, length, ◌↔◌, replicate, flat_map, true, Ok, refl};
 ghost use Rattle.sha2.specs.Sha256.{sha256};
 ghost use Rattle.std.proofs.lemmas.Slice.Eq.{bytes_eq-Decides};
-ghost use Rattle.storage_codec.specs.Digests.{HashFunction, IsSized, sha256_sized};
+ghost use Rattle.storage_codec.specs.Codec.{Gives, front_at};
+ghost use Rattle.storage_codec.specs.Digests.{HashFunction, IsPlain, IsSized};
+ghost use Rattle.storage_codec.specs.DigestLaws.{fixed_plain, sha256_sized};
+ghost use Rattle.storage_codec.specs.Parts.{IsEnding};
 
-use crate::codec::{Canonical, EncodeSize, FixedBytes, Read, Small};
+use crate::codec::{Buf, Canonical, EncodeSize, Error, FixedBytes, Read, Small};
 use sha2::Digest as _;
+use std::alloc::Global;
 
-/// A digest: a short run of bytes, as many for each digest of the type. It is written as its bytes.
+/// A digest: a byte string of one length, the same for each digest of the type. It is written as
+/// its bytes and nothing else.
 pub trait Digest: Copy + Eq + Canonical + EncodeSize + Small + Read<Cfg = ()> {
-    /// The bytes.
+    /// The bytes, as many as the type's fixed size. Takes no memory.
     fn bytes(&self) -> &[u8]
         ensures { result.now ≡ Self.text self.now };
 
-    /// Equal digests exactly if equal bytes.
+    /// Reads the next digest, seen by its bytes. Refuses `EndOfBuffer` where fewer bytes are left
+    /// than a digest has, and then leaves an ending of them.
+    final fn read<B: Buf>(alloc: Global, buf: &mut B) -> Result<Self, Error>
+        ensures gives { Gives Self.text result (B.unread buf.new)
+            (front_at Self.size (B.unread buf.old)) }
+        ensures ends { IsEnding (B.unread buf.old) (B.unread buf.new) }
+    {
+        Self::read_cfg(alloc, buf, &())
+    }
+
+    /// Digests are equal exactly where their bytes are.
     ghost same: { (x y : Self) → Self.PartialEq.eq x y ≡ true ↔ Self.text x ≡ Self.text y };
+
+    /// Reading takes the bytes of one digest from the front, whatever they are.
+    ghost plain: { IsPlain Self.text Self.view (Self.parse tt) Self.size };
 }
 
-/// A digest function: one function of the joined parts.
+/// A digest function: the digest of several parts is that of the parts joined.
 pub trait Hasher {
-    /// Its digests.
+    /// The digests that it answers.
     type Digest: Digest;
 
-    /// The digest of a byte string, in bytes.
+    /// The bytes of the digest of a byte string.
     ghost hash_of: { HashFunction };
 
-    /// The digest of the joined parts.
+    /// The digest of the parts, one after the other. Takes no memory.
     fn hash(parts: &[&[u8]]) -> Self::Digest
         ensures { Self.Digest.text result ≡ hash_of (flat_map (λ part. part.now) parts.now) };
 
-    /// The digest whose bytes all are `byte`.
+    /// The digest whose bytes all are `byte`. Takes no memory.
     fn fill(byte: u8) -> Self::Digest
         ensures { Self.Digest.text result ≡ replicate Self.Digest.size byte };
 
-    /// Each answer has the length of a digest.
+    /// Each answer has as many bytes as a digest.
     ghost sized: { IsSized Self.Digest.size hash_of };
 }
 
-impl<const N: usize> Digest for FixedBytes<N> {
+impl Digest for FixedBytes<32> {
     fn bytes(&self) -> &[u8] {
         &self.bytes
     }
 
     ghost same = { λ x y. bytes_eq-Decides x.bytes y.bytes };
+
+    ghost plain = { fixed_plain 32 (λ x. x.bytes) refl };
 }
 
-/// SHA-256, as FIPS 180-4 has it.
+impl Digest for FixedBytes<64> {
+    fn bytes(&self) -> &[u8] {
+        &self.bytes
+    }
+
+    ghost same = { λ x y. bytes_eq-Decides x.bytes y.bytes };
+
+    ghost plain = { fixed_plain 64 (λ x. x.bytes) refl };
+}
+
+/// SHA-256, as FIPS 180-4 has it: digests of 32 bytes.
 pub struct Sha256;
 
 impl Hasher for Sha256 {
@@ -71,5 +101,5 @@ impl Hasher for Sha256 {
     ghost sized = { sha256_sized };
 }
 
-/// The digest that a hasher makes.
+/// The digests that a hasher makes.
 pub type DigestOf<H> = <H as Hasher>::Digest;

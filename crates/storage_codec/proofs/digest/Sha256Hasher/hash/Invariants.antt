@@ -1,4 +1,4 @@
-use Rattle.std.proofs.Common.{◌≡◌, ℕ, List, take}
+use Rattle.std.proofs.Common.{take}
 use Rattle.std.specs.Prelude.{flat_map}
 use Rattle.sha2.specs.Hashers.{Holds256}
 use Rattle.storage_codec.proofs.digest.Sha256Hasher.hash.Given as goal
