@@ -1,5 +1,5 @@
 -- Digest calculations: a tree, and a check of a proof over it, are one calculation under two sets of values.
-use Rattle.std.specs.Prelude.{◌≡◌, ℕ, List, [], ◌∷◌, ◌++◌, length, Bool, true, eqb, ◌&&◌, if◌then◌else◌}
+use Rattle.std.specs.Prelude.{◌≡◌, ℕ, List, [], ◌∷◌, ◌++◌, Bool, true, eqb, ◌&&◌, if◌then◌else◌}
 use Rattle.std.specs.Int.{w64, to_be_bytes}
 use Rattle.storage_codec.specs.Digests.{HashFunction}
 
@@ -64,11 +64,3 @@ Agree v w (given s) = v.digest s ≡ w.digest s
 Agree v w (leaf prefix j) = v.element j ≡ w.element j
 Agree v w (pair prefix l r) = Agree v w l × Agree v w r
 Agree v w (graft a p l r) = (v.chunk a ≡ w.chunk a) × (Agree v w l × Agree v w r)
-
--- each given digest has d bytes
-abbrev pub IsWide : ℕ → Values → Type 0
-IsWide d v = (s : Site) → length (v.digest s) ≡ d
-
--- each chunk has N bytes
-abbrev pub IsChunked : ℕ → Values → Type 0
-IsChunked N v = (a : ℕ) → length (v.chunk a) ≡ N

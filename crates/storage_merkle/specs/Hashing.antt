@@ -1,8 +1,8 @@
--- Digests of nodes and roots from digests that are given.
-use Rattle.std.specs.Prelude.{ℕ, ◌++◌, List, [], ◌∷◌, take, drop, if◌then◌else◌}
+-- Nodes and roots from digests that are given.
+use Rattle.std.specs.Prelude.{ℕ, zero, suc, ◌+◌, ◌^◌, ◌++◌, List, [], ◌∷◌, map, take, drop, get_or, if◌then◌else◌}
 use Rattle.storage_codec.specs.Digests.{HashFunction}
 use Rattle.storage_merkle.specs.Calc.{be8, grafted_digest}
-use Rattle.storage_merkle.specs.Trees.{Layout, root_head}
+use Rattle.storage_merkle.specs.Trees.{Layout, peaks_of, root_head}
 use Rattle.storage_merkle.specs.declared.merkle.bagging.Bagging.{Bagging}
 use Rattle.storage_merkle.specs.declared.merkle.bagging.Bagging.TheVariants.{ForwardFold, BackwardFold}
 
@@ -10,6 +10,15 @@ use Rattle.storage_merkle.specs.declared.merkle.bagging.Bagging.TheVariants.{For
 abbrev pub join_digest : HashFunction → Layout → (ℕ → List ℕ) → ℕ → ℕ → List ℕ → List ℕ → List ℕ
 join_digest h T chunk a k l r =
     if T.grafted a k then grafted_digest h (chunk a) (h (be8 (T.shape.position a k) ++ (l ++ r))) else h (be8 (T.shape.position a k) ++ (l ++ r))
+
+-- the digest of the node of height k over the leaves from a on, from those of the leaves
+abbrev pub node_over : HashFunction → Layout → (ℕ → List ℕ) → List (List ℕ) → ℕ → ℕ → List ℕ
+node_over h T chunk leaves zero a = get_or leaves a []
+node_over h T chunk leaves (suc k) a = join_digest h T chunk a (suc k) (node_over h T chunk leaves k a) (node_over h T chunk leaves k (a + 2 ^ k))
+
+-- the digests of the peaks over n leaves, from those of the leaves
+abbrev pub peak_digests : HashFunction → Layout → (ℕ → List ℕ) → List (List ℕ) → ℕ → List (List ℕ)
+peak_digests h T chunk leaves n = map (λ p. node_over h T chunk leaves p.height p.first) (peaks_of T n)
 
 -- digests folded from the left
 abbrev pub folded_forward : HashFunction → List ℕ → List (List ℕ) → List ℕ
@@ -21,13 +30,13 @@ abbrev pub folded_backward : HashFunction → List ℕ → List (List ℕ) → L
 folded_backward h x [] = x
 folded_backward h x (y ∷ ys) = h (x ++ folded_backward h y ys)
 
--- the first list folded forwards into one item, and then the items backwards; nothing for no items
+-- the first list folded from the left into one item, and then that item and the second list from the right; nothing for no digests
 abbrev pub bagged : HashFunction → List (List ℕ) → List (List ℕ) → List ℕ
 bagged h [] [] = []
 bagged h [] (y ∷ ys) = folded_backward h y ys
 bagged h (x ∷ xs) ys = folded_backward h (folded_forward h x xs) ys
 
--- the items that are folded forwards, and the other ones, of digests of peaks of which i are inactive
+-- the digests of peaks, of which i are inactive, bagged
 abbrev pub bagged_peaks : HashFunction → Bagging → ℕ → List (List ℕ) → List ℕ
 bagged_peaks h ForwardFold i ds = bagged h ds []
 bagged_peaks h BackwardFold i ds = bagged h (take i ds) (drop i ds)
