@@ -1,0 +1,80 @@
+//! Columns of a line, read and written.
+
+use hex::FromHexError;
+use std::alloc::{AllocError, AllocFailed, Global};
+use storage_codec::NoMemory;
+use thiserror::Error;
+
+/// Why a line has no answer.
+#[derive(Clone, Copy, Debug, PartialEq, Eq, Error)]
+pub enum Fault {
+    /// The columns are not those of the list.
+    #[error("malformed")]
+    Malformed,
+    #[error("out of memory")]
+    Memory,
+}
+
+impl From<AllocError> for Fault {
+    fn from(_error: AllocError) -> Fault {
+        Fault::Memory
+    }
+}
+
+impl<T: Drop> From<AllocFailed<T>> for Fault {
+    fn from(_error: AllocFailed<T>) -> Fault {
+        Fault::Memory
+    }
+}
+
+impl From<NoMemory> for Fault {
+    fn from(_error: NoMemory) -> Fault {
+        Fault::Memory
+    }
+}
+
+/// A number.
+pub fn number(column: &str) -> Result<u64, Fault> {
+    column.parse::<u64>().map_err(|_| Fault::Malformed)
+}
+
+/// Bytes in hexadecimal; `-` is no bytes.
+pub fn bytes(alloc: Global, column: &str) -> Result<Vec<u8>, Fault> {
+    if column == "-" {
+        return Ok(Vec::new(alloc));
+    }
+    hex::decode(alloc, column).map_err(|error| match error {
+        FromHexError::OutOfMemory => Fault::Memory,
+        _ => Fault::Malformed,
+    })
+}
+
+/// Numbers with commas between them; `none` where there are none.
+#[derive(Drop)]
+pub struct Series {
+    text: String,
+}
+
+impl Series {
+    pub fn new(alloc: Global) -> Self {
+        Series {
+            text: String::new(alloc),
+        }
+    }
+
+    /// Adds a number at the end.
+    pub fn push(&mut self, number: u64) -> Result<(), AllocError> {
+        if !self.text.is_empty() {
+            self.text.push(',')?;
+        }
+        write!(self.text, "{number}")
+    }
+
+    /// The text.
+    pub fn finish(mut self) -> Result<String, AllocError> {
+        if self.text.is_empty() {
+            self.text.push_str("none")?;
+        }
+        Ok(self.text)
+    }
+}

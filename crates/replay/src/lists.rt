@@ -1,0 +1,20 @@
+//! One function for each list.
+
+mod codecs;
+mod trees;
+
+use crate::columns::Fault;
+use std::alloc::Global;
+
+/// The answer to a line: the list's name, then the columns of the case, with blanks between them.
+pub fn answer(alloc: Global, line: &str) -> Result<String, Fault> {
+    let columns: Vec<&str> = line.split(' ').collect(alloc)?;
+    let Some((list, columns)) = columns.as_slice().split_first() else {
+        return Err(Fault::Malformed);
+    };
+    match *list {
+        "varints" => codecs::varints(alloc, columns),
+        "golden_hash" => codecs::golden_hash(alloc, columns),
+        _ => trees::answer(alloc, *list, columns),
+    }
+}

@@ -1,0 +1,177 @@
+//! Lists on the arithmetic of the tree families.
+
+ghost use Rattle.std.specs.Prelude.{◌≡◌, ℕ, ◌+◌, ◌*◌, ◌%◌, ◌^◌, ◌<◌, ◌≤◌};
+ghost use Rattle.storage_merkle.specs.Nodes.{IsNode, CoversSame};
+ghost use Rattle.storage_merkle.specs.Shape.{size};
+
+use crate::columns::{Fault, Series, number};
+use std::alloc::Global;
+use storage_merkle::merkle::family::{
+    graftable_chunks, grafted_to_ops_pos, leaves_within, node_at, ops_to_grafted_pos,
+};
+use storage_merkle::merkle::{Graftable, Location, MAX_LEAVES, Position, mmb, mmr};
+
+/// The answer of a list whose first column is the family.
+pub fn answer(alloc: Global, list: &str, columns: &[&str]) -> Result<String, Fault> {
+    let Some((family, columns)) = columns.split_first() else {
+        return Err(Fault::Malformed);
+    };
+    match *family {
+        "mmr" => over::<mmr::Family>(alloc, list, columns),
+        "mmb" => over::<mmb::Family>(alloc, list, columns),
+        _ => Err(Fault::Malformed),
+    }
+}
+
+fn over<F: Graftable>(alloc: Global, list: &str, columns: &[&str]) -> Result<String, Fault> {
+    match list {
+        "families" => families::<F>(alloc, columns),
+        "sizes" => sizes::<F>(alloc, columns),
+        "nodes" => nodes::<F>(alloc, columns),
+        "graftable" => graftable::<F>(alloc, columns),
+        "maps" => maps::<F>(alloc, columns),
+        _ => Err(Fault::Malformed),
+    }
+}
+
+/// The number of nodes over the most leaves.
+fn most_nodes<F: Graftable>() -> u64
+    ensures { result ≡ size F.shape (2 ^ 62) }
+{
+    F::nodes_over(MAX_LEAVES)
+}
+
+/// A power of two.
+fn power(exponent: u32) -> u64
+    requires { exponent ≤ 63 }
+    ensures { result ≡ 2 ^ exponent }
+{
+    1 << exponent
+}
+
+/// `leaves`: the number of nodes, the peaks' heights and positions, and the positions to pin.
+fn families<F: Graftable>(alloc: Global, columns: &[&str]) -> Result<String, Fault> {
+    let [leaves] = columns else {
+        return Err(Fault::Malformed);
+    };
+    let leaves = number(*leaves)?;
+    if leaves > MAX_LEAVES {
+        return Err(Fault::Malformed);
+    }
+    let nodes = F::nodes_over(leaves);
+    let mut heights = Series::new(alloc);
+    let mut positions = Series::new(alloc);
+    for (position, height) in F::peaks(Position::new(nodes)) {
+        heights.push(height as u64)?;
+        positions.push(position.as_u64())?;
+    }
+    let mut pins = Series::new(alloc);
+    for position in F::nodes_to_pin(Location::new(leaves)) {
+        pins.push(position.as_u64())?;
+    }
+    let heights = heights.finish()?;
+    let positions = positions.finish()?;
+    let pins = pins.finish()?;
+    Ok(format!(in alloc; "{nodes} {heights} {positions} {pins}")?)
+}
+
+/// `nodes`: of how many leaves this is the number of nodes.
+fn sizes<F: Graftable>(alloc: Global, columns: &[&str]) -> Result<String, Fault> {
+    let [nodes] = columns else {
+        return Err(Fault::Malformed);
+    };
+    let nodes = number(*nodes)?;
+    if nodes > most_nodes::<F>() {
+        return Err(Fault::Malformed);
+    }
+    let leaves = leaves_within::<F>(nodes);
+    if F::nodes_over(leaves) == nodes {
+        Ok(format!(in alloc; "{leaves}")?)
+    } else {
+        Ok(String::from_str(alloc, "-")?)
+    }
+}
+
+/// `first_leaf height`: the position of this node, at how many leaves it comes, and its children.
+fn nodes<F: Graftable>(alloc: Global, columns: &[&str]) -> Result<String, Fault> {
+    let [first, height] = columns else {
+        return Err(Fault::Malformed);
+    };
+    let first = number(*first)?;
+    let height = number(*height)?;
+    if height > 61 || first > MAX_LEAVES || !first.is_multiple_of(1 << height) {
+        return Err(Fault::Malformed);
+    }
+    node::<F>(alloc, first, height as u32)
+}
+
+fn node<F: Graftable>(alloc: Global, first: u64, height: u32) -> Result<String, Fault>
+    requires aligned { first % 2 ^ height ≡ 0 }
+    requires early { first ≤ 2 ^ 62 }
+    requires low { height ≤ 61 }
+{
+    let position = F::subtree_root_position(Location::new(first), height);
+    if position.as_u64() > most_nodes::<F>() {
+        return Err(Fault::Malformed);
+    }
+    if height == 0 {
+        let position = position.as_u64();
+        let birth = F::birth(first, height);
+        return Ok(format!(in alloc; "{position} {birth} - -")?);
+    }
+    let birth = F::peak_birth_size(position, height);
+    let (left, right) = F::children(position, height);
+    let position = position.as_u64();
+    let left = left.as_u64();
+    let right = right.as_u64();
+    Ok(format!(in alloc; "{position} {birth} {left} {right}")?)
+}
+
+/// `leaves height`: how many chunks are graftable.
+fn graftable<F: Graftable>(alloc: Global, columns: &[&str]) -> Result<String, Fault> {
+    let [leaves, height] = columns else {
+        return Err(Fault::Malformed);
+    };
+    let leaves = number(*leaves)?;
+    let height = number(*height)?;
+    if leaves > MAX_LEAVES || height < 1 || height > 62 {
+        return Err(Fault::Malformed);
+    }
+    let chunks = graftable_chunks::<F>(leaves, height as u32);
+    Ok(format!(in alloc; "{chunks}")?)
+}
+
+/// `height position`: the operations position of a grafted one, and what that is mapped back to.
+fn maps<F: Graftable>(alloc: Global, columns: &[&str]) -> Result<String, Fault> {
+    let [height, position] = columns else {
+        return Err(Fault::Malformed);
+    };
+    let height = number(*height)?;
+    let position = number(*position)?;
+    if height < 1 || height > 62 || position > most_nodes::<F>() {
+        return Err(Fault::Malformed);
+    }
+    map::<F>(alloc, position, height as u32)
+}
+
+fn map<F: Graftable>(alloc: Global, position: u64, height: u32) -> Result<String, Fault>
+    requires low { 1 ≤ height }
+    requires high { height ≤ 62 }
+    requires valid { position ≤ size F.shape (2 ^ 62) }
+{
+    let (first, own) = node_at::<F>(position);
+    if own + height > 62 {
+        return Err(Fault::Malformed);
+    }
+    let own = own + height;
+    let Some(first) = first.checked_mul(power(height)) else {
+        return Err(Fault::Malformed);
+    };
+    let latest = power(own).saturating_mul(2).saturating_add(first);
+    if latest > 2 * MAX_LEAVES || F::birth(first, own) > MAX_LEAVES {
+        return Err(Fault::Malformed);
+    }
+    let above = grafted_to_ops_pos::<F>(position, height);
+    let below = ops_to_grafted_pos::<F>(above, height);
+    Ok(format!(in alloc; "{above} {below}")?)
+}

@@ -1,0 +1,31 @@
+//! Answers each line of the lists on standard input: a list's name and the columns of one case. The lists were made by
+//! an independent program that computes the definitions over whole lists; `stdout` has the answers that it gave.
+#![tactic(auto)]
+
+mod columns;
+mod lists;
+
+use columns::Fault;
+use std::alloc::{AllocError, Global};
+use std::io;
+use std::io::{BufRead, BufReader, BufWriter, Write};
+
+/// The line to print for a line of the lists.
+fn reply(alloc: Global, line: &str) -> Result<String, AllocError> {
+    match lists::answer(alloc, line) {
+        Ok(answer) => Ok(answer),
+        Err(Fault::Malformed) => String::from_str(alloc, "malformed"),
+        Err(Fault::Memory) => Err(AllocError),
+    }
+}
+
+fn main(rt: HostRuntime) -> io::Result<()> {
+    let mut out = BufWriter::new(rt.alloc(), io::writer(&rt))?;
+    for line in BufReader::new(rt.alloc(), rt.reader())?.lines(rt.alloc()) {
+        let line = line?;
+        let answer = reply(rt.alloc(), line.as_str())?;
+        out.write_all(answer.as_bytes())?;
+        out.write_all(b"\n")?;
+    }
+    out.flush()
+}

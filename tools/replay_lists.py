@@ -1,0 +1,73 @@
+#!/usr/bin/env python3
+"""Makes crates/replay/stdin and crates/replay/stdout from the lists of cases.
+
+    tools/replay_lists.py LISTS [CRATE]
+
+LISTS is a folder of lists, one case a line, columns with blanks between them, the first line their names. They were
+made by an independent program that computes the definitions over whole lists. A line of stdin is the name of a list
+and the columns that are given, a line of stdout the columns that are asked for. Only cases over SHA-256 are taken.
+"""
+
+import pathlib
+import sys
+
+MAX_LEAVES = 2**62
+
+
+def rows(folder, name):
+    """The cases of a list as lists of columns; of those with a hash the ones over SHA-256, without that column."""
+    lines = (folder / f"{name}.txt").read_text().splitlines()
+    hashed = "hash" in lines[0].split()[1:3]
+    place = lines[0].split().index("hash") - 1 if hashed else 0
+    for line in lines[1:]:
+        columns = line.split(" ")
+        if hashed:
+            if columns[place] != "sha256":
+                continue
+            del columns[place]
+        yield columns
+
+
+def cut(folder, name, count):
+    """Cases whose first columns are given and whose other columns are asked for."""
+    for columns in rows(folder, name):
+        yield columns[:count], columns[count:]
+
+
+def cases(folder):
+    """All cases: the name of the list, the columns that are given, the columns that are asked for."""
+    for given, asked in cut(folder, "varints", 1):
+        yield "varints", given, asked[:2]
+    for given, asked in cut(folder, "golden_hash", 1):
+        yield "golden_hash", given, asked
+    for given, asked in cut(folder, "families", 2):
+        # the positions of the peaks are also those to pin
+        yield "families", given, asked + asked[-1:]
+    for given, asked in cut(folder, "sizes", 2):
+        yield "sizes", given, asked
+    for given, asked in cut(folder, "nodes", 3):
+        yield "nodes", given, asked
+    for given, asked in cut(folder, "graftable", 3):
+        # the function asks for a number of leaves that a tree may have
+        if int(given[1]) <= MAX_LEAVES:
+            yield "graftable", given, asked
+    for given, asked in cut(folder, "maps", 3):
+        # the position is mapped up, and down again
+        yield "maps", given, asked + given[-1:]
+
+
+def main():
+    folder = pathlib.Path(sys.argv[1])
+    here = pathlib.Path(__file__).resolve().parent.parent
+    crate = pathlib.Path(sys.argv[2]) if len(sys.argv) > 2 else here / "crates" / "replay"
+    given = []
+    asked = []
+    for name, columns, answers in cases(folder):
+        given.append(" ".join([name, *columns]) + "\n")
+        asked.append(" ".join(answers) + "\n")
+    (crate / "stdin").write_text("".join(given))
+    (crate / "stdout").write_text("".join(asked))
+
+
+if __name__ == "__main__":
+    main()
