@@ -2,6 +2,10 @@ pub mod Faults
 pub mod Parts
 pub mod Codec
 pub mod Digests
+pub mod PartsLaws
 pub mod Laws
 pub mod VarintLaws
+pub mod SpellingLaws
+pub mod OrderLaws
+pub mod CodecLaws
 pub mod DigestLaws

@@ -3,6 +3,7 @@
 
 pub mod codec;
 pub mod digest;
+pub mod laws;
 mod memory;
 
 pub use memory::NoMemory;

@@ -1,0 +1,5 @@
+use Rattle.storage_codec.specs.SpellingLaws.{varint_cut}
+use Rattle.storage_codec.proofs.laws.varint_cut_short.Goals as goal
+
+pub returns : goal.returns
+returns c = varint_cut
