@@ -1,4 +1,6 @@
 pub mod Shape
+pub mod Wire
+pub mod WireLaws
 pub mod Mmr
 pub mod Mmb
 pub mod Nodes

@@ -8,12 +8,14 @@ pub mod mmb;
 pub mod mmr;
 mod order;
 mod peaks;
+mod position;
 
 pub use bagging::Bagging;
 pub use family::{Family, Graftable};
-pub use location::{Location, Position};
+pub use location::Location;
 pub use order::peaks_ascending;
 pub use peaks::{NodesToPin, Peaks};
+pub use position::Position;
 
 /// The most leaves that a tree may have.
 pub const MAX_LEAVES: u64 = 0x4000_0000_0000_0000;

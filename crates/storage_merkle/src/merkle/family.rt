@@ -1,10 +1,17 @@
 //! What the tree families share.
-ghost use Rattle.std.specs.Prelude.{◌≡◌, ℕ, ◌+◌, ◌-◌, ◌*◌, ◌%◌, ◌^◌, ◌<◌, ◌≤◌, ◌∷◌, List, map};
+ghost use Rattle.std.specs.Prelude.{◌≡◌, ℕ, ◌+◌, ◌-◌, ◌*◌, ◌%◌, ◌^◌, ◌<◌, ◌≤◌, ◌∷◌, ◌++◌, Bool, List, length, map, option_map, IfOk, OnOk, OnErr};
+ghost use Rattle.storage_codec.specs.Codec.{Gives};
+ghost use Rattle.storage_codec.specs.Parts.{AppendsStart, IsEnding};
+ghost use Rattle.storage_merkle.specs.Wire.{slot_text, slot_at, IsSlot};
 ghost use Rattle.storage_merkle.specs.Shape.{Shape, Laws, size};
 ghost use Rattle.storage_merkle.specs.Inactive.{IsExact, IsAligned};
 ghost use Rattle.storage_merkle.specs.Nodes.{IsNode, AreGraftable, CoversSame, placed};
 
 use crate::merkle::{Location, NodesToPin, Peaks, Position};
+use std::alloc::Global;
+use storage_codec::NoMemory;
+use storage_codec::codec::{self, Buf, Read, Write, small_size};
+use storage_codec::digest::Digest;
 
 /// A family of append-only trees.
 pub trait Family: Copy {
@@ -92,6 +99,9 @@ pub trait Family: Copy {
 
 /// A family whose chunks of leaves may be hashed as leaves of another tree.
 pub trait Graftable: Family {
+    /// Whether a tree of the family may have a pending chunk.
+    ghost has_pending: { Bool };
+
     /// The first leaf below the node at a position.
     final fn leftmost_leaf(position: Position<Self>, height: u32) -> Location<Self>
     where
@@ -128,8 +138,55 @@ pub trait Graftable: Family {
         Self::birth(first, height)
     }
 
-    /// How many bytes something takes.
-    fn slot_size() -> usize;
+    /// Whether a complete chunk may lie in no single peak, so that there is a slot for a pending chunk's digest.
+    fn has_pending() -> bool
+        ensures { result ≡ has_pending };
+
+    /// Appends what the slot of the pending chunk's digest is written as: nothing where the family has none, whatever
+    /// the value, else an option of a digest. A refused growth leaves a beginning of it.
+    final fn write_pending<D: Digest>(slot: &Option<D>, out: &mut Vec<u8>) -> Result<(), NoMemory>
+    where
+        Self: Sized,
+        ensures ok { OnOk result (out.new.items ≡ out.old.items ++ slot_text Self.has_pending D.text slot.now) }
+        ensures err { OnErr result (AppendsStart out.old.items out.new.items (slot_text Self.has_pending D.text slot.now)) }
+    {
+        if Self::has_pending() {
+            slot.write(out)?;
+        }
+        Ok(())
+    }
+
+    /// Reads the slot of the pending chunk's digest from the front: always `None`, and no byte taken, where the family
+    /// has none. After a refusal `buf` is at an ending of what it held.
+    final fn read_pending<D: Digest, B: Buf>(alloc: Global, buf: &mut B) -> Result<Option<D>, codec::Error>
+    where
+        Self: Sized,
+        ensures gives { Gives (option_map D.view) result (B.unread buf.new) (slot_at Self.has_pending (D.parse tt) (B.unread buf.old)) }
+        ensures ends { IsEnding (B.unread buf.old) (B.unread buf.new) }
+        ensures none { IfOk result (IsSlot Self.has_pending) }
+    {
+        if Self::has_pending() {
+            Option::read_cfg(alloc, buf, &())
+        } else {
+            Ok(None)
+        }
+    }
+
+    /// How many bytes the slot takes. Takes no memory.
+    final fn pending_size<D: Digest>(slot: &Option<D>) -> u64
+    where
+        Self: Sized,
+        ensures value { result ≡ length (slot_text Self.has_pending D.text slot.now) }
+        ensures small { result ≤ 2 ^ 32 + 1 }
+    {
+        if !Self::has_pending() {
+            return 0;
+        }
+        match slot {
+            None => 1,
+            Some(_) => 1 + small_size::<D>() as u64,
+        }
+    }
 }
 
 /// How many leaves the largest tree with at most so many nodes has.

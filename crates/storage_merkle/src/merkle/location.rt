@@ -1,10 +1,19 @@
-//! Places in a tree: of a leaf among the leaves, and of a node among the nodes.
-ghost use Rattle.std.specs.Prelude.{◌≡◌, ℕ, ◌+◌, ◌-◌, ◌^◌, ◌<◌, ◌≤◌, ◌↔◌, min, IsTrue, MatchOption};
+//! The place of a leaf among the leaves.
+ghost use Rattle.std.specs.Prelude.{◌≡◌, ℕ, ◌+◌, ◌-◌, ◌^◌, ◌<◌, ◌≤◌, ◌↔◌, min, IsTrue, MatchOption, Some};
+ghost use Rattle.std.specs.Fmt.{decimal, styled_decimal};
+ghost use Rattle.storage_codec.specs.Parts.{varint_text};
+ghost use Rattle.storage_merkle.specs.Wire.{location_at};
+ghost use Rattle.storage_merkle.specs.WireLaws.{location_again, location_back};
 
 use crate::merkle::MAX_LEAVES;
+use std::alloc::Global;
+use std::fmt;
 use std::marker::{Model, PhantomData};
+use storage_codec::NoMemory;
+use storage_codec::codec::{Buf, Canonical, Codec, EncodeSize, Error, Read, UInt, Write};
 
-/// The place of a leaf, from 0.
+/// The place of a leaf of a tree of the family, counted from 0. Locations compare as their numbers and are displayed
+/// as them in decimal. No call takes memory, but writing one to a vector.
 #[derive(Drop)]
 #[derive_where(Clone, Copy, PartialEq, Eq, PartialOrd, Ord, Hash, Debug)]
 pub struct Location<F> {
@@ -32,21 +41,21 @@ impl<F> Location<F> {
         }
     }
 
-    /// The number.
+    /// Its number.
     pub fn as_u64(self) -> u64
         ensures { result ≡ self }
     {
         self.value
     }
 
-    /// Whether a tree may have so many leaves.
+    /// Whether it is at most [`MAX_LEAVES`], so that a tree may have so many leaves.
     pub fn is_valid(self) -> bool
         ensures { IsTrue result ↔ (self ≤ 2 ^ 62) }
     {
         self.value <= MAX_LEAVES
     }
 
-    /// The location so many leaves further on; none where its number does not fit.
+    /// The location so many leaves further on. `None` where its number passes `u64::MAX`.
     pub fn checked_add(self, by: u64) -> Option<Self>
         ensures { MatchOption result (2 ^ 64 ≤ self + by) (λ l. l ≡ self + by) }
     {
@@ -54,7 +63,7 @@ impl<F> Location<F> {
         Some(Location::new(value))
     }
 
-    /// The location so many leaves further on, or the greatest one.
+    /// The location so many leaves further on, or that of `u64::MAX` where its number passes it.
     pub fn saturating_add(self, by: u64) -> Self
         ensures { result ≡ min (self + by) (2 ^ 64 - 1) }
     {
@@ -62,38 +71,54 @@ impl<F> Location<F> {
     }
 }
 
-/// The place of a node among the nodes, from 0.
-#[derive(Drop)]
-#[derive_where(Clone, Copy, PartialEq, Eq, PartialOrd, Ord, Hash, Debug)]
-pub struct Position<F> {
-    value: u64,
-    #[derive_where(skip)]
-    family: PhantomData<F>,
+impl<F> fmt::Display for Location<F> {
+    ghost output = { λ l. Some (decimal l) };
+
+    ghost styled_output = { λ l style. Some (styled_decimal style l) };
+
+    fn fmt<W: fmt::Write>(&self, f: &mut fmt::Formatter<W>) -> fmt::Result {
+        fmt::Display::fmt(&self.value, f)
+    }
 }
 
-impl<F> Model for Position<F> {
-    ghost Value = { ℕ };
+impl<F> Write for Location<F> {
+    ghost text = { λ l. varint_text l };
 
-    ghost view = { λ s. s.value };
-
-    ghost inverse = { λ n. record { value = n; family = record {} } };
+    fn write(&self, out: &mut Vec<u8>) -> Result<(), NoMemory> {
+        UInt(self.value).write(out)
+    }
 }
 
-impl<F> Position<F> {
-    /// The position of a number.
-    pub fn new(value: u64) -> Self
-        ensures { result ≡ value }
-    {
-        Position {
-            value,
-            family: PhantomData,
+impl<F> EncodeSize for Location<F> {
+    fn encode_size(&self) -> Option<u64> {
+        UInt(self.value).encode_size()
+    }
+}
+
+impl<F> Read for Location<F> {
+    type Cfg = ();
+
+    ghost View = { ℕ };
+
+    ghost view = { λ l. l };
+
+    ghost admits = { λ _ l. l ≤ 2 ^ 62 };
+
+    ghost parse = { λ _. location_at };
+
+    fn read_cfg<B: Buf>(alloc: Global, buf: &mut B, _cfg: &()) -> Result<Location<F>, Error> {
+        let UInt(value) = UInt::read_cfg(alloc, buf, &())?;
+        if value > MAX_LEAVES {
+            return Err(Error::Invalid("location", "past the limit"));
         }
+        Ok(Location::new(value))
     }
+}
 
-    /// The number.
-    pub fn as_u64(self) -> u64
-        ensures { result ≡ self }
-    {
-        self.value
-    }
+impl<F> Codec for Location<F> {
+    ghost again = { λ _ l rest h. location_again l rest h };
+}
+
+impl<F> Canonical for Location<F> {
+    ghost back = { λ _ bytes l rest h e. location_back bytes l rest h e };
 }

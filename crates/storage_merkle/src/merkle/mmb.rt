@@ -1,5 +1,5 @@
 //! The family whose peaks follow the digits of one more than the number of leaves.
-ghost use Rattle.std.specs.Prelude.{◌≡◌, ◌+◌, ◌-◌, ◌*◌, ◌%◌, ◌^◌, ◌<◌, ◌≤◌, ◌∷◌};
+ghost use Rattle.std.specs.Prelude.{◌≡◌, ◌+◌, ◌-◌, ◌*◌, ◌%◌, ◌^◌, ◌<◌, ◌≤◌, ◌∷◌, true};
 ghost use Rattle.storage_merkle.specs.Shape.{Shape, Laws, size};
 ghost use Rattle.storage_merkle.specs.Digits.{mmb_digits};
 ghost use Rattle.storage_merkle.specs.Mmb.{mmb};
@@ -57,8 +57,10 @@ impl crate::merkle::Family for Family {
 }
 
 impl crate::merkle::Graftable for Family {
-    fn slot_size() -> usize {
-        1
+    ghost has_pending = { true };
+
+    fn has_pending() -> bool {
+        true
     }
 }
 

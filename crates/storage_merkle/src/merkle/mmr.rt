@@ -1,5 +1,5 @@
 //! The family whose peaks are the 1 digits of the number of leaves.
-ghost use Rattle.std.specs.Prelude.{◌≡◌, ◌+◌, ◌-◌, ◌*◌, ◌%◌, ◌^◌, ◌<◌, ◌≤◌, ◌∷◌};
+ghost use Rattle.std.specs.Prelude.{◌≡◌, ◌+◌, ◌-◌, ◌*◌, ◌%◌, ◌^◌, ◌<◌, ◌≤◌, ◌∷◌, false};
 ghost use Rattle.storage_merkle.specs.Shape.{Shape, Laws, size};
 ghost use Rattle.storage_merkle.specs.Digits.{mmr_digits};
 ghost use Rattle.storage_merkle.specs.Mmr.{mmr};
@@ -40,8 +40,10 @@ impl crate::merkle::Family for Family {
 }
 
 impl crate::merkle::Graftable for Family {
-    fn slot_size() -> usize {
-        0
+    ghost has_pending = { false };
+
+    fn has_pending() -> bool {
+        false
     }
 }
 

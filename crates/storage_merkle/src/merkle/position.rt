@@ -1,0 +1,79 @@
+//! The place of a node among the nodes.
+ghost use Rattle.std.specs.Prelude.{◌≡◌, ℕ, ◌+◌, ◌-◌, ◌^◌, ◌<◌, ◌≤◌, ◌↔◌, min, IsTrue, MatchOption, Some};
+ghost use Rattle.std.specs.Fmt.{decimal, styled_decimal};
+ghost use Rattle.storage_merkle.specs.Shape.{Shape, size};
+
+use crate::merkle::{Family, MAX_LEAVES};
+use std::fmt;
+use std::marker::{Model, PhantomData};
+
+/// The place of a node of a tree of the family, counted from 0; also a number of nodes. Positions compare as their
+/// numbers and are displayed as them in decimal. No call takes memory.
+#[derive(Drop)]
+#[derive_where(Clone, Copy, PartialEq, Eq, PartialOrd, Ord, Hash, Debug)]
+pub struct Position<F> {
+    value: u64,
+    #[derive_where(skip)]
+    family: PhantomData<F>,
+}
+
+impl<F> Model for Position<F> {
+    ghost Value = { ℕ };
+
+    ghost view = { λ s. s.value };
+
+    ghost inverse = { λ n. record { value = n; family = record {} } };
+}
+
+impl<F> Position<F> {
+    /// The position of a number.
+    pub fn new(value: u64) -> Self
+        ensures { result ≡ value }
+    {
+        Position {
+            value,
+            family: PhantomData,
+        }
+    }
+
+    /// Its number.
+    pub fn as_u64(self) -> u64
+        ensures { result ≡ self }
+    {
+        self.value
+    }
+
+    /// The position so many nodes further on. `None` where its number passes `u64::MAX`.
+    pub fn checked_add(self, by: u64) -> Option<Self>
+        ensures { MatchOption result (2 ^ 64 ≤ self + by) (λ p. p ≡ self + by) }
+    {
+        let value = self.value.checked_add(by)?;
+        Some(Position::new(value))
+    }
+
+    /// The position so many nodes further on, or that of `u64::MAX` where its number passes it.
+    pub fn saturating_add(self, by: u64) -> Self
+        ensures { result ≡ min (self + by) (2 ^ 64 - 1) }
+    {
+        Position::new(self.value.saturating_add(by))
+    }
+}
+
+impl<F: Family> Position<F> {
+    /// Whether it is at most the number of nodes of the tree over [`MAX_LEAVES`] leaves.
+    pub fn is_valid(self) -> bool
+        ensures { IsTrue result ↔ (self ≤ size F.shape (2 ^ 62)) }
+    {
+        self.value <= F::nodes_over(MAX_LEAVES)
+    }
+}
+
+impl<F> fmt::Display for Position<F> {
+    ghost output = { λ p. Some (decimal p) };
+
+    ghost styled_output = { λ p style. Some (styled_decimal style p) };
+
+    fn fmt<W: fmt::Write>(&self, f: &mut fmt::Formatter<W>) -> fmt::Result {
+        fmt::Display::fmt(&self.value, f)
+    }
+}
