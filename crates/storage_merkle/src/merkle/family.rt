@@ -1,5 +1,5 @@
 //! What the tree families share.
-ghost use Rattle.std.specs.Prelude.{◌≡◌, ℕ, ◌+◌, ◌-◌, ◌*◌, ◌%◌, ◌^◌, ◌<◌, ◌≤◌, ◌∷◌, ◌++◌, Bool, List, length, map, option_map, IfOk, OnOk, OnErr};
+ghost use Rattle.std.specs.Prelude.{◌≡◌, ℕ, ◌+◌, ◌-◌, ◌*◌, ◌%◌, ◌^◌, ◌<◌, ◌≤◌, ◌∷◌, ◌++◌, Bool, false, List, length, map, option_map, IfOk, OnOk, OnErr};
 ghost use Rattle.storage_codec.specs.Codec.{Gives};
 ghost use Rattle.storage_codec.specs.Parts.{AppendsStart, IsEnding};
 ghost use Rattle.storage_merkle.specs.Wire.{slot_text, slot_at, IsSlot};
@@ -158,7 +158,10 @@ pub trait Graftable: Family {
 
     /// Reads the slot of the pending chunk's digest from the front: always `None`, and no byte taken, where the family
     /// has none. After a refusal `buf` is at an ending of what it held.
-    final fn read_pending<D: Digest, B: Buf>(alloc: Global, buf: &mut B) -> Result<Option<D>, codec::Error>
+    final fn read_pending<D: Digest, B: Buf>(
+        alloc: Global,
+        buf: &mut B,
+    ) -> Result<Option<D>, codec::Error>
     where
         Self: Sized,
         ensures gives { Gives (option_map D.view) result (B.unread buf.new) (slot_at Self.has_pending (D.parse tt) (B.unread buf.old)) }
@@ -187,6 +190,9 @@ pub trait Graftable: Family {
             Some(_) => 1 + small_size::<D>() as u64,
         }
     }
+
+    /// Where a family has no pending chunk, each node comes with the last of its leaves.
+    ghost prompt: { has_pending ≡ false → (first height : ℕ) → Self.shape.birth first height ≡ first + 2 ^ height };
 }
 
 /// How many leaves the largest tree with at most so many nodes has.

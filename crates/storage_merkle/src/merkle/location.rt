@@ -95,6 +95,7 @@ impl<F> EncodeSize for Location<F> {
     }
 }
 
+// Callers take the answer apart by `match`: the borrow checker does not cover a `?` on it yet.
 impl<F> Read for Location<F> {
     type Cfg = ();
 

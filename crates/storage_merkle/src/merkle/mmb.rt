@@ -1,5 +1,6 @@
 //! The family whose peaks follow the digits of one more than the number of leaves.
 ghost use Rattle.std.specs.Prelude.{◌≡◌, ◌+◌, ◌-◌, ◌*◌, ◌%◌, ◌^◌, ◌<◌, ◌≤◌, ◌∷◌, true};
+ghost use Rattle.std.proofs.lemmas.Bool.{true≢false};
 ghost use Rattle.storage_merkle.specs.Shape.{Shape, Laws, size};
 ghost use Rattle.storage_merkle.specs.Digits.{mmb_digits};
 ghost use Rattle.storage_merkle.specs.Mmb.{mmb};
@@ -62,6 +63,8 @@ impl crate::merkle::Graftable for Family {
     fn has_pending() -> bool {
         true
     }
+
+    ghost prompt = { λ absent. absurd (true≢false absent) };
 }
 
 /// How many peaks there are: they follow the digits of one more than the number of leaves below its highest one.

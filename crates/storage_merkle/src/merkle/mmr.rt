@@ -1,5 +1,5 @@
 //! The family whose peaks are the 1 digits of the number of leaves.
-ghost use Rattle.std.specs.Prelude.{◌≡◌, ◌+◌, ◌-◌, ◌*◌, ◌%◌, ◌^◌, ◌<◌, ◌≤◌, ◌∷◌, false};
+ghost use Rattle.std.specs.Prelude.{◌≡◌, ◌+◌, ◌-◌, ◌*◌, ◌%◌, ◌^◌, ◌<◌, ◌≤◌, ◌∷◌, false, refl};
 ghost use Rattle.storage_merkle.specs.Shape.{Shape, Laws, size};
 ghost use Rattle.storage_merkle.specs.Digits.{mmr_digits};
 ghost use Rattle.storage_merkle.specs.Mmr.{mmr};
@@ -45,6 +45,8 @@ impl crate::merkle::Graftable for Family {
     fn has_pending() -> bool {
         false
     }
+
+    ghost prompt = { λ _ first height. refl };
 }
 
 /// How many binary digits a number of leaves has at most: the peaks are the places of the 1 digits among them.

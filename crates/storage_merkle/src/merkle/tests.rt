@@ -3,6 +3,8 @@ ghost use Rattle.std.specs.Prelude.{◌≡◌, ℕ, ◌+◌, ◌-◌, ◌*◌, �
 ghost use Rattle.storage_merkle.specs.Shape.{size};
 ghost use Rattle.storage_merkle.specs.Nodes.{IsNode};
 
+mod wire;
+
 use crate::merkle::family::{
     aligned_inactive, exact_inactive, graftable_chunks, grafted_to_ops_pos, node_at,
     ops_to_grafted_pos,
