@@ -1,11 +1,11 @@
 -- What was written is read again, and what is read was written so.
-use Rattle.std.proofs.Common.{◌≡◌, ℕ, ◌+◌, ◌^◌, ◌<◌, ◌≤◌, Bool, true, false, cond, ltb, List, [], ◌∷◌, ◌++◌, Option, Some, None, Result, Ok, Err, refl, sym, ap, ◌∙◌, arith}
+use Rattle.std.proofs.Common.{◌≡◌, ℕ, ◌+◌, ◌^◌, ◌<◌, ◌≤◌, Bool, true, false, cond, ltb, List, [], ◌∷◌, ◌++◌, length, Option, Some, None, Result, Ok, Err, refl, sym, ap, ◌∙◌, arith}
 use Rattle.std.specs.Prelude.{IfSome, option_map, codes}
 use Rattle.std.proofs.lemmas.Bool.{le-ltb}
 use Rattle.storage_codec.specs.Faults.{Fault, ◌>>=◌, Invalid}
 use Rattle.storage_codec.specs.Parts.{IsBytes, option_text, varint_text}
-use Rattle.storage_codec.specs.Codec.{Answer, varint_at}
-use Rattle.storage_codec.specs.Laws.{answer_of, bind_ok, not_fault, ok_is, snd_is, option_again, option_back}
+use Rattle.storage_codec.specs.Codec.{Answer, varint_at, front_at}
+use Rattle.storage_codec.specs.Laws.{answer_of, bind_ok, not_fault, ok_is, snd_is, option_again, option_back, front_again, front_back}
 use Rattle.storage_codec.specs.VarintLaws.{varint_again, varint_back}
 use Rattle.storage_merkle.specs.Wire.{location_at, slot_text, slot_at, IsSlot}
 
@@ -40,3 +40,19 @@ slot_back {V = V} text view parse back false bytes slot rest fits e =
     let none : Option V = None in
     snd_is _ _ (ok_is (none, bytes) (option_map view slot, rest) e)
 slot_back text view parse back true bytes slot rest fits e = option_back text view parse back bytes slot rest fits e
+
+always : {A : Type 0} (slot : Option A) → IfSome slot (λ _. Unit {0})
+always None = tt
+always (Some x) = tt
+
+-- the same of digests of one length, seen by their bytes
+pub digest_slot_again : {A : Type 0} (text : A → List ℕ) (size : ℕ) → ((x : A) → length (text x) ≡ size)
+    → (there : Bool) (slot : Option A) (rest : List ℕ) → IsSlot there slot
+    → slot_at there (front_at size) (slot_text there text slot ++ rest) ≡ Ok (option_map text slot, rest)
+digest_slot_again text size sized there slot rest s =
+    slot_again text text (front_at size) (λ _. Unit {0}) (λ x r _. front_again size (text x) r (sized x)) there slot rest s (always slot)
+
+pub digest_slot_back : {A : Type 0} (text : A → List ℕ) (size : ℕ) (there : Bool) (bytes : List ℕ) (slot : Option A) (rest : List ℕ) → IsBytes bytes
+    → slot_at there (front_at size) bytes ≡ Ok (option_map text slot, rest) → bytes ≡ slot_text there text slot ++ rest
+digest_slot_back text size there bytes slot rest fits e =
+    slot_back text text (front_at size) (λ b x r _ q. front_back size b (text x) r q) there bytes slot rest fits e

@@ -1,6 +1,6 @@
 //! What the tree families share.
 ghost use Rattle.std.specs.Prelude.{◌≡◌, ℕ, ◌+◌, ◌-◌, ◌*◌, ◌%◌, ◌^◌, ◌<◌, ◌≤◌, ◌∷◌, ◌++◌, Bool, false, List, length, map, option_map, IfOk, OnOk, OnErr};
-ghost use Rattle.storage_codec.specs.Codec.{Gives};
+ghost use Rattle.storage_codec.specs.Codec.{Gives, front_at};
 ghost use Rattle.storage_codec.specs.Parts.{AppendsStart, IsEnding};
 ghost use Rattle.storage_merkle.specs.Wire.{slot_text, slot_at, IsSlot};
 ghost use Rattle.storage_merkle.specs.Shape.{Shape, Laws, size};
@@ -158,21 +158,21 @@ pub trait Graftable: Family {
 
     /// Reads the slot of the pending chunk's digest from the front: always `None`, and no byte taken, where the family
     /// has none. After a refusal `buf` is at an ending of what it held.
+    #[tactic(auto, using(crate::proofs::Endings::ends_then))]
     final fn read_pending<D: Digest, B: Buf>(
         alloc: Global,
         buf: &mut B,
     ) -> Result<Option<D>, codec::Error>
     where
         Self: Sized,
-        ensures gives { Gives (option_map D.view) result (B.unread buf.new) (slot_at Self.has_pending (D.parse tt) (B.unread buf.old)) }
+        ensures gives { Gives (option_map D.text) result (B.unread buf.new) (slot_at Self.has_pending (front_at D.size) (B.unread buf.old)) }
         ensures ends { IsEnding (B.unread buf.old) (B.unread buf.new) }
         ensures none { IfOk result (IsSlot Self.has_pending) }
     {
-        if Self::has_pending() {
-            Option::read_cfg(alloc, buf, &())
-        } else {
-            Ok(None)
+        if !Self::has_pending() || !bool::read_cfg(alloc, buf, &())? {
+            return Ok(None);
         }
+        Ok(Some(D::read(alloc, buf)?))
     }
 
     /// How many bytes the slot takes. Takes no memory.

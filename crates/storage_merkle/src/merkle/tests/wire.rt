@@ -4,7 +4,7 @@ use std::alloc::Global;
 use std::test::Fail;
 use storage_codec::codec::{Decode, Encode, EncodeSize, Error, FixedBytes};
 
-type Digest = FixedBytes<2>;
+type Digest = FixedBytes<32>;
 
 fn decoded(alloc: Global, bytes: &[u8]) -> Result<Location<mmb::Family>, Error> {
     Location::decode_cfg(alloc, bytes, &())
@@ -55,7 +55,9 @@ fn slot<F: Graftable>(alloc: Global, slot: &Option<Digest>) -> Result<Vec<u8>, E
 #[test]
 fn pending_slots(rt: HostRuntime) -> Result<(), Fail> {
     let none: Option<Digest> = None;
-    let some = Some(FixedBytes { bytes: [7, 8] });
+    let some = Some(FixedBytes { bytes: [7; 32] });
+    let mut written = [7; 33];
+    written[0] = 1;
     assert_eq!(rt; slot::<mmr::Family>(rt.alloc(), &none)?.len(), 0);
     assert_eq!(rt; slot::<mmr::Family>(rt.alloc(), &some)?.len(), 0);
     assert_eq!(rt;
@@ -64,19 +66,20 @@ fn pending_slots(rt: HostRuntime) -> Result<(), Fail> {
     );
     assert_eq!(rt;
         slot::<mmb::Family>(rt.alloc(), &some)?.as_slice(),
-        [1, 7, 8].as_slice()
+        written.as_slice()
     );
     assert_eq!(rt; mmr::Family::pending_size(&some), 0);
     assert_eq!(rt; mmb::Family::pending_size(&none), 1);
-    assert_eq!(rt; mmb::Family::pending_size(&some), 3);
+    assert_eq!(rt; mmb::Family::pending_size(&some), 33);
 
-    let mut bytes: &[u8] = &[1, 7, 8, 9];
+    let mut bytes: &[u8] = &written;
     let read: Option<Digest> = mmr::Family::read_pending(rt.alloc(), &mut bytes)?;
     assert_eq!(rt; read, None);
-    assert_eq!(rt; bytes.len(), 4);
+    assert_eq!(rt; bytes.len(), 33);
     let read: Option<Digest> = mmb::Family::read_pending(rt.alloc(), &mut bytes)?;
     assert_eq!(rt; read, some);
-    assert_eq!(rt; bytes.len(), 1);
+    assert_eq!(rt; bytes.len(), 0);
+    let mut bytes: &[u8] = &written[1..];
     let read: Result<Option<Digest>, Error> = mmb::Family::read_pending(rt.alloc(), &mut bytes);
     assert_eq!(rt; read, Err(Error::InvalidBool));
     Ok(())
