@@ -1,3 +1,9 @@
 pub mod Endings
 pub mod Digits
 pub mod Inactive
+pub mod Prune
+pub mod Agreeing
+pub mod Distinct
+pub mod RangeSound
+pub mod RangeOwn
+pub mod Examples

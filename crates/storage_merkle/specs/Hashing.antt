@@ -11,6 +11,11 @@ abbrev pub join_digest : HashFunction → Layout → (ℕ → List ℕ) → ℕ 
 join_digest h T chunk a k l r =
     if T.grafted a k then grafted_digest h (chunk a) (h (be8 (T.shape.position a k) ++ (l ++ r))) else h (be8 (T.shape.position a k) ++ (l ++ r))
 
+-- the digests of leaves, the first of which is leaf a
+abbrev pub leaf_digests : HashFunction → Layout → ℕ → List (List ℕ) → List (List ℕ)
+leaf_digests h T a [] = []
+leaf_digests h T a (x ∷ xs) = h (be8 (T.shape.position a 0) ++ x) ∷ leaf_digests h T (a + 1) xs
+
 -- the digest of the node of height k over the leaves from a on, from those of the leaves
 abbrev pub node_over : HashFunction → Layout → (ℕ → List ℕ) → List (List ℕ) → ℕ → ℕ → List ℕ
 node_over h T chunk leaves zero a = get_or leaves a []

@@ -11,6 +11,9 @@ pub mod ShapeLaws
 pub mod MmrLaws
 pub mod MmbLaws
 pub mod Calc
+pub mod CalcLaws
 pub mod Trees
 pub mod RangeProofs
 pub mod Hashing
+pub mod HashingLaws
+pub mod Soundness

@@ -1,0 +1,5 @@
+use Rattle.storage_merkle.specs.HashingLaws.{tree_root-leaves}
+use Rattle.storage_merkle.proofs.laws.roots_are_of_leaves.Goals as goal
+
+pub returns : goal.returns
+returns c = λ h T L b content inactive. tree_root-leaves h T L b content inactive

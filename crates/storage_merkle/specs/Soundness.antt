@@ -1,0 +1,39 @@
+-- What holds of every tree and every check.
+use Rattle.std.specs.Prelude.{◌≡◌, ◌≢◌, ℕ, ◌+◌, ◌<◌, ◌≤◌, ◌^◌, ◌⊎◌, List, length, Bool}
+use Rattle.storage_codec.specs.Digests.{HashFunction, IsSized, Cross}
+use Rattle.storage_merkle.specs.Shape.{Shape, Laws}
+use Rattle.storage_merkle.specs.declared.merkle.bagging.Bagging.{Bagging}
+use Rattle.storage_merkle.specs.Trees.{Layout, Content, tree_root, tree_strings}
+use Rattle.storage_merkle.specs.RangeProofs.{RangeProof, check_strings, IsAccepted, IsOwn, AreDigests}
+use Rattle.storage_merkle.specs.Hashing.{leaf_digests, peak_digests, root_of}
+
+-- A range proof that is accepted against a tree's root is the tree's own, and what it claims stands there, or a string of the
+-- check and a different one of the tree have one digest. Digests have d bytes and chunks N; which nodes have a chunk grafted
+-- may depend on the number of leaves.
+abbrev pub RangeProofsAreSound : Type 0
+RangeProofsAreSound =
+    (d N : ℕ) (h : HashFunction) → IsSized d h → N ≢ 8 + d →
+    (S : Shape) → Laws S → (grafted : ℕ → ℕ → ℕ → Bool) →
+    let over : ℕ → Layout = λ n. record { shape = S; grafted = grafted n } in
+    (b : Bagging) (proof : RangeProof) (start : ℕ) (claim : Content) → AreDigests d proof.digests → ((a : ℕ) → length (claim.chunk a) ≡ N) →
+    (content : Content) (inactive : ℕ) → ((a : ℕ) → length (content.chunk a) ≡ N) →
+    length content.elements ≤ 2 ^ 62 → inactive ≤ length (S.peaks (length content.elements)) →
+    IsAccepted h (over proof.leaves) b proof start claim (tree_root h (over (length content.elements)) b content inactive) →
+    IsOwn h (over (length content.elements)) b proof start claim content inactive
+    ⊎ Cross h (check_strings h (over proof.leaves) b proof start claim) (tree_strings h (over (length content.elements)) b content inactive)
+
+-- A tree's own proof of some elements that stand in it is accepted against its root.
+abbrev pub OwnRangeProofsAreAccepted : Type 0
+OwnRangeProofsAreAccepted =
+    (h : HashFunction) (T : Layout) → Laws T.shape →
+    (b : Bagging) (proof : RangeProof) (start : ℕ) (claim content : Content) (inactive : ℕ) →
+    length content.elements ≤ 2 ^ 62 → inactive ≤ length (T.shape.peaks (length content.elements)) → 0 < length claim.elements →
+    IsOwn h T b proof start claim content inactive →
+    IsAccepted h T b proof start claim (tree_root h T b content inactive)
+
+-- The root of a tree is the root of its peaks' digests, which are calculated from its leaves' digests.
+abbrev pub RootsAreOfLeaves : Type 0
+RootsAreOfLeaves =
+    (h : HashFunction) (T : Layout) → Laws T.shape → (b : Bagging) (content : Content) (inactive : ℕ) →
+    let leaves : List (List ℕ) = leaf_digests h T 0 content.elements in
+    tree_root h T b content inactive ≡ root_of h T b (length content.elements) inactive (peak_digests h T content.chunk leaves (length content.elements))

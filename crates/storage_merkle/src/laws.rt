@@ -1,0 +1,20 @@
+//! What holds of every tree, every check and every proof: laws over the definitions, each the contract of a function that
+//! does nothing.
+
+ghost use Rattle.storage_merkle.specs.Soundness.{OwnRangeProofsAreAccepted, RangeProofsAreSound, RootsAreOfLeaves};
+
+/// A range proof that is accepted against a tree's root is the tree's own proof, field for field, and its elements and chunks
+/// stand in the tree, or two different strings have one digest, one hashed by the check and one by the tree.
+pub fn range_proofs_are_sound()
+    ensures { RangeProofsAreSound }
+{}
+
+/// A tree's own range proof is accepted against its root.
+pub fn own_range_proofs_are_accepted()
+    ensures { OwnRangeProofsAreAccepted }
+{}
+
+/// The root of a tree is the one calculated from the digests of its leaves.
+pub fn roots_are_of_leaves()
+    ensures { RootsAreOfLeaves }
+{}
