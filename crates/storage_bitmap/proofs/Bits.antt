@@ -1,0 +1,268 @@
+-- Packed bits and the bytes of chunks.
+use Rattle.std.proofs.Common.{◌≡◌, ◌≢◌, ℕ, zero, suc, ◌+◌, ◌-◌, ◌*◌, ◌/◌, ◌%◌, ◌^◌, ◌<◌, ◌≤◌, List, [], ◌∷◌, ◌++◌, length, drop, set, get_or, refl, sym, ap, ◌∙◌, arith, Bool, true, false, eqb, inl, inr, add-zero, zero-mul, get_or-drop, ext_get_or, get_or-set_same, get_or-set_other, length-set, length-drop}
+use Rattle.std.specs.Int.{bit_at}
+use Rattle.std.proofs.lemmas.Nat.Bits.{bit_at-suc, bit_at_lowest, bit_at-zero, same_from_bits_below, bit_at-lt}
+use Rattle.std.proofs.lemmas.List.{drop-drop, get_or_past, length_push, get_or_push, get_or_append_left}
+use Rattle.std.proofs.lemmas.List.FromFn.{length-map-range_with_len, get_or-map-range_with_len}
+use Rattle.std.proofs.lemmas.Bool.{cases_lt, cases_eq}
+use Rattle.std.proofs.lemmas.Nat.{div-add-mod'}
+use Rattle.storage_bitmap.specs.Chunks.{digit, number_of, bytes_of, chunk, IsChunkSize, Retained, pruned_to}
+use Rattle.storage_bitmap.specs.Packed.{bit_in, bits_in, IsPacked, IsWritten, HasRoom}
+
+digit-below : (b : Bool) → digit b < 2
+digit-below true = omega arith
+digit-below false = omega arith
+
+pub number_of-below : (k : ℕ) (bs : List Bool) → number_of k bs < 2 ^ k
+unfolding number_of
+number_of-below zero bs = omega arith
+number_of-below (suc k) [] = omega (arith, Rattle.std.proofs.lemmas.Nat.pow_pos (suc k))
+number_of-below (suc k) (b ∷ bs) = omega (arith, number_of-below k bs, digit-below b)
+
+halved : (d m : ℕ) → d < 2 → (d + 2 * m) / 2 ≡ m
+halved d m h = omega arith
+
+pub bit_at-number_of : (k i : ℕ) (bs : List Bool) → i < k → bit_at (number_of k bs) i ≡ digit (get_or bs i false)
+unfolding number_of
+bit_at-number_of zero i bs h = absurd (omega arith)
+bit_at-number_of (suc k) i [] h = bit_at-zero i
+bit_at-number_of (suc k) zero (b ∷ bs) h = bit_at_lowest (digit b + 2 * number_of k bs) ∙ omega (arith, digit-below b)
+bit_at-number_of (suc k) (suc i) (b ∷ bs) h =
+    bit_at-suc (digit b + 2 * number_of k bs) i ∙ (ap (λ (x : ℕ). bit_at x i) (halved (digit b) (number_of k bs) (digit-below b)) ∙ bit_at-number_of k i bs (omega arith))
+
+pub length-bytes_of : (n : ℕ) (bs : List Bool) → length (bytes_of n bs) ≡ n
+unfolding bytes_of
+length-bytes_of zero bs = refl
+length-bytes_of (suc n) bs = ap suc (length-bytes_of n (drop 8 bs))
+
+pub get_or-bytes_of : (n m : ℕ) (bs : List Bool) → m < n → get_or (bytes_of n bs) m 0 ≡ number_of 8 (drop (8 * m) bs)
+unfolding bytes_of
+get_or-bytes_of zero m bs h = absurd (omega arith)
+get_or-bytes_of (suc n) zero bs h = refl
+get_or-bytes_of (suc n) (suc m) bs h =
+    get_or-bytes_of n m (drop 8 bs) (omega arith) ∙ ap (number_of 8) (drop-drop (8 * m) 8 bs ∙ ap (λ (x : ℕ). drop x bs) (let e : 8 + 8 * m ≡ 8 * suc m = omega arith in e))
+
+pub length-bits_in : (bytes : List ℕ) (count : ℕ) → length (bits_in bytes count) ≡ count
+unfolding bits_in
+length-bits_in bytes count = length-map-range_with_len (bit_in bytes) 0 count
+
+pub get_or-bits_in : (bytes : List ℕ) (count i : ℕ) → i < count → get_or (bits_in bytes count) i false ≡ bit_in bytes i
+unfolding bits_in
+get_or-bits_in bytes count i h = get_or-map-range_with_len (bit_in bytes) 0 count i i false h (omega arith)
+
+-- where the rest is clear, each place has its bit
+bit_of : (bytes : List ℕ) (count : ℕ) → ((i : ℕ) → count ≤ i → bit_in bytes i ≡ false) → (i : ℕ) → get_or (bits_in bytes count) i false ≡ bit_in bytes i
+bit_of bytes count clear i =
+    elim (cases_lt i count) [
+      | inl h ↦ get_or-bits_in bytes count i h
+      | inr h ↦ get_or_past (bits_in bytes count) i false (rw length-bits_in h) ∙ sym (clear i h)
+    ]
+
+digit-eqb : (x : ℕ) → x < 2 → digit (eqb x 1) ≡ x
+digit-eqb zero h = refl
+digit-eqb (suc zero) h = refl
+digit-eqb (suc (suc x)) h = absurd (omega arith)
+
+pub digit-bit_in : (bytes : List ℕ) (p k : ℕ) → k < 8 → digit (bit_in bytes (8 * p + k)) ≡ bit_at (get_or bytes p 0) k
+unfolding bit_in
+digit-bit_in bytes p k h =
+    let q : (8 * p + k) / 8 ≡ p = omega arith in
+    let r : (8 * p + k) % 8 ≡ k = omega arith in
+    rw (q, r) (digit-eqb (bit_at (get_or bytes p 0) k) (bit_at-lt (get_or bytes p 0) k))
+
+-- a byte has the bits that it packs
+pub byte_is : (bytes : List ℕ) (count : ℕ) → ((i : ℕ) → get_or bytes i 0 < 256) → ((i : ℕ) → count ≤ i → bit_in bytes i ≡ false)
+    → (p : ℕ) → get_or bytes p 0 ≡ number_of 8 (drop (8 * p) (bits_in bytes count))
+byte_is bytes count narrow clear p =
+    same_from_bits_below 8 (get_or bytes p 0) (number_of 8 (drop (8 * p) (bits_in bytes count))) (narrow p) (number_of-below 8 (drop (8 * p) (bits_in bytes count)))
+    (λ k h. sym (bit_at-number_of 8 k (drop (8 * p) (bits_in bytes count)) h
+    ∙ (ap digit (get_or-drop (8 * p) (bits_in bytes count) k false ∙ bit_of bytes count clear (8 * p + k)) ∙ digit-bit_in bytes p k h)))
+
+-- the same bits at each place below the count
+pub bits_same : (bytes : List ℕ) (bits : List Bool) → ((i : ℕ) → i < length bits → bit_in bytes i ≡ get_or bits i false) → bits_in bytes (length bits) ≡ bits
+bits_same bytes bits h =
+    ext_get_or false (bits_in bytes (length bits)) bits (length-bits_in bytes (length bits))
+    (λ i below. let b : i < length bits = rw length-bits_in at below in get_or-bits_in bytes (length bits) i b ∙ h i b)
+
+-- ---- the steps of a bitmap
+pub none_packed : (n : ℕ) → IsChunkSize n → IsPacked n 0 0 []
+unfolding bit_in
+none_packed n size =
+    record { size = size; few = omega arith; room = refl; narrow = λ i. omega arith; clear = λ i h. rw (bit_at-zero (i % 8)) refl }
+
+pub none_bits : bits_in [] 0 ≡ []
+unfolding bits_in
+none_bits = refl
+
+-- a clear byte at the end changes no bit
+pub bit_in_grown : (bytes : List ℕ) (i : ℕ) → bit_in (bytes ++ 0 ∷ []) i ≡ bit_in bytes i
+unfolding bit_in
+bit_in_grown bytes i = rw (grown bytes (i / 8)) refl where
+  grown : (bytes : List ℕ) (p : ℕ) → get_or (bytes ++ 0 ∷ []) p 0 ≡ get_or bytes p 0
+  grown [] zero = refl
+  grown [] (suc p) = refl
+  grown (x ∷ bytes) zero = refl
+  grown (x ∷ bytes) (suc p) = grown bytes p
+
+pub narrow_grown : (bytes : List ℕ) → ((i : ℕ) → get_or bytes i 0 < 256) → (i : ℕ) → get_or (bytes ++ 0 ∷ []) i 0 < 256
+narrow_grown [] h zero = omega arith
+narrow_grown [] h (suc i) = omega arith
+narrow_grown (x ∷ bytes) h zero = h 0
+narrow_grown (x ∷ bytes) h (suc i) = narrow_grown bytes (λ j. h (suc j)) i
+
+pub packed_push : (n pruned kept : ℕ) (old mid new : List ℕ) (bit : Bool) → IsPacked n pruned kept old → pruned * (8 * n) + kept < 2 ^ 62
+    → HasRoom old mid kept → IsWritten mid new kept bit → IsPacked n pruned (kept + 1) new
+packed_push n pruned kept old mid new bit p few r w =
+    record {
+      size = p.size;
+      few = omega arith;
+      room = w.len ∙ (r.len ∙ (let e : (kept + 8) / 8 ≡ (kept + 1 + 7) / 8 = omega arith in e));
+      narrow = w.narrow (r.narrow p.narrow);
+      clear = λ i h. w.others i (λ e. absurd (omega arith)) ∙ (r.same i ∙ p.clear i (omega arith));
+    }
+
+pub bits_push : (kept : ℕ) (old mid new : List ℕ) (bit : Bool) → HasRoom old mid kept → IsWritten mid new kept bit
+    → bits_in new (kept + 1) ≡ bits_in old kept ++ bit ∷ []
+bits_push kept old mid new bit r w =
+    ext_get_or false (bits_in new (kept + 1)) (bits_in old kept ++ bit ∷ [])
+    (length-bits_in new (kept + 1) ∙ sym (length_push (bits_in old kept) bit ∙ ap (λ (x : ℕ). x + 1) (length-bits_in old kept)))
+    (λ i h. let below : i < kept + 1 = rw length-bits_in at h in
+    get_or-bits_in new (kept + 1) i below ∙ elim (cases_eq i kept) [
+      | inl e ↦ rw e (w.there ∙ sym (get_or_push (bits_in old kept) bit false kept (length-bits_in old kept)))
+      | inr d ↦ w.others i d ∙ (r.same i ∙ sym (get_or_append_left (bits_in old kept) (bit ∷ []) false i (rw length-bits_in (omega arith)) ∙ get_or-bits_in old kept i (omega arith)))
+    ])
+
+pub packed_set : (n pruned kept place : ℕ) (old new : List ℕ) (bit : Bool) → IsPacked n pruned kept old → place < kept
+    → IsWritten old new place bit → IsPacked n pruned kept new
+packed_set n pruned kept place old new bit p h w =
+    record {
+      size = p.size;
+      few = p.few;
+      room = w.len ∙ p.room;
+      narrow = w.narrow p.narrow;
+      clear = λ i far. w.others i (λ e. absurd (omega arith)) ∙ p.clear i far;
+    }
+
+pub bits_set : (kept place : ℕ) (old new : List ℕ) (bit : Bool) → place < kept → IsWritten old new place bit
+    → bits_in new kept ≡ set (bits_in old kept) place bit
+bits_set kept place old new bit h w =
+    ext_get_or false (bits_in new kept) (set (bits_in old kept) place bit)
+    (length-bits_in new kept ∙ sym (length-set (bits_in old kept) place bit ∙ length-bits_in old kept))
+    (λ i b. let below : i < kept = rw length-bits_in at b in
+    get_or-bits_in new kept i below ∙ elim (cases_eq i place) [
+      | inl e ↦ rw e (w.there ∙ sym (get_or-set_same (bits_in old kept) place bit false (rw length-bits_in h)))
+      | inr d ↦ w.others i d ∙ sym (get_or-set_other (bits_in old kept) place i bit false d ∙ get_or-bits_in old kept i below)
+    ])
+
+pub bit_in-drop : (bytes : List ℕ) (g i : ℕ) → bit_in (drop g bytes) i ≡ bit_in bytes (8 * g + i)
+unfolding bit_in
+bit_in-drop bytes g i =
+    let q : (8 * g + i) / 8 ≡ g + i / 8 = omega arith in
+    let r : (8 * g + i) % 8 ≡ i % 8 = omega arith in
+    rw (q, r, get_or-drop g bytes (i / 8) 0) refl
+
+dropped : (n pruned kept chunks g : ℕ) (old : List ℕ) → IsPacked n pruned kept old → chunks * (8 * n) ≡ pruned * (8 * n) + 8 * g → 8 * g ≤ kept
+    → IsPacked n chunks (kept - 8 * g) (drop g old)
+dropped n pruned kept chunks g old p e h =
+    record {
+      size = p.size;
+      few = omega arith;
+      room = length-drop g old ∙ (rw p.room (let e : (kept + 7) / 8 - g ≡ (kept - 8 * g + 7) / 8 = omega arith in e));
+      narrow = λ i. rw (get_or-drop g old i 0) (p.narrow (g + i));
+      clear = λ i far. bit_in-drop old g i ∙ p.clear (8 * g + i) (omega arith);
+    }
+
+pub bits_drop : (kept g : ℕ) (old : List ℕ) → 8 * g ≤ kept → bits_in (drop g old) (kept - 8 * g) ≡ drop (8 * g) (bits_in old kept)
+bits_drop kept g old h =
+    ext_get_or false (bits_in (drop g old) (kept - 8 * g)) (drop (8 * g) (bits_in old kept))
+    (length-bits_in (drop g old) (kept - 8 * g) ∙ sym (length-drop (8 * g) (bits_in old kept) ∙ ap (λ (x : ℕ). x - 8 * g) (length-bits_in old kept)))
+    (λ i b. let below : i < kept - 8 * g = rw length-bits_in at b in
+    get_or-bits_in (drop g old) (kept - 8 * g) i below ∙ (bit_in-drop old g i
+    ∙ sym (get_or-drop (8 * g) (bits_in old kept) i false ∙ get_or-bits_in old kept (8 * g + i) (omega arith))))
+
+-- the bits of so many chunks, in two parts
+pub chunks_split : (n pruned chunks : ℕ) → pruned ≤ chunks → chunks * (8 * n) ≡ pruned * (8 * n) + 8 * ((chunks - pruned) * n)
+chunks_split n pruned chunks h = along n pruned (chunks - pruned) chunks (omega arith) where
+  along : (n p c q : ℕ) → p + c ≡ q → q * (8 * n) ≡ p * (8 * n) + 8 * (c * n)
+  along n p c q e = rw (← e) (grind arith)
+
+pub packed_drop : (n pruned kept chunks : ℕ) (old : List ℕ) → IsPacked n pruned kept old → pruned ≤ chunks → chunks * (8 * n) ≤ pruned * (8 * n) + kept
+    → IsPacked n chunks (kept - 8 * ((chunks - pruned) * n)) (drop ((chunks - pruned) * n) old)
+packed_drop n pruned kept chunks old p h w =
+    let e : chunks * (8 * n) ≡ pruned * (8 * n) + 8 * ((chunks - pruned) * n) = chunks_split n pruned chunks h in
+    dropped n pruned kept chunks ((chunks - pruned) * n) old p e (omega arith)
+
+pub chunk_positive : (n : ℕ) → IsChunkSize n → 0 < n
+chunk_positive zero p = let e : false ≡ true = p.0 in absurd (cc)
+chunk_positive (suc n) p = omega arith
+
+pub get_or-chunk : (n j m : ℕ) (bits : List Bool) → m < n → get_or (chunk n bits j) m 0 ≡ number_of 8 (drop (8 * (j * n + m)) bits)
+unfolding chunk
+get_or-chunk n j m bits h =
+    get_or-bytes_of n m (drop (j * (8 * n)) bits) h ∙ ap (number_of 8) (drop-drop (8 * m) (j * (8 * n)) bits ∙ ap (λ (x : ℕ). drop x bits) (at n j m)) where
+      at : (n j m : ℕ) → j * (8 * n) + 8 * m ≡ 8 * (j * n + m)
+      at n j m = grind arith
+
+-- the bytes of a chunk, and 0 past the last one
+pub chunk_is : (n j kept : ℕ) (bytes r : List ℕ) → ((i : ℕ) → get_or bytes i 0 < 256) → ((i : ℕ) → kept ≤ i → bit_in bytes i ≡ false)
+    → length r ≡ n → ((m : ℕ) → m < n → get_or r m 0 ≡ get_or bytes (j * n + m) 0) → r ≡ chunk n (bits_in bytes kept) j
+unfolding chunk
+chunk_is n j kept bytes r narrow clear len h =
+    ext_get_or 0 r (chunk n (bits_in bytes kept) j) (len ∙ sym (length-bytes_of n (drop (j * (8 * n)) (bits_in bytes kept))))
+    (λ m b. let below : m < n = rw len at b in h m below ∙ (byte_is bytes kept narrow clear (j * n + m) ∙ sym (get_or-chunk n j m (bits_in bytes kept) below)))
+
+pub place_within : (n pruned kept bit : ℕ) (bytes : List ℕ) → bit < pruned * (8 * n) + length (bits_in bytes kept) → pruned * (8 * n) ≤ bit
+    → bit - pruned * (8 * n) < kept
+place_within n pruned kept bit bytes h low = omega (arith, length-bits_in bytes kept)
+
+pub chunk_within : (n pruned kept index : ℕ) (bytes : List ℕ) → index * (8 * n) < pruned * (8 * n) + length (bits_in bytes kept) → pruned ≤ index
+    → 8 * ((index - pruned) * n) < kept
+chunk_within n pruned kept index bytes h low = omega (arith, length-bits_in bytes kept, chunks_split n pruned index low)
+
+pub prune_within : (n pruned kept chunks bit : ℕ) (bytes : List ℕ) → bit ≤ pruned * (8 * n) + length (bits_in bytes kept) → chunks ≡ bit / (8 * n) → 0 < n
+    → chunks * (8 * n) ≤ pruned * (8 * n) + kept
+prune_within n pruned kept chunks bit bytes h e some = omega (arith, length-bits_in bytes kept, whole (8 * n) bit chunks e (omega arith)) where
+  whole : (m bit chunks : ℕ) → chunks ≡ bit / m → 0 < m → chunks * m ≤ bit
+  whole m bit chunks e some = rw e (omega (arith, div-add-mod' bit m))
+
+-- with less than a chunk to prune there is nothing to prune
+pub pruned_none : (n chunks : ℕ) (r : Retained) → chunks ≤ r.pruned → pruned_to n r chunks ≡ r
+pruned_none n chunks r h = let e : chunks - r.pruned ≡ 0 = omega arith in rw (e, add-zero, zero-mul) refl
+
+pub pruned_some : (n pruned kept chunks : ℕ) (old new : List ℕ) → pruned ≤ chunks → new ≡ drop ((chunks - pruned) * n) old → 8 * ((chunks - pruned) * n) ≤ kept
+    → record { pruned = chunks; bits = bits_in new (kept - 8 * ((chunks - pruned) * n)) } ≡ pruned_to n (record { pruned = pruned; bits = bits_in old kept }) chunks
+pruned_some n pruned kept chunks old new h e w =
+    let a : pruned + (chunks - pruned) ≡ chunks = omega arith in
+    let m : 8 * ((chunks - pruned) * n) ≡ (chunks - pruned) * (8 * n) = grind arith in
+    rw (a, e, ← m, bits_drop kept ((chunks - pruned) * n) old w) refl
+
+-- a byte that is written
+pub written : (bytes : List ℕ) (place byte : ℕ) (bit : Bool) → place / 8 < length bytes → byte < 256 → bit_at byte (place % 8) ≡ digit bit
+    → ((i : ℕ) → i < 8 → i ≢ place % 8 → bit_at byte i ≡ bit_at (get_or bytes (place / 8) 0) i) → IsWritten bytes (set bytes (place / 8) byte) place bit
+unfolding bit_in
+written bytes place byte bit inside small there others = record {
+  len = length-set bytes (place / 8) byte;
+  narrow = λ h i. elim (cases_eq i (place / 8)) [
+    | inl e ↦ rw (e, get_or-set_same bytes (place / 8) byte 0 inside) small
+    | inr d ↦ rw (get_or-set_other bytes (place / 8) i byte 0 d) (h i)
+  ];
+  there = rw (get_or-set_same bytes (place / 8) byte 0 inside, there) (eqb-digit bit);
+  others = λ i d. elim (cases_eq (i / 8) (place / 8)) [
+    | inl e ↦ rw (e, get_or-set_same bytes (place / 8) byte 0 inside, others (i % 8) (omega arith) (λ same. d (omega arith))) refl
+    | inr e ↦ rw (get_or-set_other bytes (place / 8) (i / 8) byte 0 e) refl
+  ];
+} where
+  eqb-digit : (b : Bool) → eqb (digit b) 1 ≡ b
+  eqb-digit true = refl
+  eqb-digit false = refl
+
+pub roomy : (bytes : List ℕ) (kept : ℕ) → length bytes ≡ (kept + 7) / 8 → kept % 8 ≡ 0 → HasRoom bytes (bytes ++ 0 ∷ []) kept
+roomy bytes kept len whole =
+    record { len = length_push bytes 0 ∙ omega arith; narrow = narrow_grown bytes; same = bit_in_grown bytes }
+
+-- what pruning takes is kept
+pub gone_within : (n pruned kept chunks bit : ℕ) (bytes : List ℕ) → bit ≤ pruned * (8 * n) + length (bits_in bytes kept) → chunks ≡ bit / (8 * n) → IsChunkSize n
+    → pruned < chunks → (8 * ((chunks - pruned) * n) ≤ kept) × (chunks * (8 * n) ≤ pruned * (8 * n) + kept)
+gone_within n pruned kept chunks bit bytes h e size less =
+    let w = prune_within n pruned kept chunks bit bytes h e (chunk_positive n size) in
+    (omega (arith, w, chunks_split n pruned chunks (omega arith)), w)

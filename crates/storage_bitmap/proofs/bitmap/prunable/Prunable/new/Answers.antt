@@ -1,0 +1,9 @@
+use Rattle.std.proofs.Common.{refl}
+use Rattle.storage_bitmap.proofs.Bits.{none_packed, none_bits}
+use Rattle.storage_bitmap.proofs.bitmap.prunable.Prunable.new.Goals as goal
+
+pub invariant_of-result : goal.invariant_of-result
+invariant_of-result g c = rw c.new.ensures.items (none_packed g.row.N c.requires)
+
+pub returns : goal.returns
+returns g c = rw (c.new.ensures.items, none_bits) refl

@@ -1,0 +1,17 @@
+use Rattle.std.proofs.Common.{arith, refl}
+use Rattle.storage_bitmap.proofs.Bits.{packed_push, bits_push, length-bits_in}
+use Rattle.storage_bitmap.proofs.bitmap.prunable.Prunable.push.Goals as goal
+
+pub invariant_of-self-2 : goal.invariant_of-self-2
+invariant_of-self-2 g c =
+    let few = rw (← c.self.view_is) at c.requires in
+    packed_push g.row.N c.self.inside.pruned c.self.inside.kept c.self.inside.bytes.items c.make_room.new.bytes.items c.write.new.bytes.items c.args.bit
+    c.self.invariant (omega (arith, few, length-bits_in c.self.inside.bytes.items c.self.inside.kept)) c.in_ok-make_room.ensures.ok c.write.ensures
+
+pub returns-clause-ok : goal.returns-clause-ok
+returns-clause-ok g c =
+    rw (
+      ← c.self.view_is,
+      bits_push c.self.inside.kept c.self.inside.bytes.items c.make_room.new.bytes.items c.write.new.bytes.items c.args.bit
+          c.in_ok-make_room.ensures.ok c.write.ensures,
+    ) refl

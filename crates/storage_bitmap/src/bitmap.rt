@@ -1,0 +1,7 @@
+//! Lists of bits in chunks of bytes, of which those in front may be forgotten.
+
+mod prunable;
+mod readable;
+
+pub use prunable::Prunable;
+pub use readable::Readable;

@@ -1,0 +1,217 @@
+//! A list of bits whose front may be forgotten.
+
+ghost use Rattle.std.specs.Prelude.{◌≡◌, ◌≢◌, ℕ, ◌+◌, ◌-◌, ◌*◌, ◌/◌, ◌%◌, ◌^◌, ◌<◌, ◌≤◌, [], ◌∷◌, ◌++◌, length, drop, slice_set, slice_index, slice_index_or, false, OnOk, OnErr};
+ghost use Rattle.std.specs.Int.{bit_at};
+ghost use Rattle.storage_bitmap.specs.Chunks.{IsChunkSize, Retained, bit_count, chunk, digit, pruned_to};
+ghost use Rattle.storage_bitmap.specs.Packed.{HasRoom, IsPacked, IsWritten, bit_in, bits_in};
+
+use crate::bitmap::Readable;
+use std::alloc::Global;
+use std::marker::Model;
+use storage_codec::NoMemory;
+
+/// A list of bits in chunks of `N` bytes, of which those in front may be forgotten. It is kept in as few bytes as its
+/// bits need.
+#[derive(Drop)]
+pub struct Prunable<const N: usize> {
+    pruned: usize,
+    kept: u64,
+    bytes: Vec<u8>,
+}
+
+impl<const N: usize> Model for Prunable<N> {
+    ghost Value = { Retained };
+
+    ghost view = { λ s. record { pruned = s.pruned; bits = bits_in s.bytes.items s.kept } };
+
+    ghost invariant = { λ s. IsPacked N s.pruned s.kept s.bytes.items };
+}
+
+impl<const N: usize> Prunable<N> {
+    /// No bits. It takes no memory.
+    pub fn new(alloc: Global) -> Self
+        requires { IsChunkSize N }
+        ensures { result ≡ record { pruned = 0; bits = [] } }
+    {
+        Prunable {
+            pruned: 0,
+            kept: 0,
+            bytes: Vec::new(alloc),
+        }
+    }
+
+    /// Appends a bit. After want of memory nothing is changed.
+    pub fn push(&mut self, bit: bool) -> Result<(), NoMemory>
+        requires { bit_count N self.old < 2 ^ 62 }
+        ensures ok { OnOk result (self.new ≡ record self.old { bits = self.old.bits ++ bit ∷ [] }) }
+        ensures err { OnErr result (self.new ≡ self.old) }
+    {
+        make_room(&mut self.bytes, self.kept)?;
+        write(&mut self.bytes, self.kept, bit);
+        self.kept += 1;
+        Ok(())
+    }
+
+    /// Changes a bit, by its place among all bits. It must be there and not be pruned.
+    pub fn set_bit(&mut self, bit: u64, value: bool)
+        requires kept { self.old.pruned * (8 * N) ≤ bit }
+        requires within { bit < bit_count N self.old }
+        ensures { self.new ≡ record self.old { bits = slice_set self.old.bits (bit - self.old.pruned * (8 * N)) value } }
+    {
+        let place = bit - pruned_bits::<N>(self.pruned);
+        write(&mut self.bytes, place, value);
+    }
+
+    /// A bit, by its place among all bits. It must be there and not be pruned.
+    pub fn get_bit(&self, bit: u64) -> bool
+        requires kept { self.now.pruned * (8 * N) ≤ bit }
+        requires within { bit < bit_count N self.now }
+        ensures { result ≡ slice_index_or self.now.bits (bit - self.now.pruned * (8 * N)) false }
+    {
+        let place = bit - pruned_bits::<N>(self.pruned);
+        read(&self.bytes, place)
+    }
+
+    /// Forgets the chunks below that of a bit, which may be one past the last. It takes no memory.
+    pub fn prune_to_bit(&mut self, bit: u64)
+        requires { bit ≤ bit_count N self.old }
+        ensures { self.new ≡ pruned_to N self.old (bit / (8 * N)) }
+    {
+        let pruned = self.pruned;
+        let chunks = (bit / (8 * N as u64)) as usize;
+        if chunks <= pruned {
+            return;
+        }
+        let gone = (chunks - pruned) * N;
+        self.pruned = chunks;
+        self.kept -= 8 * gone as u64;
+        remove_front(&mut self.bytes, gone);
+    }
+}
+
+impl<const N: usize> Readable<N> for Prunable<N> {
+    ghost retained = { λ s. s };
+
+    fn len(&self) -> u64 {
+        pruned_bits::<N>(self.pruned) + self.kept
+    }
+
+    fn pruned_chunks(&self) -> usize {
+        self.pruned
+    }
+
+    fn get_chunk(&self, index: usize) -> [u8; N] {
+        chunk_from(&self.bytes, (index - self.pruned) * N)
+    }
+}
+
+/// The `N` bytes from a place on, filled up with zeros.
+fn chunk_from<const N: usize>(bytes: &[u8], start: usize) -> [u8; N]
+    requires within { start ≤ length bytes.now }
+    requires fits { start + N < 2 ^ 64 }
+    ensures len { length result ≡ N }
+    ensures bytes { (m : ℕ) → m < N → slice_index result m ≡ slice_index bytes.now (start + m) }
+{
+    let count = N.min(bytes.len() - start);
+    let mut chunk = [0; N];
+    chunk[..count].copy_from_slice(&bytes[start..start + count]);
+    chunk
+}
+
+/// How many bits so many chunks have.
+fn pruned_bits<const N: usize>(chunks: usize) -> u64
+    requires size { N ≤ 2 ^ 59 }
+    requires few { chunks * (8 * N) ≤ 2 ^ 62 }
+    ensures { result ≡ chunks * (8 * N) }
+{
+    chunks as u64 * (8 * N as u64)
+}
+
+/// Makes room for one bit more than so many.
+fn make_room(bytes: &mut Vec<u8>, kept: u64) -> Result<(), NoMemory>
+    requires { length bytes.old.items ≡ (kept + 7) / 8 }
+    ensures ok { OnOk result (HasRoom bytes.old.items bytes.new.items kept) }
+    ensures err { OnErr result (bytes.new.items ≡ bytes.old.items) }
+{
+    if kept.is_multiple_of(8) {
+        bytes.push(0)?;
+    }
+    Ok(())
+}
+
+/// The bit at a place in packed bytes.
+fn read(bytes: &[u8], place: u64) -> bool
+    requires { place / 8 < length bytes.now }
+    ensures { result ≡ bit_in bytes.now place }
+{
+    bytes[(place / 8) as usize] >> (place % 8) & 1 == 1
+}
+
+/// Writes the bit at a place in packed bytes.
+fn write(bytes: &mut Vec<u8>, place: u64, bit: bool)
+    requires { place / 8 < length bytes.old.items }
+    ensures { IsWritten bytes.old.items bytes.new.items place bit }
+{
+    let index = (place / 8) as usize;
+    bytes[index] = with_bit(bytes[index], (place % 8) as u32, bit);
+}
+
+/// A byte with one of its bits changed.
+fn with_bit(byte: u8, place: u32, bit: bool) -> u8
+    requires { place < 8 }
+    ensures there { bit_at result place ≡ digit bit }
+    ensures others { (i : ℕ) → i < 8 → i ≢ place → bit_at result i ≡ bit_at byte i }
+{
+    let mask = 1 << place;
+    if bit { byte | mask } else { byte & !mask }
+}
+
+/// Takes away bytes in front.
+fn remove_front(bytes: &mut Vec<u8>, count: usize)
+    requires { count ≤ length bytes.old.items }
+    ensures { bytes.new.items ≡ drop count bytes.old.items }
+{
+    let end = bytes.len();
+    bytes.copy_within(count..end, 0);
+    bytes.truncate(end - count);
+}
+
+#[cfg(test)]
+mod tests {
+    use super::*;
+    use std::test::Fail;
+
+    #[test]
+    fn bits_stand_in_chunks(rt: HostRuntime) -> Result<(), Fail> {
+        let mut bits: Prunable<1> = Prunable::new(rt.alloc());
+        for i in 0..11u64 {
+            bits.push(i == 3 || i == 9)?;
+        }
+        assert_eq!(rt; bits.len(), 11);
+        assert!(rt; bits.pruned_chunks() == 0);
+        assert_eq!(rt; bits.get_chunk(0), [8]);
+        assert_eq!(rt; bits.get_chunk(1), [2]);
+        bits.set_bit(3, false);
+        bits.set_bit(10, true);
+        assert!(rt; !bits.get_bit(3) && bits.get_bit(9));
+        bits.prune_to_bit(9);
+        assert_eq!(rt; bits.len(), 11);
+        assert!(rt; bits.pruned_chunks() == 1);
+        assert_eq!(rt; bits.get_chunk(1), [6]);
+        Ok(())
+    }
+
+    #[test]
+    fn chunks_are_filled_up(rt: HostRuntime) -> Result<(), Fail> {
+        let mut bits: Prunable<32> = Prunable::new(rt.alloc());
+        bits.push(true)?;
+        bits.push(false)?;
+        bits.push(true)?;
+        let mut expected = [0; 32];
+        expected[0] = 5;
+        assert!(rt; bits.pruned_chunks() == 0);
+        assert_eq!(rt; bits.len(), 3);
+        assert_eq!(rt; bits.get_chunk(0), expected);
+        Ok(())
+    }
+}

@@ -1,0 +1,4 @@
+//! Lists of bits.
+#![tactic(auto)]
+
+pub mod bitmap;
