@@ -1,5 +1,4 @@
 pub mod Endings
-pub mod Digits
 pub mod Inactive
 pub mod Prune
 pub mod Agreeing

@@ -1,10 +1,13 @@
 pub mod Shape
 pub mod Wire
 pub mod WireLaws
-pub mod Mmr
-pub mod Mmb
-pub mod Nodes
 pub mod Digits
+pub mod DigitLaws
+pub mod Mmr
+pub mod MmrSteps
+pub mod Mmb
+pub mod MmbSteps
+pub mod Nodes
 pub mod Inactive
 pub mod Multiples
 pub mod ShapeLaws

@@ -1,32 +1,31 @@
--- The shape of an MMB.
-use Rattle.std.specs.Prelude.{ℕ, zero, suc, ◌+◌, ◌-◌, ◌*◌, ◌^◌, true, false, leb, List, [], ◌∷◌, length}
+-- The shape of an MMB, whose nodes come later than those of a Merkle mountain range: at most one parent with each leaf.
+use Rattle.std.specs.Prelude.{ℕ, zero, suc, ◌+◌, ◌-◌, ◌*◌, ◌^◌, List, [], ◌∷◌, length}
+use Rattle.storage_merkle.specs.Digits.{digit, floor_log2}
 use Rattle.storage_merkle.specs.Shape.{Shape}
 
--- the peak heights over r leaves, where r + 1 < 2 ^ (i + 1): for each i at which the digits of r + 1 have not yet begun nothing, and below that
--- i or i + 1, as the digit is 0 or 1
-unfoldable pub mmb_below : ℕ → ℕ → List ℕ
-mmb_below zero r = []
-mmb_below (suc i) r = elim (leb (2 * 2 ^ i) (r + 1)) [
-  | true ↦ elim (leb (3 * 2 ^ i) (r + 1)) [
-    | true ↦ suc i ∷ mmb_below i (r - 2 * 2 ^ i)
-    | false ↦ i ∷ mmb_below i (r - 2 ^ i)
-  ]
-  | false ↦ mmb_below i r
-]
+-- for each place below i, highest first: the place and the digit of n there, added
+unfoldable pub mmb_digits : ℕ → ℕ → List ℕ
+mmb_digits zero n = []
+mmb_digits (suc i) n = (i + digit n i) ∷ mmb_digits i n
 
+-- the peak heights over n leaves: for each place below the highest digit of n + 1
 unfoldable pub mmb_peaks : ℕ → List ℕ
-mmb_peaks n = mmb_below n n
+mmb_peaks n = mmb_digits (floor_log2 (n + 1)) (n + 1)
 
+-- the number of nodes over n leaves
 abbrev pub mmb_size : ℕ → ℕ
 mmb_size n = 2 * n - length (mmb_peaks n)
 
+-- the number of leaves from which on the tree has the node of height k with first leaf a: half of its own after its last
 abbrev pub mmb_birth : ℕ → ℕ → ℕ
 mmb_birth a zero = a + 1
 mmb_birth a (suc k) = a + 3 * 2 ^ k - 1
 
+-- its position: a leaf is the first node that comes with it, a parent the last one
 abbrev pub mmb_position : ℕ → ℕ → ℕ
 mmb_position a zero = mmb_size a
 mmb_position a (suc k) = mmb_size (a + 3 * 2 ^ k - 1) - 1
 
+-- the family of MMBs
 abbrev pub mmb : Shape
 mmb = record { byte = 1; peaks = mmb_peaks; position = mmb_position; birth = mmb_birth }

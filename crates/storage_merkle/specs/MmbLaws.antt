@@ -4,38 +4,10 @@ use lib.Count.{count_trailing_zeros}
 use Rattle.std.proofs.lemmas.Bool.{cases_eq}
 use Rattle.std.proofs.lemmas.Nat.{pow_pos}
 use Rattle.storage_merkle.specs.Shape.{leaves_of, Inside, AreAligned, Laws, size}
-use Rattle.storage_merkle.specs.Mmb.{mmb_below, mmb_peaks, mmb_size, mmb_position, mmb_birth, mmb}
+use Rattle.storage_merkle.specs.MmbSteps.{mmb_below, mmb_big, mmb_mid, mmb_small, mmb_cases, mmb_peaks_at, mmb_peaks_room, fits}
+use Rattle.storage_merkle.specs.Mmb.{mmb_peaks, mmb_size, mmb_position, mmb_birth, mmb}
 use Rattle.storage_merkle.specs.Multiples.{pow_two, next, multiple_add, multiple_down, is_multiple, twice_power, pow_below_back, zero_multiple, power_multiple, pow_order, pow_le, below_pow, log_unique}
 use Rattle.storage_merkle.specs.ShapeLaws.{length_at_most, grows_below, grows_at_most, grows_back}
-
--- ---- the three steps of the recursion
-
-pub mmb_big : (i r : ℕ) → 3 * 2 ^ i ≤ r + 1 → mmb_below (suc i) r ≡ suc i ∷ mmb_below i (r - 2 * 2 ^ i)
-unfolding mmb_below
-mmb_big i r h = rw (le-leb (2 * 2 ^ i) (r + 1) (omega arith), le-leb (3 * 2 ^ i) (r + 1) h, mmb_below)
-
-pub mmb_mid : (i r : ℕ) → 2 * 2 ^ i ≤ r + 1 → r + 1 < 3 * 2 ^ i → mmb_below (suc i) r ≡ i ∷ mmb_below i (r - 2 ^ i)
-unfolding mmb_below
-mmb_mid i r h l = rw (le-leb (2 * 2 ^ i) (r + 1) h, lt-leb (3 * 2 ^ i) (r + 1) l, mmb_below)
-
-pub mmb_small : (i r : ℕ) → r + 1 < 2 * 2 ^ i → mmb_below (suc i) r ≡ mmb_below i r
-unfolding mmb_below
-mmb_small i r h = rw (lt-leb (2 * 2 ^ i) (r + 1) h, mmb_below)
-
--- the three cases at once
-pub mmb_cases : (i r : ℕ) → (P : List ℕ → Type 0) → (r + 1 < 2 * 2 ^ i → P (mmb_below i r)) → (2 * 2 ^ i ≤ r + 1 → r + 1 < 3 * 2 ^ i → P (i ∷ mmb_below i (r - 2 ^ i))) → (3 * 2 ^ i ≤ r + 1 → P (suc i ∷ mmb_below i (r - 2 * 2 ^ i))) → P (mmb_below (suc i) r)
-mmb_cases i r P small mid big = ⊎_elim
-    (λ l. rw (mmb_small i r l) (small l))
-    (λ g. ⊎_elim (λ l. rw (mmb_mid i r g l) (mid g l)) (λ h. rw (mmb_big i r h) (big h)) (cases_lt (r + 1) (3 * 2 ^ i)))
-    (cases_lt (r + 1) (2 * 2 ^ i))
-
--- more room changes nothing
-pub mmb_room : (j i r : ℕ) → i ≤ j → r + 1 < 2 * 2 ^ i → mmb_below j r ≡ mmb_below i r
-mmb_room zero i r le h = let e : zero ≡ i = omega arith in rw e
-mmb_room (suc j) i r le h = ⊎_elim
-    (λ l. mmb_small j r (omega (arith, pow_le i j (omega arith))) ∙ mmb_room j i r (omega arith) h)
-    (λ g. let e : i ≡ suc j = omega arith in rw e)
-    (cases_lt i (suc j))
 
 pub mmb_sum : (i r : ℕ) → r + 1 < 2 * 2 ^ i → leaves_of (mmb_below i r) ≡ r
 unfolding mmb_below leaves_of
@@ -62,20 +34,11 @@ mmb_count (suc i) r h = mmb_cases i r (λ hs. (2 ^ length hs ≤ r + 1) × (r + 
 
 -- ---- the peaks over n leaves
 
-fits : (n : ℕ) → n + 1 < 2 * 2 ^ n
-fits n = omega (arith, below_pow n, pow_pos n)
-
 pub mmb_peaks_sum : (n : ℕ) → leaves_of (mmb_peaks n) ≡ n
-unfolding mmb_peaks
-mmb_peaks_sum n = mmb_sum n n (fits n)
+mmb_peaks_sum n = rw (mmb_peaks_room n) (mmb_sum n n (fits n))
 
 pub mmb_peaks_count : (n : ℕ) → (2 ^ length (mmb_peaks n) ≤ n + 1) × (n + 1 < 2 * 2 ^ length (mmb_peaks n))
-unfolding mmb_peaks
-mmb_peaks_count n = mmb_count n n (fits n)
-
-pub mmb_peaks_at : (i n : ℕ) → n + 1 < 2 * 2 ^ i → mmb_peaks n ≡ mmb_below i n
-unfolding mmb_peaks
-mmb_peaks_at i n h = ⊎_elim (λ l. sym (mmb_room i n n (omega arith) (fits n))) (λ g. mmb_room n i n g h) (cases_lt n i)
+mmb_peaks_count n = rw (mmb_peaks_room n) (mmb_count n n (fits n))
 
 pub mmb_count_at_most : (n : ℕ) → length (mmb_peaks n) ≤ n
 mmb_count_at_most n = omega (arith, length_at_most (mmb_peaks n), mmb_peaks_sum n)

@@ -4,32 +4,10 @@ use Rattle.std.proofs.lemmas.Nat.{pow_pos, ones_cat, ones-le}
 use lib.Count.{ones, ones-ones}
 use Rattle.std.proofs.lemmas.Bool.{cases_eq}
 use Rattle.storage_merkle.specs.Shape.{leaves_of, Inside, AreAligned, Laws, size}
-use Rattle.storage_merkle.specs.Mmr.{mmr_below, mmr_peaks, mmr_size, mmr_position, mmr}
+use Rattle.storage_merkle.specs.MmrSteps.{mmr_below, mmr_big, mmr_small, mmr_none, mmr_peaks_at, mmr_peaks_room}
+use Rattle.storage_merkle.specs.Mmr.{mmr_peaks, mmr_size, mmr_position, mmr}
 use Rattle.storage_merkle.specs.Multiples.{pow_two, quotient, next, multiple_add, multiple_down, is_multiple, twice_power, zero_multiple, power_multiple, pow_le, below_pow}
 use Rattle.storage_merkle.specs.ShapeLaws.{length_at_most, inside_between, grows_at_most}
-
--- ---- the two steps of the recursion
-
-pub mmr_big : (i r : ℕ) → 2 ^ i ≤ r → mmr_below (suc i) r ≡ i ∷ mmr_below i (r - 2 ^ i)
-unfolding mmr_below
-mmr_big i r h = rw (le-leb (2 ^ i) r h, mmr_below)
-
-pub mmr_small : (i r : ℕ) → r < 2 ^ i → mmr_below (suc i) r ≡ mmr_below i r
-unfolding mmr_below
-mmr_small i r h = rw (lt-leb (2 ^ i) r h, mmr_below)
-
-pub mmr_none : (i : ℕ) → mmr_below i 0 ≡ []
-unfolding mmr_below
-mmr_none zero = refl
-mmr_none (suc i) = mmr_small i 0 (pow_pos i) ∙ mmr_none i
-
--- more room changes nothing
-pub mmr_room : (j i r : ℕ) → i ≤ j → r < 2 ^ i → mmr_below j r ≡ mmr_below i r
-mmr_room zero i r le h = let e : zero ≡ i = omega arith in rw e
-mmr_room (suc j) i r le h = ⊎_elim
-    (λ l. mmr_small j r (omega (arith, pow_le i j (omega arith))) ∙ mmr_room j i r (omega arith) h)
-    (λ g. let e : i ≡ suc j = omega arith in rw e)
-    (cases_lt i (suc j))
 
 pub mmr_sum : (i r : ℕ) → r < 2 ^ i → leaves_of (mmr_below i r) ≡ r
 unfolding mmr_below leaves_of
@@ -72,16 +50,10 @@ mmr_next_count (suc i) r h = ⊎_elim
 -- ---- the peaks over n leaves
 
 pub mmr_peaks_count : (n : ℕ) → length (mmr_peaks n) ≡ ones n
-unfolding mmr_peaks
-mmr_peaks_count n = mmr_count n n (below_pow n)
+mmr_peaks_count n = rw (mmr_peaks_room n) (mmr_count n n (below_pow n))
 
 pub mmr_peaks_sum : (n : ℕ) → leaves_of (mmr_peaks n) ≡ n
-unfolding mmr_peaks
-mmr_peaks_sum n = mmr_sum n n (below_pow n)
-
-pub mmr_peaks_at : (i n : ℕ) → n < 2 ^ i → mmr_peaks n ≡ mmr_below i n
-unfolding mmr_peaks
-mmr_peaks_at i n h = ⊎_elim (λ l. sym (mmr_room i n n (omega arith) (below_pow n))) (λ g. mmr_room n i n g h) (cases_lt n i)
+mmr_peaks_sum n = rw (mmr_peaks_room n) (mmr_sum n n (below_pow n))
 
 pub mmr_ones_at_most : (n : ℕ) → ones n ≤ n
 mmr_ones_at_most n = omega (arith, length_at_most (mmr_peaks n), mmr_peaks_sum n, mmr_peaks_count n)

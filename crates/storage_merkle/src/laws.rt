@@ -3,6 +3,8 @@
 
 ghost use Rattle.storage_merkle.specs.Soundness.{OwnRangeProofsAreAccepted, RangeProofsAreSound, RootsAreOfLeaves};
 
+pub mod families;
+
 /// A range proof that is accepted against a tree's root is the tree's own proof, field for field, and its elements and chunks
 /// stand in the tree, or two different strings have one digest, one hashed by the check and one by the tree.
 pub fn range_proofs_are_sound()

@@ -2,7 +2,6 @@
 ghost use Rattle.std.specs.Prelude.{◌≡◌, ◌+◌, ◌-◌, ◌*◌, ◌%◌, ◌^◌, ◌<◌, ◌≤◌, ◌∷◌, true};
 ghost use Rattle.std.proofs.lemmas.Bool.{true≢false};
 ghost use Rattle.storage_merkle.specs.Shape.{Shape, Laws, size};
-ghost use Rattle.storage_merkle.specs.Digits.{mmb_digits};
 ghost use Rattle.storage_merkle.specs.Mmb.{mmb};
 ghost use Rattle.storage_merkle.specs.MmbLaws.{mmb_laws};
 ghost use Rattle.storage_merkle.specs.Nodes.{IsNode};
@@ -65,12 +64,4 @@ impl crate::merkle::Graftable for Family {
     }
 
     ghost prompt = { λ absent. absurd (true≢false absent) };
-}
-
-/// How many peaks there are: they follow the digits of one more than the number of leaves below its highest one.
-pub fn places(leaves: u64) -> u32
-    requires { leaves < 2 ^ 63 }
-    ensures { mmb.peaks leaves ≡ mmb_digits result (leaves + 1) }
-{
-    (leaves + 1).ilog2()
 }

@@ -1,7 +1,6 @@
 //! The family whose peaks are the 1 digits of the number of leaves.
 ghost use Rattle.std.specs.Prelude.{◌≡◌, ◌+◌, ◌-◌, ◌*◌, ◌%◌, ◌^◌, ◌<◌, ◌≤◌, ◌∷◌, false, refl};
 ghost use Rattle.storage_merkle.specs.Shape.{Shape, Laws, size};
-ghost use Rattle.storage_merkle.specs.Digits.{mmr_digits};
 ghost use Rattle.storage_merkle.specs.Mmr.{mmr};
 ghost use Rattle.storage_merkle.specs.MmrLaws.{mmr_laws};
 ghost use Rattle.storage_merkle.specs.Nodes.{IsNode};
@@ -47,11 +46,4 @@ impl crate::merkle::Graftable for Family {
     }
 
     ghost prompt = { λ _ first height. refl };
-}
-
-/// How many binary digits a number of leaves has at most: the peaks are the places of the 1 digits among them.
-pub fn places(leaves: u64) -> u32
-    ensures { mmr.peaks leaves ≡ mmr_digits result leaves }
-{
-    if leaves == 0 { 0 } else { leaves.ilog2() + 1 }
 }

@@ -1,0 +1,5 @@
+use Rattle.storage_merkle.specs.MmbLaws.{mmb_laws}
+use Rattle.storage_merkle.proofs.laws.families.mmb_is_lawful.Goals as goal
+
+pub returns : goal.returns
+returns c = mmb_laws

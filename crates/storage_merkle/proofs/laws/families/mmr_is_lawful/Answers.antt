@@ -1,0 +1,5 @@
+use Rattle.storage_merkle.specs.MmrLaws.{mmr_laws}
+use Rattle.storage_merkle.proofs.laws.families.mmr_is_lawful.Goals as goal
+
+pub returns : goal.returns
+returns c = mmr_laws
