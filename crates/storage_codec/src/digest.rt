@@ -1,9 +1,9 @@
 //! Digests, and the functions that make them.
 
-ghost use Rattle.std.specs.Prelude.{◌≡◌, ℕ, List, length, ◌↔◌, replicate, flat_map, true, Ok, refl};
+ghost use Rattle.std.specs.Prelude.{◌≡◌, ℕ, List, length, ◌↔◌, replicate, flat_map, option_map, true, Ok, refl};
 ghost use Rattle.sha2.specs.Sha256.{sha256};
 ghost use Rattle.std.proofs.lemmas.Slice.Eq.{bytes_eq-Decides};
-ghost use Rattle.storage_codec.specs.Codec.{Gives, front_at};
+ghost use Rattle.storage_codec.specs.Codec.{Gives, front_at, option_at};
 ghost use Rattle.storage_codec.specs.Digests.{HashFunction, IsPlain, IsSized};
 ghost use Rattle.storage_codec.specs.DigestLaws.{fixed_plain, sha256_sized};
 ghost use Rattle.storage_codec.specs.Parts.{IsEnding};
@@ -27,6 +27,21 @@ pub trait Digest: Copy + Eq + Canonical + EncodeSize + Small + Read<Cfg = ()> {
         ensures ends { IsEnding (B.unread buf.old) (B.unread buf.new) }
     {
         Self::read_cfg(alloc, buf, &())
+    }
+
+    /// Reads an option of a digest: a truth value, then the digest where it is true. Refuses as they
+    /// do, and then leaves an ending of the bytes.
+    #[tactic(auto, using(crate::specs::PartsLaws::ends_then))]
+    final fn read_option<B: Buf>(alloc: Global, buf: &mut B) -> Result<Option<Self>, Error>
+        ensures gives { Gives (option_map Self.text) result (B.unread buf.new)
+            (option_at (front_at Self.size) (B.unread buf.old)) }
+        ensures ends { IsEnding (B.unread buf.old) (B.unread buf.new) }
+    {
+        if bool::read_cfg(alloc, buf, &())? {
+            Ok(Some(Self::read(alloc, buf)?))
+        } else {
+            Ok(None)
+        }
     }
 
     /// Digests are equal exactly where their bytes are.
@@ -68,7 +83,7 @@ impl Digest for FixedBytes<32> {
 
 impl Digest for FixedBytes<64> {
     fn bytes(&self) -> &[u8] {
-        &self.bytes
+        self.bytes.as_slice()
     }
 
     ghost same = { λ x y. bytes_eq-Decides x.bytes y.bytes };
