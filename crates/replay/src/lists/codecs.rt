@@ -4,6 +4,16 @@ use crate::columns::{Fault, bytes};
 use std::alloc::Global;
 use storage_codec::codec::{Error, Read, UInt};
 use storage_codec::digest::{Digest, Hasher, Sha256};
+use storage_merkle::merkle::{Location, mmr};
+
+/// A text with `_` for each blank.
+fn unblanked(alloc: Global, text: &str) -> Result<String, Fault> {
+    let mut answer = String::new(alloc);
+    for character in text.chars() {
+        answer.push(if character == ' ' { '_' } else { character })?;
+    }
+    Ok(answer)
+}
 
 /// The name of a refusal.
 pub fn refusal(alloc: Global, error: Error) -> Result<String, Fault> {
@@ -13,25 +23,43 @@ pub fn refusal(alloc: Global, error: Error) -> Result<String, Fault> {
         Error::InvalidEnum(tag) => Ok(format!(in alloc; "C3({tag})")?),
         Error::InvalidVarint => Ok(String::from_str(alloc, "C4")?),
         Error::InvalidLength(length) => Ok(format!(in alloc; "C5({length})")?),
-        Error::Invalid(place, reason) => Ok(format!(in alloc; "C6({place}|{reason})")?),
+        Error::Invalid(place, reason) => {
+            let place = unblanked(alloc, place)?;
+            let reason = unblanked(alloc, reason)?;
+            Ok(format!(in alloc; "C6({place}|{reason})")?)
+        }
         Error::ExtraData(left) => Ok(format!(in alloc; "C7({left})")?),
         Error::Memory => Err(Fault::Memory),
     }
 }
 
-/// `bytes`: the varint in front and how many bytes are left.
+/// `bytes`: the varint in front, how many bytes are left, and the location in front.
 pub fn varints(alloc: Global, columns: &[&str]) -> Result<String, Fault> {
     let [text] = columns else {
         return Err(Fault::Malformed);
     };
     let input = bytes(alloc, *text)?;
-    let mut left = input.as_slice();
-    match UInt::read_cfg(alloc, &mut left, &()) {
-        Ok(value) => Ok(format!(in alloc; "{} {}", value.0, left.len())?),
-        Err(error) => {
-            let code = refusal(alloc, error)?;
-            Ok(format!(in alloc; "{code} -")?)
+    let (varint, left) = front_varint(alloc, input.as_slice())?;
+    let location = front_location(alloc, input.as_slice())?;
+    Ok(format!(in alloc; "{varint} {left} {location}")?)
+}
+
+/// The varint in front, and how many bytes are left.
+fn front_varint(alloc: Global, mut input: &[u8]) -> Result<(String, String), Fault> {
+    match UInt::read_cfg(alloc, &mut input, &()) {
+        Ok(UInt(value)) => {
+            let left = input.len();
+            Ok((format!(in alloc; "{value}")?, format!(in alloc; "{left}")?))
         }
+        Err(error) => Ok((refusal(alloc, error)?, String::from_str(alloc, "-")?)),
+    }
+}
+
+/// The location in front.
+fn front_location(alloc: Global, mut input: &[u8]) -> Result<String, Fault> {
+    match Location::<mmr::Family>::read_cfg(alloc, &mut input, &()) {
+        Ok(location) => Ok(format!(in alloc; "{location}")?),
+        Err(error) => refusal(alloc, error),
     }
 }
 
