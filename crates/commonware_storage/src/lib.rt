@@ -1,0 +1,7 @@
+//! Checked answers for a light client that trusts one digest, and the crates that they stand on, at one place.
+#![tactic(auto)]
+
+pub mod stateproof;
+
+pub use storage_codec::{NoMemory, codec, digest};
+pub use storage_merkle::merkle;

@@ -1,0 +1,120 @@
+//! The arguments.
+
+ghost use Rattle.std.specs.Prelude.{◌≡◌};
+ghost use Rattle.std.specs.Option.{SomeIff};
+ghost use Rattle.std.specs.Str.Parse.{digits_value};
+ghost use Rattle.commonware_storage.specs.Words.{IsNumber};
+
+use hex::FromHex;
+use storage_codec::codec::FixedBytes;
+
+/// A family of trees.
+#[derive(Clone, Copy, Debug, PartialEq, Eq)]
+pub enum Tree {
+    Mmr,
+    Mmb,
+}
+
+/// How many bytes a chunk has.
+#[derive(Clone, Copy, Debug, PartialEq, Eq)]
+pub enum Chunk {
+    One,
+    ThirtyTwo,
+}
+
+/// What is asked for.
+#[derive(Clone, Copy, Debug, PartialEq, Eq)]
+pub enum Action {
+    /// The canonical root.
+    Root { floor: u64 },
+    /// The canonical root, and the proof of the operation at a location.
+    Prove { floor: u64, location: u64 },
+    /// Whether a proof shows an operation at a location, under a canonical root.
+    Check {
+        root: FixedBytes<32>,
+        location: u64,
+    },
+}
+
+/// A command line.
+#[derive(Clone, Copy, Debug, PartialEq, Eq)]
+pub struct Command {
+    pub tree: Tree,
+    pub chunk: Chunk,
+    pub action: Action,
+}
+
+impl Tree {
+    /// The family of this name.
+    fn named(word: &str) -> Option<Tree> {
+        match word {
+            "mmr" => Some(Tree::Mmr),
+            "mmb" => Some(Tree::Mmb),
+            _ => None,
+        }
+    }
+}
+
+impl Chunk {
+    /// The chunk size that this word writes.
+    fn named(word: &str) -> Option<Chunk> {
+        match word {
+            "1" => Some(Chunk::One),
+            "32" => Some(Chunk::ThirtyTwo),
+            _ => None,
+        }
+    }
+}
+
+impl Action {
+    /// What a first word and the words after family and chunk ask for.
+    fn named(word: &str, rest: &[String]) -> Option<Action> {
+        match (word, rest) {
+            ("root", [floor]) => Some(Action::Root {
+                floor: number(floor.as_str())?,
+            }),
+            ("prove", [floor, location]) => Some(Action::Prove {
+                floor: number(floor.as_str())?,
+                location: number(location.as_str())?,
+            }),
+            ("check", [root, location]) => Some(Action::Check {
+                root: digest(root.as_str())?,
+                location: number(location.as_str())?,
+            }),
+            _ => None,
+        }
+    }
+}
+
+impl Command {
+    /// Reads the words of a command line, the program's own name left out; none where the program takes no such words.
+    pub fn parse(words: &[String]) -> Option<Command> {
+        let [action, tree, chunk, rest @ ..] = words else {
+            return None;
+        };
+        let tree = Tree::named(tree.as_str())?;
+        let chunk = Chunk::named(chunk.as_str())?;
+        let action = Action::named(action.as_str(), rest)?;
+        Some(Command {
+            tree,
+            chunk,
+            action,
+        })
+    }
+}
+
+/// The number that 1 to 20 decimal digits write, where it is below `2^64`.
+pub fn number(word: &str) -> Option<u64>
+    ensures { SomeIff result (IsNumber word.now) (digits_value 10 word.now) }
+{
+    if word.len() > 20 || word.starts_with('+') {
+        return None;
+    }
+    word.parse::<u64>().ok()
+}
+
+/// The digest that 64 hexadecimal digits write, in either case.
+pub fn digest(word: &str) -> Option<FixedBytes<32>> {
+    let bytes = <[u8; 32] as FromHex>::from_hex(word).ok()?;
+    Some(FixedBytes { bytes })
+}

@@ -1,0 +1,52 @@
+//! Why a run gives no answer.
+
+ghost use Rattle.std.specs.Prelude.{◌≡◌};
+ghost use Rattle.commonware_storage.specs.declared.stateproof.fault.Fault.TheVariants.{Memory};
+
+use std::alloc::{AllocError, AllocFailed};
+use storage_codec::NoMemory;
+use thiserror::Error;
+
+/// The first fault of a run, in the order of the variants; want of memory comes at any point.
+#[derive(Clone, Copy, Debug, PartialEq, Eq, Error)]
+pub enum Fault {
+    /// The arguments are none that the program takes.
+    #[error("stateproof: usage")]
+    Usage,
+    /// Standard input can't be read, or is not UTF-8.
+    #[error("stateproof: input")]
+    Input,
+    /// This line, counted from 1, is bad, missing, or one too many.
+    #[error("stateproof: line {0}")]
+    Line(u64),
+    /// The floor is past the length, or the location is at or past it.
+    #[error("stateproof: range")]
+    Range,
+    /// A growth was refused.
+    #[error("stateproof: memory")]
+    Memory,
+}
+
+impl From<NoMemory> for Fault {
+    ghost from_gives = { λ _ fault. fault ≡ Memory };
+
+    fn from(_error: NoMemory) -> Fault {
+        Fault::Memory
+    }
+}
+
+impl From<AllocError> for Fault {
+    ghost from_gives = { λ _ fault. fault ≡ Memory };
+
+    fn from(_error: AllocError) -> Fault {
+        Fault::Memory
+    }
+}
+
+impl<T: Drop> From<AllocFailed<T>> for Fault {
+    ghost from_gives = { λ _ fault. fault ≡ Memory };
+
+    fn from(_error: AllocFailed<T>) -> Fault {
+        Fault::Memory
+    }
+}
