@@ -30,10 +30,7 @@ pub enum Action {
     /// The canonical root, and the proof of the operation at a location.
     Prove { floor: u64, location: u64 },
     /// Whether a proof shows an operation at a location, under a canonical root.
-    Check {
-        root: FixedBytes<32>,
-        location: u64,
-    },
+    Check { root: FixedBytes<32>, location: u64 },
 }
 
 /// A command line.

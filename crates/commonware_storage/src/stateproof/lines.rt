@@ -1,12 +1,15 @@
 //! The lines of standard input.
 
 ghost use Rattle.std.specs.Prelude.{◌≡◌, MatchResult, MatchOption, List, ℕ, Bool};
+ghost use Rattle.storage_bitmap.specs.Chunks.{IsChunkSize, bit_count};
 ghost use Rattle.commonware_storage.specs.Words.{IsOperationLine};
 ghost use Rattle.commonware_storage.specs.declared.stateproof.fault.Fault.TheVariants.{Memory};
 
 use crate::stateproof::Fault;
 use hex::FromHexError;
 use std::alloc::Global;
+use storage_bitmap::bitmap::{Prunable, Readable};
+use storage_merkle::merkle::MAX_LEAVES;
 
 /// A line of operations: the operation's bit, and its bytes.
 #[derive(Debug, Drop)]
@@ -20,8 +23,8 @@ impl Operation {
     pub fn parse(alloc: Global, line: &str) -> Result<Option<Operation>, Fault>
         ensures { MatchResult result
             (λ found. MatchOption found
-                ((active : Bool) (bytes : List ℕ) → IsOperationLine line.now active bytes → ⊥)
-                (λ o. IsOperationLine line.now o.active o.bytes.items))
+            ((active : Bool) (bytes : List ℕ) → IsOperationLine line.now active bytes → ⊥)
+            (λ o. IsOperationLine line.now o.active o.bytes.items))
             (λ fault. fault ≡ Memory) }
     {
         let (active, digits) = if let Some(digits) = line.strip_prefix("0 ") {
@@ -37,5 +40,42 @@ impl Operation {
             Err(FromHexError::OutOfMemory) => Err(Fault::Memory),
             Err(_) => Ok(None),
         }
+    }
+}
+
+/// Operations, and a bit for each.
+#[derive(Drop)]
+pub struct Operations<const N: usize> {
+    pub strings: Vec<Vec<u8>>,
+    pub bits: Prunable<N>,
+}
+
+impl<const N: usize> Operations<N> {
+    /// Reads a line for each operation. A line ends at its LF, and what follows the last LF is a line where it is not
+    /// empty.
+    pub fn parse(alloc: Global, text: &str) -> Result<Operations<N>, Fault>
+        requires { IsChunkSize N }
+    {
+        let mut operations = Operations {
+            strings: Vec::new(alloc),
+            bits: Prunable::new(alloc),
+        };
+        for (index, line) in text.split_terminator('\n').enumerate() {
+            let Some(operation) = Operation::parse(alloc, line)? else {
+                return Err(Fault::Line(index as u64 + 1));
+            };
+            operations.push(operation)?;
+        }
+        Ok(operations)
+    }
+
+    /// Adds an operation. More than `MAX_LEAVES` of them fit in no memory.
+    fn push(&mut self, operation: Operation) -> Result<(), Fault> {
+        if self.bits.len() >= MAX_LEAVES {
+            return Err(Fault::Memory);
+        }
+        self.strings.push(operation.bytes)?;
+        self.bits.push(operation.active)?;
+        Ok(())
     }
 }
