@@ -1,5 +1,4 @@
 pub mod Endings
-pub mod Inactive
 pub mod Prune
 pub mod Agreeing
 pub mod Distinct

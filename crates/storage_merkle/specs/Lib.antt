@@ -9,6 +9,7 @@ pub mod Mmb
 pub mod MmbSteps
 pub mod Nodes
 pub mod Inactive
+pub mod InactiveLaws
 pub mod Multiples
 pub mod ShapeLaws
 pub mod MmrLaws

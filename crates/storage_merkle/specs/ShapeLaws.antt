@@ -6,7 +6,7 @@ use Rattle.std.proofs.lemmas.Nat.{pow_pos}
 use Rattle.std.proofs.Common.{◌/◌, ◌↔◌}
 use Rattle.storage_merkle.specs.Shape.{leaves_of, Inside, AreAligned, Shape, Laws, size}
 use Rattle.storage_merkle.specs.Nodes.{IsNode, CoversSame}
-use Rattle.storage_merkle.specs.Multiples.{is_multiple, pow_le, quotient_at_least, in_units, out_of_units, pow_two, pow_order, multiple_down, multiple_add, power_multiple}
+use Rattle.storage_merkle.specs.Multiples.{is_multiple, pow_le, quotient_at_least, in_units, out_of_units, pow_two, pow_order, multiple_down, multiple_add, power_multiple, next}
 use Rattle.std.proofs.lemmas.Nat.{le-div, shl-shr, shr_le, mul-le, pow-add}
 
 pub length_at_most : (hs : List ℕ) → length hs ≤ leaves_of hs
@@ -234,6 +234,88 @@ module _ (S : Shape) (L : Laws S) where
   -- what the node at a valid position needs
   pub node_small : (a k p : ℕ) → IsNode S p a k → p ≤ size S (2 ^ 62) → (k ≤ 62) × (a + 2 ^ k ≤ 2 ^ 62 + 1)
   node_small a k p n v = let v' : S.position a k ≤ size S (2 ^ 62) = omega (arith, n.at) in (valid_height a k n.aligned v', valid_leaves a k n.aligned v')
+
+  pub node_birth : (a k p : ℕ) → IsNode S p a k → p ≤ size S (2 ^ 62) → S.birth a k ≤ 2 ^ 62 + 1
+  node_birth a k p n v = valid_birth a k n.aligned (let v' : S.position a k ≤ size S (2 ^ 62) = omega (arith, n.at) in v')
+
+  -- the children of a node, by their places
+  pub child_nodes : (a k p : ℕ) → IsNode S p a k → 1 ≤ k → IsNode S (S.position a (k - 1)) a (k - 1) × IsNode S (S.position (a + 2 ^ (k - 1)) (k - 1)) (a + 2 ^ (k - 1)) (k - 1)
+  child_nodes a zero p n one = absurd (omega arith)
+  child_nodes a (suc k) p n one =
+      let e : suc k - 1 ≡ k = omega arith in
+      let l : a % 2 ^ k ≡ 0 = multiple_down a k (suc k) (omega arith) n.aligned in
+      let r : (a + 2 ^ k) % 2 ^ k ≡ 0 = multiple_add a (2 ^ k) (2 ^ k) (pow_pos k) l (power_multiple k k (omega arith)) in
+      rw e (record { aligned = l; at = refl }, record { aligned = r; at = refl })
+
+  -- the children of the one node at a position, whichever way it was found
+  pub children_of : (p a b k l r : ℕ) → IsNode S p a k → IsNode S p b k → 1 ≤ k → l ≡ S.position b (k - 1) → r ≡ S.position (b + 2 ^ (k - 1)) (k - 1) → IsNode S l a (k - 1) × IsNode S r (a + 2 ^ (k - 1)) (k - 1)
+  children_of p a b k l r x y one el er =
+      let e : b ≡ a = sym (same_node p a k b k x y).0 in
+      rw (el, er, e) (child_nodes a k p x one)
+
+  -- the node that comes with a leaf
+  pub brought : (n p a k : ℕ) → IsNode S p a k → size S n ≤ p → p < size S (n + 1) → S.birth a k ≡ n + 1
+  brought n p a k x lo hi =
+      let up : S.birth a k ≤ n + 1 = (L.born (n + 1) a k x.aligned).0 (omega (arith, x.at)) in
+      let no : S.birth a k ≤ n → ⊥ = λ h. let q : S.position a k < size S n = (L.born n a k x.aligned).1 h in omega (arith, x.at) in
+      omega arith
+
+  -- ---- the nodes of one tree
+
+  -- a node inside the peaks stands below the tree's size
+  pub inside_before : (n a k : ℕ) → a % 2 ^ k ≡ 0 → Inside (S.peaks n) 0 a k → S.position a k < size S n
+  inside_before n a k ha i = (L.born n a k ha).1 ((L.inside n a k ha).0 i)
+
+  pub before_inside : (n a k : ℕ) → a % 2 ^ k ≡ 0 → S.position a k < size S n → Inside (S.peaks n) 0 a k
+  before_inside n a k ha h = (L.inside n a k ha).1 ((L.born n a k ha).0 h)
+
+  -- sizes grow by at least a node for each leaf, and are below twice the leaves
+  pub size_at_most : (n : ℕ) → size S n ≤ 2 * n
+  size_at_most n = omega arith
+
+  pub size_order : (m n : ℕ) → m ≤ n → size S m ≤ size S n
+  size_order m n h = grows_at_most (size S) L.grows m n h
+
+  -- a node of a tree over at most 2 ^ 62 leaves: its position is valid, and fits in 63 bits
+  pub inside_valid : (n a k : ℕ) → n ≤ 2 ^ 62 → a % 2 ^ k ≡ 0 → Inside (S.peaks n) 0 a k → S.position a k ≤ size S (2 ^ 62)
+  inside_valid n a k few ha i = omega (arith, inside_before n a k ha i, size_order n (2 ^ 62) few)
+
+  pub inside_fits : (n a k : ℕ) → n ≤ 2 ^ 62 → a % 2 ^ k ≡ 0 → Inside (S.peaks n) 0 a k → S.position a k < 2 ^ 63
+  inside_fits n a k few ha i = omega (arith, inside_before n a k ha i, size_at_most n)
+
+  pub inside_height : (n a k : ℕ) → n ≤ 2 ^ 62 → a % 2 ^ k ≡ 0 → Inside (S.peaks n) 0 a k → k ≤ 62
+  inside_height n a k few ha i = valid_height a k ha (inside_valid n a k few ha i)
+
+  -- two nodes apart stand at two positions
+  pub first_apart : (a k b j : ℕ) → a % 2 ^ k ≡ 0 → b % 2 ^ j ≡ 0 → (a ≡ b → ⊥) → S.position a k ≡ S.position b j → ⊥
+  first_apart a k b j ha hb h e = h (L.injective a k b j ha hb e).0
+
+  pub height_apart : (a k b j : ℕ) → a % 2 ^ k ≡ 0 → b % 2 ^ j ≡ 0 → (k ≡ j → ⊥) → S.position a k ≡ S.position b j → ⊥
+  height_apart a k b j ha hb h e = h (L.injective a k b j ha hb e).1
+
+  -- a node stands behind every node below it
+  pub below_before : (d a k b j : ℕ) → d + j ≡ k → 0 < d → a % 2 ^ k ≡ 0 → b % 2 ^ j ≡ 0 → a ≤ b → b + 2 ^ j ≤ a + 2 ^ k → S.position b j < S.position a k
+  below_before zero a k b j e p ha hb lo hi = absurd (omega arith)
+  below_before (suc d) a zero b j e p ha hb lo hi = absurd (omega arith)
+  below_before (suc d) a (suc k) b j e p ha hb lo hi =
+      let c = L.children a k ha in
+      let l : a % 2 ^ k ≡ 0 = multiple_down a k (suc k) (omega arith) ha in
+      let r : (a + 2 ^ k) % 2 ^ k ≡ 0 = multiple_add a (2 ^ k) (2 ^ k) (pow_pos k) l (power_multiple k k (omega arith)) in
+      let rj : (a + 2 ^ k) % 2 ^ j ≡ 0 = multiple_down (a + 2 ^ k) j k (omega arith) r in
+      let same : d ≡ 0 → j ≡ k = λ z. omega arith in
+      ⊎_elim
+      (λ (h : b < a + 2 ^ k).
+      let x : b + 2 ^ j ≤ a + 2 ^ k = next b (a + 2 ^ k) (2 ^ j) hb rj h in
+      ⊎_elim
+      (λ (q : 0 < d). let y : S.position b j < S.position a k = below_before d a k b j (omega arith) q l hb lo x in omega (arith, c))
+      (λ (q : d ≤ 0). let jk : j ≡ k = omega arith in let w : 2 ^ j ≡ 2 ^ k = ap (λ z. 2 ^ z) jk in let ab : b ≡ a = omega arith in rw (jk, ab) c.0)
+      (cases_lt 0 d))
+      (λ (h : a + 2 ^ k ≤ b).
+      ⊎_elim
+      (λ (q : 0 < d). let y : S.position b j < S.position (a + 2 ^ k) k = below_before d (a + 2 ^ k) k b j (omega arith) q r hb h (omega (arith, pow_two k)) in omega (arith, c))
+      (λ (q : d ≤ 0). let jk : j ≡ k = omega arith in let w : 2 ^ j ≡ 2 ^ k = ap (λ z. 2 ^ z) jk in let ab : b ≡ a + 2 ^ k = omega (arith, pow_two k) in rw (jk, ab) c.1)
+      (cases_lt 0 d))
+      (cases_lt b (a + 2 ^ k))
 
 module _ (S : Shape) (L : Laws S) where
   -- a node at a small position may be moved up by few levels

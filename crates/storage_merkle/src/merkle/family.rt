@@ -1,4 +1,4 @@
-//! What the tree families share.
+//! Tree families: where the nodes of a tree stand. No call takes memory, but writing and reading a pending slot.
 ghost use Rattle.std.specs.Prelude.{◌≡◌, ℕ, ◌+◌, ◌-◌, ◌*◌, ◌%◌, ◌^◌, ◌<◌, ◌≤◌, ◌∷◌, ◌++◌, Bool, false, List, length, map, option_map, IfOk, OnOk, OnErr};
 ghost use Rattle.storage_codec.specs.Codec.{Gives, front_at};
 ghost use Rattle.storage_codec.specs.Parts.{AppendsStart, IsEnding};
@@ -13,8 +13,13 @@ use storage_codec::NoMemory;
 use storage_codec::codec::{self, Buf, Read, Write, small_size};
 use storage_codec::digest::Digest;
 
-/// A family of append-only trees.
+/// A family of append-only trees: where the nodes stand that cover given leaves. A tree over `n` leaves is cut into
+/// perfect trees, its peaks; a node is known by its first leaf and its height, from 0 for a leaf, and has a position among
+/// the nodes, which never changes while the tree grows. No call takes memory.
+///
+/// A family gives the first five calls; all others stand on them and are written once.
 pub trait Family: Copy {
+    /// The family's peaks, positions and births.
     ghost shape: { Shape };
 
     /// How many nodes the tree over so many leaves has.
@@ -22,7 +27,7 @@ pub trait Family: Copy {
         requires { size shape leaves < 2 ^ 64 }
         ensures { result ≡ size shape leaves };
 
-    /// The height of the first peak over so many leaves.
+    /// The height of the first peak over so many leaves. The peaks after it are those over the leaves that are left.
     fn first_peak(leaves: u64) -> u32
         requires some { 0 < leaves }
         requires few { leaves ≤ 2 ^ 62 }
@@ -30,12 +35,12 @@ pub trait Family: Copy {
         ensures within { 2 ^ result ≤ leaves }
         ensures small { result ≤ 62 };
 
-    /// At how many leaves the node of that height with that first leaf comes.
+    /// From how many leaves on the tree has the node of that height with that first leaf.
     fn birth(first: u64, height: u32) -> u64
         requires { shape.birth first height ≤ 2 ^ 63 }
         ensures { result ≡ shape.birth first height };
 
-    /// Its position.
+    /// The position of the node of that height with that first leaf, a multiple of `2^height`.
     fn position(first: u64, height: u32) -> u64
         requires aligned { first % 2 ^ height ≡ 0 }
         requires fits { shape.position first height < 2 ^ 64 }
@@ -48,18 +53,20 @@ pub trait Family: Copy {
         requires within { size shape leaves + offset < size shape (leaves + 1) }
         ensures { IsNode shape (size shape leaves + offset) result.0 result.1 };
 
-    /// The height of the node at a position.
+    /// The height of the node at a valid position, from 0 for a leaf.
     final fn pos_to_height(position: Position<Self>) -> u32
     where
         Self: Sized,
         requires { position ≤ size shape (2 ^ 62) }
-        ensures { (first : ℕ) × IsNode shape position first result }
+        ensures node { (first : ℕ) × IsNode shape position first result }
+        ensures small { result ≤ 62 }
     {
         let (_, height) = node_at::<Self>(position.as_u64());
         height
     }
 
-    /// The peaks of the tree with so many nodes: the position and the height of each.
+    /// The peaks of the tree with so many nodes, from the first leaf on: the position and the height of each. So many
+    /// nodes are those of some tree over at most [`MAX_LEAVES`](crate::merkle::MAX_LEAVES) leaves.
     final fn peaks(nodes: Position<Self>) -> Peaks<Self>
     where
         Self: Sized,
@@ -69,14 +76,15 @@ pub trait Family: Copy {
         Peaks::over(leaves_within::<Self>(nodes.as_u64()))
     }
 
-    /// The positions of the left and the right child of the node at a position.
+    /// The positions of the left and the right child of the node at a valid position, where `height` is the node's own
+    /// and at least 1.
     final fn children(position: Position<Self>, height: u32) -> (Position<Self>, Position<Self>)
     where
         Self: Sized,
         requires inner { 1 ≤ height }
         requires valid { position ≤ size shape (2 ^ 62) }
         requires own { (first : ℕ) × IsNode shape position first height }
-        ensures { (first : ℕ) → IsNode shape position first height → (result.0 ≡ shape.position first (height - 1)) × (result.1 ≡ shape.position (first + 2 ^ (height - 1)) (height - 1)) }
+        ensures { (first : ℕ) → IsNode shape position first height → IsNode shape result.0 first (height - 1) × IsNode shape result.1 (first + 2 ^ (height - 1)) (height - 1) }
     {
         let (first, _) = node_at::<Self>(position.as_u64());
         let left = Self::position(first, height - 1);
@@ -84,7 +92,8 @@ pub trait Family: Copy {
         (Position::new(left), Position::new(right))
     }
 
-    /// The positions of the nodes that are kept when the leaves below a location are forgotten: the peaks over them.
+    /// The positions of the nodes that are kept when the leaves below a valid location are pruned: the peaks over them,
+    /// from the first leaf on.
     final fn nodes_to_pin(location: Location<Self>) -> NodesToPin<Self>
     where
         Self: Sized,
@@ -94,15 +103,17 @@ pub trait Family: Copy {
         NodesToPin::of(Peaks::over(location.as_u64()))
     }
 
+    /// The shape is a lawful one.
     ghost laws: { Laws shape };
 }
 
-/// A family whose chunks of leaves may be hashed as leaves of another tree.
+/// A family whose chunks of leaves may be grafted: hashed into the nodes that cover them, as leaves of a tree of the
+/// family.
 pub trait Graftable: Family {
     /// Whether a tree of the family may have a pending chunk.
     ghost has_pending: { Bool };
 
-    /// The first leaf below the node at a position.
+    /// The first leaf below the node at a valid position, where `height` is the node's own.
     final fn leftmost_leaf(position: Position<Self>, height: u32) -> Location<Self>
     where
         Self: Sized,
@@ -114,7 +125,7 @@ pub trait Graftable: Family {
         Location::new(first)
     }
 
-    /// The position of the node of that height with that first leaf.
+    /// The position of the node of that height with that first leaf, a multiple of `2^height`.
     final fn subtree_root_position(first: Location<Self>, height: u32) -> Position<Self>
     where
         Self: Sized,
@@ -125,7 +136,7 @@ pub trait Graftable: Family {
         Position::new(Self::position(first.as_u64(), height))
     }
 
-    /// At how many leaves the node at a position comes.
+    /// From how many leaves on the tree has the node at a valid position, where `height` is the node's own and at least 1.
     final fn peak_birth_size(position: Position<Self>, height: u32) -> u64
     where
         Self: Sized,
@@ -195,7 +206,8 @@ pub trait Graftable: Family {
     ghost prompt: { has_pending ≡ false → (first height : ℕ) → Self.shape.birth first height ≡ first + 2 ^ height };
 }
 
-/// How many leaves the largest tree with at most so many nodes has.
+/// How many leaves the largest tree with at most so many nodes has, for up to as many nodes as
+/// [`MAX_LEAVES`](crate::merkle::MAX_LEAVES) leaves have. Takes no memory.
 pub fn leaves_within<F: Family>(nodes: u64) -> u64
     requires { nodes ≤ size F.shape (2 ^ 62) }
     ensures few { result ≤ 2 ^ 62 }
@@ -215,12 +227,13 @@ pub fn leaves_within<F: Family>(nodes: u64) -> u64
     low
 }
 
-/// The first leaf and the height of the node at a position.
+/// The first leaf and the height of the node at a valid position. Takes no memory.
 pub fn node_at<F: Family>(position: u64) -> (u64, u32)
     requires { position ≤ size F.shape (2 ^ 62) }
     ensures node { IsNode F.shape position result.0 result.1 }
     ensures small { result.1 ≤ 62 }
     ensures few { result.0 + 2 ^ result.1 ≤ 2 ^ 62 + 1 }
+    ensures birth { F.shape.birth result.0 result.1 ≤ 2 ^ 62 + 1 }
 {
     let leaves = leaves_within::<F>(position);
     F::node_after(leaves, position - F::nodes_over(leaves))
@@ -314,8 +327,8 @@ pub fn aligned_inactive<F: Family>(leaves: u64, floor: u64, height: u32) -> usiz
     best
 }
 
-/// A power of two.
-pub(crate) fn power(exponent: u32) -> u64
+/// Two to the power of an exponent of at most 63. Takes no memory.
+pub fn power(exponent: u32) -> u64
     requires { exponent ≤ 63 }
     ensures { result ≡ 2 ^ exponent }
 {

@@ -2,7 +2,7 @@ use Rattle.std.proofs.Common.{arith, ◌≡◌, ◌-◌, ◌^◌}
 use Rattle.std.proofs.Common.{refl}
 use Rattle.std.proofs.lemmas.Bool.{false≢true}
 use Rattle.std.proofs.lemmas.Nat.{pow_pos}
-use Rattle.storage_merkle.proofs.Inactive.{at_start, at_next, stopped, past_end, aligned, best_start, best_new, best_old}
+use Rattle.storage_merkle.specs.InactiveLaws.{at_start, at_next, stopped, past_end, aligned, best_start, best_new, best_old}
 use Rattle.storage_merkle.proofs.merkle.family.aligned_inactive.Goals as goal
 
 pub loop-left-init : goal.loop-left-init

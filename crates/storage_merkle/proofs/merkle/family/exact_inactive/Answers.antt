@@ -1,6 +1,6 @@
 use Rattle.std.proofs.Common.{arith, ◌≡◌}
 use Rattle.std.proofs.lemmas.Nat.{pow_pos}
-use Rattle.storage_merkle.proofs.Inactive.{at_start, at_next, stopped, past_end, exact}
+use Rattle.storage_merkle.specs.InactiveLaws.{at_start, at_next, stopped, past_end, exact}
 use Rattle.storage_merkle.proofs.merkle.family.exact_inactive.Goals as goal
 
 pub loop-left-init : goal.loop-left-init

@@ -1,5 +1,5 @@
 use Rattle.std.proofs.Common.{◌+◌, ◌-◌, ◌≤◌}
-use Rattle.storage_merkle.proofs.Inactive.{Reached}
+use Rattle.storage_merkle.specs.InactiveLaws.{Reached}
 use Rattle.storage_merkle.proofs.merkle.family.exact_inactive.Given as goal
 
 abbrev pub invariant-loop-left : goal.invariant-loop-left
