@@ -1,0 +1,4 @@
+//! Databases whose root commits to which operations are active.
+#![tactic(auto)]
+
+pub mod qmdb;

@@ -1,0 +1,3 @@
+//! Authenticated databases.
+
+pub mod current;
