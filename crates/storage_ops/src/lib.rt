@@ -1,0 +1,6 @@
+//! Operations on authenticated databases, and their encodings.
+#![tactic(auto)]
+
+pub mod qmdb;
+#[cfg(test)]
+mod tests;

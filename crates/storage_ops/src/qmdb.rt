@@ -1,0 +1,4 @@
+//! Authenticated databases of keys and values.
+
+pub mod any;
+pub mod operation;

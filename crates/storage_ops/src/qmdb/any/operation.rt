@@ -1,0 +1,136 @@
+//! Operations: updates, deletions and commits.
+
+ghost use Rattle.std.specs.Prelude.{◌≡◌, ℕ, List, Ok, ◌++◌, IfOk, OnOk, OnErr};
+ghost use Rattle.storage_codec.specs.Codec.{Answer, Gives};
+ghost use Rattle.storage_codec.specs.Parts.{AppendsStart, IsEnding};
+ghost use Rattle.storage_ops.specs.Operations.{OperationView, operation_map, parts};
+
+pub(crate) mod fixed;
+pub mod update;
+
+use crate::qmdb::any::value::ValueEncoding;
+use std::alloc::Global;
+use storage_codec::NoMemory;
+use storage_codec::codec::{Buf, Codec, Error, Read, Write};
+use storage_merkle::merkle::{Family, Location};
+pub use update::Update;
+
+/// The tag of a deletion.
+pub const DELETE_CONTEXT: u8 = 0xD1;
+
+/// The tag of an update.
+pub const UPDATE_CONTEXT: u8 = 0xD2;
+
+/// The tag of a commit.
+pub const COMMIT_CONTEXT: u8 = 0xD3;
+
+/// An operation.
+#[derive(Drop)]
+#[derive_where(Debug; S, S::Value)]
+#[derive_where(PartialEq; S, S::Value)]
+pub enum Operation<F: Family, S: Update> {
+    Delete(S::Key),
+    Update(S),
+    CommitFloor(Option<S::Value>, Location<F>),
+}
+
+/// How the operations over one encoding of values are written and read.
+pub trait OperationCodec<F: Family, S: Update>: ValueEncoding {
+    /// What a reader is told.
+    type ReadCfg;
+
+    /// The bytes of an operation, from those of its parts.
+    ghost operation_text: { OperationView (List ℕ) (List ℕ) (List ℕ) → List ℕ };
+
+    /// What is seen of an operation.
+    ghost View: { Type 0 };
+
+    /// What is seen of this operation.
+    ghost operation_view: { OperationView S.Key S S.Value → View };
+
+    /// The operation is one of the type, and the configuration admits it.
+    ghost operation_admits: { Self.ReadCfg → OperationView S.Key S S.Value → Type 0 };
+
+    /// What reading answers for these bytes.
+    ghost operation_parse: { Self.ReadCfg → List ℕ → Answer View };
+
+    /// Appends the bytes of an operation. A refused growth leaves a beginning of them.
+    fn write_operation(operation: &Operation<F, S>, out: &mut Vec<u8>) -> Result<(), NoMemory>
+        ensures ok { OnOk result (out.new.items ≡ out.old.items ++ operation_text (operation_map S.Key.text S.text S.Value.text (parts operation.now))) }
+        ensures err { OnErr result (AppendsStart out.old.items out.new.items (operation_text (operation_map S.Key.text S.text S.Value.text (parts operation.now)))) };
+
+    /// Reads an operation from the front.
+    fn read_operation<B: Buf>(
+        alloc: Global,
+        buf: &mut B,
+        cfg: &Self::ReadCfg,
+    ) -> Result<Operation<F, S>, Error>
+        ensures gives { Gives (λ x. operation_view (parts x)) result (B.unread buf.new) (operation_parse cfg.now (B.unread buf.old)) }
+        ensures ends { IsEnding (B.unread buf.old) (B.unread buf.new) };
+
+    /// What was written is read again, and what follows is left.
+    ghost operation_again: { (cfg : Self.ReadCfg) (op : OperationView S.Key S S.Value) (rest : List ℕ) → Self.operation_admits cfg op
+        → Self.operation_parse cfg (Self.operation_text (operation_map S.Key.text S.text S.Value.text op) ++ rest) ≡ Ok (Self.operation_view op, rest) };
+
+    /// Operations that are seen as equal have parts that are seen as equal.
+    ghost operation_same: { (x y : OperationView S.Key S S.Value) → Self.operation_view x ≡ Self.operation_view y
+        → operation_map S.Key.view S.seen S.Value.view x ≡ operation_map S.Key.view S.seen S.Value.view y };
+}
+
+impl<F: Family, S: Update> Write for Operation<F, S>
+where
+    S::ValueEncoding: OperationCodec<F, S>,
+{
+    ghost text = { λ x. S.ValueEncoding.operation_text (operation_map S.Key.text S.text S.Value.text (parts x)) };
+
+    fn write(&self, out: &mut Vec<u8>) -> Result<(), NoMemory> {
+        S::ValueEncoding::write_operation(self, out)
+    }
+}
+
+impl<F: Family, S: Update> Read for Operation<F, S>
+where
+    S::ValueEncoding: OperationCodec<F, S>,
+{
+    type Cfg = <S::ValueEncoding as OperationCodec<F, S>>::ReadCfg;
+
+    ghost View = { S.ValueEncoding.View };
+
+    ghost view = { λ x. S.ValueEncoding.operation_view (parts x) };
+
+    ghost admits = { λ cfg x. S.ValueEncoding.operation_admits cfg (parts x) };
+
+    ghost parse = { S.ValueEncoding.operation_parse };
+
+    fn read_cfg<B: Buf>(
+        alloc: Global,
+        buf: &mut B,
+        cfg: &<S::ValueEncoding as OperationCodec<F, S>>::ReadCfg,
+    ) -> Result<Operation<F, S>, Error> {
+        S::ValueEncoding::read_operation(alloc, buf, cfg)
+    }
+}
+
+impl<F: Family, S: Update> Codec for Operation<F, S>
+where
+    S::ValueEncoding: OperationCodec<F, S>,
+{
+    ghost again = { λ cfg x rest h. S.ValueEncoding.operation_again cfg (parts x) rest h };
+}
+
+impl<F: Family, S: Update> Operation<F, S> {
+    /// A second operation that is seen and written as this one.
+    pub fn clone(&self) -> Result<Self, NoMemory>
+        ensures seen { IfOk result (λ x. operation_map S.Key.view S.seen S.Value.view (parts x) ≡ operation_map S.Key.view S.seen S.Value.view (parts self.now)) }
+        ensures text { IfOk result (λ x. operation_map S.Key.text S.text S.Value.text (parts x) ≡ operation_map S.Key.text S.text S.Value.text (parts self.now)) }
+    {
+        Ok(match self {
+            Operation::Delete(key) => Operation::Delete(key.clone()?),
+            Operation::Update(update) => Operation::Update(Update::clone(update)?),
+            Operation::CommitFloor(Some(value), floor) => {
+                Operation::CommitFloor(Some(value.clone()?), *floor)
+            }
+            Operation::CommitFloor(None, floor) => Operation::CommitFloor(None, *floor),
+        })
+    }
+}

@@ -1,0 +1,150 @@
+//! Updates that name the next key.
+
+ghost use Rattle.std.specs.Prelude.{◌≡◌, ℕ, List, ◌+◌, ◌++◌, IfOk, OnOk, OnErr};
+ghost use Rattle.storage_codec.specs.Codec.{Gives};
+ghost use Rattle.storage_codec.specs.Parts.{AppendsStart, IsEnding};
+ghost use Rattle.storage_ops.specs.Updates.{ordered_at};
+ghost use Rattle.storage_ops.specs.UpdatesLaws.{ordered_again, ordered_sized, three_small};
+
+use crate::qmdb::any::operation::update::{
+    CodecUpdate, FixedUpdate, Update as UpdateTrait, sealed, write_pair,
+};
+use crate::qmdb::any::value::{
+    FixedEncoding, FixedValue, ValueEncoding, VariableEncoding, VariableValue,
+};
+use crate::qmdb::operation::Key;
+use std::alloc::Global;
+use storage_codec::NoMemory;
+use storage_codec::codec::{
+    Buf, Codec, EncodeSize, Error, FixedSize, Read, Small, Write, small_size,
+};
+
+/// An update that names the next key.
+#[derive(Drop)]
+#[derive_where(Debug; V::Value)]
+#[derive_where(PartialEq; V::Value)]
+#[derive_where(Eq; V::Value)]
+pub struct Update<K: Key, V: ValueEncoding> {
+    pub key: K,
+    pub value: V::Value,
+    pub next_key: K,
+}
+
+impl<K: Key, V: ValueEncoding> sealed::Sealed for Update<K, V> {}
+
+impl<K: Key, V: ValueEncoding> UpdateTrait for Update<K, V> {
+    type Key = K;
+
+    type Value = V::Value;
+
+    type ValueEncoding = V;
+
+    ghost Seen = { K.View × V.Value.View × K.View };
+
+    ghost seen = { λ u. (K.view u.key, V.Value.view u.value, K.view u.next_key) };
+
+    ghost key_of = { λ u. u.key };
+
+    ghost value_of = { λ u. u.value };
+
+    fn key(&self) -> &K {
+        &self.key
+    }
+
+    fn into_key(self) -> K {
+        self.key
+    }
+
+    fn value(&self) -> &V::Value {
+        &self.value
+    }
+
+    fn into_value(self) -> V::Value {
+        self.value
+    }
+
+    fn clone(&self) -> Result<Update<K, V>, NoMemory> {
+        Ok(Update {
+            key: self.key.clone()?,
+            value: self.value.clone()?,
+            next_key: self.next_key.clone()?,
+        })
+    }
+}
+
+impl<K: Key, V: ValueEncoding> Write for Update<K, V> {
+    ghost text = { λ u. K.text u.key ++ V.Value.text u.value ++ K.text u.next_key };
+
+    #[tactic(auto, using(storage_codec::specs::PartsLaws::starts_then, storage_codec::specs::PartsLaws::starts_first))]
+    fn write(&self, out: &mut Vec<u8>) -> Result<(), NoMemory> {
+        write_pair(&self.key, &self.value, out)?;
+        self.next_key.write(out)?;
+        Ok(())
+    }
+}
+
+/// Reads the parts, one after the other.
+#[tactic(auto, using(storage_codec::specs::PartsLaws::ends_then))]
+fn read<K: Key, V: ValueEncoding, B: Buf>(
+    alloc: Global,
+    buf: &mut B,
+    key: &K::Cfg,
+    value: &<V::Value as Read>::Cfg,
+) -> Result<Update<K, V>, Error>
+    ensures gives { Gives (λ u. (K.view u.key, V.Value.view u.value, K.view u.next_key)) result (B.unread buf.new)
+        (ordered_at (K.parse key.now) (V.Value.parse value.now) (B.unread buf.old)) }
+    ensures ends { IsEnding (B.unread buf.old) (B.unread buf.new) }
+{
+    let read_key = K::read_cfg(alloc, buf, key)?;
+    let read_value = V::Value::read_cfg(alloc, buf, value)?;
+    let next_key = K::read_cfg(alloc, buf, key)?;
+    Ok(Update {
+        key: read_key,
+        value: read_value,
+        next_key,
+    })
+}
+
+impl<K: Key + Small + Read<Cfg = ()>, V: FixedValue> FixedSize for Update<K, FixedEncoding<V>> {
+    ghost size = { K.size + V.size + K.size };
+
+    fn fixed_size() -> usize {
+        let key = small_size::<K>();
+        key + small_size::<V>() + key
+    }
+
+    ghost sized = { λ u. ordered_sized K.text V.text K.size V.size K.sized V.sized u.key u.value u.next_key };
+}
+
+impl<K: Key + Read<Cfg = ()>, V: FixedValue> Read for Update<K, FixedEncoding<V>> {
+    type Cfg = ();
+
+    ghost View = { K.View × V.View × K.View };
+
+    ghost view = { λ u. (K.view u.key, V.view u.value, K.view u.next_key) };
+
+    ghost admits = { λ _ u. K.admits tt u.key × V.admits tt u.value × K.admits tt u.next_key };
+
+    ghost parse = { λ _. ordered_at (K.parse tt) (V.parse tt) };
+
+    fn read_cfg<B: Buf>(
+        alloc: Global,
+        buf: &mut B,
+        _cfg: &(),
+    ) -> Result<Update<K, FixedEncoding<V>>, Error> {
+        read(alloc, buf, &(), &())
+    }
+}
+
+impl<K: Key + Read<Cfg = ()>, V: FixedValue> Codec for Update<K, FixedEncoding<V>> {
+    ghost again = { λ _ u rest h. ordered_again K.text V.text K.view V.view (K.parse tt) (V.parse tt) (K.admits tt) (V.admits tt)
+        (record { again = K.again tt }) (record { again = V.again tt }) u.key u.value u.next_key rest h };
+}
+
+impl<K: Key + Read<Cfg = ()>, V: FixedValue> CodecUpdate for Update<K, FixedEncoding<V>> {
+    ghost same_seen = { λ x y e. e };
+}
+
+impl<K: Key + Small + Read<Cfg = ()>, V: FixedValue> FixedUpdate for Update<K, FixedEncoding<V>> {
+    ghost few = { three_small K.size V.size K.small V.small };
+}

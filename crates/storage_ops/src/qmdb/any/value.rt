@@ -1,0 +1,75 @@
+//! Values of one size, and of any size.
+
+ghost use Rattle.std.specs.Prelude.{◌≡◌, ℕ, List};
+ghost use Rattle.std.specs.Int.{w64, to_be_bytes};
+ghost use Rattle.std.proofs.Common.{ap};
+
+use std::marker::PhantomData;
+use storage_codec::codec::{Codec, EncodeSize, FixedBytes, Read, Small};
+
+mod sealed {
+    pub trait Sealed {}
+}
+
+/// A value whose encodings all have one size.
+pub trait FixedValue: Codec + EncodeSize + Small + Read<Cfg = ()> + Clone {
+    /// A clone is seen and written as the value.
+    ghost clones: { (x y : Self) → Self.is_clone x y → (Self.view y ≡ Self.view x) × (Self.text y ≡ Self.text x) };
+}
+
+/// A value of any size.
+pub trait VariableValue: Codec + EncodeSize + Clone {
+    /// A clone is seen and written as the value.
+    ghost clones: { (x y : Self) → Self.is_clone x y → (Self.view y ≡ Self.view x) × (Self.text y ≡ Self.text x) };
+}
+
+/// How values are encoded: with one size, or with any.
+pub trait ValueEncoding: sealed::Sealed {
+    /// The values.
+    type Value: Codec + EncodeSize + Clone;
+
+    /// A clone is seen and written as the value.
+    ghost clones: { (x y : Self.Value) → Self.Value.is_clone x y → (Self.Value.view y ≡ Self.Value.view x) × (Self.Value.text y ≡ Self.Value.text x) };
+}
+
+/// Values of one size.
+#[derive(Drop)]
+#[derive_where(Clone, Copy, Debug, PartialEq, Eq)]
+pub struct FixedEncoding<V: FixedValue>(PhantomData<V>);
+
+impl<V: FixedValue> sealed::Sealed for FixedEncoding<V> {}
+
+impl<V: FixedValue> ValueEncoding for FixedEncoding<V> {
+    type Value = V;
+
+    ghost clones = { V.clones };
+}
+
+/// Values of any size.
+#[derive(Drop)]
+#[derive_where(Clone, Copy, Debug, PartialEq, Eq)]
+pub struct VariableEncoding<V: VariableValue>(PhantomData<V>);
+
+impl<V: VariableValue> sealed::Sealed for VariableEncoding<V> {}
+
+impl<V: VariableValue> ValueEncoding for VariableEncoding<V> {
+    type Value = V;
+
+    ghost clones = { V.clones };
+}
+
+impl<const N: usize> FixedValue for FixedBytes<N> {
+    ghost clones = { λ x y e. (ap (λ k. k.bytes) e, ap (λ k. k.bytes) e) };
+}
+
+impl FixedValue for u64 {
+    ghost clones = { λ x y e. (e, ap (to_be_bytes w64) e) };
+}
+
+impl VariableValue for u64 {
+    ghost clones = { λ x y e. (e, ap (to_be_bytes w64) e) };
+}
+
+impl<const N: usize> VariableValue for FixedBytes<N> {
+    ghost clones = { λ x y e. (ap (λ k. k.bytes) e, ap (λ k. k.bytes) e) };
+}

@@ -1,0 +1,94 @@
+//! What the operations of databases have in common.
+
+ghost use Rattle.std.specs.Prelude.{◌≡◌, ℕ, List, ◌↔◌, true, Bool, Option, option_map};
+ghost use Rattle.std.proofs.Common.{ap};
+ghost use Rattle.std.proofs.lemmas.Slice.Eq.{bytes_eq-Decides};
+
+pub(crate) mod commit;
+pub(crate) mod padding;
+
+use std::fmt::Debug;
+use std::hash::Hash;
+use storage_codec::codec::{Codec, EncodeSize, FixedBytes};
+use storage_merkle::merkle::{Family, Location};
+
+/// A key. Its order is total and agrees with equality.
+pub trait Key: Codec + EncodeSize + Clone + Ord + Hash + Debug {
+    /// The bytes of the key itself, with no length.
+    ghost bytes_of: { Self → List ℕ };
+
+    /// The bytes of the key itself, with no length.
+    fn bytes(&self) -> &[u8]
+        ensures { result.now ≡ bytes_of self.now };
+
+    /// Equal keys exactly if equal encodings.
+    ghost same: { (x y : Self) → Self.PartialEq.eq x y ≡ true ↔ Self.text x ≡ Self.text y };
+
+    /// A clone is seen and written as the key.
+    ghost clones: { (x y : Self) → Self.is_clone x y → (Self.view y ≡ Self.view x) × (Self.text y ≡ Self.text x) };
+}
+
+/// An operation that may carry an inactivity floor.
+pub trait Floored<F: Family> {
+    /// The floor of a commit, and none of another operation.
+    ghost floor: { Self → Option ℕ };
+
+    /// The floor of a commit, and none of another operation.
+    fn has_floor(&self) -> Option<Location<F>>
+        ensures { result ≡ floor self.now };
+}
+
+/// An operation on a database.
+pub trait Operation<F: Family>: Floored<F> {
+    /// Its keys.
+    type Key: Key;
+
+    /// The key, where the operation has one.
+    ghost key_of: { Self → Option Self.Key };
+
+    /// Whether it sets a value.
+    ghost updates: { Self → Bool };
+
+    /// Whether it deletes a key.
+    ghost deletes: { Self → Bool };
+
+    /// The key, where the operation has one.
+    fn key(&self) -> Option<&Self::Key>
+        ensures { option_map (λ k. k.now) result ≡ key_of self.now };
+
+    /// The key, where the operation has one.
+    fn into_key(self) -> Option<Self::Key>
+    where
+        Self: Sized,
+        ensures { result ≡ key_of self };
+
+    /// Whether it sets a value.
+    fn is_update(&self) -> bool
+        ensures { result ≡ updates self.now };
+
+    /// Whether it deletes a key.
+    fn is_delete(&self) -> bool
+        ensures { result ≡ deletes self.now };
+}
+
+/// An operation that may be a commit.
+pub trait Committable {
+    /// Whether it is a commit.
+    ghost commits: { Self → Bool };
+
+    /// Whether it is a commit.
+    fn is_commit(&self) -> bool
+        ensures { result ≡ commits self.now };
+}
+
+impl<const N: usize> Key for FixedBytes<N> {
+    ghost bytes_of = { λ k. k.bytes };
+
+    fn bytes(&self) -> &[u8] {
+        &self.bytes
+    }
+
+    ghost same = { λ x y. bytes_eq-Decides x.bytes y.bytes };
+
+    ghost clones = { λ x y e. (ap (λ k. k.bytes) e, ap (λ k. k.bytes) e) };
+}

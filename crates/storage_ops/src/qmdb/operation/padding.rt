@@ -1,0 +1,46 @@
+//! Zero bytes that fill up an encoding.
+
+ghost use Rattle.std.specs.Prelude.{◌≡◌, ℕ, List, ◌++◌, replicate, OnOk, OnErr};
+ghost use Rattle.storage_codec.specs.Codec.{Answers, byte_at};
+ghost use Rattle.storage_codec.specs.Parts.{AppendsStart, IsEnding};
+ghost use Rattle.storage_ops.specs.Padding.{zeros_at};
+
+use storage_codec::NoMemory;
+use storage_codec::codec::{Buf, Error};
+
+/// Appends `n` zero bytes.
+#[tactic(auto, using(crate::proofs::Zeros::zeros_start, crate::proofs::Zeros::zeros_push))]
+pub(crate) fn put_zeros(out: &mut Vec<u8>, n: usize) -> Result<(), NoMemory>
+    ensures ok { OnOk result (out.new.items ≡ out.old.items ++ replicate n 0) }
+    ensures err { OnErr result (AppendsStart out.old.items out.new.items (replicate n 0)) }
+{
+    for _ in 0..n {
+        out.push(0)?;
+    }
+    Ok(())
+}
+
+/// Reads one byte.
+pub(crate) fn byte<B: Buf>(buf: &mut B) -> Result<u8, Error>
+    ensures gives { Answers (λ b. b) result (B.unread buf.new) (byte_at (B.unread buf.old)) }
+    ensures ends { IsEnding (B.unread buf.old) (B.unread buf.new) }
+{
+    let mut byte = [0u8; 1];
+    buf.read_into(&mut byte)?;
+    Ok(byte[0])
+}
+
+/// Reads `n` zero bytes.
+#[tactic(auto, using(crate::proofs::Zeros::zeros_step, crate::proofs::Zeros::zeros_done, storage_codec::specs::PartsLaws::ends_same, storage_codec::specs::PartsLaws::ends_then))]
+pub(crate) fn ensure_zeros<B: Buf>(buf: &mut B, n: usize) -> Result<(), Error>
+    ensures gives { Answers (λ _. tt) result (B.unread buf.new) (zeros_at n (B.unread buf.old)) }
+    ensures ends { IsEnding (B.unread buf.old) (B.unread buf.new) }
+{
+    for _ in 0..n {
+        let byte = byte(buf)?;
+        if byte != 0 {
+            return Err(Error::Invalid("fixed operation", "nonzero padding"));
+        }
+    }
+    Ok(())
+}
