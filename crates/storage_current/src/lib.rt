@@ -1,4 +1,5 @@
 //! Databases whose root commits to which operations are active.
 #![tactic(auto)]
 
+pub mod laws;
 pub mod qmdb;

@@ -1,0 +1,4 @@
+pub mod Snapshots
+pub mod CurrentProofs
+pub mod GraftingLaws
+pub mod CurrentSoundness
