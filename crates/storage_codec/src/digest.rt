@@ -1,6 +1,8 @@
 //! Digests, and the functions that make them.
 
-ghost use Rattle.std.specs.Prelude.{◌≡◌, ℕ, List, length, ◌↔◌, replicate, flat_map, option_map, true, Ok, refl};
+ghost use Rattle.std.specs.Prelude.{◌*◌, ◌<◌, ◌^◌, ◌≡◌, ℕ, List, length, ◌↔◌, replicate, flat_map, option_map, true, Ok, refl};
+ghost use Rattle.std.specs.Mem.{type_size};
+ghost use Rattle.std.proofs.Common.{lit<};
 ghost use Rattle.sha2.specs.Sha256.{sha256};
 ghost use Rattle.std.proofs.lemmas.Slice.Eq.{bytes_eq-Decides};
 ghost use Rattle.storage_codec.specs.Codec.{Gives, front_at, option_at};
@@ -49,6 +51,9 @@ pub trait Digest: Copy + Eq + Canonical + EncodeSize + Small + Read<Cfg = ()> {
 
     /// Reading takes the bytes of one digest from the front, whatever they are.
     ghost plain: { IsPlain Self.text Self.view (Self.parse tt) Self.size };
+
+    /// As many digests as a tree has peaks fit in memory.
+    ghost few: { 64 * type_size Self.row < 2 ^ 63 };
 }
 
 /// A digest function: the digest of several parts is that of the parts joined.
@@ -79,6 +84,8 @@ impl Digest for FixedBytes<32> {
     ghost same = { λ x y. bytes_eq-Decides x.bytes y.bytes };
 
     ghost plain = { fixed_plain 32 (λ x. x.bytes) refl };
+
+    ghost few = { lit< tt };
 }
 
 impl Digest for FixedBytes<64> {
@@ -89,6 +96,8 @@ impl Digest for FixedBytes<64> {
     ghost same = { λ x y. bytes_eq-Decides x.bytes y.bytes };
 
     ghost plain = { fixed_plain 64 (λ x. x.bytes) refl };
+
+    ghost few = { lit< tt };
 }
 
 /// SHA-256, as FIPS 180-4 has it: digests of 32 bytes.
