@@ -55,7 +55,7 @@ same_canonical d n m pos a b c e p o q r la lb lc le sp so sq sr same =
     let three = same_slots d n m pos p o q r sp so sq sr two.1 in
     record { ops = one.0; grafted = two.0; pending = three.0; partial = three.1 }
 
-mapped-slot : (d : ℕ) (h : HashFunction) → IsSized d h → (o : Option (List ℕ)) → IsSlot d (option_map h o)
+pub mapped-slot : (d : ℕ) (h : HashFunction) → IsSized d h → (o : Option (List ℕ)) → IsSlot d (option_map h o)
 mapped-slot d h sized None = tt
 mapped-slot d h sized (Some x) = sized x
 

@@ -1,2 +1,7 @@
 mod Heights
 pub mod Canonical
+pub mod Bits
+pub mod Operations
+pub mod Served
+pub mod Witnesses
+pub mod Families

@@ -86,6 +86,10 @@ height_is g r l u =
       | inr more ↦ more
     ])
 
+-- the height is the one whose power the number of bits is
+pub height_of_power : (S : Shape) (n r : ℕ) → 8 * n ≡ 2 ^ r → height (record { shape = S; bytes = n }) ≡ r
+height_of_power S n r e = sym (height_is (record { shape = S; bytes = n }) r (omega (arith, e)) (omega (arith, e, pow_pos r)))
+
 pub record Height (g : Grafting) : Type 0 where
   pub exponent : ℕ
   pub power : g.bytes ≡ 2 ^ exponent

@@ -1,9 +1,9 @@
 //! What holds of every snapshot and every check against its canonical root: laws over the definitions, each the contract of a
 //! function that does nothing.
 
-ghost use Rattle.storage_current.specs.CurrentSoundness.{CurrentProofsAreSound};
+ghost use Rattle.storage_current.specs.CurrentSoundness.{CurrentProofsAreSound, FamiliesAreLawful, OperationProofsAreSound, OwnCurrentProofsAreAccepted, OwnOperationProofsAreAccepted, OwnWitnessesAreAccepted, WitnessesAreSound};
 
-use storage_merkle::laws::range_proofs_are_sound;
+use storage_merkle::laws::{own_range_proofs_are_accepted, range_proofs_are_sound};
 
 /// A range proof that is accepted against a snapshot's canonical root is the snapshot's own, field for field, and its
 /// operations and chunks are the snapshot's, or two different strings have one digest, one hashed by the check and one by the
@@ -13,3 +13,39 @@ pub fn current_proofs_are_sound()
 {
     range_proofs_are_sound();
 }
+
+/// An accepted operation proof is the snapshot's own, and the operation stands there and is active, or two strings cross.
+pub fn operation_proofs_are_sound()
+    ensures { OperationProofsAreSound }
+{
+    current_proofs_are_sound();
+}
+
+/// An accepted witness is the snapshot's own, and the operations root is the snapshot's, or two strings cross.
+pub fn witnesses_are_sound()
+    ensures { WitnessesAreSound }
+{}
+
+/// A snapshot's own range proof is accepted.
+pub fn own_current_proofs_are_accepted()
+    ensures { OwnCurrentProofsAreAccepted }
+{
+    own_range_proofs_are_accepted();
+}
+
+/// A snapshot's own proof of an active operation is accepted.
+pub fn own_operation_proofs_are_accepted()
+    ensures { OwnOperationProofsAreAccepted }
+{
+    own_current_proofs_are_accepted();
+}
+
+/// A snapshot's own witness gives its canonical root.
+pub fn own_witnesses_are_accepted()
+    ensures { OwnWitnessesAreAccepted }
+{}
+
+/// Both families of trees can be grafted at each height from 1 on.
+pub fn families_are_lawful()
+    ensures { FamiliesAreLawful }
+{}

@@ -1,0 +1,5 @@
+use Rattle.storage_current.proofs.Operations.{operation_sound}
+use Rattle.storage_current.proofs.laws.operation_proofs_are_sound.Goals as goal
+
+pub returns : goal.returns
+returns c = operation_sound c.current_proofs_are_sound.ensures

@@ -1,0 +1,5 @@
+use Rattle.storage_current.proofs.Witnesses.{witness_accepted}
+use Rattle.storage_current.proofs.laws.own_witnesses_are_accepted.Goals as goal
+
+pub returns : goal.returns
+returns c = witness_accepted

@@ -1,0 +1,5 @@
+use Rattle.storage_current.proofs.Witnesses.{witness_sound}
+use Rattle.storage_current.proofs.laws.witnesses_are_sound.Goals as goal
+
+pub returns : goal.returns
+returns c = witness_sound
