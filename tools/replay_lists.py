@@ -54,6 +54,9 @@ def cases(folder):
     for given, asked in cut(folder, "maps", 3):
         # the position is mapped up, and down again
         yield "maps", given, asked + given[-1:]
+    for given, asked in cut(folder, "operations", 2):
+        if given[0] == "ordered-fixed/fixed4/u64":
+            yield "operations", given, asked
 
 
 def main():

@@ -1,8 +1,9 @@
 //! Columns of a line, read and written.
 
-use hex::FromHexError;
+use hex::{FromHex, FromHexError};
 use std::alloc::{AllocError, AllocFailed, Global};
 use storage_codec::NoMemory;
+use storage_codec::codec::FixedBytes;
 use thiserror::Error;
 
 /// Why a line has no answer.
@@ -47,6 +48,36 @@ pub fn bytes(alloc: Global, column: &str) -> Result<Vec<u8>, Fault> {
         FromHexError::OutOfMemory => Fault::Memory,
         _ => Fault::Malformed,
     })
+}
+
+/// A digest of 32 bytes in hexadecimal.
+pub fn digest(column: &str) -> Result<FixedBytes<32>, Fault> {
+    match <[u8; 32] as FromHex>::from_hex(column) {
+        Ok(bytes) => Ok(FixedBytes { bytes }),
+        Err(_) => Err(Fault::Malformed),
+    }
+}
+
+/// Digests with commas between them; `none` is none.
+pub fn digests(alloc: Global, column: &str) -> Result<Vec<FixedBytes<32>>, Fault> {
+    let mut digests = Vec::new(alloc);
+    if column != "none" {
+        for part in column.split(',') {
+            digests.push(digest(part)?)?;
+        }
+    }
+    Ok(digests)
+}
+
+/// Byte strings with commas between them; `none` is none.
+pub fn strings(alloc: Global, column: &str) -> Result<Vec<Vec<u8>>, Fault> {
+    let mut strings = Vec::new(alloc);
+    if column != "none" {
+        for part in column.split(',') {
+            strings.push(bytes(alloc, part)?)?;
+        }
+    }
+    Ok(strings)
 }
 
 /// Numbers with commas between them; `none` where there are none.

@@ -1,6 +1,8 @@
 //! One function for each list.
 
 mod codecs;
+mod operations;
+mod refusals;
 mod trees;
 
 use crate::columns::Fault;
@@ -15,6 +17,7 @@ pub fn answer(alloc: Global, line: &str) -> Result<String, Fault> {
     match *list {
         "varints" => codecs::varints(alloc, columns),
         "golden_hash" => codecs::golden_hash(alloc, columns),
+        "operations" => operations::operations(alloc, columns),
         _ => trees::answer(alloc, *list, columns),
     }
 }

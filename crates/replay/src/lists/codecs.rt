@@ -1,37 +1,11 @@
 //! Lists on codecs and digests.
 
 use crate::columns::{Fault, bytes};
+use crate::lists::refusals::codec_refusal;
 use std::alloc::Global;
-use storage_codec::codec::{Error, Read, UInt};
+use storage_codec::codec::{Read, UInt};
 use storage_codec::digest::{Digest, Hasher, Sha256};
 use storage_merkle::merkle::{Location, mmr};
-
-/// A text with `_` for each blank.
-fn unblanked(alloc: Global, text: &str) -> Result<String, Fault> {
-    let mut answer = String::new(alloc);
-    for character in text.chars() {
-        answer.push(if character == ' ' { '_' } else { character })?;
-    }
-    Ok(answer)
-}
-
-/// The name of a refusal.
-pub fn refusal(alloc: Global, error: Error) -> Result<String, Fault> {
-    match error {
-        Error::EndOfBuffer => Ok(String::from_str(alloc, "C1")?),
-        Error::InvalidBool => Ok(String::from_str(alloc, "C2")?),
-        Error::InvalidEnum(tag) => Ok(format!(in alloc; "C3({tag})")?),
-        Error::InvalidVarint => Ok(String::from_str(alloc, "C4")?),
-        Error::InvalidLength(length) => Ok(format!(in alloc; "C5({length})")?),
-        Error::Invalid(place, reason) => {
-            let place = unblanked(alloc, place)?;
-            let reason = unblanked(alloc, reason)?;
-            Ok(format!(in alloc; "C6({place}|{reason})")?)
-        }
-        Error::ExtraData(left) => Ok(format!(in alloc; "C7({left})")?),
-        Error::Memory => Err(Fault::Memory),
-    }
-}
 
 /// `bytes`: the varint in front, how many bytes are left, and the location in front.
 pub fn varints(alloc: Global, columns: &[&str]) -> Result<String, Fault> {
@@ -51,7 +25,7 @@ fn front_varint(alloc: Global, mut input: &[u8]) -> Result<(String, String), Fau
             let left = input.len();
             Ok((format!(in alloc; "{value}")?, format!(in alloc; "{left}")?))
         }
-        Err(error) => Ok((refusal(alloc, error)?, String::from_str(alloc, "-")?)),
+        Err(error) => Ok((codec_refusal(alloc, error)?, String::from_str(alloc, "-")?)),
     }
 }
 
@@ -59,7 +33,7 @@ fn front_varint(alloc: Global, mut input: &[u8]) -> Result<(String, String), Fau
 fn front_location(alloc: Global, mut input: &[u8]) -> Result<String, Fault> {
     match Location::<mmr::Family>::read_cfg(alloc, &mut input, &()) {
         Ok(location) => Ok(format!(in alloc; "{location}")?),
-        Err(error) => refusal(alloc, error),
+        Err(error) => codec_refusal(alloc, error),
     }
 }
 
