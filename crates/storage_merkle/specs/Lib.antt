@@ -12,6 +12,8 @@ pub mod Inactive
 pub mod InactiveLaws
 pub mod Multiples
 pub mod ShapeLaws
+pub mod Peaks
+pub mod PeakLaws
 pub mod MmrLaws
 pub mod MmbLaws
 pub mod Calc

@@ -1,0 +1,5 @@
+use Rattle.storage_merkle.specs.PeakLaws.{peaks_nest}
+use Rattle.storage_merkle.proofs.laws.families.peaks_nest.Goals as goal
+
+pub returns : goal.returns
+returns g c = peaks_nest g.F.Family.shape g.met.F.Family.laws
