@@ -1,11 +1,6 @@
 -- Endings and beginnings that follow one another.
 use Rattle.std.proofs.Common.{◌≡◌, ℕ, List, [], ◌∷◌, ◌++◌, take, drop, refl, sym, ap, ◌∙◌, append_assoc}
 use Rattle.std.proofs.lemmas.List.{take-append-drop}
-use Rattle.std.specs.Prelude.{Result}
-use Rattle.storage_codec.specs.declared.codec.error.Error.{Error}
-use Rattle.storage_codec.specs.declared.codec.error.Error.TheVariants as code
-use Rattle.storage_codec.specs.Faults.{Fault, ◌>>=◌}
-use Rattle.storage_codec.specs.Codec.{IsFault}
 use Rattle.storage_codec.specs.Parts.{IsEnding, AppendsStart}
 
 pub ends_same : (a : List ℕ) → IsEnding a a
@@ -38,14 +33,3 @@ starts_first {old} {new} {first} second s = record {
 -- a beginning of what follows the first byte
 pub starts_cons : {old mid new : List ℕ} (x : ℕ) (text : List ℕ) → mid ≡ old ++ x ∷ [] → AppendsStart mid new text → AppendsStart old new (x ∷ text)
 starts_cons x text e s = starts_then (x ∷ []) text e s
-
--- A fault of the first step is one of both.
-pub fault_then : {A B : Type 0} (e : Error) (r : Result A Fault) (f : A → Result B Fault) → IsFault e r → IsFault e (r >>= f)
-fault_then code.EndOfBuffer r f h = rw h refl
-fault_then code.InvalidBool r f h = rw h refl
-fault_then (code.InvalidEnum tag) r f h = rw h refl
-fault_then code.InvalidVarint r f h = rw h refl
-fault_then (code.InvalidLength n) r f h = rw h refl
-fault_then (code.Invalid w m) r f h = rw h refl
-fault_then (code.ExtraData n) r f h = rw h refl
-fault_then code.Memory r f h = absurd h
