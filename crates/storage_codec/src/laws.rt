@@ -9,7 +9,7 @@ ghost use Rattle.storage_codec.specs.Codec.{varint_at, whole};
 ghost use Rattle.storage_codec.specs.Faults.{EndOfBuffer};
 ghost use Rattle.storage_codec.specs.Parts.{IsBytes, varint_text, vector_text};
 
-use crate::codec::{Canonical, Codec, U64};
+use crate::codec::{Canonical, Codec, FixedBytes, U64, Write};
 
 /// Bytes that begin with an encoding begin with one only, and what follows it is settled.
 pub fn one_encoding_in_front<T: Codec>()
@@ -39,6 +39,18 @@ pub fn read_exactly_where_written<T: Canonical>()
 pub fn whole_encoding<T: Canonical>()
     ensures { (cfg : T.Cfg) (bytes : List ℕ) (x : T) → T.admits cfg x → IsBytes bytes
         → (whole (T.parse cfg bytes) ≡ Ok (T.view x, [])) ↔ (bytes ≡ T.text x) }
+{}
+
+/// Byte strings of one length are equal exactly where their encodings are.
+pub fn equal_fixed_bytes_by_encoding<const N: usize>()
+    ensures { (x y : FixedBytes N) → (⟦<FixedBytes<N> as PartialEq>⟧.eq x y ≡ true)
+        ↔ (⟦<FixedBytes<N> as Write>⟧.text x ≡ ⟦<FixedBytes<N> as Write>⟧.text y) }
+{}
+
+/// Integer keys are equal exactly where their encodings are.
+pub fn equal_integer_keys_by_encoding()
+    ensures { (x y : U64) → (⟦<U64 as PartialEq>⟧.eq x y ≡ true)
+        ↔ (⟦<U64 as Write>⟧.text x ≡ ⟦<U64 as Write>⟧.text y) }
 {}
 
 /// Byte vectors are equal exactly where their encodings are.
