@@ -5,3 +5,6 @@ pub mod Distinct
 pub mod RangeSound
 pub mod RangeOwn
 pub mod Examples
+pub mod Keeping
+pub mod Topmost
+pub mod Rewriting

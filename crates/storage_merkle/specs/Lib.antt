@@ -23,3 +23,6 @@ pub mod RangeProofs
 pub mod Hashing
 pub mod HashingLaws
 pub mod Soundness
+pub mod Kept
+pub mod KeptLaws
+pub mod Rewriting

@@ -4,6 +4,7 @@ mod bagging;
 pub mod family;
 pub mod hasher;
 mod location;
+pub mod mem;
 pub mod mmb;
 pub mod mmr;
 mod order;

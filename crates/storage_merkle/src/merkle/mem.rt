@@ -1,0 +1,3 @@
+//! A tree that is kept in memory.
+
+mod kept;

@@ -1,0 +1,200 @@
+//! The digests that a tree in memory keeps: how they are found, appended and written anew.
+
+ghost use Rattle.std.specs.Prelude.{◌≡◌, ℕ, ◌+◌, ◌-◌, ◌*◌, ◌%◌, ◌^◌, ◌<◌, ◌≤◌, ◌∷◌, ◌++◌, [], List, map, take, length, get_or, Some, None, MatchOption, IfOk, OnErr, IsTrue, Option};
+ghost use Rattle.storage_merkle.specs.Calc.{be8};
+ghost use Rattle.storage_merkle.specs.Hashing.{node_over};
+ghost use Rattle.storage_merkle.specs.Kept.{kept_at, at_peaks, IsClean, Holds};
+ghost use Rattle.storage_merkle.specs.Nodes.{IsNode};
+ghost use Rattle.storage_merkle.specs.Rewriting.{over, WrittenBelow, IsNext, Reaches};
+ghost use Rattle.storage_merkle.specs.Shape.{size};
+
+use crate::merkle::family::power;
+use crate::merkle::hasher::Hasher;
+use crate::merkle::{Family, Location, Position};
+use std::alloc::AllocError;
+use storage_codec::digest::Digest;
+
+/// The digest that is kept at a position.
+pub(crate) fn look_up<F: Family, D: Digest>(
+    boundary: u64,
+    pinned: &[D],
+    nodes: &[D],
+    position: u64,
+) -> Option<D>
+    requires few { boundary ≤ 2 ^ 62 }
+    requires pins { length pinned.now ≡ length (F.shape.peaks boundary) }
+    ensures { let kept = kept_at F.shape boundary (map D.text pinned.now) (map D.text nodes.now) position in MatchOption result (kept ≡ None) (λ d. kept ≡ Some (D.text d)) }
+{
+    let start = F::nodes_over(boundary);
+    if position >= start {
+        return nodes.get((position - start) as usize).copied();
+    }
+    let mut left = F::nodes_to_pin(Location::new(boundary));
+    let mut index = 0;
+    while let Some(at) = left.next() {
+        if at.as_u64() == position {
+            return Some(pinned[index]);
+        }
+        index += 1;
+    }
+    None
+}
+
+/// The digest of the node that is born so many places after the leaf that comes.
+pub(crate) fn born<F: Family, H: Hasher<F>>(
+    hasher: &H,
+    leaves: u64,
+    boundary: u64,
+    pinned: &[H::Digest],
+    nodes: &[H::Digest],
+    element: &[u8],
+    offset: u64,
+) -> H::Digest
+    requires few { leaves < 2 ^ 62 }
+    requires order { boundary ≤ leaves }
+    requires pins { length pinned.now ≡ length (F.shape.peaks boundary) }
+    requires count { length nodes.now + size F.shape boundary ≡ size F.shape leaves + offset }
+    requires within { size F.shape leaves + offset < size F.shape (leaves + 1) }
+    requires takes { H.takes hasher.now (size F.shape leaves + offset) }
+    ensures { let N = node_over H.hash_of (H.layout hasher.now) (H.chunk hasher.now) in let leaf = H.hash_of (be8 (size F.shape leaves) ++ element.now) in (list : List (List ℕ)) (dirty : List ℕ) → length list ≡ leaves → Holds F.shape (N (list ++ leaf ∷ [])) dirty boundary (size F.shape leaves + offset) (map H.Digest.text pinned.now) (map H.Digest.text nodes.now) → (a k : ℕ) → IsNode F.shape (size F.shape leaves + offset) a k → IsClean dirty a k → H.Digest.text result ≡ N (list ++ leaf ∷ []) k a }
+{
+    let (first, height) = F::node_after(leaves, offset);
+    let position = Position::new(F::nodes_over(leaves) + offset);
+    if height == 0 {
+        return hasher.leaf_digest(position, element);
+    }
+    let half = power(height - 1);
+    let left = look_up::<F, H::Digest>(boundary, pinned, nodes, F::position(first, height - 1)).unwrap();
+    let right = look_up::<F, H::Digest>(boundary, pinned, nodes, F::position(first + half, height - 1)).unwrap();
+    hasher.node_digest(position, &left, &right)
+}
+
+/// Appends the nodes that come with a leaf.
+pub(crate) fn grow<F: Family, H: Hasher<F>>(
+    hasher: &H,
+    leaves: u64,
+    boundary: u64,
+    pinned: &[H::Digest],
+    nodes: &mut Vec<H::Digest>,
+    element: &[u8],
+) -> Result<(), AllocError>
+    requires few { leaves < 2 ^ 62 }
+    requires order { boundary ≤ leaves }
+    requires pins { length pinned.now ≡ length (F.shape.peaks boundary) }
+    requires count { length nodes.old.items + size F.shape boundary ≡ size F.shape leaves }
+    requires takes { (p : ℕ) → size F.shape leaves ≤ p → p < size F.shape (leaves + 1) → H.takes hasher.now p }
+    ensures count { IfOk result (λ _. length nodes.new.items + size F.shape boundary ≡ size F.shape (leaves + 1)) }
+    ensures grown { let N = node_over H.hash_of (H.layout hasher.now) (H.chunk hasher.now) in let leaf = H.hash_of (be8 (size F.shape leaves) ++ element.now) in IfOk result (λ _. (list : List (List ℕ)) (dirty : List ℕ) → length list ≡ leaves → Holds F.shape (N list) dirty boundary (size F.shape leaves) (map H.Digest.text pinned.now) (map H.Digest.text nodes.old.items) → Holds F.shape (N (list ++ leaf ∷ [])) dirty boundary (size F.shape (leaves + 1)) (map H.Digest.text pinned.now) (map H.Digest.text nodes.new.items)) }
+    ensures kept { OnErr result (nodes.new.items ≡ nodes.old.items) }
+{
+    let more = F::nodes_over(leaves + 1) - F::nodes_over(leaves);
+    nodes.reserve(more as usize)?;
+    for offset in 0..more {
+        let digest = born::<F, H>(hasher, leaves, boundary, pinned, nodes, element, offset);
+        nodes.push(digest).unwrap();
+    }
+    Ok(())
+}
+
+/// The digest of the node of a height over a leaf, from its children.
+pub(crate) fn above<F: Family, H: Hasher<F>>(
+    hasher: &H,
+    leaves: u64,
+    boundary: u64,
+    pinned: &[H::Digest],
+    nodes: &[H::Digest],
+    place: u64,
+    height: u32,
+) -> H::Digest
+    requires few { leaves ≤ 2 ^ 62 }
+    requires kept { boundary ≤ place }
+    requires within { place < leaves }
+    requires pins { length pinned.now ≡ length (F.shape.peaks boundary) }
+    requires count { length nodes.now + size F.shape boundary ≡ size F.shape leaves }
+    requires inner { 1 ≤ height }
+    requires small { height ≤ 62 }
+    requires there { F.shape.birth (over place height) height ≤ leaves }
+    requires takes { H.takes hasher.now (F.shape.position (over place height) height) }
+    ensures { let N = node_over H.hash_of (H.layout hasher.now) (H.chunk hasher.now) in (list : List (List ℕ)) (rest : List ℕ) → WrittenBelow F.shape (N list) rest place height boundary (size F.shape leaves) (map H.Digest.text pinned.now) (map H.Digest.text nodes.now) → IsClean rest (over place height) height → H.Digest.text result ≡ N list height (over place height) }
+{
+    let half = power(height - 1);
+    let first = place / power(height) * power(height);
+    let position = F::position(first, height);
+    let left = look_up::<F, H::Digest>(boundary, pinned, nodes, F::position(first, height - 1)).unwrap();
+    let right = look_up::<F, H::Digest>(boundary, pinned, nodes, F::position(first + half, height - 1)).unwrap();
+    hasher.node_digest(Position::new(position), &left, &right)
+}
+
+/// Whether the next leaf is below the node of a height over a leaf.
+pub(crate) fn is_below(next: Option<u64>, first: u64, height: u32) -> bool
+    requires { height ≤ 63 }
+    ensures { IsTrue result → Reaches next first height }
+{
+    match next {
+        Some(place) => place >= first && place - first < power(height),
+        None => false,
+    }
+}
+
+/// Writes the digest of a leaf, and those of the nodes over it, up to the first one that is over the next leaf too.
+pub(crate) fn write_leaf<F: Family, H: Hasher<F>>(
+    hasher: &H,
+    leaves: u64,
+    boundary: u64,
+    pinned: &[H::Digest],
+    nodes: &mut [H::Digest],
+    place: u64,
+    digest: H::Digest,
+    next: Option<u64>,
+)
+    requires few { leaves ≤ 2 ^ 62 }
+    requires kept { boundary ≤ place }
+    requires within { place < leaves }
+    requires pins { length pinned.now ≡ length (F.shape.peaks boundary) }
+    requires count { length nodes.old + size F.shape boundary ≡ size F.shape leaves }
+    requires takes { (p : ℕ) → p < size F.shape leaves → H.takes hasher.now p }
+    ensures { let N = node_over H.hash_of (H.layout hasher.now) (H.chunk hasher.now) in (list : List (List ℕ)) (rest : List ℕ) → IsNext next rest → Holds F.shape (N list) (place ∷ rest) boundary (size F.shape leaves) (map H.Digest.text pinned.now) (map H.Digest.text nodes.old) → get_or list place [] ≡ H.Digest.text digest → Holds F.shape (N list) rest boundary (size F.shape leaves) (map H.Digest.text pinned.now) (map H.Digest.text nodes.new) }
+{
+    let start = F::nodes_over(boundary);
+    nodes[(F::nodes_over(place) - start) as usize] = digest;
+    for height in 1..63 {
+        let first = place / power(height) * power(height);
+        if F::birth(first, height) > leaves || is_below(next, first, height) {
+            return;
+        }
+        let digest = above::<F, H>(hasher, leaves, boundary, pinned, nodes, place, height);
+        nodes[(F::position(first, height) - start) as usize] = digest;
+    }
+}
+
+/// The digests of the peaks over so many leaves, and how many they are.
+pub(crate) fn peaks_over<F: Family, D: Digest>(
+    boundary: u64,
+    pinned: &[D],
+    nodes: &[D],
+    leaves: u64,
+) -> ([D; 64], usize)
+    requires some { 0 < leaves }
+    requires few { leaves ≤ 2 ^ 62 }
+    requires order { boundary ≤ leaves }
+    requires pins { length pinned.now ≡ length (F.shape.peaks boundary) }
+    requires there { size F.shape leaves ≤ length nodes.now + size F.shape boundary }
+    ensures count { result.1 ≡ length (F.shape.peaks leaves) }
+    ensures within { result.1 ≤ 64 }
+    ensures room { length result.0 ≡ 64 }
+    ensures digests { (node : ℕ → ℕ → List ℕ) → Holds F.shape node [] boundary (length nodes.now + size F.shape boundary) (map D.text pinned.now) (map D.text nodes.now) → map D.text (take result.1 result.0) ≡ at_peaks node 0 (F.shape.peaks leaves) }
+{
+    let highest = F::position(0, F::first_peak(leaves));
+    let mut digests = [look_up::<F, D>(boundary, pinned, nodes, highest).unwrap(); 64];
+    let mut first = 0;
+    let mut left = leaves;
+    let mut count = 0;
+    while left > 0 {
+        let height = F::first_peak(left);
+        digests[count] = look_up::<F, D>(boundary, pinned, nodes, F::position(first, height)).unwrap();
+        first += power(height);
+        left -= power(height);
+        count += 1;
+    }
+    (digests, count)
+}
