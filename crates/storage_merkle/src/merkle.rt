@@ -1,6 +1,7 @@
 //! Tree families: locations, positions and the arithmetic between them.
 
 mod bagging;
+mod error;
 pub mod family;
 pub mod hasher;
 mod location;
@@ -12,6 +13,7 @@ mod peaks;
 mod position;
 
 pub use bagging::Bagging;
+pub use error::Error;
 pub use family::{Family, Graftable};
 pub use location::Location;
 pub use order::peaks_ascending;

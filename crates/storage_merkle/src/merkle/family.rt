@@ -22,6 +22,10 @@ pub trait Family: Copy {
     /// The family's peaks, positions and births.
     ghost shape: { Shape };
 
+    /// The byte that stands for the family in the string of a root.
+    fn byte() -> u8
+        ensures { result ≡ shape.byte };
+
     /// How many nodes the tree over so many leaves has.
     fn nodes_over(leaves: u64) -> u64
         requires { size shape leaves < 2 ^ 64 }

@@ -15,6 +15,10 @@ pub struct Family;
 impl crate::merkle::Family for Family {
     ghost shape = { mmb };
 
+    fn byte() -> u8 {
+        1
+    }
+
     fn nodes_over(leaves: u64) -> u64 {
         leaves + (leaves - (leaves + 1).ilog2() as u64)
     }

@@ -14,6 +14,10 @@ pub struct Family;
 impl crate::merkle::Family for Family {
     ghost shape = { mmr };
 
+    fn byte() -> u8 {
+        0
+    }
+
     fn nodes_over(leaves: u64) -> u64 {
         leaves + (leaves - leaves.count_ones() as u64)
     }
