@@ -1,10 +1,10 @@
 -- What is kept of a tree, and how it grows.
-use Rattle.std.proofs.Common.{◌≡◌, ◌≢◌, ℕ, zero, suc, ◌+◌, ◌-◌, ◌%◌, ◌^◌, ◌<◌, ◌≤◌, ◌⊎◌, List, [], ◌∷◌, ◌++◌, length, map, get_or, Contains, Option, Some, None, Bool, true, false, if◌then◌else◌, leb, le-leb, eqb, eq-eqb, eqb-true, MatchOption, IsSome, rules, refl, sym, ap, ap₂, drop, drop-cons, get_or-drop, take, length-drop, ◌∙◌, inl, inr, ⊎_elim, arith, add-one}
+use Rattle.std.proofs.Common.{◌≡◌, ◌≢◌, ℕ, zero, suc, ◌+◌, ◌-◌, ◌%◌, ◌^◌, ◌<◌, ◌≤◌, ◌⊎◌, List, [], ◌∷◌, ◌++◌, length, map, get_or, Contains, Option, Some, None, option_map, Bool, true, false, if◌then◌else◌, leb, le-leb, eqb, eq-eqb, eqb-true, MatchOption, IsSome, rules, refl, sym, ap, ap₂, drop, drop-cons, get_or-drop, take, length-drop, ◌∙◌, inl, inr, ⊎_elim, arith, add-one}
 use Rattle.std.proofs.lemmas.Bool.{cases_lt, lt-leb}
 use Rattle.std.proofs.lemmas.Bool.Decides.{eqb_tells}
 use Rattle.std.proofs.lemmas.Nat.{pow_pos}
 use Rattle.std.specs.List.{slice_get}
-use Rattle.std.proofs.lemmas.Option.{slice_get-get_or}
+use Rattle.std.proofs.lemmas.Option.{slice_get-get_or, slice_get-map}
 use Rattle.std.proofs.lemmas.List.{get_or_append_left, get_or-map, length-map}
 use Rattle.std.proofs.Math.Seq.{get_or-append_seam, take-append_seam}
 use Rattle.storage_codec.specs.Digests.{HashFunction}
@@ -32,16 +32,16 @@ inside_peak (h ∷ hs) s a k p al (inl q) pa lo hi out =
     let one : 0 < 2 ^ k = pow_pos k in
     let kh : k ≤ h = pow_order k h (omega arith) in
     ⊎_elim
-      (λ (l : k < h).
-        let sm : s % 2 ^ suc k ≡ 0 = multiple_down s (suc k) h (omega arith) al.0 in
-        let lower : s ≤ p = ⊎_elim (λ (u : p < s). absurd (let m : p + 2 ^ suc k ≤ s = next p s (2 ^ suc k) pa sm u in omega arith)) (λ (w : s ≤ p). w) (cases_lt p s) in
-        let upper : p + 2 ^ suc k ≤ s + 2 ^ h = next p (s + 2 ^ h) (2 ^ suc k) pa (multiple_add s (2 ^ h) (2 ^ suc k) (pow_pos (suc k)) sm (power_multiple h (suc k) (omega arith))) (omega arith) in
-        absurd (out (inl (lower, upper))))
-      (λ (g : h ≤ k).
-        let e : h ≡ k = omega arith in
-        let f : 2 ^ h ≡ 2 ^ k = ap (λ x. 2 ^ x) e in
-        inl ((omega arith), e))
-      (cases_lt k h)
+    (λ (l : k < h).
+    let sm : s % 2 ^ suc k ≡ 0 = multiple_down s (suc k) h (omega arith) al.0 in
+    let lower : s ≤ p = ⊎_elim (λ (u : p < s). absurd (let m : p + 2 ^ suc k ≤ s = next p s (2 ^ suc k) pa sm u in omega arith)) (λ (w : s ≤ p). w) (cases_lt p s) in
+    let upper : p + 2 ^ suc k ≤ s + 2 ^ h = next p (s + 2 ^ h) (2 ^ suc k) pa (multiple_add s (2 ^ h) (2 ^ suc k) (pow_pos (suc k)) sm (power_multiple h (suc k) (omega arith))) (omega arith) in
+    absurd (out (inl (lower, upper))))
+    (λ (g : h ≤ k).
+    let e : h ≡ k = omega arith in
+    let f : 2 ^ h ≡ 2 ^ k = ap (λ x. 2 ^ x) e in
+    inl ((omega arith), e))
+    (cases_lt k h)
 inside_peak (h ∷ hs) s a k p al (inr r) pa lo hi out = inr (inside_peak hs (s + 2 ^ h) a k p al.1 r pa lo hi (λ i. out (inr i)))
 
 neq-eqb : (a b : ℕ) → a ≢ b → eqb a b ≡ false
@@ -57,16 +57,38 @@ value_of f None x d y m e h = cc
 value_of f (Some z) x d y m e h = cc
 
 -- the search for a pinned digest
-pub paired_on : (p q : ℕ) (qs : List ℕ) (ds : List (List ℕ)) (i : ℕ) → i < length ds → q ≢ p → paired p (q ∷ qs) (drop i ds) ≡ paired p qs (drop (i + 1) ds)
-paired_on p q qs ds i l ne =
-    ap (paired p (q ∷ qs)) (drop-cons ds i [] l)
-    ∙ ap (λ b. if b then Some (get_or ds i []) else paired p qs (drop (suc i) ds)) (neq-eqb q p ne)
-    ∙ ap (λ m. paired p qs (drop m ds)) (sym (add-one i))
+pub paired_on : {D : Type 0} (p q : ℕ) (qs : List ℕ) (ds : List D) (i : ℕ) → i < length ds → q ≢ p → paired p (q ∷ qs) (drop i ds) ≡ paired p qs (drop (i + 1) ds)
+paired_on p q qs [] i l ne = absurd (omega arith)
+paired_on p q qs (x ∷ ds) i l ne =
+    ap (paired p (q ∷ qs)) (drop-cons (x ∷ ds) i x l)
+    ∙ ap (λ b. if b then Some (get_or (x ∷ ds) i x) else paired p qs (drop (suc i) (x ∷ ds))) (neq-eqb q p ne)
+    ∙ ap (λ m. paired p qs (drop m (x ∷ ds))) (sym (add-one i))
 
-pub paired_hit : (p q : ℕ) (qs : List ℕ) (ds : List (List ℕ)) (i : ℕ) → i < length ds → q ≡ p → paired p (q ∷ qs) (drop i ds) ≡ Some (get_or ds i [])
-paired_hit p q qs ds i l e =
-    ap (paired p (q ∷ qs)) (drop-cons ds i [] l)
-    ∙ ap (λ b. if b then Some (get_or ds i []) else paired p qs (drop (suc i) ds)) (eq-eqb q p e)
+pub paired_hit : {D : Type 0} (p q : ℕ) (qs : List ℕ) (ds : List D) (i : ℕ) (r : D) → i < length ds → q ≡ p → paired p (q ∷ qs) (drop i ds) ≡ Some (get_or ds i r)
+paired_hit p q qs ds i r l e =
+    ap (paired p (q ∷ qs)) (drop-cons ds i r l)
+    ∙ ap (λ b. if b then Some (get_or ds i r) else paired p qs (drop (suc i) ds)) (eq-eqb q p e)
+
+-- what is kept, by its bytes
+paired-map : {D : Type 0} (f : D → List ℕ) (p : ℕ) (qs : List ℕ) (ds : List D) → option_map f (paired p qs ds) ≡ paired p qs (map f ds)
+paired-map f p [] ds = refl
+paired-map f p (q ∷ qs) [] = refl
+paired-map f p (q ∷ qs) (d ∷ ds) =
+    let rest = paired-map f p qs ds in
+    elim (eqb q p) as (λ b. option_map f (if b then Some d else paired p qs ds) ≡ (if b then Some (f d) else paired p qs (map f ds))) [ true ↦ refl | false ↦ rest ]
+
+kept_at-map : {D : Type 0} (f : D → List ℕ) (S : Shape) (b : ℕ) (ps ns : List D) (q : ℕ) → option_map f (kept_at S b ps ns q) ≡ kept_at S b (map f ps) (map f ns) q
+kept_at-map f S b ps ns q =
+    let x = sym (slice_get-map f ns (q - size S b)) in
+    let y = paired-map f q (pins S b) ps in
+    elim (leb (size S b) q) as (λ c. option_map f (if c then slice_get ns (q - size S b) else paired q (pins S b) ps) ≡ (if c then slice_get (map f ns) (q - size S b) else paired q (pins S b) (map f ps))) [ true ↦ x | false ↦ y ]
+
+told : {A : Type 0} (f : A → List ℕ) (r : Option A) (x : Option (List ℕ)) → option_map f r ≡ x → MatchOption r (x ≡ None) (λ y. x ≡ Some (f y))
+told f None x e = sym e
+told f (Some y) x e = sym e
+
+pub seen : {D : Type 0} (f : D → List ℕ) (S : Shape) (b : ℕ) (ps ns : List D) (q : ℕ) (r : Option D) → r ≡ kept_at S b ps ns q → MatchOption r (kept_at S b (map f ps) (map f ns) q ≡ None) (λ y. kept_at S b (map f ps) (map f ns) q ≡ Some (f y))
+seen f S b ps ns q r e = told f r _ (ap (option_map f) e ∙ kept_at-map f S b ps ns q)
 
 contains_none : (j : ℕ) → Contains [] j → ⊥
 contains_none j m = absurd (omega (arith, m.1))
@@ -94,16 +116,16 @@ module _ (S : Shape) where
   pub length_pins : (b : ℕ) → length (pins S b) ≡ length (S.peaks b)
   length_pins b = length-map (placed S 0 (S.peaks b)) (λ p. p.0) ∙ length_placed (S.peaks b) 0
 
-  pub look_hit : {A : Type 0} (f : A → List ℕ) (xs : List A) (nodes : List (List ℕ)) (b p q i : ℕ) (left rest : List ℕ) (r : A) → p < size S b → paired p (pins S b) (map f xs) ≡ paired p left (drop i (map f xs)) → left ≡ q ∷ rest → q ≡ p → i < length xs → r ≡ get_or xs i r → kept_at S b (map f xs) nodes p ≡ Some (f r)
-  look_hit f xs nodes b p q i left rest r low same is hit l e =
-      ap (λ c. if c then slice_get nodes (p - size S b) else paired p (pins S b) (map f xs)) (lt-leb _ _ low)
-      ∙ same ∙ ap (λ qs. paired p qs (drop i (map f xs))) is
-      ∙ paired_hit p q rest (map f xs) i (rw length-map l) hit
-      ∙ ap Some (get_or-map f xs i r [] l ∙ ap f (sym e))
+  pub look_hit : {D : Type 0} (xs nodes : List D) (b p q i : ℕ) (left rest : List ℕ) (r : D) → p < size S b → paired p (pins S b) xs ≡ paired p left (drop i xs) → left ≡ q ∷ rest → q ≡ p → i < length xs → r ≡ get_or xs i r → Some r ≡ kept_at S b xs nodes p
+  look_hit xs nodes b p q i left rest r low same is hit l e =
+      sym (ap (λ c. if c then slice_get nodes (p - size S b) else paired p (pins S b) xs) (lt-leb _ _ low)
+      ∙ same ∙ ap (λ qs. paired p qs (drop i xs)) is
+      ∙ paired_hit p q rest xs i r l hit
+      ∙ ap Some (sym e))
 
-  pub look_on : {A : Type 0} (f : A → List ℕ) (xs : List A) (b p q i : ℕ) (left rest : List ℕ) → paired p (pins S b) (map f xs) ≡ paired p left (drop i (map f xs)) → left ≡ q ∷ rest → q ≢ p → i < length xs → paired p (pins S b) (map f xs) ≡ paired p rest (drop (i + 1) (map f xs))
-  look_on f xs b p q i left rest same is miss l =
-      same ∙ ap (λ qs. paired p qs (drop i (map f xs))) is ∙ paired_on p q rest (map f xs) i (rw length-map l) miss
+  pub look_on : {D : Type 0} (xs : List D) (b p q i : ℕ) (left rest : List ℕ) → paired p (pins S b) xs ≡ paired p left (drop i xs) → left ≡ q ∷ rest → q ≢ p → i < length xs → paired p (pins S b) xs ≡ paired p rest (drop (i + 1) xs)
+  look_on xs b p q i left rest same is miss l =
+      same ∙ ap (λ qs. paired p qs (drop i xs)) is ∙ paired_on p q rest xs i l miss
 
   -- a pinned node is found
   pub pinned_some : (hs : List ℕ) (s a k : ℕ) → IsPeak hs s a k → (ds : List (List ℕ)) → length ds ≡ length hs → (d : List ℕ) × (paired (S.position a k) (map (λ p. p.0) (placed S s hs)) ds ≡ Some d)
@@ -141,23 +163,23 @@ module _ (S : Shape) where
     kept_some b p a k pinned nodes i count few =
         let u : S.position a k < p = i.below in
         ⊎_elim
-          (λ (l : size S b ≤ S.position a k). (get_or nodes (S.position a k - size S b) [], ap (λ c. if c then slice_get nodes (S.position a k - size S b) else paired (S.position a k) (pins S b) pinned) (le-leb _ _ l) ∙ slice_get-get_or nodes (S.position a k - size S b) [] (omega arith)))
-          (λ (g : (S.position a k < size S b) × IsPeak (S.peaks b) 0 a k).
-            let r = pinned_some (S.peaks b) 0 a k g.1 pinned few in
-            (r.0, ap (λ c. if c then slice_get nodes (S.position a k - size S b) else paired (S.position a k) (pins S b) pinned) (lt-leb _ _ g.0) ∙ r.1))
-          i.there
+        (λ (l : size S b ≤ S.position a k). (get_or nodes (S.position a k - size S b) [], ap (λ c. if c then slice_get nodes (S.position a k - size S b) else paired (S.position a k) (pins S b) pinned) (le-leb _ _ l) ∙ slice_get-get_or nodes (S.position a k - size S b) [] (omega arith)))
+        (λ (g : (S.position a k < size S b) × IsPeak (S.peaks b) 0 a k).
+        let r = pinned_some (S.peaks b) 0 a k g.1 pinned few in
+        (r.0, ap (λ c. if c then slice_get nodes (S.position a k - size S b) else paired (S.position a k) (pins S b) pinned) (lt-leb _ _ g.0) ∙ r.1))
+        i.there
 
     -- a kept digest that is the list's where it is no pinned one
     pub kept_value : (node : ℕ → ℕ → List ℕ) (b p a k : ℕ) (pinned nodes : List (List ℕ)) → IsKept b p a k → length nodes + size S b ≡ p → pinned ≡ at_peaks node 0 (S.peaks b)
-      → (size S b ≤ S.position a k → get_or nodes (S.position a k - size S b) [] ≡ node k a) → kept_at S b pinned nodes (S.position a k) ≡ Some (node k a)
+        → (size S b ≤ S.position a k → get_or nodes (S.position a k - size S b) [] ≡ node k a) → kept_at S b pinned nodes (S.position a k) ≡ Some (node k a)
     kept_value node b p a k pinned nodes i count peaks value =
         let u : S.position a k < p = i.below in
         ⊎_elim
-          (λ (l : size S b ≤ S.position a k). ap (λ c. if c then slice_get nodes (S.position a k - size S b) else paired (S.position a k) (pins S b) pinned) (le-leb _ _ l) ∙ slice_get-get_or nodes (S.position a k - size S b) [] (omega arith) ∙ ap Some (value l))
-          (λ (g : (S.position a k < size S b) × IsPeak (S.peaks b) 0 a k).
-            ap (λ c. if c then slice_get nodes (S.position a k - size S b) else paired (S.position a k) (pins S b) pinned) (lt-leb _ _ g.0)
-            ∙ ap (paired (S.position a k) (pins S b)) peaks ∙ pinned_is node (S.peaks b) 0 a k (L.aligned b) i.aligned g.1)
-          i.there
+        (λ (l : size S b ≤ S.position a k). ap (λ c. if c then slice_get nodes (S.position a k - size S b) else paired (S.position a k) (pins S b) pinned) (le-leb _ _ l) ∙ slice_get-get_or nodes (S.position a k - size S b) [] (omega arith) ∙ ap Some (value l))
+        (λ (g : (S.position a k < size S b) × IsPeak (S.peaks b) 0 a k).
+        ap (λ c. if c then slice_get nodes (S.position a k - size S b) else paired (S.position a k) (pins S b) pinned) (lt-leb _ _ g.0)
+        ∙ ap (paired (S.position a k) (pins S b)) peaks ∙ pinned_is node (S.peaks b) 0 a k (L.aligned b) i.aligned g.1)
+        i.there
 
     pub kept_is : (node : ℕ → ℕ → List ℕ) (dirty : List ℕ) (b p a k : ℕ) (pinned nodes : List (List ℕ)) → IsKept b p a k → length nodes + size S b ≡ p → Holds S node dirty b p pinned nodes → IsClean dirty a k → kept_at S b pinned nodes (S.position a k) ≡ Some (node k a)
     kept_is node dirty b p a k pinned nodes i count holds clean = kept_value node b p a k pinned nodes i count holds.peaks (λ l. holds.from a k i.aligned l i.below clean)
@@ -170,11 +192,11 @@ module _ (S : Shape) where
           aligned = ca;
           below = below;
           there = ⊎_elim
-            (λ (l : S.position c k < size S b).
+              (λ (l : S.position c k < size S b).
               let i : Inside (S.peaks b) 0 c k = (L.inside b c k ca).1 ((L.born b c k ca).0 l) in
               inr (l, inside_peak (S.peaks b) 0 c k a (L.aligned b) i aa lo hi none))
-            (λ (g : size S b ≤ S.position c k). inl g)
-            (cases_lt (S.position c k) (size S b))
+              (λ (g : size S b ≤ S.position c k). inl g)
+              (cases_lt (S.position c k) (size S b));
         }
 
     pub same_clean : (dirty : List ℕ) (p a k b j : ℕ) → IsNode S p a k → IsNode S p b j → IsClean dirty a k → IsClean dirty b j
@@ -191,8 +213,10 @@ module _ (S : Shape) where
         let c = L.children a k i.aligned in
         let l : a % 2 ^ k ≡ 0 = multiple_down a k (suc k) (omega arith) i.aligned in
         let r : (a + 2 ^ k) % 2 ^ k ≡ 0 = multiple_add a (2 ^ k) (2 ^ k) (pow_pos k) l (power_multiple k k (omega arith)) in
-        rw km (child b (size S n + o) a k a i.aligned late l (omega arith) (omega arith) (omega (arith, c.0)),
-         child b (size S n + o) a k (a + 2 ^ k) i.aligned late r (omega arith) (omega arith) (omega (arith, c.1)))
+        rw km (
+          child b (size S n + o) a k a i.aligned late l (omega arith) (omega arith) (omega (arith, c.0)),
+          child b (size S n + o) a k (a + 2 ^ k) i.aligned late r (omega arith) (omega arith) (omega (arith, c.1)),
+        )
 
     pub kept_some_at : (b p a k q : ℕ) (pinned nodes : List (List ℕ)) → q ≡ S.position a k → IsKept b p a k → length nodes + size S b ≡ p → length pinned ≡ length (S.peaks b) → (d : List ℕ) × (kept_at S b pinned nodes q ≡ Some d)
     kept_some_at b p a k q pinned nodes e i count few = let r = kept_some b p a k pinned nodes i count few in (r.0, ap (kept_at S b pinned nodes) e ∙ r.1)
@@ -215,14 +239,14 @@ module _ (S : Shape) where
     holds_more node dirty b p a k pinned nodes d h count i e = record {
       peaks = h.peaks;
       from = λ c j al lo hi clean.
-        ⊎_elim
+          ⊎_elim
           (λ (l : S.position c j < p). get_or_append_left nodes (d ∷ []) [] (S.position c j - size S b) (omega arith) ∙ h.from c j al lo l clean)
           (λ (g : p ≤ S.position c j).
-            let at : S.position c j ≡ p = omega arith in
-            let s = same_node S L p a k c j i (record { aligned = al; at = at }) in
-            let ix : S.position c j - size S b ≡ length nodes = omega arith in
-            ap (λ m. get_or (nodes ++ d ∷ []) m []) ix ∙ get_or-append_seam nodes d [] [] ∙ e (λ m u v w. clean m u (let f : a ≡ c = s.0 in omega arith) (let f : a ≡ c = s.0 in let f2 : 2 ^ k ≡ 2 ^ j = ap (λ y. 2 ^ y) s.1 in omega arith)) ∙ ap₂ (λ u w. node w u) s.0 s.1)
-          (cases_lt (S.position c j) p)
+          let at : S.position c j ≡ p = omega arith in
+          let s = same_node S L p a k c j i (record { aligned = al; at = at }) in
+          let ix : S.position c j - size S b ≡ length nodes = omega arith in
+          ap (λ m. get_or (nodes ++ d ∷ []) m []) ix ∙ get_or-append_seam nodes d [] [] ∙ e (λ m u v w. clean m u (let f : a ≡ c = s.0 in omega arith) (let f : a ≡ c = s.0 in let f2 : 2 ^ k ≡ 2 ^ j = ap (λ y. 2 ^ y) s.1 in omega arith)) ∙ ap₂ (λ u w. node w u) s.0 s.1)
+          (cases_lt (S.position c j) p);
     }
 
     -- ---- pruning
@@ -232,8 +256,8 @@ module _ (S : Shape) where
         record {
           peaks = peaks;
           from = λ a k al from below clean.
-            let i : size S m - size S b + (S.position a k - size S m) ≡ S.position a k - size S b = omega arith in
-            ap (λ ns. get_or ns (S.position a k - size S m) []) rest ∙ get_or-drop (size S m - size S b) nodes (S.position a k - size S m) [] ∙ ap (λ j. get_or nodes j []) i ∙ h.from a k al (omega arith) below clean
+              let i : size S m - size S b + (S.position a k - size S m) ≡ S.position a k - size S b = omega arith in
+              ap (λ ns. get_or ns (S.position a k - size S m) []) rest ∙ get_or-drop (size S m - size S b) nodes (S.position a k - size S m) [] ∙ ap (λ j. get_or nodes j []) i ∙ h.from a k al (omega arith) below clean;
         }
 
     pub holds_at : (node : ℕ → ℕ → List ℕ) (dirty : List ℕ) (b p q : ℕ) (pinned nodes : List (List ℕ)) → p ≡ q → Holds S node dirty b p pinned nodes → Holds S node dirty b q pinned nodes
@@ -255,7 +279,7 @@ module _ (S : Shape) where
         pub holds_old : (dirty : List ℕ) (b : ℕ) (pinned nodes : List (List ℕ)) → b ≤ n → Holds S (node_over h T chunk list) dirty b (size S n) pinned nodes → Holds S (node_over h T chunk (list ++ x ∷ [])) dirty b (size S n) pinned nodes
         holds_old dirty b pinned nodes le held = record {
           peaks = held.peaks ∙ peaks_same h T chunk list (list ++ x ∷ []) (S.peaks b) 0 (λ j u w. sym (get_or_append_left list (x ∷ []) [] j (omega (arith, L.sum b))));
-          from = λ a k al lo hi clean. held.from a k al lo hi clean ∙ node_same h T chunk list (list ++ x ∷ []) k a (λ j u w. sym (get_or_append_left list (x ∷ []) [] j (omega (arith, L.late a k, (L.born n a k al).0 hi))))
+          from = λ a k al lo hi clean. held.from a k al lo hi clean ∙ node_same h T chunk list (list ++ x ∷ []) k a (λ j u w. sym (get_or_append_left list (x ∷ []) [] j (omega (arith, L.late a k, (L.born n a k al).0 hi))));
         }
 
         pub leaf_born : (o a k : ℕ) → k ≡ 0 → size S n + o < size S (n + 1) → IsNode S (size S n + o) a k → (b j : ℕ) → IsNode S (size S n + o) b j → x ≡ node_over h T chunk (list ++ x ∷ []) j b

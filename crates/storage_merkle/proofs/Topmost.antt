@@ -51,11 +51,11 @@ module _ (S : Shape) (L : Laws S) where
         aligned = al;
         below = below;
         there = ⊎_elim
-          (λ (l : S.position a k < size S b).
+            (λ (l : S.position a k < size S b).
             let i : Inside (S.peaks b) 0 a k = (L.inside b a k al).1 ((L.born b a k al).0 l) in
             inr (l, inside_peak (S.peaks b) 0 a k q.first (L.aligned b) i q.aligned q.low q.high (none q)))
-          (λ (g : size S b ≤ S.position a k). inl g)
-          (cases_lt (S.position a k) (size S b))
+            (λ (g : size S b ≤ S.position a k). inl g)
+            (cases_lt (S.position a k) (size S b));
       }
 
   pub peak_kept : (b m p a k : ℕ) → b ≤ m → size S m ≤ p → a % 2 ^ k ≡ 0 → IsPeak (S.peaks m) 0 a k → IsKept S L b p a k
@@ -63,7 +63,7 @@ module _ (S : Shape) (L : Laws S) where
       let j = peak_inside (S.peaks m) 0 a k i in
       let lt : S.position a k < size S m = (L.born m a k al).1 ((L.inside m a k al).0 j) in
       kept_below b p a k al (omega arith)
-        (λ q x. peak_topmost (S.peaks m) 0 a k q.first i q.low q.high ((L.inside m q.first (suc k) q.aligned).1 (let y : S.birth q.first (suc k) ≤ b = (L.inside b q.first (suc k) q.aligned).0 x in omega arith)))
+      (λ q x. peak_topmost (S.peaks m) 0 a k q.first i q.low q.high ((L.inside m q.first (suc k) q.aligned).1 (let y : S.birth q.first (suc k) ≤ b = (L.inside b q.first (suc k) q.aligned).0 x in omega arith)))
 
   -- a walk along the peaks
   pub record Walk (m first left : ℕ) : Type 0 where
@@ -96,7 +96,7 @@ module _ (S : Shape) (L : Laws S) where
       sym (append-nil xs) ∙ ap (λ ys. xs ++ ys) (sym none) ∙ e
 
   pub walk_more : {A : Type 0} (node : ℕ → ℕ → List ℕ) (f : A → List ℕ) (ds : List A) (count first left h : ℕ) (v : A) (T : List (List ℕ)) → map f (take count ds) ++ at_peaks node first (S.peaks left) ≡ T → S.peaks left ≡ h ∷ S.peaks (left - 2 ^ h) → count < length ds → f v ≡ node h first
-    → map f (take (count + 1) (set ds count v)) ++ at_peaks node (first + 2 ^ h) (S.peaks (left - 2 ^ h)) ≡ T
+      → map f (take (count + 1) (set ds count v)) ++ at_peaks node (first + 2 ^ h) (S.peaks (left - 2 ^ h)) ≡ T
   walk_more node f ds count first left h v T e is l at =
       let B = at_peaks node (first + 2 ^ h) (S.peaks (left - 2 ^ h)) in
       ap (λ xs. map f xs ++ B) (take_more_set ds count v l)

@@ -1,18 +1,18 @@
 -- What a tree in memory keeps, and for which lists of leaf digests it stands.
-use Rattle.std.specs.Prelude.{◌≡◌, ℕ, ◌+◌, ◌-◌, ◌*◌, ◌/◌, ◌%◌, ◌^◌, ◌<◌, ◌≤◌, List, [], ◌∷◌, length, map, get_or, set, Contains, Option, Some, None, leb, eqb, if◌then◌else◌}
+use Rattle.std.specs.Prelude.{◌≡◌, ℕ, ◌+◌, ◌-◌, ◌*◌, ◌/◌, ◌%◌, ◌^◌, ◌<◌, ◌≤◌, List, [], ◌∷◌, length, map, get_or, set, slice_index, Contains, Option, Some, None, leb, eqb, if◌then◌else◌}
 use Rattle.std.specs.List.{slice_get}
 use Rattle.storage_merkle.specs.Shape.{Shape, size}
 use Rattle.storage_merkle.specs.Nodes.{placed}
 use Rattle.storage_merkle.specs.Trees.{places}
 
-pub record Kept : Type 0 where
+pub record Kept (D : Type 0) : Type 0 where
   pub leaves : ℕ
   -- the leaves below it are forgotten
   pub boundary : ℕ
   -- the digests of the peaks over the boundary
-  pub pinned : List (List ℕ)
+  pub pinned : List D
   -- the digests of the nodes from the position of the boundary's leaf on
-  pub nodes : List (List ℕ)
+  pub nodes : List D
 
 -- true of every tree in memory, also of one that stands for no list
 pub record IsWhole (S : Shape) (leaves boundary pinned nodes : ℕ) : Type 0 where
@@ -28,13 +28,13 @@ abbrev pub pins : Shape → ℕ → List ℕ
 pins S b = map (λ p. p.0) (placed S 0 (S.peaks b))
 
 -- the digest beside a position
-abbrev pub paired : ℕ → List ℕ → List (List ℕ) → Option (List ℕ)
+abbrev pub paired : {D : Type 0} → ℕ → List ℕ → List D → Option D
 paired p [] ds = None
 paired p (q ∷ qs) [] = None
 paired p (q ∷ qs) (d ∷ ds) = if eqb q p then Some d else paired p qs ds
 
 -- the kept digest at a position
-abbrev pub kept_at : Shape → ℕ → List (List ℕ) → List (List ℕ) → ℕ → Option (List ℕ)
+abbrev pub kept_at : {D : Type 0} → Shape → ℕ → List D → List D → ℕ → Option D
 kept_at S b pinned nodes p = if leb (size S b) p then slice_get nodes (p - size S b) else paired p (pins S b) pinned
 
 -- ---- for which lists it stands
@@ -56,16 +56,25 @@ pub record Holds (S : Shape) (node : ℕ → ℕ → List ℕ) (dirty : List ℕ
   pub peaks : pinned ≡ at_peaks node 0 (S.peaks boundary)
   pub from : (a k : ℕ) → a % 2 ^ k ≡ 0 → size S boundary ≤ S.position a k → S.position a k < reach → IsClean dirty a k → get_or nodes (S.position a k - size S boundary) [] ≡ node k a
 
--- the tree is the list's, save over dirty leaves
-pub record StandsBut (S : Shape) (N : NodesOver) (dirty : List ℕ) (m : Kept) (list : List (List ℕ)) : Type 0 where
+-- the tree is the list's, save over dirty leaves; a digest's bytes are told by `text`
+pub record StandsBut {D : Type 0} (text : D → List ℕ) (S : Shape) (N : NodesOver) (dirty : List ℕ) (m : Kept D) (list : List (List ℕ)) : Type 0 where
   pub count : m.leaves ≡ length list
-  pub holds : Holds S (N list) dirty m.boundary (size S m.leaves) m.pinned m.nodes
+  pub holds : Holds S (N list) dirty m.boundary (size S m.leaves) (map text m.pinned) (map text m.nodes)
 
 -- the tree is the list's
-abbrev pub StandsFor : Shape → NodesOver → Kept → List (List ℕ) → Type 0
-StandsFor S N m list = StandsBut S N [] m list
+abbrev pub StandsFor : {D : Type 0} → (D → List ℕ) → Shape → NodesOver → Kept D → List (List ℕ) → Type 0
+StandsFor text S N m list = StandsBut text S N [] m list
 
 -- a list of leaf digests after some are put in, one after another
 abbrev pub updated : List (List ℕ) → List (ℕ × List ℕ) → List (List ℕ)
 updated list [] = list
 updated list (e ∷ es) = updated (set list e.0 e.1) es
+
+-- ---- refusals
+
+-- the first of some leaves that is forgotten or not in the tree
+pub record IsFirstAway (leaves boundary : ℕ) (list : List ℕ) (away : ℕ) : Type 0 where
+  pub index : ℕ
+  pub within : index < length list
+  pub is : slice_index list index ≡ away
+  pub before : (i : ℕ) → i < index → (boundary ≤ slice_index list i) × (slice_index list i < leaves)

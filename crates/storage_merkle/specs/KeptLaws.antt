@@ -13,16 +13,16 @@ module _ (h : HashFunction) (T : Layout) (chunk : ℕ → List ℕ) where
   node_same xs ys zero a same = same a (omega arith) (omega (arith, pow_pos 0))
   node_same xs ys (suc k) a same =
       ap₂ (join_digest h T chunk a (suc k))
-        (node_same xs ys k a (λ j u w. same j u (omega (arith, pow_two k))))
-        (node_same xs ys k (a + 2 ^ k) (λ j u w. same j (omega arith) (omega (arith, pow_two k))))
+      (node_same xs ys k a (λ j u w. same j u (omega (arith, pow_two k))))
+      (node_same xs ys k (a + 2 ^ k) (λ j u w. same j (omega arith) (omega (arith, pow_two k))))
 
   pub peaks_same : (xs ys : List (List ℕ)) (hs : List ℕ) (s : ℕ) → ((j : ℕ) → s ≤ j → j < s + leaves_of hs → get_or xs j [] ≡ get_or ys j []) → at_peaks (node_over h T chunk xs) s hs ≡ at_peaks (node_over h T chunk ys) s hs
   unfolding leaves_of
   peaks_same xs ys [] s same = refl
   peaks_same xs ys (k ∷ hs) s same =
       ap₂ (λ x y. x ∷ y)
-        (node_same xs ys k s (λ j u w. same j u (omega arith)))
-        (peaks_same xs ys hs (s + 2 ^ k) (λ j u w. same j (omega arith) (omega arith)))
+      (node_same xs ys k s (λ j u w. same j u (omega arith)))
+      (peaks_same xs ys hs (s + 2 ^ k) (λ j u w. same j (omega arith) (omega arith)))
 
 pub length_at_peaks : (node : ℕ → ℕ → List ℕ) (hs : List ℕ) (s : ℕ) → length (at_peaks node s hs) ≡ length hs
 length_at_peaks node [] s = refl

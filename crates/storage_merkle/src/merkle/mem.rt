@@ -1,3 +1,256 @@
 //! A tree that is kept in memory.
 
+ghost use Rattle.std.specs.Prelude.{◌≡◌, ℕ, ◌+◌, ◌^◌, ◌<◌, ◌≤◌, ◌∷◌, ◌++◌, [], ◌⊎◌, List, map, max, take, length, slice_index, All, IfOk, OnOk, OnErr, IfErr, MatchOption};
+ghost use Rattle.storage_merkle.specs.Calc.{be8};
+ghost use Rattle.storage_merkle.specs.Hashing.{node_over};
+ghost use Rattle.storage_merkle.specs.Kept.{NodesOver, StandsBut, StandsFor, IsFirstAway, at_peaks, kept_at, pins, updated};
+ghost use Rattle.storage_merkle.specs.Shape.{size};
+
 mod kept;
+
+use crate::merkle::hasher::Hasher;
+use crate::merkle::{Error, Family, Location, MAX_LEAVES, Position};
+use kept::{grow, look_up, peaks_over, write_leaves};
+use std::alloc::{AllocError, Global};
+use std::marker::{Model, PhantomData};
+use storage_codec::digest::Digest;
+
+/// A tree that is kept in memory: its nodes from the position of a leaf on, the boundary, and the peaks over the leaves
+/// before it. What else those leaves had is forgotten.
+#[derive(Drop)]
+pub struct Mem<F: Family, D: Digest> {
+    leaves: u64,
+    boundary: u64,
+    pinned: Vec<D>,
+    nodes: Vec<D>,
+    family: PhantomData<F>,
+}
+
+impl<F: Family, D: Digest> Model for Mem<F, D> {
+    ghost use Rattle.std.specs.Prelude.{vec_len};
+    ghost use Rattle.storage_merkle.specs.Kept.{Kept, IsWhole};
+
+    ghost Value = { Kept D };
+
+    ghost view = { λ m. record { leaves = m.leaves; boundary = m.boundary; pinned = m.pinned.items; nodes = m.nodes.items } };
+
+    ghost invariant = { λ m. IsWhole F.shape m.leaves m.boundary (vec_len m.pinned) (vec_len m.nodes) };
+}
+
+impl<F: Family, D: Digest> Mem<F, D> {
+    /// The tree of no leaves. Takes no memory.
+    pub fn new(alloc: Global) -> Self
+        ensures kept { result ≡ record { leaves = 0; boundary = 0; pinned = []; nodes = [] } }
+        ensures stands { (N : NodesOver) → StandsFor D.text F.shape N result [] }
+    {
+        Mem {
+            leaves: 0,
+            boundary: 0,
+            pinned: Vec::new(alloc),
+            nodes: Vec::new(alloc),
+            family: PhantomData,
+        }
+    }
+
+    /// The tree whose leaves are all forgotten, from the digests of the peaks over them, in their order. Digests past
+    /// those are ignored.
+    ///
+    /// # Errors
+    ///
+    /// `LocationOverflow` of the boundary where no tree has so many leaves; `MissingNode` of the first peak without a
+    /// digest; `Memory`.
+    pub fn init(alloc: Global, boundary: Location<F>, pinned: &[D]) -> Result<Self, Error<F>>
+        ensures kept { IfOk result (λ m. m ≡ record { leaves = boundary; boundary = boundary; pinned = take (length (F.shape.peaks boundary)) pinned.now; nodes = [] }) }
+        ensures stands { IfOk result (λ m. (N : NodesOver) (list : List (List ℕ)) → length list ≡ boundary → map D.text (take (length (F.shape.peaks boundary)) pinned.now) ≡ at_peaks (N list) 0 (F.shape.peaks boundary) → StandsFor D.text F.shape N m list) }
+        ensures fits { IfOk result (λ _. (boundary ≤ 2 ^ 62) × (length (F.shape.peaks boundary) ≤ length pinned.now)) }
+        ensures why { IfErr result (λ e. ((2 ^ 62 < boundary) × (e ≡ Error.LocationOverflow boundary)) ⊎ ((boundary ≤ 2 ^ 62) × (((length pinned.now < length (F.shape.peaks boundary)) × (e ≡ Error.MissingNode (slice_index (pins F.shape boundary) (length pinned.now)))) ⊎ ((length (F.shape.peaks boundary) ≤ length pinned.now) × (e ≡ Error.Memory))))) }
+    {
+        if !boundary.is_valid() {
+            return Err(Error::LocationOverflow(boundary));
+        }
+        let count = match needed(boundary, pinned.len()) {
+            Ok(count) => count,
+            Err(missing) => return Err(Error::MissingNode(missing)),
+        };
+        let Ok(pinned) = copied(alloc, &pinned[..count]) else {
+            return Err(Error::Memory);
+        };
+        Ok(Mem {
+            leaves: boundary.as_u64(),
+            boundary: boundary.as_u64(),
+            pinned,
+            nodes: Vec::new(alloc),
+            family: PhantomData,
+        })
+    }
+
+    /// How many leaves there are. Takes no memory.
+    pub fn leaves(&self) -> Location<F>
+        ensures { result ≡ self.now.leaves }
+    {
+        Location::new(self.leaves)
+    }
+
+    /// How many nodes there are. Takes no memory.
+    pub fn size(&self) -> Position<F>
+        ensures { result ≡ size F.shape self.now.leaves }
+    {
+        Position::new(F::nodes_over(self.leaves))
+    }
+
+    /// The digest at a position; `None` where it is not kept. Takes no memory.
+    pub fn get_node(&self, position: Position<F>) -> Option<D>
+        ensures { result ≡ kept_at F.shape self.now.boundary self.now.pinned self.now.nodes position }
+    {
+        look_up::<F, D>(self.boundary, &self.pinned, &self.nodes, position.as_u64())
+    }
+
+    /// Appends a leaf for an element. Only the leaf and the nodes that are born with it are hashed.
+    ///
+    /// # Errors
+    ///
+    /// `LocationOverflow` of the leaf where the tree has as many leaves as any may have; `Memory`.
+    pub fn add<H: Hasher<F, Digest = D>>(
+        &mut self,
+        hasher: &H,
+        element: &[u8],
+    ) -> Result<(), Error<F>>
+        requires { (p : ℕ) → self.old.leaves < 2 ^ 62 → size F.shape self.old.leaves ≤ p → p < size F.shape (self.old.leaves + 1) → H.takes hasher.now p }
+        ensures grown { let N = node_over H.hash_of (H.layout hasher.now) (H.chunk hasher.now) in IfOk result (λ _. (list : List (List ℕ)) (dirty : List ℕ) → StandsBut D.text F.shape N dirty self.old list → StandsBut D.text F.shape N dirty self.new (list ++ H.hash_of (be8 (size F.shape self.old.leaves) ++ element.now) ∷ [])) }
+        ensures place { OnOk result ((self.new.leaves ≡ self.old.leaves + 1) × (self.new.boundary ≡ self.old.boundary) × (self.new.pinned ≡ self.old.pinned)) }
+        ensures fits { OnOk result (self.old.leaves < 2 ^ 62) }
+        ensures same { OnErr result (self.new ≡ self.old) }
+        ensures why { IfErr result (λ e. ((self.old.leaves ≡ 2 ^ 62) × (e ≡ Error.LocationOverflow self.old.leaves)) ⊎ ((self.old.leaves < 2 ^ 62) × (e ≡ Error.Memory))) }
+    {
+        if self.leaves >= MAX_LEAVES {
+            return Err(Error::LocationOverflow(Location::new(self.leaves)));
+        }
+        if grow::<F, H>(
+            hasher,
+            self.leaves,
+            self.boundary,
+            &self.pinned,
+            &mut self.nodes,
+            element,
+        )
+        .is_err()
+        {
+            return Err(Error::Memory);
+        }
+        self.leaves += 1;
+        Ok(())
+    }
+
+    /// Writes digests of leaves anew, one after another, and hashes the nodes over them: each once where the list is
+    /// ascending. Takes no memory.
+    ///
+    /// # Errors
+    ///
+    /// For the first leaf of the list that is refused: `RangeOutOfBounds` where it is not in the tree; `ElementPruned` of
+    /// its position where it is forgotten.
+    pub fn update_leaves<H: Hasher<F, Digest = D>>(
+        &mut self,
+        hasher: &H,
+        updates: &[(Location<F>, D)],
+    ) -> Result<(), Error<F>>
+        requires { (p : ℕ) → p < size F.shape self.old.leaves → H.takes hasher.now p }
+        ensures written { let N = node_over H.hash_of (H.layout hasher.now) (H.chunk hasher.now) in OnOk result ((list : List (List ℕ)) (dirty : List ℕ) → StandsBut D.text F.shape N (map (λ u. u.0) updates.now ++ dirty) self.old list → StandsBut D.text F.shape N dirty self.new (updated list (map (λ u. (u.0, D.text u.1)) updates.now))) }
+        ensures stands { let N = node_over H.hash_of (H.layout hasher.now) (H.chunk hasher.now) in OnOk result ((list : List (List ℕ)) → StandsFor D.text F.shape N self.old list → StandsFor D.text F.shape N self.new (updated list (map (λ u. (u.0, D.text u.1)) updates.now))) }
+        ensures place { OnOk result ((self.new.leaves ≡ self.old.leaves) × (self.new.boundary ≡ self.old.boundary) × (self.new.pinned ≡ self.old.pinned)) }
+        ensures fits { OnOk result (All (λ u. (self.old.boundary ≤ u.0) × (u.0 < self.old.leaves)) updates.now) }
+        ensures same { OnErr result (self.new ≡ self.old) }
+        ensures why { IfErr result (λ e. (away : ℕ) × IsFirstAway self.old.leaves self.old.boundary (map (λ u. u.0) updates.now) away × (((self.old.leaves ≤ away) × (e ≡ Error.RangeOutOfBounds away)) ⊎ ((away < self.old.boundary) × (e ≡ Error.ElementPruned (size F.shape away))))) }
+    {
+        if let Some(away) = first_away(self.leaves, self.boundary, updates) {
+            if away >= self.leaves {
+                return Err(Error::RangeOutOfBounds(Location::new(away)));
+            }
+            return Err(Error::ElementPruned(Position::new(F::nodes_over(away))));
+        }
+        write_leaves::<F, H>(
+            hasher,
+            self.leaves,
+            self.boundary,
+            &self.pinned,
+            &mut self.nodes,
+            updates,
+        );
+        Ok(())
+    }
+
+    /// Forgets the leaves below a location, and all nodes but those that the others need. Below what is forgotten
+    /// already it does nothing.
+    ///
+    /// # Errors
+    ///
+    /// `RangeOutOfBounds` of the location where it is past the number of leaves; `Memory`.
+    pub fn prune(&mut self, location: Location<F>) -> Result<(), Error<F>>
+        ensures stands { OnOk result ((N : NodesOver) (list : List (List ℕ)) → StandsFor D.text F.shape N self.old list → StandsFor D.text F.shape N self.new list) }
+        ensures place { OnOk result ((self.new.boundary ≡ max self.old.boundary location) × (self.new.leaves ≡ self.old.leaves)) }
+        ensures fits { OnOk result (location ≤ self.old.leaves) }
+        ensures same { OnErr result (self.new ≡ self.old) }
+        ensures why { IfErr result (λ e. ((self.old.leaves < location) × (e ≡ Error.RangeOutOfBounds location)) ⊎ ((location ≤ self.old.leaves) × (e ≡ Error.Memory))) }
+    {
+        let to = location.as_u64();
+        if to > self.leaves {
+            return Err(Error::RangeOutOfBounds(Location::new(to)));
+        }
+        if to <= self.boundary {
+            return Ok(());
+        }
+        let (digests, count) = peaks_over::<F, D>(self.boundary, &self.pinned, &self.nodes, to);
+        let Ok(pinned) = copied(*self.pinned.allocator(), &digests[..count]) else {
+            return Err(Error::Memory);
+        };
+        let gone = (F::nodes_over(to) - F::nodes_over(self.boundary)) as usize;
+        let rest = self.nodes.len() - gone;
+        let nodes = &mut self.nodes;
+        nodes.rotate_left(gone);
+        nodes.truncate(rest);
+        self.pinned = pinned;
+        self.boundary = to;
+        Ok(())
+    }
+}
+
+/// The first leaf of some updates that is forgotten or not in the tree.
+fn first_away<F: Family, D: Digest>(
+    leaves: u64,
+    boundary: u64,
+    updates: &[(Location<F>, D)],
+) -> Option<u64>
+    ensures { MatchOption result (All (λ u. (boundary ≤ u.0) × (u.0 < leaves)) updates.now) (λ p. IsFirstAway leaves boundary (map (λ u. u.0) updates.now) p × ((leaves ≤ p) ⊎ (p < boundary))) }
+{
+    for (location, _) in updates {
+        let place = location.as_u64();
+        if place >= leaves || place < boundary {
+            return Some(place);
+        }
+    }
+    None
+}
+
+/// How many peaks there are over a location; or the position of the first that is past so many.
+fn needed<F: Family>(boundary: Location<F>, given: usize) -> Result<usize, Position<F>>
+    requires { boundary ≤ 2 ^ 62 }
+    ensures count { IfOk result (λ n. (n ≡ length (F.shape.peaks boundary)) × (n ≤ given)) }
+    ensures missing { IfErr result (λ p. (given < length (F.shape.peaks boundary)) × (p ≡ slice_index (pins F.shape boundary) given)) }
+{
+    let mut count = 0;
+    for position in F::nodes_to_pin(boundary) {
+        if count == given {
+            return Err(position);
+        }
+        count += 1;
+    }
+    Ok(count)
+}
+
+/// A copy of some digests.
+fn copied<D: Digest>(alloc: Global, digests: &[D]) -> Result<Vec<D>, AllocError>
+    ensures { IfOk result (λ v. v.items ≡ digests.now) }
+{
+    let mut copy = Vec::new(alloc);
+    copy.extend_from_slice(digests)?;
+    Ok(copy)
+}

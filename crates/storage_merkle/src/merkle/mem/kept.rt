@@ -1,9 +1,9 @@
 //! The digests that a tree in memory keeps: how they are found, appended and written anew.
 
-ghost use Rattle.std.specs.Prelude.{◌≡◌, ℕ, ◌+◌, ◌-◌, ◌*◌, ◌%◌, ◌^◌, ◌<◌, ◌≤◌, ◌∷◌, ◌++◌, [], List, map, take, length, get_or, Some, None, MatchOption, IfOk, OnErr, IsTrue, Option};
+ghost use Rattle.std.specs.Prelude.{◌≡◌, ℕ, ◌+◌, ◌-◌, ◌*◌, ◌%◌, ◌^◌, ◌<◌, ◌≤◌, ◌∷◌, ◌++◌, [], List, map, take, length, get_or, All, Some, IfOk, OnErr, IsTrue, Option};
 ghost use Rattle.storage_merkle.specs.Calc.{be8};
 ghost use Rattle.storage_merkle.specs.Hashing.{node_over};
-ghost use Rattle.storage_merkle.specs.Kept.{kept_at, at_peaks, IsClean, Holds};
+ghost use Rattle.storage_merkle.specs.Kept.{kept_at, at_peaks, updated, IsClean, Holds};
 ghost use Rattle.storage_merkle.specs.Nodes.{IsNode};
 ghost use Rattle.storage_merkle.specs.Rewriting.{over, WrittenBelow, IsNext, Reaches};
 ghost use Rattle.storage_merkle.specs.Shape.{size};
@@ -23,7 +23,7 @@ pub(crate) fn look_up<F: Family, D: Digest>(
 ) -> Option<D>
     requires few { boundary ≤ 2 ^ 62 }
     requires pins { length pinned.now ≡ length (F.shape.peaks boundary) }
-    ensures { let kept = kept_at F.shape boundary (map D.text pinned.now) (map D.text nodes.now) position in MatchOption result (kept ≡ None) (λ d. kept ≡ Some (D.text d)) }
+    ensures { result ≡ kept_at F.shape boundary pinned.now nodes.now position }
 {
     let start = F::nodes_over(boundary);
     if position >= start {
@@ -64,8 +64,19 @@ pub(crate) fn born<F: Family, H: Hasher<F>>(
         return hasher.leaf_digest(position, element);
     }
     let half = power(height - 1);
-    let left = look_up::<F, H::Digest>(boundary, pinned, nodes, F::position(first, height - 1)).unwrap();
-    let right = look_up::<F, H::Digest>(boundary, pinned, nodes, F::position(first + half, height - 1)).unwrap();
+    let left = look_up::<F, H::Digest>(
+        boundary,
+        pinned,
+        nodes,
+        F::position(first, height - 1),
+    ).unwrap();
+    let right = look_up::<F, H::Digest>(
+        boundary,
+        pinned,
+        nodes,
+        F::position(first + half, height - 1),
+    )
+    .unwrap();
     hasher.node_digest(position, &left, &right)
 }
 
@@ -120,8 +131,19 @@ pub(crate) fn above<F: Family, H: Hasher<F>>(
     let half = power(height - 1);
     let first = place / power(height) * power(height);
     let position = F::position(first, height);
-    let left = look_up::<F, H::Digest>(boundary, pinned, nodes, F::position(first, height - 1)).unwrap();
-    let right = look_up::<F, H::Digest>(boundary, pinned, nodes, F::position(first + half, height - 1)).unwrap();
+    let left = look_up::<F, H::Digest>(
+        boundary,
+        pinned,
+        nodes,
+        F::position(first, height - 1),
+    ).unwrap();
+    let right = look_up::<F, H::Digest>(
+        boundary,
+        pinned,
+        nodes,
+        F::position(first + half, height - 1),
+    )
+    .unwrap();
     hasher.node_digest(Position::new(position), &left, &right)
 }
 
@@ -167,6 +189,41 @@ pub(crate) fn write_leaf<F: Family, H: Hasher<F>>(
     }
 }
 
+/// The leaf of the first of some updates, if there is one.
+fn first_place<F: Family, D: Digest>(updates: &[(Location<F>, D)]) -> Option<u64>
+    ensures { IsNext result (map (λ u. u.0) updates.now) }
+{
+    let (location, _) = updates.first()?;
+    Some(location.as_u64())
+}
+
+/// Writes the digests of leaves, one after another, and those of the nodes over them.
+pub(crate) fn write_leaves<F: Family, H: Hasher<F>>(
+    hasher: &H,
+    leaves: u64,
+    boundary: u64,
+    pinned: &[H::Digest],
+    nodes: &mut [H::Digest],
+    updates: &[(Location<F>, H::Digest)],
+)
+    requires few { leaves ≤ 2 ^ 62 }
+    requires there { All (λ u. (boundary ≤ u.0) × (u.0 < leaves)) updates.now }
+    requires pins { length pinned.now ≡ length (F.shape.peaks boundary) }
+    requires count { length nodes.old + size F.shape boundary ≡ size F.shape leaves }
+    requires takes { (p : ℕ) → p < size F.shape leaves → H.takes hasher.now p }
+    ensures { let N = node_over H.hash_of (H.layout hasher.now) (H.chunk hasher.now) in (list : List (List ℕ)) (dirty : List ℕ) → length list ≡ leaves → Holds F.shape (N list) (map (λ u. u.0) updates.now ++ dirty) boundary (size F.shape leaves) (map H.Digest.text pinned.now) (map H.Digest.text nodes.old) → Holds F.shape (N (updated list (map (λ u. (u.0, H.Digest.text u.1)) updates.now))) dirty boundary (size F.shape leaves) (map H.Digest.text pinned.now) (map H.Digest.text nodes.new) }
+{
+    let mut left = updates;
+    while let Some((update, rest)) = left.split_first() {
+        let place = update.0.as_u64();
+        let next = first_place(rest);
+        write_leaf::<F, H>(
+            hasher, leaves, boundary, pinned, nodes, place, update.1, next,
+        );
+        left = rest;
+    }
+}
+
 /// The digests of the peaks over so many leaves, and how many they are.
 pub(crate) fn peaks_over<F: Family, D: Digest>(
     boundary: u64,
@@ -191,7 +248,12 @@ pub(crate) fn peaks_over<F: Family, D: Digest>(
     let mut count = 0;
     while left > 0 {
         let height = F::first_peak(left);
-        digests[count] = look_up::<F, D>(boundary, pinned, nodes, F::position(first, height)).unwrap();
+        digests[count] = look_up::<F, D>(
+            boundary,
+            pinned,
+            nodes,
+            F::position(first, height),
+        ).unwrap();
         first += power(height);
         left -= power(height);
         count += 1;

@@ -4,7 +4,7 @@ use Rattle.storage_merkle.specs.Shape.{size}
 use Rattle.storage_merkle.specs.Hashing.{node_over}
 use Rattle.storage_merkle.specs.Kept.{kept_at}
 use Rattle.storage_merkle.specs.Rewriting.{over}
-use Rattle.storage_merkle.proofs.Keeping.{found, value_of, kept_some_at, clean_children}
+use Rattle.storage_merkle.proofs.Keeping.{found, seen, value_of, kept_some_at, clean_children}
 use Rattle.storage_merkle.proofs.Rewriting.{over_is, room, children_over_at, child_value, above_is}
 use Rattle.storage_merkle.proofs.merkle.mem.kept.above.Goals as goal
 
@@ -28,7 +28,7 @@ unwrap-left-requires g c =
     let f : c.args.place / c.power.result * c.power-2.result ≡ over c.args.place c.args.height = ap₂ (λ x y. c.args.place / x * y) c.power.ensures c.power-2.ensures in
     let i = children_over_at S g.met.F.Family.laws c.args.boundary c.args.leaves c.args.place c.args.height c.requires.inner c.requires.kept c.requires.there in
     let d = kept_some_at S g.met.F.Family.laws c.args.boundary (size S c.args.leaves) (over c.args.place c.args.height) (c.args.height - 1) c.position.result P Q (c.position.ensures ∙ ap (λ m. S.position m (c.args.height - 1)) f) i.0 (rw length-map c.requires.count) (rw length-map c.requires.pins) in
-    found g.H.Digest.Write.text c.look_up.result (kept_at S c.args.boundary P Q c.position.result) d.0 c.look_up.ensures d.1
+    found g.H.Digest.Write.text c.look_up.result (kept_at S c.args.boundary P Q c.position.result) d.0 (seen g.H.Digest.Write.text g.F.Family.shape c.args.boundary c.args.pinned.now c.args.nodes.now _ _ c.look_up.ensures) d.1
 
 pub position-requires-2-clause-aligned : goal.position-requires-2-clause-aligned
 position-requires-2-clause-aligned g c = let r = room g.F.Family.shape g.met.F.Family.laws c.args.leaves c.args.place c.args.height c.requires.few c.requires.within c.requires.inner c.requires.small in rw (c.power.ensures, c.power-2.ensures, c.power-half.ensures) r.right
@@ -44,7 +44,7 @@ unwrap-right-requires g c =
     let f : c.args.place / c.power.result * c.power-2.result ≡ over c.args.place c.args.height = ap₂ (λ x y. c.args.place / x * y) c.power.ensures c.power-2.ensures in
     let i = children_over_at S g.met.F.Family.laws c.args.boundary c.args.leaves c.args.place c.args.height c.requires.inner c.requires.kept c.requires.there in
     let d = kept_some_at S g.met.F.Family.laws c.args.boundary (size S c.args.leaves) (over c.args.place c.args.height + 2 ^ (c.args.height - 1)) (c.args.height - 1) c.position-2.result P Q (c.position-2.ensures ∙ ap₂ (λ m n. S.position (m + n) (c.args.height - 1)) f c.power-half.ensures) i.1 (rw length-map c.requires.count) (rw length-map c.requires.pins) in
-    found g.H.Digest.Write.text c.look_up-2.result (kept_at S c.args.boundary P Q c.position-2.result) d.0 c.look_up-2.ensures d.1
+    found g.H.Digest.Write.text c.look_up-2.result (kept_at S c.args.boundary P Q c.position-2.result) d.0 (seen g.H.Digest.Write.text g.F.Family.shape c.args.boundary c.args.pinned.now c.args.nodes.now _ _ c.look_up-2.ensures) d.1
 
 pub returns : goal.returns
 returns g c list rest w clean =
@@ -66,9 +66,9 @@ returns g c list rest w clean =
     let x = child_value S L node rest c.args.boundary (size S c.args.leaves) c.args.place h a (h - 1) P Q i.0 (rw length-map c.requires.count) w (omega (arith, c.requires.inner)) k.0 in
     let y = child_value S L node rest c.args.boundary (size S c.args.leaves) c.args.place h (a + 2 ^ (h - 1)) (h - 1) P Q i.1 (rw length-map c.requires.count) w (omega (arith, c.requires.inner)) k.1 in
     above_is S L g.H.Hasher.hash_of T chunk list a h (b c.unwrap-left.result) (b c.unwrap-right.result) (b c.node_digest.result) c.requires.inner
-      (value_of b c.look_up.result (kept_at S c.args.boundary P Q c.position.result) _ c.unwrap-left.result c.look_up.ensures c.unwrap-left.ensures (ap (kept_at S c.args.boundary P Q) (c.position.ensures ∙ ap (λ m. S.position m (h - 1)) f) ∙ x))
-      (value_of b c.look_up-2.result (kept_at S c.args.boundary P Q c.position-2.result) _ c.unwrap-right.result c.look_up-2.ensures c.unwrap-right.ensures (ap (kept_at S c.args.boundary P Q) (c.position-2.ensures ∙ ap₂ (λ m n. S.position (m + n) (h - 1)) f c.power-half.ensures) ∙ y))
-      (c.node_digest.ensures a h (record { aligned = o.aligned; at = sym at }))
+    (value_of b c.look_up.result (kept_at S c.args.boundary P Q c.position.result) _ c.unwrap-left.result (seen g.H.Digest.Write.text g.F.Family.shape c.args.boundary c.args.pinned.now c.args.nodes.now _ _ c.look_up.ensures) c.unwrap-left.ensures (ap (kept_at S c.args.boundary P Q) (c.position.ensures ∙ ap (λ m. S.position m (h - 1)) f) ∙ x))
+    (value_of b c.look_up-2.result (kept_at S c.args.boundary P Q c.position-2.result) _ c.unwrap-right.result (seen g.H.Digest.Write.text g.F.Family.shape c.args.boundary c.args.pinned.now c.args.nodes.now _ _ c.look_up-2.ensures) c.unwrap-right.ensures (ap (kept_at S c.args.boundary P Q) (c.position-2.ensures ∙ ap₂ (λ m n. S.position (m + n) (h - 1)) f c.power-half.ensures) ∙ y))
+    (c.node_digest.ensures a h (record { aligned = o.aligned; at = sym at }))
 
 pub node_digest-requires : goal.node_digest-requires
 node_digest-requires g c =

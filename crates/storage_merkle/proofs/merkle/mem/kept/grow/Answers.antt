@@ -16,7 +16,7 @@ loop-offset-init g c =
     record {
       room = omega (arith, c.in_ok-reserve.ensures.ok);
       count = rw c.reserve.ensures.items (omega (arith, c.requires.count));
-      held = λ list dirty len h. rw (add-zero, c.reserve.ensures.items) (holds_old S L g.H.Hasher.hash_of (g.H.Hasher.layout c.args.hasher.now) (g.H.Hasher.chunk c.args.hasher.now) list _ c.args.leaves len dirty c.args.boundary _ _ c.requires.order h)
+      held = λ list dirty len h. rw (add-zero, c.reserve.ensures.items) (holds_old S L g.H.Hasher.hash_of (g.H.Hasher.layout c.args.hasher.now) (g.H.Hasher.chunk c.args.hasher.now) list _ c.args.leaves len dirty c.args.boundary _ _ c.requires.order h);
     }
 
 pub loop-offset-preserved : goal.loop-offset-preserved
@@ -39,10 +39,10 @@ loop-offset-preserved g c =
       room = omega (arith, c.loop-offset.invariant.room, c.push.ensures.capacity, c.loop-offset-test.true);
       count = rw (items, length-append) (omega (arith, c.loop-offset.invariant.count));
       held = λ list dirty len h.
-        let before = c.loop-offset.invariant.held list dirty len h in
-        let more = holds_more S L (N (list ++ leaf ∷ [])) dirty c.args.boundary (size S n + o) w.0 w.1 (map f c.args.pinned.now) (map f c.loop-offset.nodes.items) (f c.born-digest.result) before (rw length-map c.loop-offset.invariant.count) i
-              (c.born-digest.ensures list dirty len (rw c.deref.ensures.value before) w.0 w.1 i) in
-        rw (items, map-append, ← next) more
+          let before = c.loop-offset.invariant.held list dirty len h in
+          let more = holds_more S L (N (list ++ leaf ∷ [])) dirty c.args.boundary (size S n + o) w.0 w.1 (map f c.args.pinned.now) (map f c.loop-offset.nodes.items) (f c.born-digest.result) before (rw length-map c.loop-offset.invariant.count) i
+          (c.born-digest.ensures list dirty len (rw c.deref.ensures.value before) w.0 w.1 i) in
+          rw (items, map-append, ← next) more;
     }
 
 pub born-digest-requires-clause-takes : goal.born-digest-requires-clause-takes
@@ -57,5 +57,5 @@ returns-clause-grown g c list dirty len h =
     let L = g.met.F.Family.laws in
     let more = L.grows c.args.leaves in
     holds_at S L (node_over g.H.Hasher.hash_of (g.H.Hasher.layout c.args.hasher.now) (g.H.Hasher.chunk c.args.hasher.now) (list ++ g.H.Hasher.hash_of (be8 (size S c.args.leaves) ++ c.args.element.now) ∷ [])) dirty c.args.boundary (size S c.args.leaves + c.loop-offset.offset) (size S (c.args.leaves + 1)) _ _
-      (omega (arith, c.nodes_over.ensures, c.nodes_over-2.ensures))
-      (c.loop-offset.invariant.held list dirty len h)
+    (omega (arith, c.nodes_over.ensures, c.nodes_over-2.ensures))
+    (c.loop-offset.invariant.held list dirty len h)

@@ -5,7 +5,7 @@ use Rattle.storage_merkle.proofs.merkle.mem.kept.look_up.Given as goal
 abbrev pub invariant-loop-at : goal.invariant-loop-at
 invariant-loop-at g l = record {
   whole : l.index + length l.left ≡ length l.pinned;
-  same : paired l.position (pins g.F.Family.shape l.boundary) (map g.D.Write.text l.pinned) ≡ paired l.position l.left (drop l.index (map g.D.Write.text l.pinned))
+  same : paired l.position (pins g.F.Family.shape l.boundary) l.pinned ≡ paired l.position l.left (drop l.index l.pinned);
 }
 
 abbrev pub decreases-loop-at : goal.decreases-loop-at

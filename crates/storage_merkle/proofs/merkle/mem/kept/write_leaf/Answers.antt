@@ -37,9 +37,9 @@ returns-then-birth-leaves g c list rest is h e =
     let node = node_over g.H.Hasher.hash_of (g.H.Hasher.layout c.args.hasher.now) (g.H.Hasher.chunk c.args.hasher.now) list in
     let below = c.loop-height.invariant list rest h e in
     elim c.then-birth-leaves.branch [
-      then-birth-leaves-via-then-birth-leaves w ↦ let late : c.args.leaves < c.birth.result = w.if-birth-leaves.true in written_all g.F.Family.shape g.met.F.Family.laws node rest c.args.boundary c.args.leaves c.args.place c.loop-height.height _ _ (omega arith) below
-    | then-birth-leaves-via-else-birth-leaves+then-is_below w ↦
-        written_until g.F.Family.shape g.met.F.Family.laws node rest c.args.next c.args.boundary c.args.leaves c.args.place c.loop-height.height _ _ is
+      | then-birth-leaves-via-then-birth-leaves w ↦ let late : c.args.leaves < c.birth.result = w.if-birth-leaves.true in written_all g.F.Family.shape g.met.F.Family.laws node rest c.args.boundary c.args.leaves c.args.place c.loop-height.height _ _ (omega arith) below
+      | then-birth-leaves-via-else-birth-leaves+then-is_below w ↦
+          written_until g.F.Family.shape g.met.F.Family.laws node rest c.args.next c.args.boundary c.args.leaves c.args.place c.loop-height.height _ _ is
           (let r = w.is_below.ensures (w.if-is_below.true) in (r.0, r.1, omega (arith, r.2), omega (arith, r.3))) below
     ]
 
@@ -91,12 +91,12 @@ loop-height-preserved g c list rest h e =
     let born : c.birth.result ≡ S.birth (over c.args.place k) k = c.birth.ensures ∙ ap (λ m. S.birth m k) f in
     let w = c.loop-height.invariant list rest h e in
     let more = written_more S L node rest c.args.boundary (size S c.args.leaves) c.args.place k (map b c.args.pinned.now) (map b c.loop-height.nodes) (b c.above-digest.result) c.requires.kept (rw length-map (omega (arith, c.requires.count, c.loop-height.auto.nodes, length-set c.args.nodes.now (c.nodes_over.result - c.nodes_over-start.result) c.args.digest))) (place_early S L c.args.leaves c.args.place k (omega arith)) w
-          (λ clean. c.above-digest.ensures list rest w clean) in
+    (λ clean. c.above-digest.ensures list rest w clean) in
     rw (map-set, at, c.nodes_over-start.ensures) more
 
 pub returns : goal.returns
 returns g c list rest is h e =
     let z : c.loop-height.height ≡ 63 = omega arith in
     written_all g.F.Family.shape g.met.F.Family.laws (node_over g.H.Hasher.hash_of (g.H.Hasher.layout c.args.hasher.now) (g.H.Hasher.chunk c.args.hasher.now) list) rest c.args.boundary c.args.leaves c.args.place c.loop-height.height _ _
-      (let l = g.met.F.Family.laws.late (over c.args.place c.loop-height.height) c.loop-height.height in let p : 2 ^ c.loop-height.height ≡ 2 ^ 63 = ap (λ m. 2 ^ m) z in omega (arith, l, p, c.requires.few))
-      (c.loop-height.invariant list rest h e)
+    (let l = g.met.F.Family.laws.late (over c.args.place c.loop-height.height) c.loop-height.height in let p : 2 ^ c.loop-height.height ≡ 2 ^ 63 = ap (λ m. 2 ^ m) z in omega (arith, l, p, c.requires.few))
+    (c.loop-height.invariant list rest h e)
