@@ -1,4 +1,3 @@
-pub mod Endings
 pub mod Prune
 pub mod Agreeing
 pub mod Distinct

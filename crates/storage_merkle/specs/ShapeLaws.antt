@@ -5,7 +5,7 @@ use Rattle.std.proofs.lemmas.Bool.{cases_lt}
 use Rattle.std.proofs.lemmas.Nat.{pow_pos}
 use Rattle.std.proofs.Common.{◌/◌, ◌↔◌}
 use Rattle.storage_merkle.specs.Shape.{leaves_of, Inside, AreAligned, Shape, Laws, size}
-use Rattle.storage_merkle.specs.Nodes.{IsNode, CoversSame}
+use Rattle.storage_merkle.specs.Nodes.{IsNode, AreGraftable, CoversSame}
 use Rattle.storage_merkle.specs.Multiples.{is_multiple, pow_le, quotient_at_least, in_units, out_of_units, pow_two, pow_order, multiple_down, multiple_add, power_multiple, next}
 use Rattle.std.proofs.lemmas.Nat.{le-div, shl-shr, shr_le, mul-le, pow-add}
 
@@ -88,6 +88,46 @@ module _ (S : Shape) (L : Laws S) where
 
   pub covers_up : (a k g p q : ℕ) → IsNode S q a k → S.position (a * 2 ^ g) (k + g) ≡ p → CoversSame S g q p
   covers_up a k g p q n h = record { first = a; height = k; grafted = n; node = record { aligned = out_of_units a k g n.aligned; at = h } }
+
+  -- a complete chunk is graftable once the next one is complete
+  next_complete : (n g j : ℕ) → (j + 2) * 2 ^ g ≤ n → Inside (S.peaks n) 0 (j * 2 ^ g) g
+  next_complete n g j h = (L.inside n (j * 2 ^ g) g (is_multiple j (2 ^ g) (pow_pos g))).1 (omega (arith, L.soon (j * 2 ^ g) g))
+
+  -- graftable chunks are complete
+  graftable_complete : (n g j : ℕ) → Inside (S.peaks n) 0 (j * 2 ^ g) g → j * 2 ^ g + 2 ^ g ≤ n
+  graftable_complete n g j i = let b : S.birth (j * 2 ^ g) g ≤ n = (L.inside n (j * 2 ^ g) g (is_multiple j (2 ^ g) (pow_pos g))).0 i in omega (arith, L.late (j * 2 ^ g) g)
+
+  -- all complete chunks are graftable but at most one, which is pending
+  pub one_pending : (n g r : ℕ) → AreGraftable S n g r → (r ≤ n / 2 ^ g) × (n / 2 ^ g ≤ r + 1)
+  one_pending n g zero h = (
+    omega arith,
+    ⊎_elim
+        (λ (l : 1 < n / 2 ^ g). absurd (let i : 0 < 0 = (h 0).0 (next_complete n g 0 (quotient_at_least 2 n g (omega arith))) in omega arith))
+        (λ (q : n / 2 ^ g ≤ 1). omega arith)
+        (cases_lt 1 (n / 2 ^ g)),
+  )
+  one_pending n g (suc r) h =
+      let c : r * 2 ^ g + 2 ^ g ≤ n = graftable_complete n g r ((h r).1 (omega arith)) in
+      let d : suc r ≤ n / 2 ^ g = le-div (suc r) n (2 ^ g) (pow_pos g) (omega arith) in (
+        d,
+        ⊎_elim
+            (λ (l : suc r + 1 < n / 2 ^ g). absurd (let i : suc r < suc r = (h (suc r)).0 (next_complete n g (suc r) (quotient_at_least (suc r + 2) n g (omega arith))) in omega arith))
+            (λ (q : n / 2 ^ g ≤ suc r + 1). q)
+            (cases_lt (suc r + 1) (n / 2 ^ g)),
+      )
+
+  -- where each node comes with the last of its leaves, all complete chunks are graftable
+  pub none_pending : ((a k : ℕ) → S.birth a k ≡ a + 2 ^ k) → (n g r : ℕ) → AreGraftable S n g r → r ≡ n / 2 ^ g
+  none_pending prompt n g r h =
+      let o = one_pending n g r h in
+      ⊎_elim
+      (λ (l : r < n / 2 ^ g). absurd (
+      let c : (r + 1) * 2 ^ g ≤ n = quotient_at_least (r + 1) n g (omega arith) in
+      let b : S.birth (r * 2 ^ g) g ≤ n = rw prompt (omega arith) in
+      let i : r < r = (h r).0 ((L.inside n (r * 2 ^ g) g (is_multiple r (2 ^ g) (pow_pos g))).1 b) in
+      omega arith))
+      (λ (q : n / 2 ^ g ≤ r). omega (arith, o))
+      (cases_lt r (n / 2 ^ g))
 
   -- what the way down needs
   pub record Down (a k g : ℕ) : Type 0 where

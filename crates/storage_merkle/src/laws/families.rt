@@ -1,13 +1,13 @@
 //! The two tree families.
 
-ghost use Rattle.std.specs.Prelude.{◌≡◌, ℕ, ◌+◌, ◌*◌, ◌%◌, ◌^◌, ◌<◌, ◌≤◌};
+ghost use Rattle.std.specs.Prelude.{◌≡◌, ℕ, ◌+◌, ◌*◌, ◌/◌, ◌%◌, ◌^◌, ◌<◌, ◌≤◌, false};
 ghost use Rattle.storage_merkle.specs.Mmr.{mmr, mmr_digits};
 ghost use Rattle.storage_merkle.specs.Mmb.{mmb, mmb_digits};
-ghost use Rattle.storage_merkle.specs.Nodes.{IsNode};
+ghost use Rattle.storage_merkle.specs.Nodes.{IsNode, AreGraftable};
 ghost use Rattle.storage_merkle.specs.Peaks.{HasPeak};
 ghost use Rattle.storage_merkle.specs.Shape.{Laws, Inside, size};
 
-use crate::merkle::Family;
+use crate::merkle::{Family, Graftable};
 
 /// The peak heights of a Merkle mountain range over `n` leaves are the places of the 1 digits of `n`, read from any place
 /// past the highest on.
@@ -48,4 +48,11 @@ pub fn peaks_nest<F: Family>()
 pub fn positions_are_of_one_node<F: Family>()
     ensures once { (position a k b j : ℕ) → IsNode F.shape position a k → IsNode F.shape position b j → (a ≡ b) × (k ≡ j) }
     ensures every { (n position : ℕ) → position < size F.shape n → (a : ℕ) × (k : ℕ) × IsNode F.shape position a k }
+{}
+
+/// All complete chunks of `2^height` leaves are graftable but at most one, which is pending; and none is where a family has
+/// no pending chunks.
+pub fn at_most_one_chunk_is_pending<F: Graftable>()
+    ensures one { (n height r : ℕ) → AreGraftable F.shape n height r → (r ≤ n / 2 ^ height) × (n / 2 ^ height ≤ r + 1) }
+    ensures none { F.has_pending ≡ false → (n height r : ℕ) → AreGraftable F.shape n height r → r ≡ n / 2 ^ height }
 {}

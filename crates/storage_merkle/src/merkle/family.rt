@@ -173,7 +173,7 @@ pub trait Graftable: Family {
 
     /// Reads the slot of the pending chunk's digest from the front: always `None`, and no byte taken, where the family
     /// has none. After a refusal `buf` is at an ending of what it held.
-    #[tactic(auto, using(crate::proofs::Endings::ends_then))]
+    #[tactic(auto, using(storage_codec::specs::PartsLaws::ends_then))]
     final fn read_pending<D: Digest, B: Buf>(
         alloc: Global,
         buf: &mut B,

@@ -1,4 +1,4 @@
-//! The family whose peaks are the 1 digits of the number of leaves.
+//! Merkle mountain ranges: the peaks over `n` leaves are as high as the places of the 1 digits of `n`.
 ghost use Rattle.std.specs.Prelude.{◌≡◌, ◌+◌, ◌-◌, ◌*◌, ◌%◌, ◌^◌, ◌<◌, ◌≤◌, ◌∷◌, false, refl};
 ghost use Rattle.storage_merkle.specs.Shape.{Shape, Laws, size};
 ghost use Rattle.storage_merkle.specs.Mmr.{mmr};
@@ -7,7 +7,8 @@ ghost use Rattle.storage_merkle.specs.Nodes.{IsNode};
 
 use crate::merkle::family::power;
 
-/// The family.
+/// The family of Merkle mountain ranges. A node comes with the last of its leaves, so that every complete chunk lies below
+/// one peak and the slot of a pending chunk is absent.
 #[derive(Clone, Copy, Drop)]
 pub struct Family;
 

@@ -6,7 +6,8 @@ ghost use Rattle.storage_merkle.specs.Nodes.{placed};
 use crate::merkle::{Family, NodesToPin, Peaks, Position};
 use std::alloc::{AllocError, Global};
 
-/// The positions of the peaks over so many leaves, ascending.
+/// The positions of the peaks over so many leaves, ascending. In leaf order they need not ascend. Fails only where memory
+/// runs out.
 pub fn peaks_ascending<F: Family>(
     alloc: Global,
     leaves: u64,

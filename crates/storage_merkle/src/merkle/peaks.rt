@@ -9,7 +9,7 @@ use crate::merkle::{Family, Position};
 use std::iter::FusedIterator;
 use std::marker::{Model, PhantomData};
 
-/// The peaks from some leaf on: the position and the height of each.
+/// The peaks of a tree from some leaf on: the position and the height of each. It ends, and takes no memory.
 #[derive(Drop)]
 pub struct Peaks<F: Family> {
     first: u64,
@@ -59,7 +59,10 @@ impl<F: Family> Iterator for Peaks<F> {
     }
 }
 
-/// The positions of the peaks from some leaf on.
+impl<F: Family> FusedIterator for Peaks<F> {}
+
+/// The positions of the peaks of a tree from some leaf on: the nodes that are kept when the leaves below are pruned. It
+/// ends, and takes no memory.
 #[derive(Drop)]
 pub struct NodesToPin<F: Family> {
     peaks: Peaks<F>,
@@ -92,3 +95,5 @@ impl<F: Family> Iterator for NodesToPin<F> {
         Some(position)
     }
 }
+
+impl<F: Family> FusedIterator for NodesToPin<F> {}
