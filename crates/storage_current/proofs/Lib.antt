@@ -5,3 +5,4 @@ pub mod Operations
 pub mod Served
 pub mod Witnesses
 pub mod Families
+pub mod Examples

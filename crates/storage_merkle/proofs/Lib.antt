@@ -7,3 +7,5 @@ pub mod Examples
 pub mod Keeping
 pub mod Topmost
 pub mod Rewriting
+pub mod Alike
+pub mod Ascending

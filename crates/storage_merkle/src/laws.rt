@@ -1,7 +1,7 @@
 //! What holds of every tree, every check and every proof: laws over the definitions, each the contract of a function that
 //! does nothing.
 
-ghost use Rattle.storage_merkle.specs.Soundness.{OwnRangeProofsAreAccepted, RangeProofsAreSound, RootsAreOfLeaves};
+ghost use Rattle.storage_merkle.specs.Soundness.{OwnRangeProofsAreAccepted, RangeProofsAreSound, RootsAreOfLeaves, RootsBindTheirTrees, SiblingsAscend};
 
 pub mod families;
 
@@ -19,4 +19,15 @@ pub fn own_range_proofs_are_accepted()
 /// The root of a tree is the one calculated from the digests of its leaves.
 pub fn roots_are_of_leaves()
     ensures { RootsAreOfLeaves }
+{}
+
+/// Trees with one root are of one family and one bagging and have as many leaves and inactive peaks, or two different strings
+/// have one digest.
+pub fn roots_bind_their_trees()
+    ensures { RootsBindTheirTrees }
+{}
+
+/// The digests of a range proof end with the siblings inside the peaks that share a leaf with the range, ascending by position.
+pub fn siblings_ascend()
+    ensures { SiblingsAscend }
 {}
