@@ -9,3 +9,5 @@ pub mod Topmost
 pub mod Rewriting
 pub mod Alike
 pub mod Ascending
+pub mod Walks
+pub mod Folds

@@ -26,3 +26,5 @@ pub mod Soundness
 pub mod Kept
 pub mod KeptLaws
 pub mod Rewriting
+pub mod Hashers
+pub mod Plans

@@ -10,7 +10,10 @@ pub mod mmb;
 pub mod mmr;
 mod order;
 mod peaks;
+mod plan;
 mod position;
+mod proof;
+mod storage;
 
 pub use bagging::Bagging;
 pub use error::Error;
@@ -18,7 +21,10 @@ pub use family::{Family, Graftable};
 pub use location::Location;
 pub use order::peaks_ascending;
 pub use peaks::{NodesToPin, Peaks};
+pub use plan::{ElementPlan, RangePlan};
 pub use position::Position;
+pub use proof::Proof;
+pub use storage::{Readable, Storage};
 
 /// The most leaves that a tree may have.
 pub const MAX_LEAVES: u64 = 0x4000_0000_0000_0000;

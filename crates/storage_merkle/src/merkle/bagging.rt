@@ -1,4 +1,6 @@
 //! How peaks become one root.
+ghost use Rattle.std.specs.Prelude.{◌≡◌};
+ghost use Rattle.storage_merkle.specs.Trees.{bagging_byte};
 
 /// In which direction the peaks of a tree are folded into one digest.
 ///
@@ -9,4 +11,16 @@ pub enum Bagging {
     ForwardFold,
     /// From the right: `fold(x1, fold(x2, x3))`.
     BackwardFold,
+}
+
+impl Bagging {
+    /// The byte that stands for the direction in the string of a root.
+    pub fn byte(self) -> u8
+        ensures { result ≡ bagging_byte self }
+    {
+        match self {
+            Bagging::ForwardFold => 0,
+            Bagging::BackwardFold => 1,
+        }
+    }
 }

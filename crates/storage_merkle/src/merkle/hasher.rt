@@ -1,15 +1,17 @@
 //! How the nodes of a tree are hashed.
 
-ghost use Rattle.std.specs.Prelude.{◌≡◌, ℕ, ◌^◌, ◌≤◌, ◌++◌, List, [], flat_map, length, map, false};
+ghost use Rattle.std.specs.Prelude.{◌≡◌, ℕ, ◌^◌, ◌≤◌, ◌++◌, List, [], flat_map, length, map, false, refl, All, Option, option_map};
+ghost use Rattle.std.specs.List.{AllZip};
 ghost use Rattle.storage_codec.specs.Digests.{HashFunction, IsSized};
 ghost use Rattle.storage_merkle.specs.Shape.{size};
 ghost use Rattle.storage_merkle.specs.Nodes.{IsNode};
 ghost use Rattle.storage_merkle.specs.Calc.{be8};
-ghost use Rattle.storage_merkle.specs.Trees.{Layout, ungrafted};
-ghost use Rattle.storage_merkle.specs.Hashing.{join_digest, root_of};
+ghost use Rattle.storage_merkle.specs.Trees.{Layout, ungrafted, root_head};
+ghost use Rattle.storage_merkle.specs.Hashing.{join_digest, bagged, bagged_peaks, root_of};
+ghost use Rattle.storage_merkle.specs.Hashers.{IsOver, or_nothing, appended, joined, folded_onto, forward_of};
 ghost use Rattle.storage_merkle.specs.declared.merkle.bagging.Bagging.{Bagging};
 
-use crate::merkle::{Bagging, Family, Position};
+use crate::merkle::{Bagging, Family, Location, Position};
 use std::marker::PhantomData;
 use storage_codec::digest::{self, Digest};
 
@@ -70,11 +72,194 @@ pub trait Hasher<F: Family> {
         requires { takes self.now position }
         ensures { (first height : ℕ) → IsNode F.shape position first height → Self.Digest.text result ≡ join_digest hash_of (layout self.now) (chunk self.now) first height (Self.Digest.text left.now) (Self.Digest.text right.now) };
 
+    /// The digests of two nodes: for each its position and those of its children.
+    final fn node_digest_pair(
+        &self,
+        nodes: &[(Position<F>, &Self::Digest, &Self::Digest); 2],
+    ) -> [Self::Digest; 2]
+    where
+        Self: Sized,
+        requires { All (λ n. takes self.now n.0) nodes.now }
+        ensures { AllZip (λ n d. (first height : ℕ) → IsNode F.shape n.0 first height → Self.Digest.text d ≡ join_digest hash_of (layout self.now) (chunk self.now) first height (Self.Digest.text n.1.now) (Self.Digest.text n.2.now)) nodes.now result }
+    {
+        let (first, left, right) = nodes[0];
+        let (second, second_left, second_right) = nodes[1];
+        [
+            self.node_digest(first, left, right),
+            self.node_digest(second, second_left, second_right),
+        ]
+    }
+
+    /// The root over so many leaves of which so many leading peaks are inactive, from the digests of the peaks in leaf
+    /// order. Takes no memory.
+    final fn root(
+        &self,
+        leaves: Location<F>,
+        inactive: usize,
+        peaks: &[Self::Digest],
+    ) -> Self::Digest
+    where
+        Self: Sized,
+        requires { inactive ≤ length peaks.now }
+        ensures { Self.Digest.text result ≡ root_of hash_of (layout self.now) (bagging self.now) leaves inactive (map Self.Digest.text peaks.now) }
+    {
+        let bag = bag_peaks(self, inactive, peaks);
+        bagged_root(self, leaves.as_u64(), inactive, bag)
+    }
+
     /// Each answer of the digest function has the length of a digest.
     ghost sized: { IsSized Self.Digest.size hash_of };
+
+    /// The family's byte and peaks are those of the layout.
+    ghost over: { (s : Self) → IsOver F.shape (layout s) };
+}
+
+/// Two items folded into one.
+pub(crate) fn fold<F: Family, H: Hasher<F>>(
+    hasher: &H,
+    left: &H::Digest,
+    right: &H::Digest,
+) -> H::Digest
+    ensures { H.Digest.text result ≡ H.hash_of (H.Digest.text left.now ++ H.Digest.text right.now) }
+{
+    hasher.hash(&[left.bytes(), right.bytes()])
+}
+
+/// The digests of peaks, of which so many are inactive, bagged; none for none.
+fn bag_peaks<F: Family, H: Hasher<F>>(
+    hasher: &H,
+    inactive: usize,
+    peaks: &[H::Digest],
+) -> Option<H::Digest>
+    requires { inactive ≤ length peaks.now }
+    ensures { or_nothing (option_map H.Digest.text result) ≡ bagged_peaks H.hash_of (H.bagging hasher.now) inactive (map H.Digest.text peaks.now) }
+{
+    match hasher.root_bagging() {
+        Bagging::ForwardFold => bag_digests(hasher, peaks, &[]),
+        Bagging::BackwardFold => {
+            let (front, rest) = peaks.split_at(inactive);
+            bag_digests(hasher, front, rest)
+        }
+    }
+}
+
+/// Digests folded from the left into one item, and then that item and others from the right; none for none.
+fn bag_digests<F: Family, H: Hasher<F>>(
+    hasher: &H,
+    front: &[H::Digest],
+    rest: &[H::Digest],
+) -> Option<H::Digest>
+    ensures { or_nothing (option_map H.Digest.text result) ≡ bagged H.hash_of (map H.Digest.text front.now) (map H.Digest.text rest.now) }
+{
+    let folded = fold_onto(hasher, rest, None);
+    match fold_forward(hasher, front) {
+        None => folded,
+        Some(item) => Some(join(hasher, &item, folded)),
+    }
+}
+
+/// Items folded from the left; none for no items.
+pub(crate) fn fold_forward<F: Family, H: Hasher<F>>(
+    hasher: &H,
+    items: &[H::Digest],
+) -> Option<H::Digest>
+    ensures { option_map H.Digest.text result ≡ forward_of H.hash_of (map H.Digest.text items.now) }
+{
+    let (first, mut left) = items.split_first()?;
+    let mut folded = *first;
+    while let Some((item, rest)) = left.split_first() {
+        folded = fold(hasher, &folded, item);
+        left = rest;
+    }
+    Some(folded)
+}
+
+/// Items folded from the right onto what the items after them are folded into; none for none.
+pub(crate) fn fold_onto<F: Family, H: Hasher<F>>(
+    hasher: &H,
+    items: &[H::Digest],
+    onto: Option<H::Digest>,
+) -> Option<H::Digest>
+    ensures { option_map H.Digest.text result ≡ folded_onto H.hash_of (map H.Digest.text items.now) (option_map H.Digest.text onto) }
+{
+    let mut folded = onto;
+    let mut left = items;
+    while let Some((item, front)) = left.split_last() {
+        folded = Some(join(hasher, item, folded));
+        left = front;
+    }
+    folded
+}
+
+/// What the items before an item are folded into, folded with it.
+pub(crate) fn append<F: Family, H: Hasher<F>>(
+    hasher: &H,
+    folded: Option<H::Digest>,
+    item: &H::Digest,
+) -> H::Digest
+    ensures { H.Digest.text result ≡ appended H.hash_of (option_map H.Digest.text folded) (H.Digest.text item.now) }
+{
+    match folded {
+        None => *item,
+        Some(folded) => fold(hasher, &folded, item),
+    }
+}
+
+/// An item folded with what the items after it are folded into.
+pub(crate) fn join<F: Family, H: Hasher<F>>(
+    hasher: &H,
+    item: &H::Digest,
+    onto: Option<H::Digest>,
+) -> H::Digest
+    ensures { H.Digest.text result ≡ joined H.hash_of (H.Digest.text item.now) (option_map H.Digest.text onto) }
+{
+    match onto {
+        None => *item,
+        Some(rest) => fold(hasher, item, &rest),
+    }
+}
+
+/// The root over so many leaves, of what its items are folded into.
+#[tactic(auto, unfolding(crate::specs::Calc::be8))]
+pub(crate) fn bagged_root<F: Family, H: Hasher<F>>(
+    hasher: &H,
+    leaves: u64,
+    inactive: usize,
+    bag: Option<H::Digest>,
+) -> H::Digest
+    ensures { H.Digest.text result ≡ H.hash_of (root_head (H.layout hasher.now) (H.bagging hasher.now) leaves inactive ++ or_nothing (option_map H.Digest.text bag)) }
+{
+    let head = [F::byte(), hasher.root_bagging().byte()];
+    let leaves = leaves.to_be_bytes();
+    let inactive = (inactive as u64).to_be_bytes();
+    hash_parts(hasher, &head, &leaves, &inactive, bag_bytes(&bag))
+}
+
+/// The digest of four parts.
+fn hash_parts<F: Family, H: Hasher<F>>(
+    hasher: &H,
+    head: &[u8],
+    leaves: &[u8],
+    inactive: &[u8],
+    bag: &[u8],
+) -> H::Digest
+    ensures { H.Digest.text result ≡ H.hash_of (head.now ++ (leaves.now ++ (inactive.now ++ bag.now))) }
+{
+    hasher.hash(&[head, leaves, inactive, bag])
+}
+
+/// The bytes of a digest; none for none.
+fn bag_bytes<D: Digest>(bag: &Option<D>) -> &[u8]
+    ensures { result.now ≡ or_nothing (option_map D.text bag.now) }
+{
+    match bag {
+        None => &[],
+        Some(digest) => digest.bytes(),
+    }
 }
 
 /// The ordinary hasher: a node is hashed with its own position, and no chunk is grafted.
+#[derive_where(Clone, Copy)]
 pub struct Standard<H> {
     bagging: Bagging,
     function: PhantomData<H>,
@@ -125,4 +310,6 @@ impl<F: Family, H: digest::Hasher> Hasher<F> for Standard<H> {
     }
 
     ghost sized = { H.sized };
+
+    ghost over = { λ _. record { byte = refl; peaks = λ _. refl } };
 }

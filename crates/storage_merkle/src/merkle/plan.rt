@@ -1,0 +1,420 @@
+//! Which nodes a range proof needs, and the proof from their digests.
+ghost use Rattle.std.specs.Prelude.{◌≡◌, ℕ, ◌+◌, ◌-◌, ◌*◌, ◌%◌, ◌^◌, ◌<◌, ◌≤◌, List, length, Some, None};
+ghost use Rattle.storage_merkle.specs.Shape.{AreAligned};
+ghost use Rattle.storage_merkle.specs.Plans.{ArePeaks, PlanOf};
+
+use crate::merkle::family::power;
+use crate::merkle::hasher::{Hasher, append, join};
+use crate::merkle::{Bagging, Error, Family, Location, MAX_LEAVES, Position, Proof};
+use std::alloc::{AllocError, Global};
+use std::marker::Model;
+use std::ops::Range;
+use storage_codec::digest::Digest;
+
+/// The nodes that a proof of a range of leaves needs.
+#[derive(Drop)]
+pub struct RangePlan<F: Family> {
+    leaves: Location<F>,
+    start: Location<F>,
+    end: Location<F>,
+    positions: Vec<Position<F>>,
+    siblings: Vec<Position<F>>,
+}
+
+impl<F: Family> Model for RangePlan<F> {
+    ghost Value = { PlanOf };
+
+    ghost view = { λ s. record { leaves = s.leaves; start = s.start; end = s.end } };
+
+    ghost invariant = { λ s. (s.start < s.end) × (s.end ≤ s.leaves) × (s.leaves ≤ 2 ^ 62) };
+}
+
+impl<F: Family> RangePlan<F> {
+    /// The plan of a range of leaves in a tree of `leaves` leaves.
+    ///
+    /// # Errors
+    ///
+    /// The first of: `LocationOverflow(leaves)` past `MAX_LEAVES`; `Empty` where the range holds no leaf;
+    /// `LocationOverflow` of the range's last leaf where its end passes `MAX_LEAVES`; `RangeOutOfBounds` of that leaf
+    /// where it is not in the tree; `Memory`.
+    pub fn new(
+        alloc: Global,
+        leaves: Location<F>,
+        range: Range<Location<F>>,
+    ) -> Result<Self, Error<F>> {
+        Self::over(alloc, leaves, range.start, range.end)
+    }
+
+    /// The plan of the leaves from `start` to before `end`, as `new` answers it.
+    fn over(
+        alloc: Global,
+        leaves: Location<F>,
+        start: Location<F>,
+        end: Location<F>,
+    ) -> Result<Self, Error<F>> {
+        if !leaves.is_valid() {
+            return Err(Error::LocationOverflow(leaves));
+        }
+        if start >= end {
+            return Err(Error::Empty);
+        }
+        let last = Location::new(end.as_u64() - 1);
+        if !end.is_valid() {
+            return Err(Error::LocationOverflow(last));
+        }
+        if end > leaves {
+            return Err(Error::RangeOutOfBounds(last));
+        }
+        let siblings = siblings::<F>(alloc, leaves.as_u64(), start.as_u64(), end.as_u64())?;
+        let positions = planned::<F>(alloc, leaves.as_u64(), start.as_u64(), end.as_u64())?;
+        Ok(RangePlan {
+            leaves,
+            start,
+            end,
+            positions,
+            siblings,
+        })
+    }
+
+    /// The positions of every node whose digest the proof needs, ascending and each once: a fold needs each of its
+    /// peaks.
+    pub fn positions(&self) -> &[Position<F>] {
+        &self.positions
+    }
+
+    /// How many leaves the tree has.
+    pub fn leaves(&self) -> Location<F> {
+        self.leaves
+    }
+
+    /// The first leaf of the range.
+    pub fn start(&self) -> Location<F> {
+        self.start
+    }
+
+    /// The leaf past the range.
+    pub fn end(&self) -> Location<F> {
+        self.end
+    }
+
+    /// The proof, from the digests of the planned nodes, for which `get_node` is asked in ascending order, once each.
+    ///
+    /// # Errors
+    ///
+    /// The first of: `InvalidProof` where more peaks are to be inactive than there are; `ElementPruned` of the first
+    /// planned node that `get_node` does not have; `Memory`.
+    pub fn build<H: Hasher<F>, G: Fn(Position<F>) -> Option<H::Digest>>(
+        &self,
+        alloc: Global,
+        hasher: &H,
+        inactive: usize,
+        get_node: G,
+    ) -> Result<Proof<F, H::Digest>, Error<F>>
+        requires { G.IsAlwaysCallable get_node }
+    {
+        if inactive as u64 > peak_count::<F>(self.leaves.as_u64()) {
+            return Err(Error::InvalidProof);
+        }
+        let mut nodes = Vec::with_capacity(alloc, self.positions.len())?;
+        for position in &self.positions {
+            let Some(node) = get_node(*position) else {
+                return Err(Error::ElementPruned(*position));
+            };
+            nodes.push(node)?;
+        }
+        let mut digests = Vec::with_capacity(alloc, self.positions.len())?;
+        let nodes = Nodes {
+            positions: &self.positions,
+            digests: &nodes,
+        };
+        self.add_peaks(hasher, inactive, &nodes, &mut digests)?;
+        for position in &self.siblings {
+            push_some(&mut digests, nodes.digest(*position))?;
+        }
+        Ok(Proof {
+            leaves: self.leaves,
+            inactive_peaks: inactive,
+            digests,
+        })
+    }
+
+    /// Adds the digests of the peaks and folds apart from the range, in leaf order.
+    fn add_peaks<H: Hasher<F>>(
+        &self,
+        hasher: &H,
+        inactive: usize,
+        nodes: &Nodes<'_, F, H::Digest>,
+        digests: &mut Vec<H::Digest>,
+    ) -> Result<(), AllocError> {
+        let end = self.end.as_u64();
+        let all = Rest::all::<F, H>(hasher, self.leaves.as_u64(), inactive);
+        let rest = all.after_leading::<F>(self.start.as_u64());
+        push_some(
+            digests,
+            nodes.fold_front(hasher, self.leaves.as_u64(), rest.first),
+        )?;
+        let mut rest = rest;
+        while rest.left > 0 && (rest.folded > 0 || rest.first < end) {
+            let height = F::first_peak(rest.left);
+            if rest.first + power(height) <= self.start.as_u64() || end <= rest.first {
+                push_some(digests, nodes.node(rest.first, height))?;
+            }
+            rest = rest.next(height);
+        }
+        push_some(digests, nodes.fold_back(hasher, rest.first, rest.left))
+    }
+}
+
+/// Adds a digest if there is one.
+fn push_some<D: Digest>(digests: &mut Vec<D>, digest: Option<D>) -> Result<(), AllocError> {
+    if let Some(digest) = digest {
+        digests.push(digest)?;
+    }
+    Ok(())
+}
+
+/// The peaks over `left` leaves from the leaf `first` on, of which `folded` leading ones are folded from the left.
+#[derive(Clone, Copy)]
+pub(crate) struct Rest {
+    pub first: u64,
+    pub left: u64,
+    pub folded: u64,
+}
+
+impl Rest {
+    /// All peaks over so many leaves, of which so many are inactive.
+    pub fn all<F: Family, H: Hasher<F>>(hasher: &H, leaves: u64, inactive: usize) -> Self
+        requires { leaves ≤ 2 ^ 62 }
+        ensures peaks { ArePeaks F.shape leaves result.first result.left }
+    {
+        let folded = match hasher.root_bagging() {
+            Bagging::ForwardFold => peak_count::<F>(leaves),
+            Bagging::BackwardFold => inactive as u64,
+        };
+        Rest {
+            first: 0,
+            left: leaves,
+            folded,
+        }
+    }
+
+    /// The peaks after the first one, which has this height.
+    pub fn next(self, height: u32) -> Self
+        requires small { height ≤ 62 }
+        requires within { 2 ^ height ≤ self.left }
+        requires fits { self.first + self.left ≤ 2 ^ 62 }
+        ensures first { result.first ≡ self.first + 2 ^ height }
+        ensures left { result.left ≡ self.left - 2 ^ height }
+        ensures folded { result.folded ≡ self.folded - 1 }
+    {
+        let length = power(height);
+        Rest {
+            first: self.first + length,
+            left: self.left - length,
+            folded: self.folded.saturating_sub(1),
+        }
+    }
+
+    /// The peaks after the leading ones that are folded from the left and end at or before `start`.
+    pub fn after_leading<F: Family>(self, start: u64) -> Self
+        requires few { self.first + self.left ≤ 2 ^ 62 }
+        requires peaks { ArePeaks F.shape (self.first + self.left) self.first self.left }
+        ensures peaks { ArePeaks F.shape (self.first + self.left) result.first result.left }
+    {
+        let mut rest = self;
+        while rest.left > 0 && rest.folded > 0 {
+            let height = F::first_peak(rest.left);
+            if rest.first + power(height) > start {
+                break;
+            }
+            rest = rest.next(height);
+        }
+        rest
+    }
+}
+
+/// The digests of planned nodes, by their positions in ascending order.
+#[derive_where(Clone, Copy)]
+struct Nodes<'a, F, D> {
+    positions: &'a [Position<F>],
+    digests: &'a [D],
+}
+
+impl<F: Family, D: Digest> Nodes<'_, F, D> {
+    /// The digest at a position.
+    fn digest(&self, position: Position<F>) -> Option<D> {
+        let index = self.positions.binary_search(&position).ok()?;
+        self.digests.get(index).copied()
+    }
+
+    /// The digest of a node.
+    fn node(&self, first: u64, height: u32) -> Option<D>
+        requires aligned { first % 2 ^ height ≡ 0 }
+        requires within { first + 2 ^ height ≤ 2 ^ 62 }
+    {
+        self.digest(node_position(first, height))
+    }
+
+    /// The peaks before a leaf, folded from the left; none for no peaks.
+    fn fold_front<H: Hasher<F, Digest = D>>(&self, hasher: &H, leaves: u64, end: u64) -> Option<D>
+        requires { leaves ≤ 2 ^ 62 }
+    {
+        let mut folded = None;
+        let mut rest = Rest {
+            first: 0,
+            left: leaves,
+            folded: 0,
+        };
+        while rest.left > 0 && rest.first < end {
+            let height = F::first_peak(rest.left);
+            let node = self.node(rest.first, height)?;
+            folded = Some(append(hasher, folded, &node));
+            rest = rest.next(height);
+        }
+        folded
+    }
+
+    /// The peaks from a leaf on, folded from the right; none for no peaks.
+    fn fold_back<H: Hasher<F, Digest = D>>(&self, hasher: &H, first: u64, left: u64) -> Option<D>
+        requires few { first + left ≤ 2 ^ 62 }
+        requires aligned { AreAligned (F.shape.peaks left) first }
+    {
+        if left == 0 {
+            return None;
+        }
+        let height = F::first_peak(left);
+        let node = self.node(first, height)?;
+        let rest = self.fold_back(hasher, first + power(height), left - power(height));
+        Some(join(hasher, &node, rest))
+    }
+}
+
+/// The plan of one leaf.
+#[derive(Drop)]
+pub struct ElementPlan<F: Family> {
+    plan: RangePlan<F>,
+}
+
+impl<F: Family> ElementPlan<F> {
+    /// The plan of the leaf at a location of a tree of `leaves` leaves.
+    ///
+    /// # Errors
+    ///
+    /// The first of: `LocationOverflow(leaves)` past `MAX_LEAVES`; `LocationOverflow(location)` from `MAX_LEAVES` on;
+    /// `RangeOutOfBounds(location)` from `leaves` on; `Memory`.
+    pub fn new(
+        alloc: Global,
+        leaves: Location<F>,
+        location: Location<F>,
+    ) -> Result<Self, Error<F>> {
+        if !leaves.is_valid() {
+            return Err(Error::LocationOverflow(leaves));
+        }
+        if location.as_u64() >= MAX_LEAVES {
+            return Err(Error::LocationOverflow(location));
+        }
+        let end = Location::new(location.as_u64() + 1);
+        match RangePlan::over(alloc, leaves, location, end) {
+            Ok(plan) => Ok(ElementPlan { plan }),
+            Err(error) => Err(error),
+        }
+    }
+
+    /// The location.
+    pub fn location(&self) -> Location<F> {
+        self.plan.start()
+    }
+
+    /// The plan of the range of this one leaf.
+    pub fn into(self) -> RangePlan<F> {
+        self.plan
+    }
+}
+
+/// How many peaks the tree over so many leaves has.
+pub(crate) fn peak_count<F: Family>(leaves: u64) -> u64
+    requires { leaves ≤ 2 ^ 62 }
+    ensures { result ≡ length (F.shape.peaks leaves) }
+{
+    2 * leaves - F::nodes_over(leaves)
+}
+
+/// The positions of the greatest nodes in overlapped peaks that hold no leaf of the range, ascending.
+pub(crate) fn siblings<F: Family>(
+    alloc: Global,
+    leaves: u64,
+    start: u64,
+    end: u64,
+) -> Result<Vec<Position<F>>, AllocError>
+    requires { leaves ≤ 2 ^ 62 }
+{
+    let mut positions = Vec::new(alloc);
+    let mut first = 0;
+    let mut left = leaves;
+    while left > 0 {
+        let height = F::first_peak(left);
+        let length = power(height);
+        if start < first + length && first < end {
+            add_apart(start, end, first, height, &mut positions)?;
+        }
+        first += length;
+        left -= length;
+    }
+    positions.sort_unstable();
+    Ok(positions)
+}
+
+/// The positions of the greatest nodes that hold no leaf of the range, ascending.
+fn planned<F: Family>(
+    alloc: Global,
+    leaves: u64,
+    start: u64,
+    end: u64,
+) -> Result<Vec<Position<F>>, AllocError>
+    requires { leaves ≤ 2 ^ 62 }
+{
+    let mut positions = Vec::new(alloc);
+    let mut first = 0;
+    let mut left = leaves;
+    while left > 0 {
+        let height = F::first_peak(left);
+        add_apart(start, end, first, height, &mut positions)?;
+        first += power(height);
+        left -= power(height);
+    }
+    positions.sort_unstable();
+    Ok(positions)
+}
+
+/// Adds the positions of the greatest nodes at or under a node that hold no leaf of the range.
+fn add_apart<F: Family>(
+    start: u64,
+    end: u64,
+    first: u64,
+    height: u32,
+    positions: &mut Vec<Position<F>>,
+) -> Result<(), AllocError>
+    requires aligned { first % 2 ^ height ≡ 0 }
+    requires small { height ≤ 62 }
+    requires within { first + 2 ^ height ≤ 2 ^ 62 }
+{
+    let length = power(height);
+    if first + length <= start || end <= first {
+        positions.push(node_position(first, height))?;
+        return Ok(());
+    }
+    if height == 0 || start <= first && first + length <= end {
+        return Ok(());
+    }
+    add_apart(start, end, first, height - 1, positions)?;
+    add_apart(start, end, first + power(height - 1), height - 1, positions)
+}
+
+/// The position of a node.
+pub(crate) fn node_position<F: Family>(first: u64, height: u32) -> Position<F>
+    requires aligned { first % 2 ^ height ≡ 0 }
+    requires within { first + 2 ^ height ≤ 2 ^ 62 }
+    ensures { result ≡ F.shape.position first height }
+{
+    Position::new(F::position(first, height))
+}
