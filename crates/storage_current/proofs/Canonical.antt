@@ -7,13 +7,14 @@ use Rattle.std.proofs.lemmas.Bool.{cases_lt, lt-leb}
 use Rattle.std.proofs.Math.Nat.{mul-div_cancel, mul-mod_left, div-lt_iff_lt-mul, le-div_iff_mul-le}
 use Rattle.storage_codec.specs.Digests.{HashFunction, IsSized, Cross}
 use Rattle.storage_merkle.specs.declared.merkle.bagging.Bagging.TheVariants.{BackwardFold}
+use Rattle.storage_merkle.specs.Shape.{Laws}
 use Rattle.storage_merkle.specs.Calc.{be8}
 use Rattle.storage_merkle.specs.CalcLaws.{split_append, be8_length, heads, same_or_cross, cross_wider}
 use Rattle.storage_merkle.specs.Trees.{ungrafted, listed, tree_strings}
 use Rattle.storage_merkle.specs.RangeProofs.{IsOwn, own_proof, AreDigests, check_strings, apart}
 use Rattle.storage_merkle.specs.Soundness.{RangeProofsAreSound}
 use Rattle.storage_bitmap.specs.Chunks.{chunk, chunks_from, bytes_of}
-use Rattle.storage_current.specs.Snapshots.{Grafting, IsGrafting, height, complete, graftable, view, Snapshot, IsSnapshot, slot, counted_slot, canonical_string, content, aligned_of, exact_of, ops_root_of, pending_of, partial_of, snapshot_string, snapshot_strings, canonical_root, first_chunk, last_chunk, Holds, CurrentProof, own_current_proof}
+use Rattle.storage_current.specs.Snapshots.{Grafting, height, complete, graftable, view, Snapshot, IsSnapshot, slot, counted_slot, canonical_string, content, aligned_of, exact_of, ops_root_of, pending_of, partial_of, snapshot_string, snapshot_strings, canonical_root, first_chunk, last_chunk, Holds, CurrentProof, own_current_proof}
 use Rattle.storage_current.specs.CurrentProofs.{claimed, claim, touches_pending, touches_partial, current_string, current_strings, IsCurrent, IsSlot}
 use Rattle.storage_current.specs.CurrentSoundness.{HasDigests}
 use Rattle.storage_current.specs.GraftingLaws.{chunk_height, chunk_apart, graftable_by_birth, aligned-le}
@@ -110,7 +111,7 @@ all_chunks n bits none (suc count) j (x ∷ xs) l f =
     let tail : xs ≡ chunks_from n bits count (suc j) = all_chunks n bits none count (suc j) xs (omega arith) (λ i l. f (suc i) (omega arith) ∙ ap (chunk n bits) (let e : j + suc i ≡ suc j + i = omega arith in e)) in
     cc
 
-module _ (sound : RangeProofsAreSound) (d : ℕ) (h : HashFunction) (width : (d ≡ 32) ⊎ (d ≡ 64)) (sized : IsSized d h) (g : Grafting) (grafting : IsGrafting g) (proof : CurrentProof) (start : ℕ) (operations chunks : List (List ℕ)) (digests : HasDigests d proof) (s : Snapshot) (snapshot : IsSnapshot s) where
+module _ (sound : RangeProofsAreSound) (d : ℕ) (h : HashFunction) (width : (d ≡ 32) ⊎ (d ≡ 64)) (sized : IsSized d h) (g : Grafting) (laws : Laws g.shape) (proof : CurrentProof) (start : ℕ) (operations chunks : List (List ℕ)) (digests : HasDigests d proof) (s : Snapshot) (snapshot : IsSnapshot s) where
   -- the range proof in it is the tree's own
   abbrev IsRangeOwn : Type 0
   IsRangeOwn = IsOwn h (view g (length s.operations)) BackwardFold proof.range start (claim h g proof start operations chunks) (content h g s) (aligned_of h g s)
@@ -137,7 +138,7 @@ module _ (sound : RangeProofsAreSound) (d : ℕ) (h : HashFunction) (width : (d 
             let back : j * P / P ≡ j = mul-div_cancel j positive in
             let t : (view g n).grafted (j * P) k ≡ true = rw (eq-eqb k k refl, mul-mod_left j P, eq-eqb 0 0 refl, back, lt-ltb j gr low) refl in
             let t' : (view g (length s.operations)).grafted (j * P) k ≡ true = subst (λ m. (view g m).grafted (j * P) k ≡ true) en t in
-            let inside = (graftable_by_birth g.shape grafting.laws k (length s.operations) j).1 (subst (λ m. j < graftable g m) en low) in
+            let inside = (graftable_by_birth g.shape laws k (length s.operations) j).1 (subst (λ m. j < graftable g m) en low) in
             let touches : apart start high (j * P) k ≡ false = rw (lt-leb (j * P + 2 ^ k) start (omega (arith, suc-mul j P)), lt-leb high (j * P) (omega arith)) refl in
             let e = own.chunks_are (j * P) k (omega (arith, H.is)) t' (mul-mod_left j P) inside touches in
             subst (λ i. claimed h g proof start operations chunks i ≡ chunk g.bytes s.bits i) back e
@@ -212,7 +213,7 @@ module _ (sound : RangeProofsAreSound) (d : ℕ) (h : HashFunction) (width : (d 
         | inr c ↦ inr c
         | inl same ↦
             let parts = same_canonical d (n % 2 ^ height g) (m % 2 ^ height g) pos _ _ _ _ proof.pending _ proof.partial _ digests.ops_root (sized _) (sized _) (sized _) digests.pending (mapped-slot d h sized (pending_of h g s)) digests.partial (mapped-slot d h sized (partial_of h g s)) same in
-            elim (sound d g.bytes h sized (chunk_apart g ok.size d width) g.shape grafting.laws (λ i. (view g i).grafted) BackwardFold proof.range start cl digests.range (λ a. claimed-length g.bytes chunks ok.chunk_lengths _) ct (aligned_of h g s) (λ a. chunk-length g.bytes s.bits _) snapshot.few (aligned-le g.shape m s.floor (height g)) (inl (ok.counts, parts.grafted))) [
+            elim (sound d g.bytes h sized (chunk_apart g ok.size d width) g.shape laws (λ i. (view g i).grafted) BackwardFold proof.range start cl digests.range (λ a. claimed-length g.bytes chunks ok.chunk_lengths _) ct (aligned_of h g s) (λ a. chunk-length g.bytes s.bits _) snapshot.few (aligned-le g.shape m s.floor (height g)) (inl (ok.counts, parts.grafted))) [
               | inr c ↦ inr (cross_wider into_first into_second c)
               | inl own ↦
                   let leaves : n ≡ m = ap (λ r. r.leaves) own.proof_is in

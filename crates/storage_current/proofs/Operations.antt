@@ -3,7 +3,7 @@ use Rattle.std.proofs.Common.{◌≡◌, ℕ, ◌+◌, ◌-◌, ◌*◌, ◌/◌
 use Rattle.std.proofs.lemmas.Nat.{div-add-mod'}
 use Rattle.std.proofs.Math.Nat.{mod-lt}
 use Rattle.storage_codec.specs.Digests.{HashFunction}
-use Rattle.storage_bitmap.specs.Chunks.{chunk, chunks_from}
+use Rattle.storage_bitmap.specs.Chunks.{IsChunkSize, chunk, chunks_from}
 use Rattle.storage_bitmap.specs.Packed.{bit_in}
 use Rattle.storage_current.specs.Snapshots.{Grafting, IsGrafting, height, Snapshot, IsSnapshot, canonical_root, first_chunk, last_chunk, Holds, IsActive, OperationProof, own_current_proof, own_operation_proof}
 use Rattle.storage_current.specs.CurrentProofs.{IsActiveCurrent}
@@ -11,7 +11,7 @@ use Rattle.storage_current.specs.CurrentSoundness.{CurrentProofsAreSound, Operat
 use Rattle.storage_current.specs.GraftingLaws.{chunk_height}
 use Rattle.storage_current.proofs.Bits.{bit_in-chunk, one_chunk}
 
-module _ (h : HashFunction) (g : Grafting) (grafting : IsGrafting g) (s : Snapshot) where
+module _ (h : HashFunction) (g : Grafting) (size : IsChunkSize g.bytes) (s : Snapshot) where
   -- the chunk of one location
   lone_chunk : (location : ℕ) → chunks_from g.bytes s.bits (last_chunk g location 1 - first_chunk g location + 1) (first_chunk g location) ≡ chunk g.bytes s.bits (first_chunk g location) ∷ []
   lone_chunk location =
@@ -22,7 +22,7 @@ module _ (h : HashFunction) (g : Grafting) (grafting : IsGrafting g) (s : Snapsh
   -- its bit
   lone_bit : (location : ℕ) → bit_in (chunk g.bytes s.bits (first_chunk g location)) (location % 2 ^ height g) ≡ get_or s.bits location false
   lone_bit location =
-      let H = chunk_height g grafting.size in
+      let H = chunk_height g size in
       let bits : 2 ^ height g ≡ 8 * g.bytes = H.bits in
       let positive : 0 < 2 ^ height g = pow_pos (height g) in
       let low : location % 2 ^ height g < 2 ^ height g = mod-lt location positive in
@@ -49,8 +49,8 @@ module _ (h : HashFunction) (g : Grafting) (grafting : IsGrafting g) (s : Snapsh
         },
       )
 
-  pub operation_accepted : OwnCurrentProofsAreAccepted → IsSnapshot s → (location : ℕ) (operation : List ℕ) → IsActive s location operation → IsActiveCurrent h g (own_operation_proof h g s location) operation (canonical_root h g s)
-  operation_accepted accepted snapshot location operation active = record {
+  pub operation_accepted : OwnCurrentProofsAreAccepted → IsGrafting g → IsSnapshot s → (location : ℕ) (operation : List ℕ) → IsActive s location operation → IsActiveCurrent h g (own_operation_proof h g s location) operation (canonical_root h g s)
+  operation_accepted accepted grafting snapshot location operation active = record {
     bit = lone_bit location ∙ active.bit;
     current = accepted h g grafting s snapshot location (operation ∷ []) (chunk g.bytes s.bits (first_chunk g location) ∷ []) (record {
       some = omega arith;
@@ -66,8 +66,8 @@ module _ (h : HashFunction) (g : Grafting) (grafting : IsGrafting g) (s : Snapsh
   }
 
 pub operation_sound : CurrentProofsAreSound → OperationProofsAreSound
-operation_sound sound d h width sized g grafting proof operation digests s snapshot ok =
-    elim (sound d h width sized g grafting proof.range proof.location (operation ∷ []) (proof.chunk ∷ []) digests s snapshot ok.current) [
-      | inl own ↦ inl (operation_is h g grafting s proof operation ok.bit own.0 own.1)
+operation_sound sound d h width sized g laws proof operation digests s snapshot ok =
+    elim (sound d h width sized g laws proof.range proof.location (operation ∷ []) (proof.chunk ∷ []) digests s snapshot ok.current) [
+      | inl own ↦ inl (operation_is h g ok.current.size s proof operation ok.bit own.0 own.1)
       | inr c ↦ inr c
     ]

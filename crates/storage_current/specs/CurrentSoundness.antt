@@ -20,7 +20,7 @@ pub record HasDigests (d : ℕ) (proof : CurrentProof) : Type 0 where
 -- string of the check and a different one of the snapshot have one digest.
 abbrev pub CurrentProofsAreSound : Type 0
 CurrentProofsAreSound =
-    (d : ℕ) (h : HashFunction) → (d ≡ 32) ⊎ (d ≡ 64) → IsSized d h → (g : Grafting) → IsGrafting g →
+    (d : ℕ) (h : HashFunction) → (d ≡ 32) ⊎ (d ≡ 64) → IsSized d h → (g : Grafting) → Laws g.shape →
     (proof : CurrentProof) (start : ℕ) (operations chunks : List (List ℕ)) → HasDigests d proof →
     (s : Snapshot) → IsSnapshot s → IsCurrent h g proof start operations chunks (canonical_root h g s) →
     (proof ≡ own_current_proof h g s start (start + length operations)) × Holds g s start operations chunks
@@ -29,7 +29,7 @@ CurrentProofsAreSound =
 -- The same of an operation proof, which says moreover that the operation is active.
 abbrev pub OperationProofsAreSound : Type 0
 OperationProofsAreSound =
-    (d : ℕ) (h : HashFunction) → (d ≡ 32) ⊎ (d ≡ 64) → IsSized d h → (g : Grafting) → IsGrafting g →
+    (d : ℕ) (h : HashFunction) → (d ≡ 32) ⊎ (d ≡ 64) → IsSized d h → (g : Grafting) → Laws g.shape →
     (proof : OperationProof) (operation : List ℕ) → HasDigests d proof.range →
     (s : Snapshot) → IsSnapshot s → IsActiveCurrent h g proof operation (canonical_root h g s) →
     (proof ≡ own_operation_proof h g s proof.location) × IsActive s proof.location operation
