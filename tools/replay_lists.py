@@ -57,6 +57,16 @@ def cases(folder):
     for given, asked in cut(folder, "operations", 2):
         if given[0] == "ordered-fixed/fixed4/u64":
             yield "operations", given, asked
+    for given, asked in cut(folder, "elements", 3):
+        yield "elements", given, asked
+    for given, asked in cut(folder, "plans", 4):
+        yield "plans", given, asked
+    for family, direction, leaves, inactive, start, _, elements, digests, root in rows(folder, "plain"):
+        # an honest proof is accepted, and gives the root
+        given = [family, direction, leaves, inactive, digests, start, elements, root, "honest"]
+        yield "plain_checks", given, ["yes", root]
+    for given, asked in cut(folder, "plain_checks", 9):
+        yield "plain_checks", given, asked
 
 
 def main():

@@ -80,6 +80,15 @@ pub fn strings(alloc: Global, column: &str) -> Result<Vec<Vec<u8>>, Fault> {
     Ok(strings)
 }
 
+/// A text with `_` for each blank.
+pub fn unblanked(alloc: Global, text: &str) -> Result<String, Fault> {
+    let mut answer = String::new(alloc);
+    for character in text.chars() {
+        answer.push(if character == ' ' { '_' } else { character })?;
+    }
+    Ok(answer)
+}
+
 /// Numbers with commas between them; `none` where there are none.
 #[derive(Drop)]
 pub struct Series {

@@ -2,6 +2,7 @@
 
 mod codecs;
 mod operations;
+mod proofs;
 mod refusals;
 mod trees;
 

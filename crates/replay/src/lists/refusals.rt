@@ -1,17 +1,9 @@
 //! The names of refusals.
 
-use crate::columns::Fault;
+use crate::columns::{Fault, unblanked};
 use std::alloc::Global;
 use storage_codec::codec;
-
-/// A text with `_` for each blank.
-fn unblanked(alloc: Global, text: &str) -> Result<String, Fault> {
-    let mut answer = String::new(alloc);
-    for character in text.chars() {
-        answer.push(if character == ' ' { '_' } else { character })?;
-    }
-    Ok(answer)
-}
+use storage_merkle::merkle;
 
 /// The name of a reader's refusal.
 pub fn codec_refusal(alloc: Global, error: codec::Error) -> Result<String, Fault> {
@@ -28,5 +20,25 @@ pub fn codec_refusal(alloc: Global, error: codec::Error) -> Result<String, Fault
         }
         codec::Error::ExtraData(left) => Ok(format!(in alloc; "C7({left})")?),
         codec::Error::Memory => Err(Fault::Memory),
+    }
+}
+
+/// The name of a refusal of a call over trees.
+pub fn merkle_refusal<F>(alloc: Global, error: &merkle::Error<F>) -> Result<String, Fault> {
+    match error {
+        merkle::Error::Empty => Ok(String::from_str(alloc, "E1")?),
+        merkle::Error::RangeOutOfBounds(location) => Ok(format!(in alloc; "E2({location})")?),
+        merkle::Error::LocationOverflow(location) => Ok(format!(in alloc; "E3({location})")?),
+        merkle::Error::ElementPruned(position) => Ok(format!(in alloc; "E4({position})")?),
+        merkle::Error::MissingNode(position) => Ok(format!(in alloc; "E5({position})")?),
+        merkle::Error::DataCorrupted(_) => Ok(String::from_str(alloc, "E6")?),
+        merkle::Error::BitOutOfBounds(bit, length) => Ok(format!(in alloc; "E7({bit},{length})")?),
+        merkle::Error::InvalidProof => Ok(String::from_str(alloc, "E8")?),
+        merkle::Error::RootMismatch => Ok(String::from_str(alloc, "E9")?),
+        merkle::Error::DuplicateLocation(location) => Ok(format!(in alloc; "E10({location})")?),
+        merkle::Error::UnsortedLocation(location) => Ok(format!(in alloc; "E11({location})")?),
+        merkle::Error::CompressedDigest(position) => Ok(format!(in alloc; "E12({position})")?),
+        merkle::Error::Source(fault) => Ok(format!(in alloc; "E13({fault})")?),
+        merkle::Error::Memory => Err(Fault::Memory),
     }
 }

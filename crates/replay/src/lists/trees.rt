@@ -5,6 +5,7 @@ ghost use Rattle.storage_merkle.specs.Nodes.{IsNode, CoversSame};
 ghost use Rattle.storage_merkle.specs.Shape.{size};
 
 use crate::columns::{Fault, Series, number};
+use crate::lists::proofs;
 use std::alloc::Global;
 use storage_merkle::merkle::family::{
     graftable_chunks, grafted_to_ops_pos, leaves_within, node_at, ops_to_grafted_pos,
@@ -30,6 +31,9 @@ fn over<F: Graftable>(alloc: Global, list: &str, columns: &[&str]) -> Result<Str
         "nodes" => nodes::<F>(alloc, columns),
         "graftable" => graftable::<F>(alloc, columns),
         "maps" => maps::<F>(alloc, columns),
+        "elements" => proofs::elements::<F>(alloc, columns),
+        "plans" => proofs::plans::<F>(alloc, columns),
+        "plain_checks" => proofs::plain_checks::<F>(alloc, columns),
         _ => Err(Fault::Malformed),
     }
 }

@@ -1,0 +1,81 @@
+//! Lists on plans and plain range proofs.
+
+use crate::columns::{Fault, Series, digest, digests, number, strings};
+use crate::lists::refusals::merkle_refusal;
+use std::alloc::Global;
+use storage_codec::digest::{Digest, Sha256};
+use storage_merkle::merkle::hasher::Standard;
+use storage_merkle::merkle::{Bagging, ElementPlan, Family, Location, Proof, RangePlan};
+
+/// `leaves location`: the positions that the plan of this location has, or its refusal.
+pub fn elements<F: Family>(alloc: Global, columns: &[&str]) -> Result<String, Fault> {
+    let [leaves, location] = columns else {
+        return Err(Fault::Malformed);
+    };
+    let leaves = Location::new(number(*leaves)?);
+    let location = Location::new(number(*location)?);
+    match ElementPlan::<F>::new(alloc, leaves, location) {
+        Ok(plan) => positions(alloc, &plan.into()),
+        Err(error) => merkle_refusal(alloc, &error),
+    }
+}
+
+/// `leaves start end`: the positions that the plan of this range has, or its refusal.
+pub fn plans<F: Family>(alloc: Global, columns: &[&str]) -> Result<String, Fault> {
+    let [leaves, start, end] = columns else {
+        return Err(Fault::Malformed);
+    };
+    let leaves = Location::new(number(*leaves)?);
+    let start = Location::new(number(*start)?);
+    let end = Location::new(number(*end)?);
+    match RangePlan::<F>::new(alloc, leaves, start..end) {
+        Ok(plan) => positions(alloc, &plan),
+        Err(error) => merkle_refusal(alloc, &error),
+    }
+}
+
+fn positions<F: Family>(alloc: Global, plan: &RangePlan<F>) -> Result<String, Fault> {
+    let mut series = Series::new(alloc);
+    for position in plan.positions() {
+        series.push(position.as_u64())?;
+    }
+    Ok(series.finish()?)
+}
+
+/// The direction of this name.
+fn bagging(word: &str) -> Result<Bagging, Fault> {
+    match word {
+        "forward" => Ok(Bagging::ForwardFold),
+        "backward" => Ok(Bagging::BackwardFold),
+        _ => Err(Fault::Malformed),
+    }
+}
+
+/// `bagging leaves inactive digests start elements root label`: whether the proof is accepted, and the root that it
+/// gives. The label says how the case was made.
+pub fn plain_checks<F: Family>(alloc: Global, columns: &[&str]) -> Result<String, Fault> {
+    let [direction, leaves, inactive, nodes, start, items, root, _] = columns else {
+        return Err(Fault::Malformed);
+    };
+    let hasher = Standard::<Sha256>::new(bagging(*direction)?);
+    let proof = Proof::<F, _> {
+        leaves: Location::new(number(*leaves)?),
+        inactive_peaks: number(*inactive)? as usize,
+        digests: digests(alloc, *nodes)?,
+    };
+    let start = Location::new(number(*start)?);
+    let items = strings(alloc, *items)?;
+    let root = digest(*root)?;
+    let verdict = proof.verify_range_inclusion(alloc, &hasher, items.as_slice(), start, &root)?;
+    let verdict = if verdict { "yes" } else { "no" };
+    match proof.reconstruct_root(alloc, &hasher, items.as_slice(), start) {
+        Ok(root) => {
+            let root = hex::encode(alloc, root.bytes())?;
+            Ok(format!(in alloc; "{verdict} {root}")?)
+        }
+        Err(error) => {
+            let refusal = merkle_refusal(alloc, &error)?;
+            Ok(format!(in alloc; "{verdict} {refusal}")?)
+        }
+    }
+}
