@@ -10,9 +10,10 @@ use Rattle.storage_codec.specs.Laws.{answer_of, u64_again}
 use Rattle.storage_ops.specs.Operations.{OperationView, Delete, Update, CommitFloor, operation_map, is_admitted}
 use Rattle.storage_ops.specs.Padding.{zeros_at}
 use Rattle.storage_ops.specs.Fixed.{fixed_size, presence_text, fixed_operation_text, presence_at, floor_at, commit_payload_at, padded, fixed_payload_at, fixed_operation_at}
-use Rattle.storage_ops.specs.Reading.{IsRead}
+use Rattle.storage_ops.specs.OperationsLaws.{delete_of, update_of, commit_of}
+use Rattle.storage_ops.specs.Reading.{IsRead, mapped_again, commit_steps}
 
-abbrev zero_bytes : ℕ → List ℕ
+abbrev pub zero_bytes : ℕ → List ℕ
 zero_bytes n = replicate n 0
 
 zeros_again : (n : ℕ) (rest : List ℕ) → zeros_at n (zero_bytes n ++ rest) ≡ Ok (tt, rest)
@@ -44,35 +45,19 @@ guarded answer n rest e h = let low : ltb (2 ^ 62) n ≡ false = le-ltb _ _ h in
 floor_again : (n : ℕ) (rest : List ℕ) → n ≤ 2 ^ 62 → floor_at (to_be_bytes w64 n ++ rest) ≡ Ok (n, rest)
 floor_again n rest h = guarded (u64_at (to_be_bytes w64 n ++ rest)) n rest (u64_again n rest (omega arith)) h
 
-presence_again : {V W : Type 0} (text : V → List ℕ) (view : V → W) (parse : List ℕ → Answer W) (admits : V → Type 0) (vs : ℕ)
+pub presence_again : {V W : Type 0} (text : V → List ℕ) (view : V → W) (parse : List ℕ → Answer W) (admits : V → Type 0) (vs : ℕ)
     → IsRead text view parse admits → (o : Option V) (rest : List ℕ) → IfSome o admits
     → presence_at parse vs (presence_text vs (option_map text o) ++ rest) ≡ Ok (option_map view o, rest)
 presence_again text view parse admits vs is None rest h = let z = zeros_again vs rest in rw z refl
 presence_again text view parse admits vs is (Some v) rest h = let r = is.again v rest h in rw r refl
 
-abbrev pub delete_of : {K : Type 0} (U V : Type 0) → K → OperationView K U V
-delete_of U V k = Delete k
-
-abbrev pub update_of : {U : Type 0} (K V : Type 0) → U → OperationView K U V
-update_of K V u = Update u
-
-abbrev pub commit_of : {V : Type 0} (K U : Type 0) → Option V → ℕ → OperationView K U V
-commit_of K U o n = CommitFloor o n
-
-mapped_again : {V W : Type 0} (f : V → W) (answer : Answer V) (x : V) (rest : List ℕ) → answer ≡ Ok (x, rest) → mapped f answer ≡ Ok (f x, rest)
-mapped_again f answer x rest e = rw e refl
-
-assoc4 : (a b c d : List ℕ) → a ++ b ++ c ++ d ≡ a ++ (b ++ (c ++ d))
+pub assoc4 : (a b c d : List ℕ) → a ++ b ++ c ++ d ≡ a ++ (b ++ (c ++ d))
 assoc4 a b c d = simp append_assoc
-
-pub commit_steps : {V : Type 0} (K U : Type 0) (first : Answer (Option V)) (next : List ℕ → Answer ℕ) (o : Option V) (n : ℕ) (mid rest : List ℕ) → first ≡ Ok (o, mid) → next mid ≡ Ok (n, rest)
-    → (first >>= λ v. mapped (λ k. commit_of K U v.0 k) (next v.1)) ≡ Ok (commit_of K U o n, rest)
-commit_steps K U first next o n mid rest p q = rw (p, q) refl
 
 payload_again : {K U V KV UV VV : Type 0} (key : K → List ℕ) (update : U → List ℕ) (value : V → List ℕ) (kview : K → KV) (uview : U → UV) (vview : V → VV)
     (kparse : List ℕ → Answer KV) (uparse : List ℕ → Answer UV) (vparse : List ℕ → Answer VV) (kadm : K → Type 0) (uadm : U → Type 0) (vadm : V → Type 0) (ks us vs : ℕ)
     → IsRead key kview kparse kadm → IsRead update uview uparse uadm → IsRead value vview vparse vadm
-    → (op : OperationView K U V) (rest : List ℕ) → is_admitted kadm uadm vadm op
+    → (op : OperationView K U V) (rest : List ℕ) → is_admitted kadm uadm vadm (λ n. n ≤ 2 ^ 62) op
     → (byte_at (fixed_operation_text ks us vs (operation_map key update value op) ++ rest) >>= λ tag. fixed_payload_at kparse uparse vparse ks us vs tag.0 tag.1) ≡ Ok (operation_map kview uview vview op, rest)
 payload_again {UV = UV} {VV = VV} key update value kview uview vview kparse uparse vparse kadm uadm vadm ks us vs kis uis vis (Delete k) rest h =
     let z = zero_bytes (fixed_size ks us vs - (1 + ks)) in
@@ -95,7 +80,7 @@ pub fixed_again : {K U V KV UV VV : Type 0} (key : K → List ℕ) (update : U �
     (kparse : List ℕ → Answer KV) (uparse : List ℕ → Answer UV) (vparse : List ℕ → Answer VV) (kadm : K → Type 0) (uadm : U → Type 0) (vadm : V → Type 0) (ks us vs : ℕ)
     → IsRead key kview kparse kadm → IsRead update uview uparse uadm → IsRead value vview vparse vadm
     → ((k : K) → length (key k) ≡ ks) → ((u : U) → length (update u) ≡ us) → ((v : V) → length (value v) ≡ vs)
-    → (op : OperationView K U V) (rest : List ℕ) → is_admitted kadm uadm vadm op
+    → (op : OperationView K U V) (rest : List ℕ) → is_admitted kadm uadm vadm (λ n. n ≤ 2 ^ 62) op
     → fixed_operation_at kparse uparse vparse ks us vs (fixed_operation_text ks us vs (operation_map key update value op) ++ rest) ≡ Ok (operation_map kview uview vview op, rest)
 fixed_again key update value kview uview vview kparse uparse vparse kadm uadm vadm ks us vs kis uis vis kl ul vl op rest h =
     let len = fixed_sized key update value ks us vs kl ul vl op in

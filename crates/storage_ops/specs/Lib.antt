@@ -1,8 +1,12 @@
 pub mod Operations
+pub mod OperationsLaws
+pub mod Reading
 pub mod Updates
 pub mod UpdatesLaws
 pub mod Padding
-pub mod Reading
 pub mod Fixed
 pub mod FixedLaws
-pub mod OperationsLaws
+pub mod FixedBackLaws
+pub mod Variable
+pub mod VariableLaws
+pub mod Vectors

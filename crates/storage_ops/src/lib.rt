@@ -1,6 +1,7 @@
 //! Operations on authenticated databases, and their encodings.
 #![tactic(auto)]
 
+pub mod laws;
 pub mod qmdb;
 #[cfg(test)]
 mod tests;

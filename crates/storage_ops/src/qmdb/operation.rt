@@ -2,14 +2,16 @@
 
 ghost use Rattle.std.specs.Prelude.{◌≡◌, ℕ, List, ◌↔◌, true, Bool, Option, option_map};
 ghost use Rattle.std.proofs.Common.{ap};
+ghost use Rattle.storage_ops.specs.Vectors.{vector_clones};
 ghost use Rattle.std.proofs.lemmas.Slice.Eq.{bytes_eq-Decides};
+ghost use Rattle.storage_codec.specs.SpellingLaws.{vector_same};
 
 pub(crate) mod commit;
 pub(crate) mod padding;
 
 use std::fmt::Debug;
 use std::hash::Hash;
-use storage_codec::codec::{Codec, EncodeSize, FixedBytes};
+use storage_codec::codec::{Codec, EncodeSize, FixedBytes, U64};
 use storage_merkle::merkle::{Family, Location};
 
 /// A key. Its order is total and agrees with equality.
@@ -91,4 +93,28 @@ impl<const N: usize> Key for FixedBytes<N> {
     ghost same = { λ x y. bytes_eq-Decides x.bytes y.bytes };
 
     ghost clones = { λ x y e. (ap (λ k. k.bytes) e, ap (λ k. k.bytes) e) };
+}
+
+impl Key for U64 {
+    ghost bytes_of = { λ k. k.0.bytes };
+
+    fn bytes(&self) -> &[u8] {
+        U64::bytes(self)
+    }
+
+    ghost same = { λ x y. bytes_eq-Decides x.0.bytes y.0.bytes };
+
+    ghost clones = { λ x y e. (ap (λ k. k.0.bytes) e, ap (λ k. k.0.bytes) e) };
+}
+
+impl Key for Vec<u8> {
+    ghost bytes_of = { λ k. k.items };
+
+    fn bytes(&self) -> &[u8] {
+        self.as_slice()
+    }
+
+    ghost same = { λ x y. vector_same x.items y.items };
+
+    ghost clones = { λ x y e. vector_clones x.items y.items e.0 };
 }

@@ -3,17 +3,27 @@
 ghost use Rattle.std.specs.Prelude.{◌≡◌, ℕ, List, Ok, ◌++◌, IfOk, OnOk, OnErr};
 ghost use Rattle.storage_codec.specs.Codec.{Answer, Gives};
 ghost use Rattle.storage_codec.specs.Parts.{AppendsStart, IsEnding};
-ghost use Rattle.storage_ops.specs.Operations.{OperationView, operation_map, parts};
+ghost use Rattle.storage_ops.specs.Operations.{OperationView, operation_map, parts, operation_key, operation_floor, is_update, is_delete, is_commit};
 
+mod display;
 pub(crate) mod fixed;
 pub mod update;
+pub(crate) mod variable;
 
 use crate::qmdb::any::value::ValueEncoding;
+use crate::qmdb::operation;
+pub use display::Displayed;
 use std::alloc::Global;
 use storage_codec::NoMemory;
 use storage_codec::codec::{Buf, Codec, Error, Read, Write};
 use storage_merkle::merkle::{Family, Location};
 pub use update::Update;
+
+/// Operations whose updates name the next key.
+pub type Ordered<F, K, V> = Operation<F, update::Ordered<K, V>>;
+
+/// Operations whose updates name no other key.
+pub type Unordered<F, K, V> = Operation<F, update::Unordered<K, V>>;
 
 /// The tag of a deletion.
 pub const DELETE_CONTEXT: u8 = 0xD1;
@@ -51,6 +61,9 @@ pub trait OperationCodec<F: Family, S: Update>: ValueEncoding {
     /// The operation is one of the type, and the configuration admits it.
     ghost operation_admits: { Self.ReadCfg → OperationView S.Key S S.Value → Type 0 };
 
+    /// The configuration admits the parts, and a floor is a `u64`, though it may be past those that are read.
+    ghost operation_fits: { Self.ReadCfg → OperationView S.Key S S.Value → Type 0 };
+
     /// What reading answers for these bytes.
     ghost operation_parse: { Self.ReadCfg → List ℕ → Answer View };
 
@@ -71,6 +84,11 @@ pub trait OperationCodec<F: Family, S: Update>: ValueEncoding {
     /// What was written is read again, and what follows is left.
     ghost operation_again: { (cfg : Self.ReadCfg) (op : OperationView S.Key S S.Value) (rest : List ℕ) → Self.operation_admits cfg op
         → Self.operation_parse cfg (Self.operation_text (operation_map S.Key.text S.text S.Value.text op) ++ rest) ≡ Ok (Self.operation_view op, rest) };
+
+    /// Equal encodings are of operations that are seen as equal.
+    ghost operation_one: { (cfg : Self.ReadCfg) (x y : OperationView S.Key S S.Value) → Self.operation_fits cfg x → Self.operation_fits cfg y
+        → Self.operation_text (operation_map S.Key.text S.text S.Value.text x) ≡ Self.operation_text (operation_map S.Key.text S.text S.Value.text y)
+        → operation_map S.Key.view S.seen S.Value.view x ≡ operation_map S.Key.view S.seen S.Value.view y };
 
     /// Operations that are seen as equal have parts that are seen as equal.
     ghost operation_same: { (x y : OperationView S.Key S S.Value) → Self.operation_view x ≡ Self.operation_view y
@@ -132,5 +150,58 @@ impl<F: Family, S: Update> Operation<F, S> {
             }
             Operation::CommitFloor(None, floor) => Operation::CommitFloor(None, *floor),
         })
+    }
+}
+
+impl<F: Family, S: Update> operation::Floored<F> for Operation<F, S> {
+    ghost floor = { λ x. operation_floor (parts x) };
+
+    fn has_floor(&self) -> Option<Location<F>> {
+        match self {
+            Operation::CommitFloor(_, floor) => Some(*floor),
+            _ => None,
+        }
+    }
+}
+
+impl<F: Family, S: Update> operation::Operation<F> for Operation<F, S> {
+    type Key = S::Key;
+
+    ghost key_of = { λ x. operation_key S.key_of (parts x) };
+
+    ghost updates = { λ x. is_update (parts x) };
+
+    ghost deletes = { λ x. is_delete (parts x) };
+
+    fn key(&self) -> Option<&S::Key> {
+        match self {
+            Operation::Delete(key) => Some(key),
+            Operation::Update(update) => Some(update.key()),
+            Operation::CommitFloor(_, _) => None,
+        }
+    }
+
+    fn into_key(self) -> Option<S::Key> {
+        match self {
+            Operation::Delete(key) => Some(key),
+            Operation::Update(update) => Some(update.into_key()),
+            Operation::CommitFloor(_, _) => None,
+        }
+    }
+
+    fn is_update(&self) -> bool {
+        matches!(self, Operation::Update(_))
+    }
+
+    fn is_delete(&self) -> bool {
+        matches!(self, Operation::Delete(_))
+    }
+}
+
+impl<F: Family, S: Update> operation::Committable for Operation<F, S> {
+    ghost commits = { λ x. is_commit (parts x) };
+
+    fn is_commit(&self) -> bool {
+        matches!(self, Operation::CommitFloor(_, _))
     }
 }

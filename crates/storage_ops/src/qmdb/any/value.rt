@@ -3,9 +3,10 @@
 ghost use Rattle.std.specs.Prelude.{◌≡◌, ℕ, List};
 ghost use Rattle.std.specs.Int.{w64, to_be_bytes};
 ghost use Rattle.std.proofs.Common.{ap};
+ghost use Rattle.storage_ops.specs.Vectors.{vector_clones};
 
 use std::marker::PhantomData;
-use storage_codec::codec::{Codec, EncodeSize, FixedBytes, Read, Small};
+use storage_codec::codec::{Codec, EncodeSize, FixedBytes, Read, Small, U64};
 
 mod sealed {
     pub trait Sealed {}
@@ -72,4 +73,16 @@ impl VariableValue for u64 {
 
 impl<const N: usize> VariableValue for FixedBytes<N> {
     ghost clones = { λ x y e. (ap (λ k. k.bytes) e, ap (λ k. k.bytes) e) };
+}
+
+impl FixedValue for U64 {
+    ghost clones = { λ x y e. (ap (λ k. k.0.bytes) e, ap (λ k. k.0.bytes) e) };
+}
+
+impl VariableValue for U64 {
+    ghost clones = { λ x y e. (ap (λ k. k.0.bytes) e, ap (λ k. k.0.bytes) e) };
+}
+
+impl VariableValue for Vec<u8> {
+    ghost clones = { λ x y e. vector_clones x.items y.items e.0 };
 }

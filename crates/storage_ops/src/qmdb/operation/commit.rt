@@ -1,15 +1,17 @@
-//! The payload of a commit: a value or none, and a floor.
+//! The payloads of commits: a value or none, and a floor.
 
-ghost use Rattle.std.specs.Prelude.{◌≡◌, ℕ, List, ◌++◌, option_map, OnOk, OnErr};
+ghost use Rattle.std.specs.Prelude.{◌≡◌, ℕ, List, ◌+◌, ◌++◌, length, option_map, OnOk, OnErr};
 ghost use Rattle.std.specs.Int.{w64, to_be_bytes};
 ghost use Rattle.storage_codec.specs.Codec.{Gives};
-ghost use Rattle.storage_codec.specs.Parts.{AppendsStart, IsEnding};
+ghost use Rattle.storage_codec.specs.Parts.{AppendsStart, IsEnding, size_of, varint_text};
 ghost use Rattle.storage_ops.specs.Fixed.{presence_text, presence_at, floor_at};
+ghost use Rattle.storage_ops.specs.Variable.{metadata_text};
 
+use crate::qmdb::any::operation::update::sum_of_sizes;
 use crate::qmdb::operation::padding::{ensure_zeros, put_zeros};
 use std::alloc::Global;
 use storage_codec::NoMemory;
-use storage_codec::codec::{Buf, Error, FixedSize, Read, Write};
+use storage_codec::codec::{Buf, EncodeSize, Error, FixedSize, Read, Write};
 use storage_merkle::merkle::{Family, Location, MAX_LEAVES};
 
 /// Appends a value behind its presence byte, or as many zeros.
@@ -81,4 +83,47 @@ pub(crate) fn read_floor<B: Buf>(alloc: Global, buf: &mut B) -> Result<u64, Erro
         ));
     }
     Ok(floor)
+}
+
+/// Appends an optional value.
+#[tactic(auto, using(crate::specs::VariableLaws::metadata_is))]
+fn write_metadata<V: Write>(value: &Option<V>, out: &mut Vec<u8>) -> Result<(), NoMemory>
+    ensures ok { OnOk result (out.new.items ≡ out.old.items ++ metadata_text (option_map V.text value.now)) }
+    ensures err { OnErr result (AppendsStart out.old.items out.new.items (metadata_text (option_map V.text value.now))) }
+{
+    value.write(out)
+}
+
+/// Appends the payload of a variable commit. Any floor is written.
+#[tactic(auto, using(storage_codec::specs::PartsLaws::starts_then, storage_codec::specs::PartsLaws::starts_first))]
+pub(crate) fn write_commit_variable<F: Family, V: Write>(
+    value: &Option<V>,
+    floor: Location<F>,
+    out: &mut Vec<u8>,
+) -> Result<(), NoMemory>
+    ensures ok { OnOk result (out.new.items ≡ out.old.items ++ (metadata_text (option_map V.text value.now) ++ varint_text floor)) }
+    ensures err { OnErr result (AppendsStart out.old.items out.new.items (metadata_text (option_map V.text value.now) ++ varint_text floor)) }
+{
+    write_metadata(value, out)?;
+    floor.write(out)?;
+    Ok(())
+}
+
+/// The size of an optional value.
+#[tactic(auto, using(crate::specs::VariableLaws::metadata_is))]
+fn metadata_size<V: EncodeSize>(value: &Option<V>) -> Option<u64>
+    ensures { result ≡ size_of (length (metadata_text (option_map V.text value.now))) }
+{
+    value.encode_size()
+}
+
+/// The size of the payload of a variable commit.
+#[tactic(auto, using(std::proofs::lemmas::Grind::common_steps))]
+pub(crate) fn commit_variable_size<F: Family, V: EncodeSize>(
+    value: &Option<V>,
+    floor: Location<F>,
+) -> Option<u64>
+    ensures { result ≡ size_of (length (metadata_text (option_map V.text value.now) ++ varint_text floor)) }
+{
+    sum_of_sizes(metadata_size(value), floor.encode_size())
 }

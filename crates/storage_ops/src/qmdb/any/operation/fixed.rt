@@ -1,16 +1,18 @@
 //! Operations that are filled up with zeros to one size.
 
-ghost use Rattle.std.specs.Prelude.{◌≡◌, ◌≤◌, ◌+◌, ◌-◌, ◌*◌, ◌^◌, ℕ, List, ◌++◌, length, replicate, option_map, max, Ok, OnOk, OnErr};
+ghost use Rattle.std.specs.Prelude.{◌≡◌, ◌≤◌, ◌+◌, ◌-◌, ◌*◌, ◌^◌, ◌<◌, ℕ, List, ◌++◌, length, replicate, option_map, max, Ok, OnOk, OnErr};
 ghost use Rattle.std.specs.Int.{w64, to_be_bytes};
 ghost use Rattle.storage_codec.specs.Codec.{Gives};
 ghost use Rattle.storage_codec.specs.Parts.{AppendsStart, IsEnding, size_of};
 ghost use Rattle.storage_ops.specs.Operations.{OperationView, operation_map, parts, is_admitted};
-ghost use Rattle.storage_ops.specs.UpdatesLaws.{ordered_sized};
+ghost use Rattle.storage_ops.specs.UpdatesLaws.{ordered_sized, ordered_back, unordered_sized, unordered_back};
+ghost use Rattle.storage_ops.specs.Updates.{ordered_at, unordered_at};
 ghost use Rattle.storage_ops.specs.OperationsLaws.{operation_same};
 ghost use Rattle.storage_ops.specs.FixedLaws.{fixed_again, fixed_sized};
+ghost use Rattle.storage_ops.specs.FixedBackLaws.{fixed_back, fixed_one};
 ghost use Rattle.storage_ops.specs.Fixed.{fixed_size, presence_text, fixed_operation_text, commit_payload_at, fixed_payload_at, fixed_operation_at};
 
-use crate::qmdb::any::operation::update::{FixedUpdate, Ordered, Update};
+use crate::qmdb::any::operation::update::{FixedUpdate, Ordered, Unordered, Update};
 use crate::qmdb::any::operation::{
     COMMIT_CONTEXT, DELETE_CONTEXT, Operation, OperationCodec, UPDATE_CONTEXT,
 };
@@ -20,7 +22,9 @@ use crate::qmdb::operation::commit::{read_floor, read_presence, write_commit_fix
 use crate::qmdb::operation::padding::{byte, ensure_zeros, put_zeros};
 use std::alloc::Global;
 use storage_codec::NoMemory;
-use storage_codec::codec::{Buf, EncodeSize, Error, FixedSize, Read, Small, Write, small_size};
+use storage_codec::codec::{
+    Buf, Canonical, EncodeSize, Error, FixedSize, Read, Small, Write, small_size,
+};
 use storage_merkle::merkle::{Family, Location};
 
 /// The size of an operation over keys, updates and values of these sizes, in bytes.
@@ -140,7 +144,9 @@ where
 
     ghost operation_view = { operation_map S.Key.view S.view V.view };
 
-    ghost operation_admits = { λ _. is_admitted (S.Key.admits tt) (S.admits tt) (V.admits tt) };
+    ghost operation_admits = { λ _. is_admitted (S.Key.admits tt) (S.admits tt) (V.admits tt) (λ n. n ≤ 2 ^ 62) };
+
+    ghost operation_fits = { λ _. is_admitted (S.Key.admits tt) (S.admits tt) (V.admits tt) (λ n. n < 2 ^ 64) };
 
     ghost operation_parse = { λ _. fixed_operation_at (S.Key.parse tt) (S.parse tt) (V.parse tt) S.Key.size S.size V.size };
 
@@ -189,6 +195,10 @@ where
         (S.Key.admits tt) (S.admits tt) (V.admits tt) S.Key.size S.size V.size
         (record { again = S.Key.again tt }) (record { again = S.again tt }) (record { again = V.again tt }) S.Key.sized S.sized V.sized op rest h };
 
+    ghost operation_one = { λ _ x y p q e. operation_same S.Key.view S.view V.view S.seen S.same_seen x y
+        (fixed_one S.Key.text S.text V.text S.Key.view S.view V.view (S.Key.parse tt) (S.parse tt) (V.parse tt) (S.Key.admits tt) (S.admits tt) (V.admits tt)
+        S.Key.size S.size V.size (record { again = S.Key.again tt }) (record { again = S.again tt }) (record { again = V.again tt }) x y p q e) };
+
     ghost operation_same = { operation_same S.Key.view S.view V.view S.seen S.same_seen };
 }
 
@@ -220,4 +230,43 @@ impl<F: Family, K: Key + Small + Read<Cfg = ()>, V: FixedValue> EncodeSize
     fn encode_size(&self) -> Option<u64> {
         size_of_all::<Self>()
     }
+}
+
+impl<F: Family, K: Key + Canonical + Small + Read<Cfg = ()>, V: FixedValue + Canonical> Canonical
+    for Operation<F, Ordered<K, FixedEncoding<V>>> {
+    ghost back = { λ _ bytes x rest fits e. fixed_back K.text (λ u. K.text u.key ++ V.text u.value ++ K.text u.next_key) V.text K.view (λ u. (K.view u.key, V.view u.value, K.view u.next_key)) V.view
+        (K.parse tt) (ordered_at (K.parse tt) (V.parse tt)) (V.parse tt) K.size (K.size + V.size + K.size) V.size (record { back = K.back tt })
+        (record { back = λ b u r f p. ordered_back K.text V.text K.view V.view (K.parse tt) (V.parse tt) (record { back = K.back tt }) (record { back = V.back tt }) b u.key u.value u.next_key r f p })
+        (record { back = V.back tt }) bytes (parts x) rest fits e };
+}
+
+impl<F: Family, K: Key + Small + Read<Cfg = ()>, V: FixedValue> FixedSize
+    for Operation<F, Unordered<K, FixedEncoding<V>>> {
+    ghost size = { fixed_size K.size (K.size + V.size) V.size };
+
+    fn fixed_size() -> usize {
+        total_size(
+            small_size::<K>(),
+            update_size::<Unordered<K, FixedEncoding<V>>>(),
+            small_size::<V>(),
+        )
+    }
+
+    ghost sized = { λ x. fixed_sized K.text (λ u. K.text u.0 ++ V.text u.1) V.text K.size (K.size + V.size) V.size
+        K.sized (λ u. unordered_sized K.text V.text K.size V.size K.sized V.sized u.0 u.1) V.sized (parts x) };
+}
+
+impl<F: Family, K: Key + Small + Read<Cfg = ()>, V: FixedValue> EncodeSize
+    for Operation<F, Unordered<K, FixedEncoding<V>>> {
+    fn encode_size(&self) -> Option<u64> {
+        size_of_all::<Self>()
+    }
+}
+
+impl<F: Family, K: Key + Canonical + Small + Read<Cfg = ()>, V: FixedValue + Canonical> Canonical
+    for Operation<F, Unordered<K, FixedEncoding<V>>> {
+    ghost back = { λ _ bytes x rest fits e. fixed_back K.text (λ u. K.text u.0 ++ V.text u.1) V.text K.view (λ u. (K.view u.0, V.view u.1)) V.view
+        (K.parse tt) (unordered_at (K.parse tt) (V.parse tt)) (V.parse tt) K.size (K.size + V.size) V.size (record { back = K.back tt })
+        (record { back = λ b u r f p. unordered_back K.text V.text K.view V.view (K.parse tt) (V.parse tt) (record { back = K.back tt }) (record { back = V.back tt }) b u.0 u.1 r f p })
+        (record { back = V.back tt }) bytes (parts x) rest fits e };
 }

@@ -1,7 +1,7 @@
 //! Updates of a key's value.
 
-ghost use Rattle.std.specs.Prelude.{◌≡◌, ◌≤◌, ◌*◌, ◌^◌, ℕ, List, ◌++◌, IfOk, OnOk, OnErr};
-ghost use Rattle.storage_codec.specs.Parts.{AppendsStart};
+ghost use Rattle.std.specs.Prelude.{◌≡◌, ◌≤◌, ◌+◌, ◌*◌, ◌^◌, ℕ, List, ◌++◌, IfOk, OnOk, OnErr};
+ghost use Rattle.storage_codec.specs.Parts.{AppendsStart, size_of};
 
 mod ordered;
 mod unordered;
@@ -9,16 +9,20 @@ mod unordered;
 use crate::qmdb::any::value::ValueEncoding;
 use crate::qmdb::operation::Key;
 pub use ordered::Update as Ordered;
+use std::alloc::Global;
+use std::fmt;
+use std::ops::Deref;
 use storage_codec::NoMemory;
 use storage_codec::codec::{Codec, EncodeSize, FixedSize, Read, Write};
 pub use unordered::Update as Unordered;
 
 mod sealed {
+    /// Keeps the kinds of updates to those of this module.
     pub trait Sealed {}
 }
 
 /// An update of a key's value.
-pub trait Update: sealed::Sealed + Write + Drop {
+pub trait Update: sealed::Sealed + Write + EncodeSize + Drop {
     /// Its keys.
     type Key: Key;
 
@@ -60,6 +64,27 @@ pub trait Update: sealed::Sealed + Write + Drop {
         Self: Sized,
         ensures { result ≡ value_of self };
 
+    /// What is kept of an update beside the place of its key.
+    type Cached;
+
+    /// The payload is that of the update.
+    ghost is_cached: { Self → Self.Cached → Type 0 };
+
+    /// The payload of the update that `update` answers. It is called only where the payload depends on it.
+    fn cached<R: Deref<Target = Self> + Drop, C: FnOnce() -> R + Drop>(
+        update: C,
+    ) -> Result<Self::Cached, NoMemory>
+    where
+        Self: Sized,
+        requires { C.pre update }
+        ensures { (u : Self) → ((r : R) (v : Self) → C.post update r → R.deref_gives r v → v ≡ u) → IfOk result (is_cached u) };
+
+    /// Displays the update: keys by their bytes and the value by its encoding, in hexadecimal. It is refused where
+    /// memory is.
+    fn fmt<W: fmt::Write>(&self, alloc: Global, f: &mut fmt::Formatter<W>) -> fmt::Result
+    where
+        Self: Sized;
+
     /// A second update that is seen and written as this one.
     fn clone(&self) -> Result<Self, NoMemory>
     where
@@ -88,4 +113,11 @@ fn write_pair<A: Write, B: Write>(first: &A, second: &B, out: &mut Vec<u8>) -> R
     first.write(out)?;
     second.write(out)?;
     Ok(())
+}
+
+/// The sum of two sizes, `None` past the greatest `u64`.
+pub(crate) fn sum_of_sizes(first: Option<u64>, second: Option<u64>) -> Option<u64>
+    ensures { (m n : ℕ) → first ≡ size_of m → second ≡ size_of n → result ≡ size_of (m + n) }
+{
+    first?.checked_add(second?)
 }
