@@ -1,7 +1,6 @@
 -- An accepted range proof is the snapshot's own, or two strings cross.
-use Rattle.std.proofs.Common.{◌≡◌, ℕ, zero, suc, ◌+◌, ◌-◌, ◌*◌, ◌/◌, ◌%◌, ◌<◌, ◌≤◌, ◌^◌, List, [], ◌∷◌, ◌++◌, length, get_or, replicate, Bool, true, false, if◌then◌else◌, Contains, ◌⊎◌, inl, inr, refl, sym, ap, ◌∙◌, arith, subst, Option, Some, None, option_to_list, length-append, pow_pos, le-leb, lt-ltb, eq-eqb, suc-mul}
+use Rattle.std.proofs.Common.{◌≡◌, ℕ, zero, suc, ◌+◌, ◌-◌, ◌*◌, ◌/◌, ◌%◌, ◌<◌, ◌≤◌, ◌^◌, List, [], ◌∷◌, ◌++◌, length, get_or, Bool, true, false, if◌then◌else◌, Contains, ◌⊎◌, inl, inr, refl, sym, ap, ◌∙◌, arith, subst, Option, Some, None, option_to_list, length-append, pow_pos, le-leb, lt-ltb, eq-eqb, suc-mul}
 use Rattle.std.specs.Option.{option_map}
-use Rattle.std.proofs.lemmas.List.{length-replicate}
 use Rattle.std.proofs.lemmas.List.Elements.{Contains-append_left, Contains-append_right}
 use Rattle.std.proofs.lemmas.Bool.{cases_lt, lt-leb}
 use Rattle.std.proofs.Math.Nat.{mul-div_cancel, mul-mod_left, div-lt_iff_lt-mul, le-div_iff_mul-le}
@@ -10,13 +9,14 @@ use Rattle.storage_merkle.specs.declared.merkle.bagging.Bagging.TheVariants.{Bac
 use Rattle.storage_merkle.specs.Shape.{Laws}
 use Rattle.storage_merkle.specs.Calc.{be8}
 use Rattle.storage_merkle.specs.CalcLaws.{split_append, be8_length, heads, same_or_cross, cross_wider}
-use Rattle.storage_merkle.specs.Trees.{ungrafted, listed, tree_strings}
-use Rattle.storage_merkle.specs.RangeProofs.{IsOwn, own_proof, AreDigests, check_strings, apart}
+use Rattle.storage_merkle.specs.Trees.{Content, ungrafted, listed, tree_strings}
+use Rattle.storage_merkle.specs.RangeProofs.{IsOwn, own_proof, check_strings, apart}
 use Rattle.storage_merkle.specs.Soundness.{RangeProofsAreSound}
 use Rattle.storage_bitmap.specs.Chunks.{chunk, chunks_from, bytes_of}
 use Rattle.storage_current.specs.Snapshots.{Grafting, height, complete, graftable, view, Snapshot, IsSnapshot, slot, counted_slot, canonical_string, content, aligned_of, exact_of, ops_root_of, pending_of, partial_of, snapshot_string, snapshot_strings, canonical_root, first_chunk, last_chunk, Holds, CurrentProof, own_current_proof}
 use Rattle.storage_current.specs.CurrentProofs.{claimed, claim, touches_pending, touches_partial, current_string, current_strings, IsCurrent, IsSlot}
 use Rattle.storage_current.specs.CurrentSoundness.{HasDigests}
+use Rattle.storage_current.proofs.Padding.{AsGood, pad, pad-length, pad-whole, pad-good, supplied-length, supplied-get, supplied-whole, same_string, same_check_strings, same_fit}
 use Rattle.storage_current.specs.GraftingLaws.{chunk_height, chunk_apart, graftable_by_birth, aligned-le}
 
 counted_length : (d n : ℕ) (q : Option (List ℕ)) → IsSlot d q → (length (counted_slot n q) ≡ 0) ⊎ (length (counted_slot n q) ≡ 8 + d)
@@ -59,11 +59,6 @@ same_canonical d n m pos a b c e p o q r la lb lc le sp so sq sr same =
 pub mapped-slot : (d : ℕ) (h : HashFunction) → IsSized d h → (o : Option (List ℕ)) → IsSlot d (option_map h o)
 mapped-slot d h sized None = tt
 mapped-slot d h sized (Some x) = sized x
-
-claimed-length : (N : ℕ) (chunks : List (List ℕ)) → AreDigests N chunks → (i : ℕ) → length (get_or chunks i (replicate N 0)) ≡ N
-claimed-length N [] a i = length-replicate N 0
-claimed-length N (c ∷ chunks) a zero = a.0
-claimed-length N (c ∷ chunks) a (suc i) = claimed-length N chunks a.1 i
 
 in_option : (c : Option (List ℕ)) (x : List ℕ) → c ≡ Some x → Contains (option_to_list c) x
 in_option c x e = subst (λ o. Contains (option_to_list o) x) (sym e) (0, omega arith, refl)
@@ -112,9 +107,13 @@ all_chunks n bits none (suc count) j (x ∷ xs) l f =
     cc
 
 module _ (sound : RangeProofsAreSound) (d : ℕ) (h : HashFunction) (width : (d ≡ 32) ⊎ (d ≡ 64)) (sized : IsSized d h) (g : Grafting) (laws : Laws g.shape) (proof : CurrentProof) (start : ℕ) (operations chunks : List (List ℕ)) (digests : HasDigests d proof) (s : Snapshot) (snapshot : IsSnapshot s) where
+  -- the claim, with chunks that are not supplied filled up with zeros
+  abbrev padded : Content
+  padded = record { elements = operations; chunk = λ a. pad g.bytes (claimed h g proof start operations chunks (a / 2 ^ height g)) }
+
   -- the range proof in it is the tree's own
   abbrev IsRangeOwn : Type 0
-  IsRangeOwn = IsOwn h (view g (length s.operations)) BackwardFold proof.range start (claim h g proof start operations chunks) (content h g s) (aligned_of h g s)
+  IsRangeOwn = IsOwn h (view g (length s.operations)) BackwardFold proof.range start padded (content h g s) (aligned_of h g s)
 
   -- the chunk of each touched index
   chunk_is : IsCurrent h g proof start operations chunks (canonical_root h g s) → proof.range.leaves ≡ length s.operations → IsRangeOwn
@@ -141,7 +140,10 @@ module _ (sound : RangeProofsAreSound) (d : ℕ) (h : HashFunction) (width : (d 
             let inside = (graftable_by_birth g.shape laws k (length s.operations) j).1 (subst (λ m. j < graftable g m) en low) in
             let touches : apart start high (j * P) k ≡ false = rw (lt-leb (j * P + 2 ^ k) start (omega (arith, suc-mul j P)), lt-leb high (j * P) (omega arith)) refl in
             let e = own.chunks_are (j * P) k (omega (arith, H.is)) t' (mul-mod_left j P) inside touches in
-            subst (λ i. claimed h g proof start operations chunks i ≡ chunk g.bytes s.bits i) back e
+            let count = ok.chunk_count in
+            let place : j - start / P < length chunks = omega arith in
+            let filled : pad g.bytes (claimed h g proof start operations chunks j) ≡ chunk g.bytes s.bits j = subst (λ i. pad g.bytes (claimed h g proof start operations chunks i) ≡ chunk g.bytes s.bits i) back e in
+            sym (pad-whole g.bytes (claimed h g proof start operations chunks j) (supplied-whole g.bytes (start / P) chunks ok.chunk_lengths j l place)) ∙ filled
         | inr other ↦ elim (cases_lt j (n / P)) [
           | inl whole ↦
               let one = ok.one_pending in
@@ -166,14 +168,14 @@ module _ (sound : RangeProofsAreSound) (d : ℕ) (h : HashFunction) (width : (d 
       record {
         some = ok.counts.some;
         there = own.elements_are;
-        chunks_are = all_chunks g.bytes s.bits (replicate g.bytes 0) (l - f + 1) f chunks ok.chunk_count
+        chunks_are = all_chunks g.bytes s.bits [] (l - f + 1) f chunks ok.chunk_count
             (λ i u.
             let positive : 0 < 2 ^ height g = pow_pos (height g) in
             let some = ok.counts.some in
             let below : f * 2 ^ height g ≤ start = (le-div_iff_mul-le {x = f} {y = start} positive).0 (omega arith) in
             let order : f ≤ l = (le-div_iff_mul-le {x = f} {y = start + length operations - 1} positive).1 (omega arith) in
             let back : (f + i) - f ≡ i = omega arith in
-            subst (λ x. get_or chunks x (replicate g.bytes 0) ≡ chunk g.bytes s.bits (f + i)) back (each (f + i) (omega arith) (omega arith)));
+            ap (λ x. get_or chunks x []) (sym back) ∙ sym (supplied-get f chunks (f + i) (omega arith)) ∙ each (f + i) (omega arith) (omega arith));
       }
 
   proof_is : IsRangeOwn → proof.ops_root ≡ ops_root_of h g s → proof.pending ≡ option_map h (pending_of h g s) → proof.partial ≡ option_map h (partial_of h g s) → proof ≡ own_current_proof h g s start (start + length operations)
@@ -213,8 +215,11 @@ module _ (sound : RangeProofsAreSound) (d : ℕ) (h : HashFunction) (width : (d 
         | inr c ↦ inr c
         | inl same ↦
             let parts = same_canonical d (n % 2 ^ height g) (m % 2 ^ height g) pos _ _ _ _ proof.pending _ proof.partial _ digests.ops_root (sized _) (sized _) (sized _) digests.pending (mapped-slot d h sized (pending_of h g s)) digests.partial (mapped-slot d h sized (partial_of h g s)) same in
-            elim (sound d g.bytes h sized (chunk_apart g ok.size d width) g.shape laws (λ i. (view g i).grafted) BackwardFold proof.range start cl digests.range (λ a. claimed-length g.bytes chunks ok.chunk_lengths _) ct (aligned_of h g s) (λ a. chunk-length g.bytes s.bits _) snapshot.few (aligned-le g.shape m s.floor (height g)) (inl (ok.counts, parts.grafted))) [
-              | inr c ↦ inr (cross_wider into_first into_second c)
+            let fewer : (a : ℕ) → AsGood (claimed h g proof start operations chunks (a / 2 ^ height g)) (pad g.bytes (claimed h g proof start operations chunks (a / 2 ^ height g))) = λ a. pad-good g.bytes _ (supplied-length g.bytes (first_chunk g start) chunks ok.chunk_lengths (a / 2 ^ height g)) in
+            let filled = same_string h (view g n) proof.range start operations cl.chunk padded.chunk fewer in
+            let hashes = same_check_strings h (view g n) proof.range start operations cl.chunk padded.chunk fewer in
+            elim (sound d g.bytes h sized (chunk_apart g ok.size d width) g.shape laws (λ i. (view g i).grafted) BackwardFold proof.range start padded digests.range (λ a. pad-length g.bytes _) ct (aligned_of h g s) (λ a. chunk-length g.bytes s.bits _) snapshot.few (aligned-le g.shape m s.floor (height g)) (inl (same_fit h (view g n) proof.range start operations cl.chunk padded.chunk fewer ok.counts, ap h (sym filled) ∙ parts.grafted))) [
+              | inr c ↦ inr (cross_wider into_first into_second (subst (λ zs. Cross h zs tree) (sym hashes) c))
               | inl own ↦
                   let leaves : n ≡ m = ap (λ r. r.leaves) own.proof_is in
                   elim (slot_decided h xs ys proof.pending (pending_of h g s) gr tp parts.pending ok.pending_is

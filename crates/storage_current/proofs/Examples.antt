@@ -1,5 +1,5 @@
 -- Examples of chunks, of what is graftable, and of the string of a canonical root.
-use Rattle.std.proofs.Common.{◌≡◌, ℕ, ◌+◌, List, [], ◌∷◌, ◌++◌, length, Bool, true, false, Option, Some, None, refl}
+use Rattle.std.proofs.Common.{◌≡◌, ℕ, List, [], ◌∷◌, length, true, false, Some, None, refl}
 use Rattle.std.specs.Prelude.{replicate}
 use Rattle.storage_merkle.specs.Calc.{be8}
 use Rattle.storage_merkle.specs.Mmr.{mmr}

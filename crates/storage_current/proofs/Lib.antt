@@ -1,4 +1,5 @@
 mod Heights
+pub mod Padding
 pub mod Canonical
 pub mod Bits
 pub mod Operations

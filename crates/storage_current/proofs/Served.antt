@@ -1,5 +1,5 @@
 -- The own range proof of a snapshot is accepted.
-use Rattle.std.proofs.Common.{◌≡◌, ◌≢◌, ℕ, zero, suc, ◌+◌, ◌-◌, ◌*◌, ◌/◌, ◌%◌, ◌<◌, ◌≤◌, ◌^◌, List, length, get_or, replicate, Bool, true, false, not, if◌then◌else◌, ◌||◌, leb, eqb, inl, inr, refl, sym, ap, ◌∙◌, arith, subst, Some, None, is_some, pow_pos, leb-true, leb-false, eqb-true, ne_eqb, suc-mul}
+use Rattle.std.proofs.Common.{◌≡◌, ◌≢◌, ℕ, zero, suc, ◌+◌, ◌-◌, ◌*◌, ◌/◌, ◌%◌, ◌<◌, ◌≤◌, ◌^◌, List, [], length, get_or, Bool, true, false, not, if◌then◌else◌, ◌||◌, leb, eqb, inl, inr, refl, sym, ap, ◌∙◌, arith, subst, Some, None, is_some, pow_pos, leb-true, leb-false, eqb-true, ne_eqb, suc-mul}
 use Rattle.std.specs.Option.{option_map}
 use Rattle.std.proofs.lemmas.Nat.{div-add-mod'}
 use Rattle.std.proofs.Math.Nat.{div-lt_iff_lt-mul, le-div_iff_mul-le}
@@ -12,6 +12,7 @@ use Rattle.storage_bitmap.specs.Chunks.{chunk, chunks_from}
 use Rattle.storage_current.specs.Snapshots.{Grafting, IsGrafting, height, graftable, view, Snapshot, IsSnapshot, canonical_string, content, aligned_of, ops_root_of, grafted_root_of, pending_of, partial_of, canonical_root, first_chunk, last_chunk, Holds, CurrentProof, own_current_proof}
 use Rattle.storage_current.specs.CurrentProofs.{claimed, claim, IsCurrent}
 use Rattle.storage_current.specs.GraftingLaws.{and-true, one_pending, aligned-le}
+use Rattle.storage_current.proofs.Padding.{supplied-get}
 use Rattle.storage_current.proofs.Bits.{get_or-chunks_from, length-chunks_from}
 use Rattle.storage_current.proofs.Canonical.{chunk-length}
 
@@ -51,7 +52,7 @@ module _ (accepted : OwnRangeProofsAreAccepted) (h : HashFunction) (g : Grafting
       let f = first_chunk g start in
       let count : ℕ = last_chunk g start (length operations) - first_chunk g start + 1 in
       let back : f + (j - f) ≡ j = omega arith in
-      ap (λ cs. get_or cs (j - f) (replicate g.bytes 0)) holds.chunks_are ∙ get_or-chunks_from g.bytes s.bits (replicate g.bytes 0) count f (j - f) (omega arith) ∙ ap (chunk g.bytes s.bits) back
+      supplied-get f chunks j l ∙ ap (λ cs. get_or cs (j - f) []) holds.chunks_are ∙ get_or-chunks_from g.bytes s.bits [] count f (j - f) (omega arith) ∙ ap (chunk g.bytes s.bits) back
 
   abbrev v : Layout
   v = view g (length s.operations)

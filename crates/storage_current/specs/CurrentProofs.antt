@@ -1,17 +1,18 @@
 -- The checks of range proofs, operation proofs and witnesses against a canonical root.
-use Rattle.std.specs.Prelude.{◌≡◌, ℕ, ◌+◌, ◌-◌, ◌/◌, ◌%◌, ◌≤◌, ◌^◌, List, [], ◌∷◌, ◌++◌, length, get_or, replicate, Bool, true, if◌then◌else◌, ◌&&◌, leb, ltb, eqb, Option, Some, None, is_some, not}
+use Rattle.std.specs.Prelude.{◌≡◌, ℕ, ◌+◌, ◌-◌, ◌/◌, ◌%◌, ◌≤◌, ◌^◌, List, [], ◌∷◌, ◌++◌, length, Bool, true, if◌then◌else◌, ◌&&◌, leb, ltb, eqb, Option, Some, None, is_some, not}
 use Rattle.storage_codec.specs.Digests.{HashFunction}
 use Rattle.storage_merkle.specs.declared.merkle.bagging.Bagging.TheVariants.{BackwardFold}
 use Rattle.storage_merkle.specs.Trees.{Content}
 use Rattle.storage_merkle.specs.RangeProofs.{AreDigests, CountsFit, check_strings, recomputed_root}
 use Rattle.storage_bitmap.specs.Chunks.{IsChunkSize}
 use Rattle.storage_bitmap.specs.Packed.{bit_in}
+use Rattle.storage_current.specs.Grafted.{supplied}
 use Rattle.storage_current.specs.Snapshots.{Grafting, height, complete, graftable, view, slot, counted_slot, canonical_string, first_chunk, last_chunk, CurrentProof, OperationProof, Witness}
 
 module _ (h : HashFunction) (g : Grafting) (proof : CurrentProof) (start : ℕ) (operations chunks : List (List ℕ)) where
   -- chunk j as claimed
   abbrev pub claimed : ℕ → List ℕ
-  claimed j = get_or chunks (j - first_chunk g start) (replicate g.bytes 0)
+  claimed j = supplied (first_chunk g start) chunks j
 
   abbrev pub claim : Content
   claim = record { elements = operations; chunk = λ a. claimed (a / 2 ^ height g) }

@@ -131,6 +131,19 @@ graftable_by_birth S L k n =
       | inr more ↦ rw (le-ltb n (S.birth 0 k) more) (graftable_some S L n k more)
     ]
 
+-- the number of chunks inside one peak is this one
+pub graftable_is : (S : Shape) → Laws S → (k n r : ℕ) → AreGraftable S n k r → r ≡ graftable_at S k n
+graftable_is S L k n r a =
+    let t : ℕ = graftable_at S k n in
+    let b = graftable_by_birth S L k n in
+    elim (cases_lt r t) [
+      | inl less ↦ absurd (let x : r < r = (a r).0 ((b r).1 less) in omega arith)
+      | inr more ↦ elim (cases_lt t r) [
+        | inl less ↦ absurd (let x : t < t = (b t).0 ((a t).1 less) in omega arith)
+        | inr same ↦ omega arith
+      ]
+    ]
+
 -- at most one complete chunk isn't graftable
 pub one_pending : (S : Shape) → Laws S → (k n : ℕ) → n / 2 ^ k ≤ graftable_at S k n + 1
 one_pending S L k n =

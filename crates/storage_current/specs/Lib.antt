@@ -2,3 +2,4 @@ pub mod Snapshots
 pub mod CurrentProofs
 pub mod GraftingLaws
 pub mod CurrentSoundness
+pub mod Grafted

@@ -8,6 +8,7 @@ use Rattle.storage_merkle.specs.Calc.{be8}
 use Rattle.storage_merkle.specs.Trees.{Layout, ungrafted, Content, listed, tree_node, tree_root, tree_strings}
 use Rattle.storage_merkle.specs.RangeProofs.{RangeProof, own_proof, StandAt}
 use Rattle.storage_bitmap.specs.Chunks.{IsChunkSize, chunk, chunks_from}
+use Rattle.storage_current.specs.Grafted.{grafted_over}
 
 -- the greatest number up to a bound that meets a test, else 0
 unfoldable pub greatest : (ℕ → Bool) → ℕ → ℕ
@@ -42,7 +43,7 @@ graftable g n = graftable_at g.shape (height g) n
 
 -- the grafted view's layout: the chunk is grafted over each graftable chunk's node
 abbrev pub view : Grafting → ℕ → Layout
-view g n = record { shape = g.shape; grafted = λ a k. eqb k (height g) && (eqb (a % 2 ^ height g) 0 && ltb (a / 2 ^ height g) (graftable g n)) }
+view g n = record { shape = g.shape; grafted = grafted_over (height g) (graftable g n) }
 
 -- how many leading peaks over n leaves end at or before the floor; and how many such, the last of which ends on a multiple of 2 ^ k
 abbrev pub exact : Shape → ℕ → ℕ → ℕ
