@@ -1,7 +1,7 @@
 -- Powers of two as numbers of bytes.
 use Rattle.std.proofs.Common.{◌≡◌, ℕ, zero, suc, ◌+◌, ◌*◌, ◌/◌, ◌%◌, ◌^◌, ◌<◌, ◌≤◌, ◌&&◌, eqb, true, false, inl, inr, arith}
 use Rattle.std.proofs.lemmas.Bool.{eqb-true, or_cases, and_parts}
-use Rattle.std.proofs.lemmas.Nat.{pow_pos, pow-add}
+use Rattle.std.proofs.lemmas.Nat.{pow_pos, pow-add, mul-le, shr_split}
 use Rattle.storage_merkle.specs.Multiples.{log_unique, pow_two, pow_order}
 use Rattle.storage_bitmap.specs.Chunks.{IsChunkSize, halves}
 
@@ -42,3 +42,13 @@ eight_powers n r e = rw (pow-add, e) (omega arith)
 pub size_some : (n : ℕ) → IsChunkSize n → 0 < n
 size_some zero p = let e : false ≡ true = p.0 in absurd (cc)
 size_some (suc n) p = omega arith
+
+-- a chunk before the complete ones' end has a bit
+pub below_product : (a b m c : ℕ) → a < b → b * m ≤ c → 0 < m → a * m < c
+below_product a b m c h w some = omega (arith, mul-le (a + 1) m b m (omega arith) (omega arith), added a m) where
+  added : (a m : ℕ) → (a + 1) * m ≡ a * m + m
+  added a m = grind arith
+
+-- the chunk of a location begins at or before it
+pub chunk_of : (n h location leaves count : ℕ) → 8 * n ≡ 2 ^ h → location < leaves → count ≡ leaves → location / 2 ^ h * (8 * n) < count
+chunk_of n h location leaves count e below same = rw e (omega (arith, shr_split location h))

@@ -1,5 +1,6 @@
 mod Heights
 pub mod Padding
+mod Places
 pub mod Canonical
 pub mod Bits
 pub mod Operations
@@ -7,3 +8,4 @@ pub mod Served
 pub mod Witnesses
 pub mod Families
 pub mod Examples
+mod Grafts

@@ -1,3 +1,10 @@
 //! Snapshots of operations and of which of them are active, their roots and proofs.
 
+mod chunks;
 pub mod grafting;
+mod nodes;
+pub mod proof;
+mod root;
+mod snapshot;
+
+pub use snapshot::Snapshot;

@@ -260,6 +260,7 @@ fn bag_bytes<D: Digest>(bag: &Option<D>) -> &[u8]
 
 /// The ordinary hasher: a node is hashed with its own position, and no chunk is grafted.
 #[derive_where(Clone, Copy)]
+#[derive(Drop)]
 pub struct Standard<H> {
     bagging: Bagging,
     function: PhantomData<H>,

@@ -83,17 +83,26 @@ impl<F: Family> RangePlan<F> {
     }
 
     /// How many leaves the tree has.
-    pub fn leaves(&self) -> Location<F> {
+    pub fn leaves(&self) -> Location<F>
+        ensures value { result ≡ self.now.leaves }
+        ensures few { result ≤ 2 ^ 62 }
+    {
         self.leaves
     }
 
     /// The first leaf of the range.
-    pub fn start(&self) -> Location<F> {
+    pub fn start(&self) -> Location<F>
+        ensures value { result ≡ self.now.start }
+        ensures within { result < self.now.leaves }
+    {
         self.start
     }
 
     /// The leaf past the range.
-    pub fn end(&self) -> Location<F> {
+    pub fn end(&self) -> Location<F>
+        ensures value { result ≡ self.now.end }
+        ensures within { result ≤ self.now.leaves }
+    {
         self.end
     }
 
@@ -321,12 +330,17 @@ impl<F: Family> ElementPlan<F> {
     }
 
     /// The location.
-    pub fn location(&self) -> Location<F> {
+    pub fn location(&self) -> Location<F>
+        ensures value { result ≡ self.now.plan.start }
+        ensures within { result < self.now.plan.leaves }
+    {
         self.plan.start()
     }
 
     /// The plan of the range of this one leaf.
-    pub fn into(self) -> RangePlan<F> {
+    pub fn into(self) -> RangePlan<F>
+        ensures { result ≡ self.plan }
+    {
         self.plan
     }
 }

@@ -77,6 +77,20 @@ impl<F: Family, D: Digest> Proof<F, D> {
         Ok(computed == Some(*root))
     }
 
+    /// The root of the tree in which the elements stand at the leaves from `start` on; none where a count does not fit or
+    /// there are no elements.
+    pub fn recompute_root<H: Hasher<F, Digest = D>, E: AsSlice<u8>>(
+        &self,
+        alloc: Global,
+        hasher: &H,
+        elements: &[E],
+        start: Location<F>,
+    ) -> Result<Option<D>, NoMemory>
+        requires { TakesTree (H.takes hasher.now) F.shape self.now.leaves }
+    {
+        check::recompute(self, alloc, hasher, elements, start)
+    }
+
     /// The root of the tree in which the elements stand at the leaves from `start` on.
     ///
     /// # Errors

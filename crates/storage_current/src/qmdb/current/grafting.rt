@@ -1,7 +1,16 @@
 //! Chunks of bits over the nodes of a tree of operations.
 
-ghost use Rattle.std.specs.Prelude.{◌≡◌, ℕ, ◌*◌, ◌^◌, ◌<◌, ◌≤◌, MatchOption};
+ghost use Rattle.std.specs.Prelude.{◌≡◌, ℕ, ◌*◌, ◌^◌, ◌<◌, ◌≤◌, ◌++◌, MatchOption};
+ghost use Rattle.storage_merkle.specs.Calc.{grafted_digest, is_zero as all_zero};
 ghost use Rattle.storage_bitmap.specs.Chunks.{IsChunkSize};
+
+mod verifier;
+
+use storage_codec::digest::{Digest, Hasher};
+pub use storage_merkle::merkle::family::{
+    aligned_inactive, exact_inactive, graftable_chunks, grafted_to_ops_pos, ops_to_grafted_pos,
+};
+pub use verifier::Verifier;
 
 /// The height of the node over the operations of one chunk of `N` bytes: the base-2 logarithm of `8N`.
 pub fn height<const N: usize>() -> u32
@@ -28,4 +37,42 @@ pub fn chunk_height(chunk_size: usize) -> Option<u32>
         return None;
     }
     Some(3 + exponent)
+}
+
+/// Whether all bytes are zero.
+pub(crate) fn is_zero(bytes: &[u8]) -> bool
+    ensures { result ≡ all_zero bytes.now }
+{
+    for byte in bytes {
+        if *byte != 0 {
+            return false;
+        }
+    }
+    true
+}
+
+/// The digest of a node once a chunk is grafted over it: an all-zero chunk is not hashed.
+pub(crate) fn graft<H: Hasher>(chunk: &[u8], inner: H::Digest) -> H::Digest
+    ensures { H.Digest.text result ≡ grafted_digest H.hash_of chunk.now (H.Digest.text inner) }
+{
+    if is_zero(chunk) {
+        inner
+    } else {
+        hash_both::<H>(chunk, inner.bytes())
+    }
+}
+
+/// The digest of two parts.
+fn hash_both<H: Hasher>(left: &[u8], right: &[u8]) -> H::Digest
+    ensures { H.Digest.text result ≡ H.hash_of (left.now ++ right.now) }
+{
+    H::hash(&[left, right])
+}
+
+/// A power of two.
+pub(crate) fn power(exponent: u32) -> u64
+    requires { exponent ≤ 63 }
+    ensures { result ≡ 2 ^ exponent }
+{
+    1 << exponent
 }

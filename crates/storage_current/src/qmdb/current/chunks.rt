@@ -1,0 +1,75 @@
+//! The chunks of a snapshot's bits that are under no node of their own.
+
+ghost use Rattle.std.specs.Prelude.{◌≡◌, ℕ, ◌+◌, ◌-◌, ◌*◌, ◌/◌, ◌%◌, ◌^◌, ◌<◌, ◌≤◌, ltb, eqb, not};
+ghost use Rattle.storage_bitmap.specs.Chunks.{IsChunkSize, bit_count};
+
+use crate::qmdb::current::grafting;
+use storage_bitmap::bitmap::Readable;
+use storage_merkle::merkle::Family;
+
+/// How many chunks are complete over so many operations, and how many of them are graftable.
+#[derive(Clone, Copy, Drop)]
+pub(crate) struct ChunkCounts {
+    pub complete: u64,
+    pub graftable: u64,
+    /// How many bits the chunk after the complete ones has.
+    pub next_bit: u64,
+}
+
+impl ChunkCounts {
+    /// Those of chunks over nodes of a height.
+    pub(crate) fn over<F: Family>(leaves: u64, height: u32) -> Self
+        requires few { leaves ≤ 2 ^ 62 }
+        requires low { 1 ≤ height }
+        requires high { height ≤ 62 }
+        ensures complete { result.complete ≡ leaves / 2 ^ height }
+        ensures graftable { result.graftable ≤ result.complete }
+        ensures next_bit { result.next_bit ≡ leaves % 2 ^ height }
+    {
+        let complete = leaves >> height;
+        ChunkCounts {
+            complete,
+            graftable: grafting::graftable_chunks::<F>(leaves, height).min(complete),
+            next_bit: leaves % (1 << height),
+        }
+    }
+
+    /// Whether a complete chunk is not graftable.
+    pub(crate) fn has_pending(&self) -> bool
+        ensures { result ≡ ltb self.now.graftable self.now.complete }
+    {
+        self.graftable < self.complete
+    }
+
+    /// Whether there is a chunk after the complete ones.
+    pub(crate) fn has_partial(&self) -> bool
+        ensures { result ≡ not (eqb self.now.next_bit 0) }
+    {
+        self.next_bit != 0
+    }
+
+    /// The complete chunk that is not graftable, if any.
+    pub(crate) fn pending<R: Readable<N>, const N: usize>(&self, status: &R) -> Option<[u8; N]>
+        requires chunks { IsChunkSize N }
+        requires unpruned { (R.retained status.now).pruned ≤ self.now.graftable }
+        requires within { self.now.complete * (8 * N) ≤ bit_count N (R.retained status.now) }
+    {
+        if self.has_pending() {
+            Some(status.get_chunk(self.graftable as usize))
+        } else {
+            None
+        }
+    }
+
+    /// The chunk after the complete ones, if any.
+    pub(crate) fn partial<R: Readable<N>, const N: usize>(&self, status: &R) -> Option<[u8; N]>
+        requires unpruned { (R.retained status.now).pruned ≤ self.now.complete }
+        requires within { self.now.complete * (8 * N) + self.now.next_bit ≤ bit_count N (R.retained status.now) }
+    {
+        if self.has_partial() {
+            Some(status.get_chunk(self.complete as usize))
+        } else {
+            None
+        }
+    }
+}

@@ -1,0 +1,109 @@
+//! The hasher of checks over a grafted view.
+
+ghost use Rattle.std.specs.Prelude.{◌≡◌, ℕ, ◌+◌, ◌-◌, ◌*◌, ◌/◌, ◌%◌, ◌^◌, ◌<◌, ◌≤◌, ◌&&◌, ◌++◌, List, [], refl, map, eqb, ltb, if◌then◌else◌, slice_index_or, MatchOption};
+ghost use Rattle.storage_codec.specs.Digests.{HashFunction, IsSized};
+ghost use Rattle.storage_merkle.specs.Shape.{size};
+ghost use Rattle.storage_merkle.specs.Nodes.{IsNode};
+ghost use Rattle.storage_merkle.specs.Trees.{Layout};
+ghost use Rattle.storage_merkle.specs.Hashing.{join_digest};
+ghost use Rattle.storage_merkle.specs.declared.merkle.bagging.Bagging.TheVariants.{BackwardFold};
+ghost use Rattle.storage_current.specs.Grafted.{IsGraftedWith, IsUngrafted, grafted_over, supplied};
+
+use crate::qmdb::current::grafting::graft;
+use std::marker::PhantomData;
+use storage_codec::digest;
+use storage_merkle::merkle::family::node_at;
+use storage_merkle::merkle::hasher::{Hasher, Standard};
+use storage_merkle::merkle::{Bagging, Graftable, Position};
+
+/// The hasher of checks over a grafted view: a node at the height of a chunk, whose chunk is graftable, supplied and not
+/// all zero, is hashed once more with that chunk before its digest. The chunks are lent.
+#[derive(Drop)]
+pub struct Verifier<'a, F, H> {
+    hasher: Standard<H>,
+    height: u32,
+    start_chunk_index: u64,
+    chunks: Vec<&'a [u8]>,
+    graftable_chunks: u64,
+    family: PhantomData<F>,
+}
+
+impl<'a, F: Graftable, H: digest::Hasher> Verifier<'a, F, H> {
+    /// The hasher for chunks over nodes of a height, of which those from `start_chunk_index` on are supplied and the
+    /// first `graftable_chunks` are graftable.
+    pub fn new(
+        height: u32,
+        start_chunk_index: u64,
+        chunks: Vec<&'a [u8]>,
+        graftable_chunks: u64,
+    ) -> Self {
+        Verifier {
+            hasher: Standard::new(Bagging::BackwardFold),
+            height,
+            start_chunk_index,
+            chunks,
+            graftable_chunks,
+            family: PhantomData,
+        }
+    }
+
+    /// The chunk that is grafted over the node at a position, where it is supplied.
+    fn chunk_over(&self, position: Position<F>) -> Option<&'a [u8]>
+        requires { position ≤ size F.shape (2 ^ 62) }
+        ensures { (first height : ℕ) → IsNode F.shape position first height → MatchOption result (IsUngrafted self.now.height self.now.start_chunk_index (map (λ c. c.now) self.now.chunks.items) self.now.graftable_chunks first height) (λ chunk. IsGraftedWith self.now.height self.now.start_chunk_index (map (λ c. c.now) self.now.chunks.items) self.now.graftable_chunks first height chunk.now) }
+    {
+        let (first, height) = node_at::<F>(position.as_u64());
+        if height != self.height {
+            return None;
+        }
+        let index = first >> height;
+        if index >= self.graftable_chunks {
+            return None;
+        }
+        if index < self.start_chunk_index {
+            return None;
+        }
+        let place = (index - self.start_chunk_index) as usize;
+        if place >= self.chunks.len() {
+            return None;
+        }
+        Some(self.chunks[place])
+    }
+}
+
+impl<F: Graftable, H: digest::Hasher> Hasher<F> for Verifier<'_, F, H> {
+    type Digest = H::Digest;
+
+    ghost hash_of = { H.hash_of };
+
+    ghost layout = { λ v. record { shape = F.shape; grafted = grafted_over v.height v.graftable_chunks } };
+
+    ghost chunk = { λ v a. supplied v.start_chunk_index (map (λ c. c.now) v.chunks.items) (a / 2 ^ v.height) };
+
+    ghost bagging = { λ _. BackwardFold };
+
+    ghost takes = { λ _ position. position ≤ size F.shape (2 ^ 62) };
+
+    fn hash(&self, parts: &[&[u8]]) -> H::Digest {
+        H::hash(parts)
+    }
+
+    fn root_bagging(&self) -> Bagging {
+        Bagging::BackwardFold
+    }
+
+    fn node_digest(&self, position: Position<F>, left: &H::Digest, right: &H::Digest) -> H::Digest
+        requires { position ≤ size F.shape (2 ^ 62) }
+        ensures { (first height : ℕ) → IsNode F.shape position first height → H.Digest.text result ≡ join_digest H.hash_of (record { shape = F.shape; grafted = grafted_over self.now.height self.now.graftable_chunks }) (λ a. supplied self.now.start_chunk_index (map (λ c. c.now) self.now.chunks.items) (a / 2 ^ self.now.height)) first height (H.Digest.text left.now) (H.Digest.text right.now) }
+    {
+        let inner = <Standard<H> as Hasher<F>>::node_digest(&self.hasher, position, left, right);
+        match self.chunk_over(position) {
+            Some(chunk) => graft::<H>(chunk, inner),
+            None => inner,
+        }
+    }
+
+    ghost sized = { H.sized };
+
+    ghost over = { λ _. record { byte = refl; peaks = λ _. refl } };
+}

@@ -1,0 +1,225 @@
+//! Range proofs of operations and of their activity.
+
+ghost use Rattle.std.specs.Prelude.{◌≡◌, ℕ, ◌+◌, ◌-◌, ◌*◌, ◌/◌, ◌%◌, ◌^◌, ◌<◌, ◌≤◌, OnOk, IfSome, length};
+ghost use Rattle.storage_bitmap.specs.Chunks.{bit_count};
+
+mod chunk;
+pub mod operation;
+mod slots;
+mod window;
+
+use crate::qmdb::current::chunks::ChunkCounts;
+use crate::qmdb::current::grafting::{self, Verifier, aligned_inactive};
+use crate::qmdb::current::proof::window::Window;
+use crate::qmdb::current::root::canonical_root;
+pub use chunk::Chunk;
+use std::alloc::Global;
+use std::convert::AsSlice;
+use storage_bitmap::bitmap::Readable;
+use storage_codec::NoMemory;
+use storage_codec::codec::Write;
+use storage_codec::digest::{Digest, Hasher};
+use storage_merkle::merkle::{self, Graftable, Location, Position, Proof, RangePlan};
+use storage_ops::qmdb::{self, Error};
+
+/// A proof that operations stand at a range of locations, and of their activity bits.
+#[derive(Drop)]
+#[derive_where(Debug, PartialEq, Eq; D)]
+pub struct RangeProof<F, D> {
+    /// The digests that the operations and their chunks do not give, of the grafted view.
+    pub proof: Proof<F, D>,
+    /// The digest of the complete chunk that is not graftable, if there is one.
+    pub pending_chunk_digest: Option<D>,
+    /// The digest of the chunk after the complete ones, if it has a bit.
+    pub partial_chunk_digest: Option<D>,
+    /// The root of the tree over the operations alone.
+    pub ops_root: D,
+}
+
+impl<F: Graftable, D: Digest> RangeProof<F, D> {
+    /// The proof of the range that is planned, from the digests that the grafted view has at the planned positions, for
+    /// which `get_node` is asked in ascending order. A floor past the leaves counts as the leaves.
+    ///
+    /// # Errors
+    ///
+    /// The first of: those of the plan's `build`; `DataCorrupted` where the bits are not as many as the plan's leaves,
+    /// or a chunk that is not graftable is pruned; `Memory`.
+    pub fn build<
+        H: Hasher<Digest = D>,
+        R: Readable<N>,
+        G: Fn(Position<F>) -> Option<D>,
+        const N: usize,
+    >(
+        alloc: Global,
+        status: &R,
+        plan: RangePlan<F>,
+        get_node: G,
+        floor: Location<F>,
+        ops_root: D,
+    ) -> Result<Self, Error<F>>
+        requires { G.IsAlwaysCallable get_node }
+        ensures { OnOk result (bit_count N (R.retained status.now) ≡ plan.leaves) }
+    {
+        let len = status.len();
+        let leaves = plan.leaves().as_u64();
+        let height = grafting::height::<N>();
+        let inactive = aligned_inactive::<F>(leaves, floor.as_u64(), height);
+        let proof = match plan.build(alloc, &qmdb::hasher::<H>(), inactive, get_node) {
+            Ok(proof) => proof,
+            Err(merkle::Error::Memory) => return Err(Error::Memory),
+            Err(error) => return Err(Error::Merkle(error)),
+        };
+        let counts = ChunkCounts::over::<F>(leaves, height);
+        if len != leaves || status.pruned_chunks() as u64 > counts.graftable {
+            return Err(Error::DataCorrupted("bits of another length, or pruned too far"));
+        }
+        Ok(RangeProof {
+            proof,
+            pending_chunk_digest: counts.pending(status).map(|chunk| H::hash(&[&chunk])),
+            partial_chunk_digest: counts.partial(status).map(|chunk| H::hash(&[&chunk])),
+            ops_root,
+        })
+    }
+
+    /// Whether the operations stand at the locations from `start` on of the snapshot with that root, and `chunks` are
+    /// the chunks of bits that they touch. A chunk has `N` bytes. The no of no operations or no chunks takes no memory.
+    pub fn verify<H: Hasher<Digest = D>, O: Write, const N: usize>(
+        &self,
+        alloc: Global,
+        start: Location<F>,
+        operations: &[O],
+        chunks: &[[u8; N]],
+        root: &D,
+    ) -> Result<bool, NoMemory> {
+        self.verify_with_chunk_size::<H, O, [u8; N]>(alloc, start, operations, chunks, N, root)
+    }
+
+    /// As `verify`, for chunks of a size in bytes that is known at run time. The no of a size that is no power of two up
+    /// to `2^59` takes no memory.
+    pub fn verify_with_chunk_size<H: Hasher<Digest = D>, O: Write, C: Chunk>(
+        &self,
+        alloc: Global,
+        start: Location<F>,
+        operations: &[O],
+        chunks: &[C],
+        chunk_size: usize,
+        root: &D,
+    ) -> Result<bool, NoMemory> {
+        let Some(window) = self.window(start, operations.len(), chunks, chunk_size) else {
+            return Ok(false);
+        };
+        let elements = encoded(alloc, operations)?;
+        self.verify_in::<H, Vec<u8>, C>(alloc, &window, start, &elements, chunks, root)
+    }
+
+    /// As `verify_with_chunk_size`, for operations that are bytes already.
+    pub fn verify_encoded<H: Hasher<Digest = D>, E: AsSlice<u8>, C: Chunk>(
+        &self,
+        alloc: Global,
+        start: Location<F>,
+        operations: &[E],
+        chunks: &[C],
+        chunk_size: usize,
+        root: &D,
+    ) -> Result<bool, NoMemory> {
+        let Some(window) = self.window(start, operations.len(), chunks, chunk_size) else {
+            return Ok(false);
+        };
+        self.verify_in::<H, E, C>(alloc, &window, start, operations, chunks, root)
+    }
+
+    /// Where a range of so many operations stands and how many chunks there are; none where a count or a length does not
+    /// fit.
+    fn window<C: Chunk>(
+        &self,
+        start: Location<F>,
+        count: usize,
+        chunks: &[C],
+        chunk_size: usize,
+    ) -> Option<Window>
+        ensures { IfSome result (λ w. length chunks.now ≡ w.last_chunk - w.first_chunk + 1) }
+    {
+        let height = grafting::chunk_height(chunk_size)?;
+        if !chunks.iter().all(|chunk| chunk.bytes().len() == chunk_size) {
+            return None;
+        }
+        let leaves = self.proof.leaves.as_u64();
+        Window::of::<F>(leaves, start.as_u64(), count, chunks.len(), height)
+    }
+
+    /// The check of a claim whose counts and lengths fit.
+    fn verify_in<H: Hasher<Digest = D>, E: AsSlice<u8>, C: Chunk>(
+        &self,
+        alloc: Global,
+        window: &Window,
+        start: Location<F>,
+        operations: &[E],
+        chunks: &[C],
+        root: &D,
+    ) -> Result<bool, NoMemory>
+        requires { length chunks.now ≡ window.now.last_chunk - window.now.first_chunk + 1 }
+    {
+        if !slots::match_chunks::<H, C, F>(self, window, chunks) {
+            return Ok(false);
+        }
+        let mut lent = Vec::with_capacity(alloc, chunks.len())?;
+        for chunk in chunks {
+            lent.push(chunk.bytes())?;
+        }
+        let verifier = Verifier::<F, H>::new(
+            window.height,
+            window.first_chunk,
+            lent,
+            window.counts.graftable,
+        );
+        let computed = self
+            .proof
+            .recompute_root(alloc, &verifier, operations, start)?;
+        let Some(grafted_root) = computed else {
+            return Ok(false);
+        };
+        Ok(self.canonical::<H>(&grafted_root, window) == *root)
+    }
+
+    /// The canonical root of the proof's parts and a grafted root.
+    fn canonical<H: Hasher<Digest = D>>(&self, grafted_root: &D, window: &Window) -> D {
+        canonical_root::<H>(
+            &self.ops_root,
+            grafted_root,
+            &self.pending_chunk_digest,
+            window.counts.next_bit,
+            &self.partial_chunk_digest,
+        )
+    }
+}
+
+/// What each operation is written as.
+fn encoded<O: Write>(alloc: Global, operations: &[O]) -> Result<Vec<Vec<u8>>, NoMemory> {
+    let mut elements = Vec::with_capacity(alloc, operations.len())?;
+    for operation in operations {
+        let mut bytes = Vec::new(alloc);
+        operation.write(&mut bytes)?;
+        elements.push(bytes)?;
+    }
+    Ok(elements)
+}
+
+/// Proofs over chunks of a size that is known when the program is compiled.
+pub mod constant {
+    /// A proof that one operation is active, over a chunk of `N` bytes.
+    pub type OperationProof<F, D, const N: usize> = crate::qmdb::current::proof::operation::Proof<
+        F,
+        D,
+        [u8; N],
+    >;
+}
+
+/// Proofs over chunks of a size that is known at run time.
+pub mod dynamic {
+    /// A proof that one operation is active.
+    pub type OperationProof<F, D> = crate::qmdb::current::proof::operation::Proof<
+        F,
+        D,
+        bytes::Bytes,
+    >;
+}

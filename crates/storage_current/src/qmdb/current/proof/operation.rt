@@ -1,0 +1,116 @@
+//! Proofs that one operation is active.
+
+ghost use Rattle.std.specs.Prelude.{◌≡◌, ℕ, ◌+◌, ◌-◌, ◌*◌, ◌/◌, ◌%◌, ◌^◌, ◌<◌, ◌≤◌, length};
+
+use crate::qmdb::current::grafting;
+use crate::qmdb::current::proof::{Chunk, RangeProof};
+use std::alloc::Global;
+use storage_bitmap::bitmap::Readable;
+use storage_codec::NoMemory;
+use storage_codec::codec::Write;
+use storage_codec::digest::{Digest, Hasher};
+use storage_merkle::merkle::{ElementPlan, Graftable, Location, Position};
+use storage_ops::qmdb::Error;
+
+/// A proof that the operation at a location is active. `C` is its chunk of bits.
+#[derive(Drop)]
+#[derive_where(Debug, PartialEq, Eq; D, C)]
+pub struct Proof<F, D, C> {
+    /// The location of the operation.
+    pub loc: Location<F>,
+    /// The chunk with its activity bit.
+    pub chunk: C,
+    /// The proof of the operation and its chunk.
+    pub range_proof: RangeProof<F, D>,
+}
+
+impl<F: Graftable, D: Digest, const N: usize> Proof<F, D, [u8; N]> {
+    /// The proof of the location that is planned, from the digests that the grafted view has at the planned positions.
+    /// Its bit is not looked at.
+    ///
+    /// # Errors
+    ///
+    /// The first of: `OperationPruned` of the location where its chunk is pruned; those of `RangeProof::build`.
+    pub fn build<H: Hasher<Digest = D>, R: Readable<N>, G: Fn(Position<F>) -> Option<D>>(
+        alloc: Global,
+        status: &R,
+        plan: ElementPlan<F>,
+        get_node: G,
+        floor: Location<F>,
+        ops_root: D,
+    ) -> Result<Self, Error<F>>
+        requires { G.IsAlwaysCallable get_node }
+    {
+        let loc = plan.location();
+        let pruned = status.pruned_chunks();
+        let chunk = (loc.as_u64() >> grafting::height::<N>()) as usize;
+        if chunk < pruned {
+            return Err(Error::OperationPruned(loc));
+        }
+        match RangeProof::build::<H, R, G, N>(
+            alloc,
+            status,
+            plan.into(),
+            get_node,
+            floor,
+            ops_root,
+        ) {
+            Ok(range_proof) => Ok(Proof {
+                loc,
+                chunk: status.get_chunk(chunk),
+                range_proof,
+            }),
+            Err(error) => Err(error),
+        }
+    }
+}
+
+impl<F: Graftable, D: Digest, C: Chunk> Proof<F, D, C> {
+    /// Whether the operation stands at the location of the snapshot with that root, and is active. The no of a chunk
+    /// size that is no power of two up to `2^59`, and of a clear bit, takes no memory and hashes nothing.
+    pub fn verify<H: Hasher<Digest = D>, O: Write + Drop>(
+        &self,
+        alloc: Global,
+        operation: O,
+        root: &D,
+    ) -> Result<bool, NoMemory> {
+        if !self.is_active() {
+            return Ok(false);
+        }
+        let mut bytes = Vec::new(alloc);
+        operation.write(&mut bytes)?;
+        self.verify_encoded::<H>(alloc, &bytes, root)
+    }
+
+    /// As `verify`, for an operation that is bytes already.
+    pub fn verify_encoded<H: Hasher<Digest = D>>(
+        &self,
+        alloc: Global,
+        operation: &[u8],
+        root: &D,
+    ) -> Result<bool, NoMemory> {
+        if !self.is_active() {
+            return Ok(false);
+        }
+        let chunk = self.chunk.bytes();
+        self.range_proof
+            .verify_encoded::<H, &[u8], &[u8]>(
+                alloc,
+                self.loc,
+                &[operation],
+                &[chunk],
+                chunk.len(),
+                root,
+            )
+    }
+
+    /// Whether the chunk has a size that chunks may have, and the bit of the location is set.
+    fn is_active(&self) -> bool {
+        let chunk = self.chunk.bytes();
+        let Some(height) = grafting::chunk_height(chunk.len()) else {
+            return false;
+        };
+        let bit = self.loc.as_u64() % (1 << height);
+        chunk[(bit / 8) as usize] >> (bit % 8) & 1 == 1
+    }
+}

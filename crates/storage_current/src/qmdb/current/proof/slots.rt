@@ -1,0 +1,53 @@
+//! The digests of chunks under no node of their own.
+
+ghost use Rattle.std.specs.Prelude.{◌≡◌, ℕ, ◌+◌, ◌-◌, ◌≤◌, length};
+
+use crate::qmdb::current::proof::window::Window;
+use crate::qmdb::current::proof::{Chunk, RangeProof};
+use storage_codec::digest::Hasher;
+use storage_merkle::merkle::Graftable;
+
+/// Whether the pending and the partial chunk have a digest in the proof just where there is one, and the claimed bytes of
+/// one that the range touches have that digest.
+pub(crate) fn match_chunks<H: Hasher, C: Chunk, F: Graftable>(
+    proof: &RangeProof<F, H::Digest>,
+    window: &Window,
+    chunks: &[C],
+) -> bool
+    requires { length chunks.now ≡ window.now.last_chunk - window.now.first_chunk + 1 }
+{
+    let counts = &window.counts;
+    matches::<H, C>(
+        &proof.partial_chunk_digest,
+        counts.has_partial(),
+        counts.complete,
+        window,
+        chunks,
+    ) && matches::<H, C>(
+        &proof.pending_chunk_digest,
+        counts.has_pending(),
+        counts.graftable,
+        window,
+        chunks,
+    )
+}
+
+/// Whether a slot has a digest just where its chunk is there, and a claimed chunk has it.
+fn matches<H: Hasher, C: Chunk>(
+    slot: &Option<H::Digest>,
+    is_there: bool,
+    index: u64,
+    window: &Window,
+    chunks: &[C],
+) -> bool
+    requires { length chunks.now ≡ window.now.last_chunk - window.now.first_chunk + 1 }
+{
+    match slot {
+        None => !is_there,
+        Some(digest) if is_there => match window.place(index) {
+            None => true,
+            Some(place) => H::hash(&[chunks[place].bytes()]) == *digest,
+        },
+        Some(_) => false,
+    }
+}

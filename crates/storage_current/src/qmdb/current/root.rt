@@ -1,0 +1,57 @@
+//! The canonical root.
+
+ghost use Rattle.std.specs.Prelude.{◌≡◌, ◌++◌, ◌∷◌, List, [], Option, option_map};
+ghost use Rattle.storage_current.specs.Snapshots.{canonical_string, slot};
+
+use storage_codec::digest::{Digest, Hasher};
+
+/// The canonical root: the digest of the operations root, the grafted root, the digest of the pending chunk, where there
+/// is one, and where there is a partial chunk, the number of its bits in eight bytes and its digest. Takes no memory.
+#[tactic(auto, unfolding(storage_merkle::specs::Calc::be8))]
+pub(crate) fn canonical_root<H: Hasher>(
+    ops_root: &H::Digest,
+    grafted_root: &H::Digest,
+    pending: &Option<H::Digest>,
+    next_bit: u64,
+    partial: &Option<H::Digest>,
+) -> H::Digest
+    ensures { H.Digest.text result ≡ H.hash_of (canonical_string (H.Digest.text ops_root.now) (H.Digest.text grafted_root.now) (option_map H.Digest.text pending.now) next_bit (option_map H.Digest.text partial.now)) }
+{
+    let pending = slot_bytes(pending);
+    match partial {
+        None => hash_parts::<H>(ops_root.bytes(), grafted_root.bytes(), pending, &[], &[]),
+        Some(partial) => {
+            let count = next_bit.to_be_bytes();
+            hash_parts::<H>(
+                ops_root.bytes(),
+                grafted_root.bytes(),
+                pending,
+                &count,
+                partial.bytes(),
+            )
+        }
+    }
+}
+
+/// The digest of five parts.
+fn hash_parts<H: Hasher>(
+    ops_root: &[u8],
+    grafted_root: &[u8],
+    pending: &[u8],
+    count: &[u8],
+    partial: &[u8],
+) -> H::Digest
+    ensures { H.Digest.text result ≡ H.hash_of (ops_root.now ++ (grafted_root.now ++ (pending.now ++ (count.now ++ partial.now)))) }
+{
+    H::hash(&[ops_root, grafted_root, pending, count, partial])
+}
+
+/// The bytes of the digest in a slot; none for an empty one.
+fn slot_bytes<D: Digest>(digest: &Option<D>) -> &[u8]
+    ensures { result.now ≡ slot (option_map D.text digest.now) }
+{
+    match digest {
+        None => &[],
+        Some(digest) => digest.bytes(),
+    }
+}
