@@ -55,8 +55,9 @@ def cases(folder):
         # the position is mapped up, and down again
         yield "maps", given, asked + given[-1:]
     for given, asked in cut(folder, "operations", 2):
-        if given[0] == "ordered-fixed/fixed4/u64":
-            yield "operations", given, asked
+        yield "operations", given, asked
+    for given, asked in cut(folder, "written", 2):
+        yield "written", given, asked
     for given, asked in cut(folder, "elements", 3):
         yield "elements", given, asked
     for given, asked in cut(folder, "plans", 4):

@@ -4,6 +4,7 @@ mod codecs;
 mod operations;
 mod proofs;
 mod refusals;
+mod spelling;
 mod trees;
 
 use crate::columns::Fault;
@@ -19,6 +20,7 @@ pub fn answer(alloc: Global, line: &str) -> Result<String, Fault> {
         "varints" => codecs::varints(alloc, columns),
         "golden_hash" => codecs::golden_hash(alloc, columns),
         "operations" => operations::operations(alloc, columns),
+        "written" => operations::written(alloc, columns),
         _ => trees::answer(alloc, *list, columns),
     }
 }
