@@ -11,3 +11,4 @@ pub mod Alike
 pub mod Ascending
 pub mod Walks
 pub mod Folds
+pub mod Written

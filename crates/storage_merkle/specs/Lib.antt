@@ -28,3 +28,5 @@ pub mod KeptLaws
 pub mod Rewriting
 pub mod Hashers
 pub mod Plans
+pub mod ProofWire
+pub mod ProofWireLaws

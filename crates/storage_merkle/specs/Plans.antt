@@ -1,5 +1,5 @@
 -- Which nodes are asked for, and the first that is not there.
-use Rattle.std.specs.Prelude.{◌≡◌, ℕ, ◌+◌, ◌%◌, ◌<◌, ◌^◌, List, [], ◌∷◌, ◌⊎◌, Option, Some, None, IsSome}
+use Rattle.std.specs.Prelude.{◌≡◌, ℕ, ◌+◌, ◌-◌, ◌%◌, ◌<◌, ◌≤◌, ◌^◌, List, [], ◌∷◌, ◌⊎◌, Option, Some, None, IsSome}
 use Rattle.storage_merkle.specs.Shape.{Shape, size, Inside, AreAligned}
 
 -- p is the first of the positions at which there is nothing

@@ -10,6 +10,7 @@ use storage_codec::NoMemory;
 use storage_codec::digest::Digest;
 
 mod check;
+mod codec;
 
 /// A proof that elements stand at a range of leaves.
 #[derive(Drop)]

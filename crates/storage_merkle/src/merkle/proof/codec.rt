@@ -1,0 +1,116 @@
+//! Range proofs as bytes.
+ghost use Rattle.std.specs.Prelude.{◌≡◌, ℕ, ◌+◌, ◌*◌, ◌++◌, ◌^◌, ◌<◌, ◌≤◌, List, length, map, OnOk, OnErr};
+ghost use Rattle.storage_codec.specs.Codec.{Gives};
+ghost use Rattle.storage_codec.specs.Parts.{AppendsStart, IsEnding, size_of};
+ghost use Rattle.storage_merkle.specs.RangeProofs.{RangeProof};
+ghost use Rattle.storage_merkle.specs.ProofWire.{joined_text, digests_at, proof_text, proof_at, IsAdmitted};
+ghost use Rattle.storage_merkle.specs.ProofWireLaws.{all_digests, proof_again};
+
+use crate::merkle::{Location, Proof};
+use std::alloc::Global;
+use storage_codec::NoMemory;
+use storage_codec::codec::{Buf, Codec, EncodeSize, Error, Read, UInt, Write, small_size};
+use storage_codec::digest::Digest;
+
+impl<F, D: Digest> Write for Proof<F, D> {
+    ghost text = { λ p. proof_text (record { leaves = p.leaves; inactive = p.inactive_peaks; digests = map D.text p.digests.items }) };
+
+    #[tactic(auto, using(storage_codec::specs::PartsLaws::starts_then, storage_codec::specs::PartsLaws::starts_first))]
+    fn write(&self, out: &mut Vec<u8>) -> Result<(), NoMemory> {
+        self.leaves.write(out)?;
+        UInt(self.inactive_peaks as u64).write(out)?;
+        UInt(self.digests.len() as u64).write(out)?;
+        write_digests(&self.digests, out)
+    }
+}
+
+/// Writes digests one after another.
+fn write_digests<D: Digest>(digests: &[D], out: &mut Vec<u8>) -> Result<(), NoMemory>
+    ensures ok { OnOk result (out.new.items ≡ out.old.items ++ joined_text (map D.text digests.now)) }
+    ensures err { OnErr result (AppendsStart out.old.items out.new.items (joined_text (map D.text digests.now))) }
+{
+    let mut left = digests;
+    while let Some((digest, rest)) = left.split_first() {
+        digest.write(out)?;
+        left = rest;
+    }
+    Ok(())
+}
+
+impl<F, D: Digest> EncodeSize for Proof<F, D> {
+    fn encode_size(&self) -> Option<u64> {
+        let count = self.digests.len() as u64;
+        let digests = digests_size::<D>(count);
+        let counted = sum(UInt(count).encode_size(), digests);
+        let inactive = sum(UInt(self.inactive_peaks as u64).encode_size(), counted);
+        sum(self.leaves.encode_size(), inactive)
+    }
+}
+
+/// The sum of two sizes; none where it, or one of them, is no u64.
+fn sum(first: Option<u64>, second: Option<u64>) -> Option<u64>
+    ensures { (m n : ℕ) → first ≡ size_of m → second ≡ size_of n → result ≡ size_of (m + n) }
+{
+    first?.checked_add(second?)
+}
+
+/// How many bytes so many digests take; none where that is no u64.
+fn digests_size<D: Digest>(count: u64) -> Option<u64>
+    ensures { result ≡ size_of (count * D.size) }
+{
+    count.checked_mul(small_size::<D>() as u64)
+}
+
+impl<F, D: Digest> Read for Proof<F, D> {
+    /// The greatest number of digests.
+    type Cfg = usize;
+
+    ghost View = { RangeProof };
+
+    ghost view = { λ p. record { leaves = p.leaves; inactive = p.inactive_peaks; digests = map D.text p.digests.items } };
+
+    ghost admits = { λ most p. IsAdmitted most (record { leaves = p.leaves; inactive = p.inactive_peaks; digests = map D.text p.digests.items }) };
+
+    ghost parse = { λ most. proof_at D.size most };
+
+    #[tactic(auto, using(storage_codec::specs::PartsLaws::ends_then))]
+    fn read_cfg<B: Buf>(alloc: Global, buf: &mut B, most: &usize) -> Result<Self, Error> {
+        let leaves = match Location::read_cfg(alloc, buf, &()) {
+            Ok(leaves) => leaves,
+            Err(error) => return Err(error),
+        };
+        let UInt(inactive) = UInt::read_cfg(alloc, buf, &())?;
+        let UInt(count) = UInt::read_cfg(alloc, buf, &())?;
+        if count > *most as u64 {
+            return Err(Error::InvalidLength(count));
+        }
+        match read_digests(alloc, buf, count) {
+            Ok(digests) => Ok(Proof {
+                leaves,
+                inactive_peaks: inactive as usize,
+                digests,
+            }),
+            Err(error) => Err(error),
+        }
+    }
+}
+
+impl<F, D: Digest> Codec for Proof<F, D> {
+    ghost again = { λ most p rest ok. proof_again D.size most _ rest (all_digests D.text D.size D.sized p.digests.items) ok };
+}
+
+/// Reads so many digests.
+fn read_digests<D: Digest, B: Buf>(alloc: Global, buf: &mut B, count: u64) -> Result<Vec<D>, Error>
+    ensures gives { Gives (λ v. map D.text v.items) result (B.unread buf.new) (digests_at D.size count (B.unread buf.old)) }
+    ensures ends { IsEnding (B.unread buf.old) (B.unread buf.new) }
+{
+    let mut digests = Vec::new(alloc);
+    for index in 0..count {
+        let digest = match D::read(alloc, buf) {
+            Ok(digest) => digest,
+            Err(error) => return Err(error),
+        };
+        digests.push(digest)?;
+    }
+    Ok(digests)
+}
