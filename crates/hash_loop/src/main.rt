@@ -2,9 +2,8 @@
 //! what the time of a root is compared with.
 #![tactic(auto)]
 
-use std::env;
 use std::env::Env;
-use std::io;
+use std::{env, io};
 use storage_codec::digest::{Digest, Hasher, Sha256};
 
 /// How many strings the arguments ask for: the first one's number, or none.
