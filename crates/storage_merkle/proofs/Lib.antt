@@ -12,3 +12,5 @@ pub mod Ascending
 pub mod Walks
 pub mod Folds
 pub mod Written
+pub mod Rising
+pub mod Siblings

@@ -30,3 +30,4 @@ pub mod Hashers
 pub mod Plans
 pub mod ProofWire
 pub mod ProofWireLaws
+pub mod Siblings

@@ -1,7 +1,10 @@
 //! Which nodes a range proof needs, and the proof from their digests.
-ghost use Rattle.std.specs.Prelude.{◌≡◌, ℕ, ◌+◌, ◌-◌, ◌*◌, ◌%◌, ◌^◌, ◌<◌, ◌≤◌, List, length, Some, None};
+ghost use Rattle.std.specs.Prelude.{◌≡◌, ℕ, ◌+◌, ◌-◌, ◌*◌, ◌%◌, ◌^◌, ◌<◌, ◌≤◌, ◌++◌, List, length, map, Some, None, IfOk, OnOk};
 ghost use Rattle.storage_merkle.specs.Shape.{AreAligned};
 ghost use Rattle.storage_merkle.specs.Plans.{ArePeaks, PlanOf};
+ghost use Rattle.storage_merkle.specs.RangeProofs.{apart, position_of, sites_of};
+ghost use Rattle.storage_merkle.specs.Siblings.{sibling_sites};
+ghost use Rattle.storage_merkle.specs.Trees.{node_calc, ungrafted};
 
 use crate::merkle::family::power;
 use crate::merkle::hasher::{Hasher, append, join};
@@ -361,18 +364,18 @@ pub(crate) fn siblings<F: Family>(
     end: u64,
 ) -> Result<Vec<Position<F>>, AllocError>
     requires { leaves ≤ 2 ^ 62 }
+    ensures { IfOk result (λ v. v.items ≡ map (position_of (ungrafted F.shape)) (sibling_sites (ungrafted F.shape) leaves start end)) }
 {
     let mut positions = Vec::new(alloc);
     let mut first = 0;
     let mut left = leaves;
     while left > 0 {
         let height = F::first_peak(left);
-        let length = power(height);
-        if start < first + length && first < end {
+        if !is_apart(start, end, first, height) {
             add_apart(start, end, first, height, &mut positions)?;
         }
-        first += length;
-        left -= length;
+        first += power(height);
+        left -= power(height);
     }
     positions.sort_unstable();
     Ok(positions)
@@ -411,17 +414,26 @@ fn add_apart<F: Family>(
     requires aligned { first % 2 ^ height ≡ 0 }
     requires small { height ≤ 62 }
     requires within { first + 2 ^ height ≤ 2 ^ 62 }
+    ensures { OnOk result (positions.new.items ≡ positions.old.items ++ map (position_of (ungrafted F.shape)) (sites_of (node_calc (ungrafted F.shape) (apart start end) height first))) }
 {
-    let length = power(height);
-    if first + length <= start || end <= first {
+    if is_apart(start, end, first, height) {
         positions.push(node_position(first, height))?;
         return Ok(());
     }
-    if height == 0 || start <= first && first + length <= end {
+    if height == 0 || start <= first && first + power(height) <= end {
         return Ok(());
     }
     add_apart(start, end, first, height - 1, positions)?;
     add_apart(start, end, first + power(height - 1), height - 1, positions)
+}
+
+/// Whether a node holds no leaf from `start` to before `end`.
+pub(crate) fn is_apart(start: u64, end: u64, first: u64, height: u32) -> bool
+    requires small { height ≤ 62 }
+    requires within { first + 2 ^ height ≤ 2 ^ 62 }
+    ensures { result ≡ apart start end first height }
+{
+    first + power(height) <= start || end <= first
 }
 
 /// The position of a node.
