@@ -14,3 +14,4 @@ pub mod Folds
 pub mod Written
 pub mod Rising
 pub mod Siblings
+pub mod Rests

@@ -4,8 +4,8 @@ use Rattle.std.specs.List.Sorted.{IsPermutation, IsNonDecreasing}
 use Rattle.std.proofs.lemmas.Bool.{lt-leb, cases_lt}
 use Rattle.std.proofs.lemmas.List.{map-append}
 use Rattle.storage_merkle.specs.Multiples.{pow_two}
-use Rattle.storage_merkle.specs.Calc.{Site, node, Calc, given, leaf, pair, graft, be8}
-use Rattle.storage_merkle.specs.Trees.{Layout, Peak, places, peaks_of, part, node_calc, join_calc}
+use Rattle.storage_merkle.specs.Calc.{Site, node, Calc, pair, graft, be8}
+use Rattle.storage_merkle.specs.Trees.{Layout, Peak, places, peaks_of, node_calc, join_calc}
 use Rattle.storage_merkle.specs.RangeProofs.{apart, not_leading, up_to, sites_of, sites_in, position_of, place_in, by_position}
 use Rattle.storage_merkle.specs.Siblings.{sibling_sites}
 use Rattle.storage_merkle.proofs.Distinct.{one_if}

@@ -31,3 +31,4 @@ pub mod Plans
 pub mod ProofWire
 pub mod ProofWireLaws
 pub mod Siblings
+pub mod Rests

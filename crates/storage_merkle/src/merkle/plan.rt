@@ -3,6 +3,7 @@ ghost use Rattle.std.specs.Prelude.{◌≡◌, ℕ, ◌+◌, ◌-◌, ◌*◌, �
 ghost use Rattle.storage_merkle.specs.Shape.{AreAligned};
 ghost use Rattle.storage_merkle.specs.Plans.{ArePeaks, PlanOf};
 ghost use Rattle.storage_merkle.specs.RangeProofs.{apart, position_of, sites_of};
+ghost use Rattle.storage_merkle.specs.Rests.{AreAfterLeading, AreFolded};
 ghost use Rattle.storage_merkle.specs.Siblings.{sibling_sites};
 ghost use Rattle.storage_merkle.specs.Trees.{node_calc, ungrafted};
 
@@ -198,6 +199,9 @@ impl Rest {
     pub fn all<F: Family, H: Hasher<F>>(hasher: &H, leaves: u64, inactive: usize) -> Self
         requires { leaves ≤ 2 ^ 62 }
         ensures peaks { ArePeaks F.shape leaves result.first result.left }
+        ensures first { result.first ≡ 0 }
+        ensures left { result.left ≡ leaves }
+        ensures folded { AreFolded F.shape (H.bagging hasher.now) inactive leaves result.folded }
     {
         let folded = match hasher.root_bagging() {
             Bagging::ForwardFold => peak_count::<F>(leaves),
@@ -232,6 +236,7 @@ impl Rest {
         requires few { self.first + self.left ≤ 2 ^ 62 }
         requires peaks { ArePeaks F.shape (self.first + self.left) self.first self.left }
         ensures peaks { ArePeaks F.shape (self.first + self.left) result.first result.left }
+        ensures after { AreAfterLeading F.shape start self.first self.left self.folded result.first result.left result.folded }
     {
         let mut rest = self;
         while rest.left > 0 && rest.folded > 0 {
