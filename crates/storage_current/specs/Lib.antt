@@ -3,3 +3,5 @@ pub mod CurrentProofs
 pub mod GraftingLaws
 pub mod CurrentSoundness
 pub mod Grafted
+pub mod Held
+pub mod CurrentWire

@@ -3,3 +3,5 @@
 
 pub mod laws;
 pub mod qmdb;
+#[cfg(test)]
+mod tests;

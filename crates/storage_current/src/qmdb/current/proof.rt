@@ -4,6 +4,7 @@ ghost use Rattle.std.specs.Prelude.{◌≡◌, ℕ, ◌+◌, ◌-◌, ◌*◌, �
 ghost use Rattle.storage_bitmap.specs.Chunks.{bit_count};
 
 mod chunk;
+mod codec;
 pub mod operation;
 mod slots;
 mod window;

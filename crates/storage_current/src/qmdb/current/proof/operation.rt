@@ -2,6 +2,8 @@
 
 ghost use Rattle.std.specs.Prelude.{◌≡◌, ℕ, ◌+◌, ◌-◌, ◌*◌, ◌/◌, ◌%◌, ◌^◌, ◌<◌, ◌≤◌, length};
 
+mod codec;
+
 use crate::qmdb::current::grafting;
 use crate::qmdb::current::proof::{Chunk, RangeProof};
 use std::alloc::Global;

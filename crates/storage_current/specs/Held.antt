@@ -1,0 +1,13 @@
+-- The proofs of the definitions that proof values hold.
+use Rattle.std.specs.Prelude.{ℕ, List, map, option_map}
+use Rattle.storage_merkle.specs.RangeProofs.{RangeProof as Range}
+use Rattle.storage_merkle.specs.declared.merkle.proof.Proof.{Proof}
+use Rattle.storage_current.specs.Snapshots.{CurrentProof}
+use Rattle.storage_current.specs.declared.qmdb.current.proof.RangeProof.{RangeProof}
+
+-- a range proof, its digests by their bytes
+abbrev pub range_of : {F D : Type 0} → (D → List ℕ) → Proof F D → Range
+range_of text p = record { leaves = p.leaves; inactive = p.inactive_peaks; digests = map text p.digests.items }
+
+abbrev pub current_of : {F D : Type 0} → (D → List ℕ) → RangeProof F D → CurrentProof
+current_of text p = record { range = range_of text p.proof; pending = option_map text p.pending_chunk_digest; partial = option_map text p.partial_chunk_digest; ops_root = text p.ops_root }

@@ -1,0 +1,79 @@
+//! Range proofs as bytes.
+
+ghost use Rattle.std.specs.Prelude.{◌≡◌, ℕ, ◌+◌};
+ghost use Rattle.storage_codec.specs.Parts.{size_of};
+ghost use Rattle.storage_current.specs.Held.{current_of};
+ghost use Rattle.storage_current.specs.Snapshots.{CurrentProof};
+ghost use Rattle.storage_current.specs.CurrentWire.{current_text, current_at, IsAdmittedCurrent};
+
+use crate::qmdb::current::proof::RangeProof;
+use std::alloc::Global;
+use storage_codec::NoMemory;
+use storage_codec::codec::{Buf, EncodeSize, Error, Read, Write, small_size};
+use storage_codec::digest::Digest;
+use storage_merkle::merkle::{Graftable, Proof};
+
+impl<F: Graftable, D: Digest> Write for RangeProof<F, D> {
+    ghost text = { λ p. current_text F.has_pending (current_of D.text p) };
+
+    fn write(&self, out: &mut Vec<u8>) -> Result<(), NoMemory> {
+        self.proof.write(out)?;
+        F::write_pending(&self.pending_chunk_digest, out)?;
+        self.partial_chunk_digest.write(out)?;
+        self.ops_root.write(out)
+    }
+}
+
+impl<F: Graftable, D: Digest> EncodeSize for RangeProof<F, D> {
+    fn encode_size(&self) -> Option<u64> {
+        let partial = self.partial_chunk_digest.encode_size();
+        let ends = sum(partial, Some(small_size::<D>() as u64));
+        let pending = Some(F::pending_size(&self.pending_chunk_digest));
+        sum(self.proof.encode_size(), sum(pending, ends))
+    }
+}
+
+/// The sum of two sizes; none where it, or one of them, is no u64.
+pub(crate) fn sum(first: Option<u64>, second: Option<u64>) -> Option<u64>
+    ensures { (m n : ℕ) → first ≡ size_of m → second ≡ size_of n → result ≡ size_of (m + n) }
+{
+    first?.checked_add(second?)
+}
+
+impl<F: Graftable, D: Digest> Read for RangeProof<F, D> {
+    /// The greatest number of digests.
+    type Cfg = usize;
+
+    ghost View = { CurrentProof };
+
+    ghost view = { λ p. current_of D.text p };
+
+    ghost admits = { λ most p. IsAdmittedCurrent F.has_pending most (current_of D.text p) };
+
+    ghost parse = { λ most. current_at F.has_pending D.size most };
+
+    #[tactic(auto, using(storage_codec::specs::PartsLaws::ends_then))]
+    fn read_cfg<B: Buf>(alloc: Global, buf: &mut B, most: &usize) -> Result<Self, Error> {
+        let proof = match Proof::<F, D>::read_cfg(alloc, buf, most) {
+            Ok(proof) => proof,
+            Err(error) => return Err(error),
+        };
+        let pending_chunk_digest = match F::read_pending::<D, B>(alloc, buf) {
+            Ok(pending) => pending,
+            Err(error) => return Err(error),
+        };
+        let partial_chunk_digest = match D::read_option(alloc, buf) {
+            Ok(partial) => partial,
+            Err(error) => return Err(error),
+        };
+        match D::read(alloc, buf) {
+            Ok(ops_root) => Ok(RangeProof {
+                proof,
+                pending_chunk_digest,
+                partial_chunk_digest,
+                ops_root,
+            }),
+            Err(error) => Err(error),
+        }
+    }
+}

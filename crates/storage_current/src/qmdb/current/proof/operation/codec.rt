@@ -1,0 +1,107 @@
+//! Operation proofs as bytes.
+
+ghost use Rattle.std.specs.Prelude.{◌≡◌, ℕ, ◌+◌};
+ghost use Rattle.storage_current.specs.Held.{current_of};
+ghost use Rattle.storage_current.specs.Snapshots.{OperationProof};
+ghost use Rattle.storage_current.specs.CurrentWire.{operation_text, operation_at, sized_operation_at, IsAdmittedOperation};
+
+use crate::qmdb::current::grafting;
+use crate::qmdb::current::proof::codec::sum;
+use crate::qmdb::current::proof::operation::Proof;
+use crate::qmdb::current::proof::{Chunk, RangeProof};
+use bytes::Bytes;
+use std::alloc::Global;
+use storage_codec::NoMemory;
+use storage_codec::codec::{Buf, EncodeSize, Error, Read, Write};
+use storage_codec::digest::Digest;
+use storage_merkle::merkle::{Graftable, Location};
+
+impl<F: Graftable, D: Digest, C: Chunk> Write for Proof<F, D, C> {
+    ghost text = { λ p. operation_text F.has_pending (record { location = p.loc; chunk = C.text p.chunk; range = current_of D.text p.range_proof }) };
+
+    fn write(&self, out: &mut Vec<u8>) -> Result<(), NoMemory> {
+        self.loc.write(out)?;
+        out.extend_from_slice(self.chunk.bytes())?;
+        self.range_proof.write(out)
+    }
+}
+
+impl<F: Graftable, D: Digest, C: Chunk> EncodeSize for Proof<F, D, C> {
+    fn encode_size(&self) -> Option<u64> {
+        let chunk = Some(self.chunk.bytes().len() as u64);
+        sum(
+            self.loc.encode_size(),
+            sum(chunk, self.range_proof.encode_size()),
+        )
+    }
+}
+
+/// The chunk is read as `N` bytes.
+impl<F: Graftable, D: Digest, const N: usize> Read for Proof<F, D, [u8; N]> {
+    /// The greatest number of digests.
+    type Cfg = usize;
+
+    ghost View = { OperationProof };
+
+    ghost view = { λ p. record { location = p.loc; chunk = p.chunk; range = current_of D.text p.range_proof } };
+
+    ghost admits = { λ most p. IsAdmittedOperation F.has_pending most (record { location = p.loc; chunk = p.chunk; range = current_of D.text p.range_proof }) };
+
+    ghost parse = { λ most. operation_at F.has_pending D.size N most };
+
+    #[tactic(auto, using(storage_codec::specs::PartsLaws::ends_then))]
+    fn read_cfg<B: Buf>(alloc: Global, buf: &mut B, most: &usize) -> Result<Self, Error> {
+        let loc = match Location::read_cfg(alloc, buf, &()) {
+            Ok(loc) => loc,
+            Err(error) => return Err(error),
+        };
+        let mut chunk = [0u8; N];
+        buf.read_into(&mut chunk)?;
+        match RangeProof::read_cfg(alloc, buf, most) {
+            Ok(range_proof) => Ok(Proof {
+                loc,
+                chunk,
+                range_proof,
+            }),
+            Err(error) => Err(error),
+        }
+    }
+}
+
+/// The chunk is cut from the bytes. A size that chunks can't have is refused first.
+impl<F: Graftable, D: Digest> Read for Proof<F, D, Bytes> {
+    /// The size of the chunk in bytes, and the greatest number of digests.
+    type Cfg = (usize, usize);
+
+    ghost View = { OperationProof };
+
+    ghost view = { λ p. record { location = p.loc; chunk = p.chunk; range = current_of D.text p.range_proof } };
+
+    ghost admits = { λ cfg p. IsAdmittedSized F.has_pending cfg.0 cfg.1 (record { location = p.loc; chunk = p.chunk; range = current_of D.text p.range_proof }) };
+
+    ghost parse = { λ cfg. sized_operation_at F.has_pending D.size cfg.0 cfg.1 };
+
+    #[tactic(auto, using(storage_codec::specs::PartsLaws::ends_then))]
+    fn read_cfg<B: Buf>(alloc: Global, buf: &mut B, cfg: &(usize, usize)) -> Result<Self, Error> {
+        let (chunk_size, most) = *cfg;
+        if grafting::chunk_height(chunk_size).is_none() {
+            return Err(Error::Invalid("current proof", "invalid bitmap chunk size"));
+        }
+        let loc = match Location::read_cfg(alloc, buf, &()) {
+            Ok(loc) => loc,
+            Err(error) => return Err(error),
+        };
+        let chunk = match buf.cut(alloc, chunk_size) {
+            Ok(chunk) => chunk,
+            Err(error) => return Err(error),
+        };
+        match RangeProof::read_cfg(alloc, buf, &most) {
+            Ok(range_proof) => Ok(Proof {
+                loc,
+                chunk,
+                range_proof,
+            }),
+            Err(error) => Err(error),
+        }
+    }
+}
