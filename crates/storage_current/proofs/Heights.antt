@@ -1,8 +1,9 @@
 -- Powers of two as numbers of bytes.
-use Rattle.std.proofs.Common.{◌≡◌, ℕ, zero, suc, ◌+◌, ◌*◌, ◌/◌, ◌%◌, ◌^◌, ◌<◌, ◌≤◌, ◌&&◌, eqb, true, false, inl, inr, arith}
+use Rattle.std.proofs.Common.{◌≡◌, ℕ, zero, suc, ◌+◌, ◌*◌, ◌/◌, ◌%◌, ◌^◌, ◌<◌, ◌≤◌, ◌&&◌, ◌||◌, eqb, leb, Bool, true, false, inl, inr, arith, refl, eq-eqb, leb-true, le-leb}
 use Rattle.std.proofs.lemmas.Bool.{eqb-true, or_cases, and_parts}
-use Rattle.std.proofs.lemmas.Nat.{pow_pos, pow-add, mul-le, shr_split}
-use Rattle.storage_merkle.specs.Multiples.{log_unique, pow_two, pow_order}
+use Rattle.std.proofs.lemmas.Nat.{pow_pos, pow-add, mul-le, shr_split, div-add-mod'}
+use Rattle.std.proofs.Math.Nat.{div-mul-le_self}
+use Rattle.storage_merkle.specs.Multiples.{log_unique, pow_two, pow_order, pow_le, below_pow}
 use Rattle.storage_bitmap.specs.Chunks.{IsChunkSize, halves}
 
 halves_power : (times n : ℕ) → halves times n ≡ true → (k : ℕ) × (n ≡ 2 ^ k)
@@ -52,3 +53,44 @@ below_product a b m c h w some = omega (arith, mul-le (a + 1) m b m (omega arith
 -- the chunk of a location begins at or before it
 pub chunk_of : (n h location leaves count : ℕ) → 8 * n ≡ 2 ^ h → location < leaves → count ≡ leaves → location / 2 ^ h * (8 * n) < count
 chunk_of n h location leaves count e below same = rw e (omega (arith, shr_split location h))
+
+-- ---- which sizes chunks may have
+
+halves_of : (k times n : ℕ) → n ≡ 2 ^ k → k < times → halves times n ≡ true
+halves_of k zero n e l = absurd (omega arith)
+halves_of zero (suc times) n e l = rw (eq-eqb n 1 e) refl
+halves_of (suc k) (suc times) n e l =
+    let even : n % 2 ≡ 0 = omega (arith, e, pow_two k) in
+    let half : n / 2 ≡ 2 ^ k = omega (arith, e, pow_two k) in
+    let rest : halves times (n / 2) ≡ true = halves_of k times (n / 2) half (omega arith) in
+    rw (eq-eqb (n % 2) 0 even, rest) (or_true (eqb n 1))
+  where
+    or_true : (b : Bool) → (b || (true && true)) ≡ true
+    or_true true = refl
+    or_true false = refl
+
+-- a power of two up to 2 ^ 59
+pub size_of_power : (n r : ℕ) → n ≡ 2 ^ r → r < 60 → IsChunkSize n
+size_of_power n r e small =
+    (halves_of r n n e (omega (arith, e, below_pow r)), let up : 2 ^ r ≤ 2 ^ 59 = pow_le r 59 (omega arith) in omega arith)
+
+-- the test of a size finds none that chunks may not have
+pub no_size : (n : ℕ) → (IsChunkSize n → ⊥) → (halves n n && leb n (2 ^ 59)) ≡ false
+no_size n none = test (halves n n) (leb n (2 ^ 59)) refl refl
+  where
+    test : (a b : Bool) → halves n n ≡ a → leb n (2 ^ 59) ≡ b → (a && b) ≡ false
+    test true true e f = absurd (none (e, leb-true n (2 ^ 59) f))
+    test true false e f = refl
+    test false true e f = refl
+    test false false e f = refl
+
+pub some_size : (n : ℕ) → IsChunkSize n → (halves n n && leb n (2 ^ 59)) ≡ true
+some_size n size = rw (size.0, le-leb n (2 ^ 59) size.1) refl
+
+-- ---- the bits of the complete chunks, and of the one after them
+
+pub whole_within : (n h leaves whole count : ℕ) → 8 * n ≡ 2 ^ h → whole ≡ leaves / 2 ^ h → leaves ≡ count → whole * (8 * n) ≤ count
+whole_within n h leaves whole count e w same = rw (e, w) (omega (arith, same, div-mul-le_self leaves (2 ^ h)))
+
+pub rest_within : (n h leaves whole next count : ℕ) → 8 * n ≡ 2 ^ h → whole ≡ leaves / 2 ^ h → next ≡ leaves % 2 ^ h → leaves ≡ count → whole * (8 * n) + next ≤ count
+rest_within n h leaves whole next count e w r same = rw (e, w, r) (omega (arith, same, div-add-mod' leaves (2 ^ h)))

@@ -9,3 +9,5 @@ pub mod Witnesses
 pub mod Families
 pub mod Examples
 mod Grafts
+mod Windows
+mod Written

@@ -1,7 +1,7 @@
 -- Positions of peaks and of children in a tree.
-use Rattle.std.proofs.Common.{◌≡◌, ℕ, zero, suc, ◌+◌, ◌-◌, ◌*◌, ◌/◌, ◌%◌, ◌^◌, ◌<◌, ◌≤◌, List, [], ◌∷◌, length, refl, sym, ap, ◌∙◌, arith, inl, inr}
-use Rattle.storage_merkle.specs.Shape.{Shape, Laws, size, leaves_of, Inside, AreAligned}
-use Rattle.storage_merkle.specs.Nodes.{IsNode, placed}
+use Rattle.std.proofs.Common.{◌≡◌, ℕ, zero, suc, ◌+◌, ◌-◌, ◌%◌, ◌^◌, ◌<◌, ◌≤◌, List, [], ◌∷◌, length, refl, ap, arith, inl, inr}
+use Rattle.storage_merkle.specs.Shape.{Shape, Laws, size, Inside, AreAligned}
+use Rattle.storage_merkle.specs.Nodes.{placed}
 use Rattle.storage_merkle.specs.ShapeLaws.{inside_before}
 
 pub length-placed : (S : Shape) (s : ℕ) (hs : List ℕ) → length (placed S s hs) ≡ length hs

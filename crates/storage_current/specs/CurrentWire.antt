@@ -1,5 +1,5 @@
 -- What current range proofs and operation proofs are written as, and what reading answers.
-use Rattle.std.specs.Prelude.{◌≡◌, ℕ, ◌≤◌, ◌^◌, Bool, List, ◌++◌, length, Result, Ok, Err, codes, leb, ◌&&◌, if◌then◌else◌}
+use Rattle.std.specs.Prelude.{◌≡◌, ℕ, ◌≤◌, ◌^◌, Bool, List, ◌++◌, length, Ok, Err, codes, leb, ◌&&◌, if◌then◌else◌}
 use Rattle.storage_codec.specs.Codec.{Answer, front_at, option_at}
 use Rattle.storage_codec.specs.Faults.{◌>>=◌, Invalid}
 use Rattle.storage_codec.specs.Parts.{option_text, varint_text}
@@ -49,7 +49,11 @@ pub record IsAdmittedOperation (has_pending : Bool) (most : ℕ) (p : OperationP
   pub range : IsAdmittedCurrent has_pending most p.range
 
 -- and one with a chunk of so many bytes
-pub record IsAdmittedSized (has_pending : Bool) (size most : ℕ) (p : OperationProof) : Type 0 where
+pub record IsAdmittedArray (has_pending : Bool) (size most : ℕ) (p : OperationProof) : Type 0 where
   pub proof : IsAdmittedOperation has_pending most p
-  pub size_is : IsChunkSize size
   pub chunk : length p.chunk ≡ size
+
+-- and of a size that chunks may have
+pub record IsAdmittedSized (has_pending : Bool) (size most : ℕ) (p : OperationProof) : Type 0 where
+  pub array : IsAdmittedArray has_pending size most p
+  pub size_is : IsChunkSize size

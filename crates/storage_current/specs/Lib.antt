@@ -3,5 +3,7 @@ pub mod CurrentProofs
 pub mod GraftingLaws
 pub mod CurrentSoundness
 pub mod Grafted
+pub mod Windows
 pub mod Held
 pub mod CurrentWire
+pub mod CurrentWireLaws

@@ -2,6 +2,7 @@
 
 ghost use Rattle.std.specs.Prelude.{◌≡◌, ℕ, ◌+◌, ◌-◌, ◌*◌, ◌/◌, ◌%◌, ◌^◌, ◌<◌, ◌≤◌, ltb, eqb, not};
 ghost use Rattle.storage_bitmap.specs.Chunks.{IsChunkSize, bit_count};
+ghost use Rattle.storage_current.specs.Snapshots.{graftable_at};
 
 use crate::qmdb::current::grafting;
 use storage_bitmap::bitmap::Readable;
@@ -23,13 +24,13 @@ impl ChunkCounts {
         requires low { 1 ≤ height }
         requires high { height ≤ 62 }
         ensures complete { result.complete ≡ leaves / 2 ^ height }
-        ensures graftable { result.graftable ≤ result.complete }
+        ensures graftable { result.graftable ≡ graftable_at F.shape height leaves }
+        ensures within { result.graftable ≤ result.complete }
         ensures next_bit { result.next_bit ≡ leaves % 2 ^ height }
     {
-        let complete = leaves >> height;
         ChunkCounts {
-            complete,
-            graftable: grafting::graftable_chunks::<F>(leaves, height).min(complete),
+            complete: leaves >> height,
+            graftable: grafting::graftable_chunks::<F>(leaves, height),
             next_bit: leaves % (1 << height),
         }
     }

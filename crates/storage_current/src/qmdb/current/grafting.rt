@@ -1,6 +1,6 @@
 //! Chunks of bits over the nodes of a tree of operations.
 
-ghost use Rattle.std.specs.Prelude.{◌≡◌, ℕ, ◌*◌, ◌^◌, ◌<◌, ◌≤◌, ◌++◌, MatchOption};
+ghost use Rattle.std.specs.Prelude.{◌≡◌, ℕ, ◌*◌, ◌^◌, ◌<◌, ◌≤◌, ◌++◌, MatchOption, IfSome};
 ghost use Rattle.storage_merkle.specs.Calc.{grafted_digest, is_zero as all_zero};
 ghost use Rattle.storage_bitmap.specs.Chunks.{IsChunkSize};
 
@@ -24,7 +24,8 @@ pub fn height<const N: usize>() -> u32
 
 /// The height for chunks of so many bytes; none where that is no power of two, or the height reaches 63.
 pub fn chunk_height(chunk_size: usize) -> Option<u32>
-    ensures { MatchOption result ((g : ℕ) → g ≤ 62 → 8 * chunk_size ≡ 2 ^ g → ⊥) (λ g. (8 * chunk_size ≡ 2 ^ g) × (3 ≤ g) × (g ≤ 62)) }
+    ensures size { MatchOption result (IsChunkSize chunk_size → ⊥) (λ _. IsChunkSize chunk_size) }
+    ensures power { IfSome result (λ g. (8 * chunk_size ≡ 2 ^ g) × (3 ≤ g) × (g ≤ 62)) }
 {
     if chunk_size == 0 {
         return None;

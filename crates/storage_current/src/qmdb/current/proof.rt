@@ -1,6 +1,7 @@
 //! Range proofs of operations and of their activity.
 
-ghost use Rattle.std.specs.Prelude.{◌≡◌, ℕ, ◌+◌, ◌-◌, ◌*◌, ◌/◌, ◌%◌, ◌^◌, ◌<◌, ◌≤◌, OnOk, IfSome, length};
+ghost use Rattle.std.specs.Prelude.{◌≡◌, ℕ, ◌+◌, ◌-◌, ◌*◌, ◌/◌, ◌%◌, ◌^◌, ◌<◌, ◌≤◌, ◌↔◌, OnOk, IfOk, IfSome, IsTrue, length, map};
+ghost use Rattle.storage_merkle.specs.RangeProofs.{AreDigests};
 ghost use Rattle.storage_bitmap.specs.Chunks.{bit_count};
 
 mod chunk;
@@ -140,12 +141,12 @@ impl<F: Graftable, D: Digest> RangeProof<F, D> {
     ) -> Option<Window>
         ensures { IfSome result (λ w. length chunks.now ≡ w.last_chunk - w.first_chunk + 1) }
     {
-        let height = grafting::chunk_height(chunk_size)?;
-        if !chunks.iter().all(|chunk| chunk.bytes().len() == chunk_size) {
+        let leaves = self.proof.leaves.as_u64();
+        let window = Window::of::<F>(leaves, start.as_u64(), count, chunks.len(), chunk_size)?;
+        if !are_sized(chunks, chunk_size) {
             return None;
         }
-        let leaves = self.proof.leaves.as_u64();
-        Window::of::<F>(leaves, start.as_u64(), count, chunks.len(), height)
+        Some(window)
     }
 
     /// The check of a claim whose counts and lengths fit.
@@ -194,8 +195,22 @@ impl<F: Graftable, D: Digest> RangeProof<F, D> {
     }
 }
 
+/// Whether each chunk has so many bytes.
+fn are_sized<C: Chunk>(chunks: &[C], size: usize) -> bool
+    ensures { IsTrue result ↔ AreDigests size (map C.text chunks.now) }
+{
+    for chunk in chunks {
+        if chunk.bytes().len() != size {
+            return false;
+        }
+    }
+    true
+}
+
 /// What each operation is written as.
-fn encoded<O: Write>(alloc: Global, operations: &[O]) -> Result<Vec<Vec<u8>>, NoMemory> {
+fn encoded<O: Write>(alloc: Global, operations: &[O]) -> Result<Vec<Vec<u8>>, NoMemory>
+    ensures { IfOk result (λ v. map (λ e. e.items) v.items ≡ map O.text operations.now) }
+{
     let mut elements = Vec::with_capacity(alloc, operations.len())?;
     for operation in operations {
         let mut bytes = Vec::new(alloc);

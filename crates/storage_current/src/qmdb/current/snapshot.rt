@@ -58,8 +58,12 @@ impl<F: Graftable, H: Hasher, const N: usize> Snapshot<F, H, N> {
         let aligned = aligned_inactive::<F>(leaves, floor.as_u64(), height);
         let grafted_root = tree_root::<F, H>(alloc, &nodes.view, leaves, aligned)?;
         let counts = ChunkCounts::over::<F>(leaves, height);
-        let pending = counts.pending(&bits).map(|chunk| H::hash(&[&chunk]));
-        let partial = counts.partial(&bits).map(|chunk| H::hash(&[&chunk]));
+        let pending = counts
+            .pending::<Prunable<N>, N>(&bits)
+            .map(|chunk| H::hash(&[&chunk]));
+        let partial = counts
+            .partial::<Prunable<N>, N>(&bits)
+            .map(|chunk| H::hash(&[&chunk]));
         let root = canonical_root::<H>(
             &ops_root,
             &grafted_root,

@@ -5,11 +5,12 @@ ghost use Rattle.storage_codec.specs.Parts.{size_of};
 ghost use Rattle.storage_current.specs.Held.{current_of};
 ghost use Rattle.storage_current.specs.Snapshots.{CurrentProof};
 ghost use Rattle.storage_current.specs.CurrentWire.{current_text, current_at, IsAdmittedCurrent};
+ghost use Rattle.storage_current.specs.CurrentWireLaws.{current_again, current_back, held_digests};
 
 use crate::qmdb::current::proof::RangeProof;
 use std::alloc::Global;
 use storage_codec::NoMemory;
-use storage_codec::codec::{Buf, EncodeSize, Error, Read, Write, small_size};
+use storage_codec::codec::{Buf, Canonical, Codec, EncodeSize, Error, Read, Write, small_size};
 use storage_codec::digest::Digest;
 use storage_merkle::merkle::{Graftable, Proof};
 
@@ -76,4 +77,12 @@ impl<F: Graftable, D: Digest> Read for RangeProof<F, D> {
             Err(error) => Err(error),
         }
     }
+}
+
+impl<F: Graftable, D: Digest> Codec for RangeProof<F, D> {
+    ghost again = { λ most p rest ok. current_again F.has_pending D.size most (current_of D.text p) rest (held_digests D.text D.size D.sized p) ok };
+}
+
+impl<F: Graftable, D: Digest> Canonical for RangeProof<F, D> {
+    ghost back = { λ most bytes p rest fits e. current_back F.has_pending D.size most bytes (current_of D.text p) rest fits e };
 }

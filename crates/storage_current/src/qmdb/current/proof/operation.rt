@@ -1,6 +1,9 @@
 //! Proofs that one operation is active.
 
-ghost use Rattle.std.specs.Prelude.{◌≡◌, ℕ, ◌+◌, ◌-◌, ◌*◌, ◌/◌, ◌%◌, ◌^◌, ◌<◌, ◌≤◌, length};
+ghost use Rattle.std.specs.Prelude.{◌≡◌, ◌↔◌, IsTrue, true, ℕ, ◌+◌, ◌-◌, ◌*◌, ◌/◌, ◌%◌, ◌^◌, ◌<◌, ◌≤◌, length};
+ghost use Rattle.storage_bitmap.specs.Chunks.{IsChunkSize};
+ghost use Rattle.storage_bitmap.specs.Packed.{bit_in};
+ghost use Rattle.storage_current.specs.Snapshots.{height};
 
 mod codec;
 
@@ -107,12 +110,21 @@ impl<F: Graftable, D: Digest, C: Chunk> Proof<F, D, C> {
     }
 
     /// Whether the chunk has a size that chunks may have, and the bit of the location is set.
-    fn is_active(&self) -> bool {
+    fn is_active(&self) -> bool
+        ensures { IsTrue result ↔ (IsChunkSize (length (C.text self.now.chunk)) × (bit_in (C.text self.now.chunk) (self.now.loc % 2 ^ height (record { shape = F.shape; bytes = length (C.text self.now.chunk) })) ≡ true)) }
+    {
         let chunk = self.chunk.bytes();
         let Some(height) = grafting::chunk_height(chunk.len()) else {
             return false;
         };
-        let bit = self.loc.as_u64() % (1 << height);
-        chunk[(bit / 8) as usize] >> (bit % 8) & 1 == 1
+        is_set(chunk, self.loc.as_u64() % grafting::power(height))
     }
+}
+
+/// Whether the bit at a place is set.
+fn is_set(bytes: &[u8], place: u64) -> bool
+    requires { place / 8 < length bytes.now }
+    ensures { result ≡ bit_in bytes.now place }
+{
+    bytes[(place / 8) as usize] >> (place % 8) & 1 == 1
 }

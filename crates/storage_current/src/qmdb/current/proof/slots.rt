@@ -1,6 +1,7 @@
 //! The digests of chunks under no node of their own.
 
-ghost use Rattle.std.specs.Prelude.{◌≡◌, ℕ, ◌+◌, ◌-◌, ◌≤◌, length};
+ghost use Rattle.std.specs.Prelude.{◌≡◌, ◌↔◌, ℕ, ◌+◌, ◌-◌, ◌≤◌, length, map, option_map, IsTrue, not, eqb, ltb};
+ghost use Rattle.storage_current.specs.Windows.{IsMatched};
 
 use crate::qmdb::current::proof::window::Window;
 use crate::qmdb::current::proof::{Chunk, RangeProof};
@@ -15,6 +16,7 @@ pub(crate) fn match_chunks<H: Hasher, C: Chunk, F: Graftable>(
     chunks: &[C],
 ) -> bool
     requires { length chunks.now ≡ window.now.last_chunk - window.now.first_chunk + 1 }
+    ensures { IsTrue result ↔ (IsMatched H.hash_of (option_map H.Digest.text proof.now.partial_chunk_digest) (not (eqb window.now.counts.next_bit 0)) window.now.first_chunk window.now.last_chunk window.now.counts.complete (map C.text chunks.now) × IsMatched H.hash_of (option_map H.Digest.text proof.now.pending_chunk_digest) (ltb window.now.counts.graftable window.now.counts.complete) window.now.first_chunk window.now.last_chunk window.now.counts.graftable (map C.text chunks.now)) }
 {
     let counts = &window.counts;
     matches::<H, C>(
@@ -41,13 +43,21 @@ fn matches<H: Hasher, C: Chunk>(
     chunks: &[C],
 ) -> bool
     requires { length chunks.now ≡ window.now.last_chunk - window.now.first_chunk + 1 }
+    ensures { IsTrue result ↔ IsMatched H.hash_of (option_map H.Digest.text slot.now) is_there window.now.first_chunk window.now.last_chunk index (map C.text chunks.now) }
 {
     match slot {
         None => !is_there,
         Some(digest) if is_there => match window.place(index) {
             None => true,
-            Some(place) => H::hash(&[chunks[place].bytes()]) == *digest,
+            Some(place) => hash_of::<H>(chunks[place].bytes()) == *digest,
         },
         Some(_) => false,
     }
+}
+
+/// The digest of some bytes.
+fn hash_of<H: Hasher>(bytes: &[u8]) -> H::Digest
+    ensures { H.Digest.text result ≡ H.hash_of bytes.now }
+{
+    H::hash(&[bytes])
 }

@@ -1,8 +1,11 @@
 //! Where a claimed range stands among the chunks.
 
-ghost use Rattle.std.specs.Prelude.{◌≡◌, ℕ, ◌+◌, ◌-◌, ◌*◌, ◌/◌, ◌%◌, ◌^◌, ◌<◌, ◌≤◌, IfSome};
+ghost use Rattle.std.specs.Prelude.{◌≡◌, ℕ, ◌+◌, ◌-◌, ◌*◌, ◌/◌, ◌%◌, ◌^◌, ◌<◌, ◌≤◌, IfSome, MatchOption};
+ghost use Rattle.storage_current.specs.Snapshots.{height, complete, graftable, first_chunk, last_chunk};
+ghost use Rattle.storage_current.specs.Windows.{IsWindow};
 
 use crate::qmdb::current::chunks::ChunkCounts;
+use crate::qmdb::current::grafting;
 use storage_merkle::merkle::{Family, MAX_LEAVES};
 
 /// Where a range stands among the chunks of so many operations.
@@ -19,27 +22,27 @@ pub(crate) struct Window {
 }
 
 impl Window {
-    /// That of so many operations from `start` on, among `leaves`, with so many chunks over nodes of a height; none
-    /// where there are none, the range does not end among the leaves, or touches another number of chunks.
+    /// That of so many operations from `start` on, among `leaves`, with so many chunks of a size; none where the size is not
+    /// one that chunks may have, there are no operations, the range does not end among the leaves, or it touches another
+    /// number of chunks.
     pub(crate) fn of<F: Family>(
         leaves: u64,
         start: u64,
         count: usize,
         chunks: usize,
-        height: u32,
+        chunk_size: usize,
     ) -> Option<Window>
-        requires low { 3 ≤ height }
-        requires high { height ≤ 62 }
-        ensures few { IfSome result (λ _. leaves ≤ 2 ^ 62) }
-        ensures height { IfSome result (λ w. w.height ≡ height) }
-        ensures chunks { IfSome result (λ w. chunks ≡ w.last_chunk - w.first_chunk + 1) }
-        ensures order { IfSome result (λ w. w.first_chunk ≤ w.last_chunk) }
+        ensures window { MatchOption result (IsWindow (record { shape = F.shape; bytes = chunk_size }) leaves start count chunks → ⊥) (λ _. IsWindow (record { shape = F.shape; bytes = chunk_size }) leaves start count chunks) }
+        ensures height { IfSome result (λ w. w.height ≡ height (record { shape = F.shape; bytes = chunk_size })) }
+        ensures first_chunk { IfSome result (λ w. w.first_chunk ≡ first_chunk (record { shape = F.shape; bytes = chunk_size }) start) }
+        ensures last_chunk { IfSome result (λ w. w.last_chunk ≡ last_chunk (record { shape = F.shape; bytes = chunk_size }) start count) }
+        ensures complete { IfSome result (λ w. w.counts.complete ≡ complete (record { shape = F.shape; bytes = chunk_size }) leaves) }
+        ensures graftable { IfSome result (λ w. w.counts.graftable ≡ graftable (record { shape = F.shape; bytes = chunk_size }) leaves) }
+        ensures next_bit { IfSome result (λ w. w.counts.next_bit ≡ leaves % 2 ^ height (record { shape = F.shape; bytes = chunk_size })) }
     {
-        if count == 0 || chunks == 0 {
-            return None;
-        }
+        let height = grafting::chunk_height(chunk_size)?;
         let end = start.checked_add(count as u64)?;
-        if end > leaves || leaves > MAX_LEAVES {
+        if count == 0 || end > leaves || leaves > MAX_LEAVES {
             return None;
         }
         let first_chunk = start >> height;
@@ -61,7 +64,7 @@ impl Window {
 
     /// The place of a chunk among those that the range touches; none for another one.
     pub(crate) fn place(&self, chunk: u64) -> Option<usize>
-        ensures { IfSome result (λ place. place ≤ self.now.last_chunk - self.now.first_chunk) }
+        ensures { MatchOption result (self.now.first_chunk ≤ chunk → chunk ≤ self.now.last_chunk → ⊥) (λ place. (self.now.first_chunk ≤ chunk) × (chunk ≤ self.now.last_chunk) × (place ≡ chunk - self.now.first_chunk)) }
     {
         if chunk < self.first_chunk || self.last_chunk < chunk {
             return None;

@@ -1,5 +1,5 @@
-use Rattle.std.proofs.Common.{arith, sym, ◌∙◌, ap, ◌+◌, length, ℕ, length-append}
-use Rattle.storage_current.proofs.Places.{AreBelow, peaks_below, length-placed}
+use Rattle.std.proofs.Common.{arith, sym, ◌∙◌, length-append}
+use Rattle.storage_current.proofs.Places.{peaks_below, length-placed}
 use Rattle.storage_current.proofs.qmdb.current.nodes.peak_digests.Goals as goal
 
 pub loop-position-init : goal.loop-position-init

@@ -3,7 +3,8 @@
 ghost use Rattle.std.specs.Prelude.{◌≡◌, ℕ, ◌+◌};
 ghost use Rattle.storage_current.specs.Held.{current_of};
 ghost use Rattle.storage_current.specs.Snapshots.{OperationProof};
-ghost use Rattle.storage_current.specs.CurrentWire.{operation_text, operation_at, sized_operation_at, IsAdmittedOperation};
+ghost use Rattle.storage_current.specs.CurrentWire.{operation_text, operation_at, sized_operation_at, IsAdmittedArray, IsAdmittedSized};
+ghost use Rattle.storage_current.specs.CurrentWireLaws.{operation_again, operation_back, sized_again, sized_back, held_digests};
 
 use crate::qmdb::current::grafting;
 use crate::qmdb::current::proof::codec::sum;
@@ -12,7 +13,7 @@ use crate::qmdb::current::proof::{Chunk, RangeProof};
 use bytes::Bytes;
 use std::alloc::Global;
 use storage_codec::NoMemory;
-use storage_codec::codec::{Buf, EncodeSize, Error, Read, Write};
+use storage_codec::codec::{Buf, Canonical, Codec, EncodeSize, Error, Read, Write};
 use storage_codec::digest::Digest;
 use storage_merkle::merkle::{Graftable, Location};
 
@@ -45,7 +46,7 @@ impl<F: Graftable, D: Digest, const N: usize> Read for Proof<F, D, [u8; N]> {
 
     ghost view = { λ p. record { location = p.loc; chunk = p.chunk; range = current_of D.text p.range_proof } };
 
-    ghost admits = { λ most p. IsAdmittedOperation F.has_pending most (record { location = p.loc; chunk = p.chunk; range = current_of D.text p.range_proof }) };
+    ghost admits = { λ most p. IsAdmittedArray F.has_pending N most (record { location = p.loc; chunk = p.chunk; range = current_of D.text p.range_proof }) };
 
     ghost parse = { λ most. operation_at F.has_pending D.size N most };
 
@@ -104,4 +105,20 @@ impl<F: Graftable, D: Digest> Read for Proof<F, D, Bytes> {
             Err(error) => Err(error),
         }
     }
+}
+
+impl<F: Graftable, D: Digest, const N: usize> Codec for Proof<F, D, [u8; N]> {
+    ghost again = { λ most p rest ok. operation_again F.has_pending D.size N most (record { location = p.loc; chunk = p.chunk; range = current_of D.text p.range_proof }) rest (held_digests D.text D.size D.sized p.range_proof) ok.chunk ok.proof };
+}
+
+impl<F: Graftable, D: Digest, const N: usize> Canonical for Proof<F, D, [u8; N]> {
+    ghost back = { λ most bytes p rest fits e. operation_back F.has_pending D.size N most bytes (record { location = p.loc; chunk = p.chunk; range = current_of D.text p.range_proof }) rest fits e };
+}
+
+impl<F: Graftable, D: Digest> Codec for Proof<F, D, Bytes> {
+    ghost again = { λ cfg p rest ok. sized_again F.has_pending D.size cfg.0 cfg.1 (record { location = p.loc; chunk = p.chunk; range = current_of D.text p.range_proof }) rest (held_digests D.text D.size D.sized p.range_proof) ok };
+}
+
+impl<F: Graftable, D: Digest> Canonical for Proof<F, D, Bytes> {
+    ghost back = { λ cfg bytes p rest fits e. sized_back F.has_pending D.size cfg.0 cfg.1 bytes (record { location = p.loc; chunk = p.chunk; range = current_of D.text p.range_proof }) rest fits e };
 }

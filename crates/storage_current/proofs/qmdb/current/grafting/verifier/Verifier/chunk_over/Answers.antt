@@ -1,6 +1,6 @@
 use Rattle.std.proofs.Common.{arith, rules, List, ℕ, Bor}
 use Rattle.storage_merkle.specs.ShapeLaws.{same_node}
-use Rattle.storage_current.proofs.Grafts.{grafted_some, supplied_none}
+use Rattle.storage_current.proofs.Grafts.{grafted_some}
 use Rattle.storage_current.proofs.qmdb.current.grafting.verifier.Verifier.chunk_over.Goals as goal
 
 pub returns : goal.returns

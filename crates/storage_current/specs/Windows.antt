@@ -1,0 +1,20 @@
+-- Where a claimed range stands among the chunks, and the digests of chunks under no node of their own.
+use Rattle.std.specs.Prelude.{◌≡◌, ℕ, ◌+◌, ◌-◌, ◌<◌, ◌≤◌, ◌^◌, List, [], get_or, Bool, true, Option, Some, is_some}
+use Rattle.storage_codec.specs.Digests.{HashFunction}
+use Rattle.storage_bitmap.specs.Chunks.{IsChunkSize}
+use Rattle.storage_current.specs.Snapshots.{Grafting, complete, graftable, first_chunk, last_chunk}
+
+-- a range of so many operations from `start` on, with so many chunks, fits among the leaves
+pub record IsWindow (g : Grafting) (leaves start count chunks : ℕ) : Type 0 where
+  pub size : IsChunkSize g.bytes
+  pub some : 0 < count
+  pub few : leaves ≤ 2 ^ 62
+  pub within : start + count ≤ leaves
+  pub chunk_count : chunks ≡ last_chunk g start count - first_chunk g start + 1
+  pub one_pending : complete g leaves ≤ graftable g leaves + 1
+
+-- a slot has a digest just where its chunk is there, and it is the claimed chunk's where one of the claimed chunks, from `first`
+-- to `last`, is this one
+pub record IsMatched (h : HashFunction) (slot : Option (List ℕ)) (there : Bool) (first last index : ℕ) (chunks : List (List ℕ)) : Type 0 where
+  pub has : is_some slot ≡ there
+  pub is : there ≡ true → first ≤ index → index ≤ last → slot ≡ Some (h (get_or chunks (index - first) []))
