@@ -10,6 +10,8 @@ pub mod Rewriting
 pub mod Alike
 pub mod Ascending
 pub mod Walks
+pub mod PlanWalk
+pub mod PlanSites
 pub mod Folds
 pub mod Written
 pub mod Rising

@@ -28,6 +28,7 @@ pub mod KeptLaws
 pub mod Rewriting
 pub mod Hashers
 pub mod Plans
+pub mod PlanParts
 pub mod ProofWire
 pub mod ProofWireLaws
 pub mod Siblings

@@ -1,6 +1,12 @@
 -- Which nodes are asked for, and the first that is not there.
-use Rattle.std.specs.Prelude.{◌≡◌, ℕ, ◌+◌, ◌-◌, ◌%◌, ◌<◌, ◌≤◌, ◌^◌, List, [], ◌∷◌, ◌⊎◌, Option, Some, None, IsSome}
+use Rattle.std.specs.Prelude.{◌≡◌, ℕ, ◌+◌, ◌-◌, ◌%◌, ◌<◌, ◌≤◌, ◌^◌, List, [], ◌∷◌, map, ◌⊎◌, Option, Some, None, IsSome, leb, ltb, if◌then◌else◌}
+use Rattle.storage_merkle.specs.declared.merkle.error.Error.{Error}
+use Rattle.storage_merkle.specs.declared.merkle.error.Error.TheVariants.{Empty, RangeOutOfBounds, LocationOverflow}
 use Rattle.storage_merkle.specs.Shape.{Shape, size, Inside, AreAligned}
+use Rattle.storage_merkle.specs.Calc.{Site}
+use Rattle.storage_merkle.specs.Trees.{Layout, ungrafted, peaks_of}
+use Rattle.storage_merkle.specs.RangeProofs.{apart, sites_in, position_of, by_position}
+use Rattle.storage_merkle.specs.Siblings.{sibling_sites}
 
 -- p is the first of the positions at which there is nothing
 abbrev pub IsFirstAbsent : {D : Type 0} → (ℕ → Option D) → List ℕ → ℕ → Type 0
@@ -12,6 +18,31 @@ pub record PlanOf : Type 0 where
   pub leaves : ℕ
   pub start : ℕ
   pub end : ℕ
+
+-- why there is no plan of the leaves from start to before end of a tree of n leaves: the first reason that holds
+abbrev pub refusal : (F : Type 0) → ℕ → ℕ → ℕ → Option (Error F)
+refusal F n start end =
+    if ltb (2 ^ 62) n then Some (LocationOverflow n)
+    else (if leb end start then Some Empty
+    else (if ltb (2 ^ 62) end then Some (LocationOverflow (end - 1))
+    else (if ltb n end then Some (RangeOutOfBounds (end - 1))
+    else None)))
+
+-- the greatest nodes of the tree over n leaves that hold no leaf from low to high - 1, ascending by position
+abbrev pub planned_sites : Layout → ℕ → ℕ → ℕ → List Site
+planned_sites T n low high = by_position T (sites_in T (apart low high) (peaks_of T n))
+
+-- their positions
+abbrev pub planned : Shape → ℕ → ℕ → ℕ → List ℕ
+planned S n low high = map (position_of (ungrafted S)) (planned_sites (ungrafted S) n low high)
+
+-- a plan's positions are those that are planned, and its siblings' those of the siblings
+pub record ArePlanned (S : Shape) (leaves start end : ℕ) (positions siblings : List ℕ) : Type 0 where
+  pub some : start < end
+  pub within : end ≤ leaves
+  pub few : leaves ≤ 2 ^ 62
+  pub positions_are : positions ≡ planned S leaves start end
+  pub siblings_are : siblings ≡ map (position_of (ungrafted S)) (sibling_sites (ungrafted S) leaves start end)
 
 -- the node of height k with first leaf a is in the tree over n leaves
 pub record InTree (S : Shape) (n a k : ℕ) : Type 0 where

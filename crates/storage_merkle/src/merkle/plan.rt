@@ -1,7 +1,8 @@
 //! Which nodes a range proof needs, and the proof from their digests.
-ghost use Rattle.std.specs.Prelude.{◌≡◌, ℕ, ◌+◌, ◌-◌, ◌*◌, ◌%◌, ◌^◌, ◌<◌, ◌≤◌, ◌++◌, List, length, map, Some, None, IfOk, OnOk};
+ghost use Rattle.std.specs.Prelude.{◌≡◌, ℕ, ◌+◌, ◌-◌, ◌*◌, ◌%◌, ◌^◌, ◌<◌, ◌≤◌, ◌++◌, List, length, map, Some, None, Err, IfOk, OnOk, MatchOption, MatchResult};
+ghost use Rattle.std.specs.List.Sorted.{IsStrictlyIncreasing};
 ghost use Rattle.storage_merkle.specs.Shape.{AreAligned};
-ghost use Rattle.storage_merkle.specs.Plans.{ArePeaks, PlanOf};
+ghost use Rattle.storage_merkle.specs.Plans.{ArePeaks, ArePlanned, PlanOf, planned, refusal};
 ghost use Rattle.storage_merkle.specs.RangeProofs.{apart, position_of, sites_of};
 ghost use Rattle.storage_merkle.specs.Rests.{AreAfterLeading, AreFolded};
 ghost use Rattle.storage_merkle.specs.Siblings.{sibling_sites};
@@ -30,7 +31,7 @@ impl<F: Family> Model for RangePlan<F> {
 
     ghost view = { λ s. record { leaves = s.leaves; start = s.start; end = s.end } };
 
-    ghost invariant = { λ s. (s.start < s.end) × (s.end ≤ s.leaves) × (s.leaves ≤ 2 ^ 62) };
+    ghost invariant = { λ s. ArePlanned F.shape s.leaves s.start s.end s.positions.items s.siblings.items };
 }
 
 impl<F: Family> RangePlan<F> {
@@ -45,7 +46,9 @@ impl<F: Family> RangePlan<F> {
         alloc: Global,
         leaves: Location<F>,
         range: Range<Location<F>>,
-    ) -> Result<Self, Error<F>> {
+    ) -> Result<Self, Error<F>>
+        ensures { MatchOption (refusal F leaves range.start range.end) (MatchResult result (λ plan. plan ≡ record { leaves = leaves; start = range.start; end = range.end }) (λ e. e ≡ Error.Memory)) (λ e. result ≡ Err e) }
+    {
         Self::over(alloc, leaves, range.start, range.end)
     }
 
@@ -55,7 +58,9 @@ impl<F: Family> RangePlan<F> {
         leaves: Location<F>,
         start: Location<F>,
         end: Location<F>,
-    ) -> Result<Self, Error<F>> {
+    ) -> Result<Self, Error<F>>
+        ensures { MatchOption (refusal F leaves start end) (MatchResult result (λ plan. plan ≡ record { leaves = leaves; start = start; end = end }) (λ e. e ≡ Error.Memory)) (λ e. result ≡ Err e) }
+    {
         if !leaves.is_valid() {
             return Err(Error::LocationOverflow(leaves));
         }
@@ -82,7 +87,10 @@ impl<F: Family> RangePlan<F> {
 
     /// The positions of every node whose digest the proof needs, ascending and each once: a fold needs each of its
     /// peaks.
-    pub fn positions(&self) -> &[Position<F>] {
+    pub fn positions(&self) -> &[Position<F>]
+        ensures value { result.now ≡ planned F.shape self.now.leaves self.now.start self.now.end }
+        ensures rising { IsStrictlyIncreasing result.now }
+    {
         &self.positions
     }
 
@@ -312,6 +320,14 @@ pub struct ElementPlan<F: Family> {
     plan: RangePlan<F>,
 }
 
+impl<F: Family> Model for ElementPlan<F> {
+    ghost Value = { PlanOf };
+
+    ghost view = { λ s. s.plan };
+
+    ghost invariant = { λ s. s.plan.end ≡ s.plan.start + 1 };
+}
+
 impl<F: Family> ElementPlan<F> {
     /// The plan of the leaf at a location of a tree of `leaves` leaves.
     ///
@@ -319,11 +335,9 @@ impl<F: Family> ElementPlan<F> {
     ///
     /// The first of: `LocationOverflow(leaves)` past `MAX_LEAVES`; `LocationOverflow(location)` from `MAX_LEAVES` on;
     /// `RangeOutOfBounds(location)` from `leaves` on; `Memory`.
-    pub fn new(
-        alloc: Global,
-        leaves: Location<F>,
-        location: Location<F>,
-    ) -> Result<Self, Error<F>> {
+    pub fn new(alloc: Global, leaves: Location<F>, location: Location<F>) -> Result<Self, Error<F>>
+        ensures { MatchOption (refusal F leaves location (location + 1)) (MatchResult result (λ plan. plan ≡ record { leaves = leaves; start = location; end = location + 1 }) (λ e. e ≡ Error.Memory)) (λ e. result ≡ Err e) }
+    {
         if !leaves.is_valid() {
             return Err(Error::LocationOverflow(leaves));
         }
@@ -339,15 +353,16 @@ impl<F: Family> ElementPlan<F> {
 
     /// The location.
     pub fn location(&self) -> Location<F>
-        ensures value { result ≡ self.now.plan.start }
-        ensures within { result < self.now.plan.leaves }
+        ensures value { result ≡ self.now.start }
+        ensures within { result < self.now.leaves }
     {
         self.plan.start()
     }
 
     /// The plan of the range of this one leaf.
     pub fn into(self) -> RangePlan<F>
-        ensures { result ≡ self.plan }
+        ensures value { result ≡ self }
+        ensures one { result.end ≡ result.start + 1 }
     {
         self.plan
     }
@@ -394,6 +409,7 @@ fn planned<F: Family>(
     end: u64,
 ) -> Result<Vec<Position<F>>, AllocError>
     requires { leaves ≤ 2 ^ 62 }
+    ensures { IfOk result (λ v. v.items ≡ planned F.shape leaves start end) }
 {
     let mut positions = Vec::new(alloc);
     let mut first = 0;

@@ -1,0 +1,39 @@
+-- What the parts of a plan answer: the digests that stand at positions, and the peaks and folds apart from a range.
+use Rattle.std.specs.Prelude.{◌≡◌, ℕ, ◌+◌, ◌≤◌, ◌^◌, ◌⊎◌, List, [], ◌∷◌, ◌++◌, map, Option, Some, None}
+use Rattle.storage_codec.specs.Digests.{HashFunction}
+use Rattle.storage_merkle.specs.Shape.{Shape}
+use Rattle.storage_merkle.specs.Nodes.{IsNode}
+use Rattle.storage_merkle.specs.Calc.{Site, front, back, node}
+use Rattle.storage_merkle.specs.Trees.{Layout, Peak}
+use Rattle.storage_merkle.specs.RangeProofs.{apart, leading, not_leading, trailing, sites_in, front_sites, back_sites}
+use Rattle.storage_merkle.specs.Hashers.{forward_of, folded_onto}
+
+-- the digest d stands at the position p
+abbrev pub StandsAt : {D : Type 0} → List ℕ → List D → ℕ → D → Type 0
+StandsAt [] ds p d = ⊥
+StandsAt (q ∷ qs) [] p d = ⊥
+StandsAt (q ∷ qs) (e ∷ ds) p d = ((p ≡ q) × (d ≡ e)) ⊎ StandsAt qs ds p d
+
+-- the digests at the positions are those that `digest_of` gives nodes, by first leaf and height
+abbrev pub AreOf : {D : Type 0} → (D → List ℕ) → Shape → List ℕ → List D → (ℕ → ℕ → List ℕ) → Type 0
+AreOf {D} text S positions digests digest_of = (p a k : ℕ) (d : D) → StandsAt positions digests p d → IsNode S p a k → text d ≡ digest_of a k
+
+-- peaks folded from the left, and from the right
+abbrev pub digest_or : List ℕ → Option (List ℕ) → List ℕ
+digest_or none None = none
+digest_or none (Some x) = x
+
+abbrev pub peaks_by : (ℕ → ℕ → List ℕ) → List Peak → List (List ℕ)
+peaks_by digest_of ps = map (λ p. digest_of p.first p.height) ps
+
+module _ (low high : ℕ) (xs ys : List Peak) where
+  -- the digest at each site of a range, where the peaks xs are folded from the left and the peaks ys from the right
+  abbrev pub site_digest : HashFunction → (ℕ → ℕ → List ℕ) → Site → List ℕ
+  site_digest h digest_of front = digest_or (h []) (forward_of h (peaks_by digest_of (leading low xs)))
+  site_digest h digest_of back = digest_or (h []) (folded_onto h (peaks_by digest_of (trailing high ys)) None)
+  site_digest h digest_of (node a k) = digest_of a k
+
+  -- the peaks and folds apart from the range, in leaf order
+  abbrev pub tops : Layout → List Site
+  tops T = front_sites (leading low xs) ++ (sites_in T (apart low high) (leading low ys)
+      ++ (sites_in T (apart low high) (trailing high (not_leading low xs)) ++ back_sites (trailing high ys)))
