@@ -17,3 +17,10 @@ pub mod Written
 pub mod Rising
 pub mod Siblings
 pub mod Rests
+pub mod CheckNodes
+pub mod CheckTops
+pub mod CheckSites
+pub mod CheckBags
+pub mod CheckSiblings
+pub mod Checks
+pub mod Meaning

@@ -86,7 +86,7 @@ module _ (T : Layout) where
         | false ↦ omega (arith, place-count m s ts)
       ]
 
-  sort-count : (m : ℕ) (ss : List Site) → count m (positions (by_position T ss)) ≡ count m (positions ss)
+  pub sort-count : (m : ℕ) (ss : List Site) → count m (positions (by_position T ss)) ≡ count m (positions ss)
   sort-count m [] = refl
   sort-count m (s ∷ ss) = place-count m s (by_position T ss) ∙ ap (λ n. one_if (eqb (position_of T s) m) + n) (sort-count m ss)
 
@@ -148,6 +148,9 @@ module _ (T : Layout) (low high : ℕ) where
 pub on_ok : {A E : Type 0} {P Q : Type 0} (r : Result A E) → (P → Q) → OnOk r P → OnOk r Q
 on_ok (Ok x) f p = f p
 on_ok (Err e) f p = p
+
+pub not_both : (b : Bool) → b ≡ true → b ≡ false → ⊥
+not_both b t f = cc
 
 pub not_below : (b : Bool) (m n : ℕ) → b ≡ true → b ≡ leb m n → n < m → ⊥
 not_below b m n t e l = let below : m ≤ n = leb-true m n (sym e ∙ t) in omega arith

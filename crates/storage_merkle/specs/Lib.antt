@@ -33,3 +33,5 @@ pub mod ProofWire
 pub mod ProofWireLaws
 pub mod Siblings
 pub mod Rests
+pub mod Checks
+pub mod CheckSteps

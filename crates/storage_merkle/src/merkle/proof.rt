@@ -1,6 +1,9 @@
 //! Range proofs over plain trees.
-ghost use Rattle.std.specs.Prelude.{◌≡◌, ℕ, ◌+◌, ◌-◌, ◌*◌, ◌%◌, ◌^◌, ◌<◌, ◌≤◌, List, length, Some, None};
+ghost use Rattle.std.specs.Prelude.{◌≡◌, ◌≢◌, ℕ, ◌+◌, ◌-◌, ◌*◌, ◌%◌, ◌^◌, ◌<◌, ◌≤◌, ◌↔◌, ◌⊎◌, List, [], ◌∷◌, length, map, option_map, Some, None, IsTrue, IsOk, IfOk, IfErr};
+ghost use Rattle.storage_merkle.specs.Checks.{IsRecomputed, IsProved};
 ghost use Rattle.storage_merkle.specs.Hashers.{TakesTree};
+ghost use Rattle.storage_merkle.specs.RangeProofs.{IsAccepted, IsEmptyProof};
+ghost use Rattle.storage_merkle.specs.Trees.{Content, empty_root};
 
 use crate::merkle::hasher::Hasher;
 use crate::merkle::{Error, Family, Location};
@@ -54,11 +57,14 @@ impl<F: Family, D: Digest> Proof<F, D> {
         root: &D,
     ) -> Result<bool, NoMemory>
         requires { TakesTree (H.takes hasher.now) F.shape self.now.leaves }
+        ensures exact { (H.layout hasher.now).shape ≡ F.shape → IfOk result (λ yes. IsTrue yes ↔ IsAccepted H.hash_of (H.layout hasher.now) (H.bagging hasher.now) (record { leaves = self.now.leaves; inactive = self.now.inactive_peaks; digests = map D.text self.now.digests.items }) location (record { elements = element.now ∷ []; chunk = H.chunk hasher.now }) (D.text root.now)) }
+        ensures means { (H.layout hasher.now).shape ≡ F.shape → IfOk result (λ yes. IsTrue yes → IsProved D.size H.hash_of (H.layout hasher.now) (H.bagging hasher.now) (record { leaves = self.now.leaves; inactive = self.now.inactive_peaks; digests = map D.text self.now.digests.items }) location (record { elements = element.now ∷ []; chunk = H.chunk hasher.now }) (D.text root.now)) }
     {
         self.verify_range_inclusion(alloc, hasher, &[element], location, root)
     }
 
-    /// Whether elements stand at the leaves from `start` on of the tree with that root.
+    /// Whether elements stand at the leaves from `start` on of the tree with that root. The answer for no elements takes no
+    /// memory.
     pub fn verify_range_inclusion<H: Hasher<F, Digest = D>, E: AsSlice<u8>>(
         &self,
         alloc: Global,
@@ -68,11 +74,12 @@ impl<F: Family, D: Digest> Proof<F, D> {
         root: &D,
     ) -> Result<bool, NoMemory>
         requires { TakesTree (H.takes hasher.now) F.shape self.now.leaves }
+        ensures exact { (H.layout hasher.now).shape ≡ F.shape → IfOk result (λ yes. IsTrue yes ↔ IsAccepted H.hash_of (H.layout hasher.now) (H.bagging hasher.now) (record { leaves = self.now.leaves; inactive = self.now.inactive_peaks; digests = map D.text self.now.digests.items }) start (record { elements = map E.items elements.now; chunk = H.chunk hasher.now }) (D.text root.now)) }
+        ensures means { (H.layout hasher.now).shape ≡ F.shape → IfOk result (λ yes. IsTrue yes → IsProved D.size H.hash_of (H.layout hasher.now) (H.bagging hasher.now) (record { leaves = self.now.leaves; inactive = self.now.inactive_peaks; digests = map D.text self.now.digests.items }) start (record { elements = map E.items elements.now; chunk = H.chunk hasher.now }) (D.text root.now)) }
+        ensures none { elements.now ≡ [] → IsOk result }
     {
         if elements.is_empty() {
-            return Ok(
-                start.as_u64() == 0 && self.is_default() && hasher.root(start, 0, &[]) == *root,
-            );
+            return Ok(self.verify_nothing(hasher, start, root));
         }
         let computed = check::recompute(self, alloc, hasher, elements, start)?;
         Ok(computed == Some(*root))
@@ -88,6 +95,7 @@ impl<F: Family, D: Digest> Proof<F, D> {
         start: Location<F>,
     ) -> Result<Option<D>, NoMemory>
         requires { TakesTree (H.takes hasher.now) F.shape self.now.leaves }
+        ensures { (H.layout hasher.now).shape ≡ F.shape → IfOk result (λ root. IsRecomputed H.hash_of (H.layout hasher.now) (H.bagging hasher.now) (record { leaves = self.now.leaves; inactive = self.now.inactive_peaks; digests = map D.text self.now.digests.items }) start (record { elements = map E.items elements.now; chunk = H.chunk hasher.now }) (option_map D.text root)) }
     {
         check::recompute(self, alloc, hasher, elements, start)
     }
@@ -105,6 +113,8 @@ impl<F: Family, D: Digest> Proof<F, D> {
         start: Location<F>,
     ) -> Result<D, Error<F>>
         requires { TakesTree (H.takes hasher.now) F.shape self.now.leaves }
+        ensures root { (H.layout hasher.now).shape ≡ F.shape → IfOk result (λ root. IsRecomputed H.hash_of (H.layout hasher.now) (H.bagging hasher.now) (record { leaves = self.now.leaves; inactive = self.now.inactive_peaks; digests = map D.text self.now.digests.items }) start (record { elements = map E.items elements.now; chunk = H.chunk hasher.now }) (Some (D.text root))) }
+        ensures why { IfErr result (λ e. (e ≡ Error.Memory) ⊎ ((e ≡ Error.InvalidProof) × ((H.layout hasher.now).shape ≡ F.shape → IsRecomputed H.hash_of (H.layout hasher.now) (H.bagging hasher.now) (record { leaves = self.now.leaves; inactive = self.now.inactive_peaks; digests = map D.text self.now.digests.items }) start (record { elements = map E.items elements.now; chunk = H.chunk hasher.now }) None))) }
     {
         match check::recompute(self, alloc, hasher, elements, start)? {
             Some(root) => Ok(root),
@@ -112,8 +122,22 @@ impl<F: Family, D: Digest> Proof<F, D> {
         }
     }
 
+    /// Whether it is the proof of no elements of the tree without leaves, which has that root. Takes no memory.
+    fn verify_nothing<H: Hasher<F, Digest = D>>(
+        &self,
+        hasher: &H,
+        start: Location<F>,
+        root: &D,
+    ) -> bool
+        ensures { (claim : Content) → claim.elements ≡ [] → (IsTrue result ↔ (IsEmptyProof H.hash_of (H.layout hasher.now) (H.bagging hasher.now) (record { leaves = self.now.leaves; inactive = self.now.inactive_peaks; digests = map D.text self.now.digests.items }) start claim × (empty_root H.hash_of (H.layout hasher.now) (H.bagging hasher.now) ≡ D.text root.now))) }
+    {
+        start.as_u64() == 0 && self.is_default() && hasher.root(start, 0, &[]) == *root
+    }
+
     /// Whether it is the proof of no elements in the tree without leaves.
-    fn is_default(&self) -> bool {
+    fn is_default(&self) -> bool
+        ensures { IsTrue result ↔ ((self.now.leaves ≡ 0) × (self.now.inactive_peaks ≡ 0) × (self.now.digests.items ≡ [])) }
+    {
         self.leaves.as_u64() == 0 && self.inactive_peaks == 0 && self.digests.is_empty()
     }
 }

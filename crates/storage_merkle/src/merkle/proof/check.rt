@@ -1,12 +1,18 @@
 //! The root that a range proof and its elements give.
-ghost use Rattle.std.specs.Prelude.{◌≡◌, ℕ, ◌+◌, ◌-◌, ◌*◌, ◌%◌, ◌^◌, ◌<◌, ◌≤◌, List, length, true, Some, None, IsSome};
+ghost use Rattle.std.specs.Prelude.{◌≡◌, ℕ, ◌+◌, ◌-◌, ◌*◌, ◌%◌, ◌^◌, ◌<◌, ◌≤◌, ◌∷◌, ◌++◌, List, length, map, drop, option_map, true, false, if◌then◌else◌, Some, None, IfOk, Contains};
+ghost use Rattle.storage_merkle.specs.Calc.{Site, front, back, node, eval};
+ghost use Rattle.storage_merkle.specs.Checks.{IsRecomputed};
+ghost use Rattle.storage_merkle.specs.CheckSteps.{front_before, top_sites, given_values, IsGiven, Serves, Present, PresentIn, right_of, bag_onto, folded_before};
 ghost use Rattle.storage_merkle.specs.Hashers.{TakesTree};
+ghost use Rattle.storage_merkle.specs.Nodes.{IsNode};
 ghost use Rattle.storage_merkle.specs.Plans.{InTree, ArePeaks};
-ghost use Rattle.storage_merkle.specs.RangeProofs.{apart};
+ghost use Rattle.storage_merkle.specs.RangeProofs.{apart, sites_of};
+ghost use Rattle.storage_merkle.specs.Rests.{peaks_from};
+ghost use Rattle.storage_merkle.specs.Trees.{part, node_calc, ungrafted};
 
 use crate::merkle::family::power;
 use crate::merkle::hasher::{Hasher, append, bagged_root, join};
-use crate::merkle::plan::{Rest, node_position, peak_count, siblings};
+use crate::merkle::plan::{Rest, is_apart, node_position, peak_count, siblings};
 use crate::merkle::{Family, Location, MAX_LEAVES, Position, Proof};
 use std::alloc::Global;
 use std::convert::AsSlice;
@@ -22,6 +28,7 @@ pub(crate) fn recompute<F: Family, H: Hasher<F>, E: AsSlice<u8>>(
     start: Location<F>,
 ) -> Result<Option<H::Digest>, NoMemory>
     requires { TakesTree (H.takes hasher.now) F.shape proof.now.leaves }
+    ensures { (H.layout hasher.now).shape ≡ F.shape → IfOk result (λ root. IsRecomputed H.hash_of (H.layout hasher.now) (H.bagging hasher.now) (record { leaves = proof.now.leaves; inactive = proof.now.inactive_peaks; digests = map H.Digest.text proof.now.digests.items }) start (record { elements = map E.items elements.now; chunk = H.chunk hasher.now }) (option_map H.Digest.text root)) }
 {
     let leaves = proof.leaves.as_u64();
     let start = start.as_u64();
@@ -54,23 +61,22 @@ pub(crate) fn recompute<F: Family, H: Hasher<F>, E: AsSlice<u8>>(
         siblings: &siblings,
         digests,
     };
-    let Some(bag) = given.bag(hasher, rest, tops) else {
-        return Ok(None);
-    };
-    Ok(Some(bagged_root(hasher, leaves, proof.inactive_peaks, Some(bag))))
+    let bag = given.bag(hasher, rest, tops);
+    Ok(Some(bagged_root(hasher, leaves, proof.inactive_peaks, bag)))
 }
 
 /// How many digests a proof has for these peaks where they are apart from the range.
 fn count_apart<F: Family>(rest: Rest, start: u64, end: u64) -> usize
     requires few { rest.first + rest.left ≤ 2 ^ 62 }
     requires peaks { ArePeaks F.shape (rest.first + rest.left) rest.first rest.left }
-    ensures { result ≤ rest.left }
+    ensures few { result ≤ rest.left }
+    ensures exact { result ≡ length (top_sites start end (peaks_from F.shape rest.first rest.left) rest.folded) }
 {
     let mut rest = rest;
     let mut count = 0;
     while rest.left > 0 && (rest.folded > 0 || rest.first < end) {
         let height = F::first_peak(rest.left);
-        if rest.first + power(height) <= start || end <= rest.first {
+        if is_apart(start, end, rest.first, height) {
             count += 1;
         }
         rest = rest.next(height);
@@ -94,27 +100,27 @@ struct Given<'a, F, D, E> {
 
 impl<F: Family, D: Digest, E: AsSlice<u8>> Given<'_, F, D, E> {
     /// What the peaks are folded into, from those after the leading ones that are folded from the left and end before
-    /// the range, and the digests of the peaks and folds apart from it.
+    /// the range, and the digests of the peaks and folds apart from it; none for no peaks.
     fn bag<H: Hasher<F, Digest = D>>(&self, hasher: &H, rest: Rest, tops: &[D]) -> Option<D>
-        requires few { self.now.leaves ≤ 2 ^ 62 }
+        requires given { IsGiven self.now.leaves self.now.start self.now.end self.now.elements.now self.now.siblings.now self.now.digests.now }
         requires peaks { ArePeaks F.shape self.now.leaves rest.first rest.left }
         requires takes { TakesTree (H.takes hasher.now) F.shape self.now.leaves }
+        requires present { PresentIn F.shape self.now.start self.now.end self.now.siblings.now (peaks_from F.shape rest.first rest.left) }
+        requires tops { length tops.now ≡ length (front_before rest.first ++ top_sites self.now.start self.now.end (peaks_from F.shape rest.first rest.left) rest.folded) }
+        ensures { (digest : Site → List ℕ) → (H.layout hasher.now).shape ≡ F.shape → Serves F.shape digest self.now.siblings.now (map D.text self.now.digests.now) → map D.text tops.now ≡ map digest (front_before rest.first ++ top_sites self.now.start self.now.end (peaks_from F.shape rest.first rest.left) rest.folded) → option_map D.text result ≡ bag_onto H.hash_of (λ p. eval H.hash_of (given_values digest self.now.start (map E.items self.now.elements.now) (H.chunk hasher.now)) (part (H.layout hasher.now) (apart self.now.start self.now.end) p)) (digest back) self.now.end (folded_before (digest front) rest.first) (peaks_from F.shape rest.first rest.left) rest.folded }
     {
         let mut rest = rest;
         let mut tops = tops;
-        let mut folded: Option<D> = None;
+        let mut folded = None;
         if rest.first > 0 {
-            let (front, after) = tops.split_first()?;
-            folded = Some(*front);
-            tops = after;
+            folded = Some(tops[0]);
+            tops = &tops[1..];
         }
         while rest.left > 0 && rest.folded > 0 {
             let height = F::first_peak(rest.left);
-            let item = self.item(hasher, rest.first, height, tops)?;
-            if self.is_apart(rest.first, height) {
-                tops = &tops[1..];
-            }
+            let (item, after) = self.item(hasher, rest.first, height, tops);
             folded = Some(append(hasher, folded, &item));
+            tops = after;
             rest = rest.next(height);
         }
         let onto = self.unfolded(hasher, rest, tops);
@@ -126,74 +132,78 @@ impl<F: Family, D: Digest, E: AsSlice<u8>> Given<'_, F, D, E> {
 
     /// What peaks are folded into from the right; none for no peaks.
     fn unfolded<H: Hasher<F, Digest = D>>(&self, hasher: &H, rest: Rest, tops: &[D]) -> Option<D>
-        requires few { self.now.leaves ≤ 2 ^ 62 }
+        requires given { IsGiven self.now.leaves self.now.start self.now.end self.now.elements.now self.now.siblings.now self.now.digests.now }
         requires peaks { ArePeaks F.shape self.now.leaves rest.first rest.left }
         requires takes { TakesTree (H.takes hasher.now) F.shape self.now.leaves }
+        requires present { PresentIn F.shape self.now.start self.now.end self.now.siblings.now (peaks_from F.shape rest.first rest.left) }
+        requires tops { length tops.now ≡ length (top_sites self.now.start self.now.end (peaks_from F.shape rest.first rest.left) 0) }
+        ensures { (digest : Site → List ℕ) → (H.layout hasher.now).shape ≡ F.shape → Serves F.shape digest self.now.siblings.now (map D.text self.now.digests.now) → map D.text tops.now ≡ map digest (top_sites self.now.start self.now.end (peaks_from F.shape rest.first rest.left) 0) → option_map D.text result ≡ right_of H.hash_of (λ p. eval H.hash_of (given_values digest self.now.start (map E.items self.now.elements.now) (H.chunk hasher.now)) (part (H.layout hasher.now) (apart self.now.start self.now.end) p)) (digest back) self.now.end (peaks_from F.shape rest.first rest.left) }
     {
         if rest.left == 0 {
             return None;
         }
         if self.end <= rest.first {
-            return tops.first().copied();
+            return Some(tops[0]);
         }
         let height = F::first_peak(rest.left);
-        let item = self.item(hasher, rest.first, height, tops)?;
-        let tops = if self.is_apart(rest.first, height) {
-            &tops[1..]
-        } else {
-            tops
-        };
+        let (item, tops) = self.item(hasher, rest.first, height, tops);
         let onto = self.unfolded(hasher, rest.next(height), tops);
         Some(join(hasher, &item, onto))
     }
 
-    /// The digest of a peak: the first of these where it is apart from the range.
-    fn item<H: Hasher<F, Digest = D>>(
+    /// The digest of a peak, the first of these where it is apart from the range, and those that are left of them.
+    fn item<'t, H: Hasher<F, Digest = D>>(
         &self,
         hasher: &H,
         first: u64,
         height: u32,
-        tops: &[D],
-    ) -> Option<D>
-        requires few { self.now.leaves ≤ 2 ^ 62 }
+        tops: &'t [D],
+    ) -> (D, &'t [D])
+        requires given { IsGiven self.now.leaves self.now.start self.now.end self.now.elements.now self.now.siblings.now self.now.digests.now }
         requires small { height ≤ 62 }
         requires within { InTree F.shape self.now.leaves first height }
         requires takes { TakesTree (H.takes hasher.now) F.shape self.now.leaves }
-        ensures { IsSome result → apart self.now.start self.now.end first height ≡ true → 0 < length tops.now }
+        requires present { apart self.now.start self.now.end first height ≡ false → Present F.shape self.now.siblings.now (sites_of (node_calc (ungrafted F.shape) (apart self.now.start self.now.end) height first)) }
+        requires tops { apart self.now.start self.now.end first height ≡ true → 0 < length tops.now }
+        ensures left { result.1.now ≡ (if apart self.now.start self.now.end first height then drop 1 tops.now else tops.now) }
+        ensures exact { (digest : Site → List ℕ) (later : List Site) → (H.layout hasher.now).shape ≡ F.shape → Serves F.shape digest self.now.siblings.now (map D.text self.now.digests.now) → (apart self.now.start self.now.end first height ≡ true → map D.text tops.now ≡ map digest (node first height ∷ later)) → D.text result.0 ≡ eval H.hash_of (given_values digest self.now.start (map E.items self.now.elements.now) (H.chunk hasher.now)) (node_calc (H.layout hasher.now) (apart self.now.start self.now.end) height first) }
     {
-        if self.is_apart(first, height) {
-            return tops.first().copied();
+        if is_apart(self.start, self.end, first, height) {
+            (tops[0], &tops[1..])
+        } else {
+            (self.node(hasher, first, height), tops)
         }
-        self.node(hasher, first, height)
-    }
-
-    /// Whether a node holds no leaf of the range.
-    fn is_apart(&self, first: u64, height: u32) -> bool
-        requires small { height ≤ 62 }
-        requires few { first + 2 ^ height ≤ 2 ^ 62 }
-        ensures { result ≡ apart self.now.start self.now.end first height }
-    {
-        first + power(height) <= self.start || self.end <= first
     }
 
     /// The digest of a node, from the elements and the digests of the nodes beside the range.
-    fn node<H: Hasher<F, Digest = D>>(&self, hasher: &H, first: u64, height: u32) -> Option<D>
-        requires few { self.now.leaves ≤ 2 ^ 62 }
+    fn node<H: Hasher<F, Digest = D>>(&self, hasher: &H, first: u64, height: u32) -> D
+        requires given { IsGiven self.now.leaves self.now.start self.now.end self.now.elements.now self.now.siblings.now self.now.digests.now }
         requires small { height ≤ 62 }
         requires within { InTree F.shape self.now.leaves first height }
         requires takes { TakesTree (H.takes hasher.now) F.shape self.now.leaves }
+        requires present { Present F.shape self.now.siblings.now (sites_of (node_calc (ungrafted F.shape) (apart self.now.start self.now.end) height first)) }
+        ensures { (digest : Site → List ℕ) → (H.layout hasher.now).shape ≡ F.shape → Serves F.shape digest self.now.siblings.now (map D.text self.now.digests.now) → D.text result ≡ eval H.hash_of (given_values digest self.now.start (map E.items self.now.elements.now) (H.chunk hasher.now)) (node_calc (H.layout hasher.now) (apart self.now.start self.now.end) height first) }
     {
         let position = node_position(first, height);
-        if self.is_apart(first, height) {
-            let index = self.siblings.binary_search(&position).ok()?;
-            return self.digests.get(index).copied();
+        if is_apart(self.start, self.end, first, height) {
+            return self.sibling(position);
         }
         if height == 0 {
-            let element = self.elements.get((first - self.start) as usize)?;
-            return Some(hasher.leaf_digest(position, element.as_slice()));
+            let element = &self.elements[(first - self.start) as usize];
+            return hasher.leaf_digest(position, element.as_slice());
         }
-        let left = self.node(hasher, first, height - 1)?;
-        let right = self.node(hasher, first + power(height - 1), height - 1)?;
-        Some(hasher.node_digest(position, &left, &right))
+        let left = self.node(hasher, first, height - 1);
+        let right = self.node(hasher, first + power(height - 1), height - 1);
+        hasher.node_digest(position, &left, &right)
+    }
+
+    /// The digest of the sibling at a position.
+    fn sibling(&self, position: Position<F>) -> D
+        requires given { IsGiven self.now.leaves self.now.start self.now.end self.now.elements.now self.now.siblings.now self.now.digests.now }
+        requires present { Contains self.now.siblings.now position }
+        ensures { (digest : Site → List ℕ) (first height : ℕ) → Serves F.shape digest self.now.siblings.now (map D.text self.now.digests.now) → IsNode F.shape position first height → D.text result ≡ digest (node first height) }
+    {
+        let index = self.siblings.binary_search(&position).unwrap();
+        self.digests[index]
     }
 }

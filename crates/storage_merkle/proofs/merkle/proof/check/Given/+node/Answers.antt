@@ -1,24 +1,51 @@
-use Rattle.std.proofs.Common.{arith, rules, ◌≤◌, ◌+◌, ◌^◌}
+use Rattle.std.proofs.Common.{arith, rules, map, sym, ◌∙◌}
+use Rattle.storage_merkle.specs.CheckSteps.{given_values}
 use Rattle.storage_merkle.proofs.Walks.{in_tree_leaves, in_tree_left, in_tree_right, halves}
+use Rattle.storage_merkle.proofs.CheckNodes.{present_itself, present_halves, node_sibling, node_leaf, node_halves, element_at}
 use Rattle.storage_merkle.proofs.merkle.proof.check.Given.+node.Goals as goal
 
 pub node_position-position-requires-clause-within : goal.node_position-position-requires-clause-within
-node_position-position-requires-clause-within g t c = omega (arith, in_tree_leaves g.F.Family.shape g.met.F.Family.laws c.args.self.now.leaves c.args.first c.args.height c.requires.within, c.requires.few)
+node_position-position-requires-clause-within g t c = omega (arith, in_tree_leaves g.F.Family.shape g.met.F.Family.laws c.args.self.now.leaves c.args.first c.args.height c.requires.within, c.requires.given.few)
 
-pub is_apart-requires-clause-few : goal.is_apart-requires-clause-few
-is_apart-requires-clause-few g t c = omega (arith, in_tree_leaves g.F.Family.shape g.met.F.Family.laws c.args.self.now.leaves c.args.first c.args.height c.requires.within, c.requires.few)
+pub is_apart-requires-clause-within : goal.is_apart-requires-clause-within
+is_apart-requires-clause-within g t c = omega (arith, in_tree_leaves g.F.Family.shape g.met.F.Family.laws c.args.self.now.leaves c.args.first c.args.height c.requires.within, c.requires.given.few)
 
-pub node-requires : goal.node-requires
-node-requires g t c κs within =
+pub sibling-requires-clause-present : goal.sibling-requires-clause-present
+sibling-requires-clause-present g t c = present_itself g.F.Family.shape c.args.self.now.siblings.now c.args.self.now.start c.args.self.now.end c.args.height c.args.first _ c.if-is_apart.ensures c.node_position-position.ensures c.requires.present
+
+pub returns-then-is_apart : goal.returns-then-is_apart
+returns-then-is_apart g t c = λ digest same serves.
+    node_sibling g.H.Hasher.hash_of (g.H.Hasher.layout c.args.hasher.now) c.args.self.now.start c.args.self.now.end
+    (given_values digest c.args.self.now.start (map g.E.AsSlice.items c.args.self.now.elements.now) (g.H.Hasher.chunk c.args.hasher.now))
+    c.args.height c.args.first _ c.if-is_apart.ensures (c.sibling.ensures digest c.args.first c.args.height serves (record { aligned = c.requires.within.aligned; at = sym c.node_position-position.ensures }))
+
+pub returns-then-height-eq0 : goal.returns-then-height-eq0
+returns-then-height-eq0 g t c = λ digest same serves.
+    node_leaf g.H.Hasher.hash_of (g.H.Hasher.layout c.args.hasher.now) c.args.self.now.start c.args.self.now.end
+    (given_values digest c.args.self.now.start (map g.E.AsSlice.items c.args.self.now.elements.now) (g.H.Hasher.chunk c.args.hasher.now))
+    g.F.Family.shape c.args.height c.args.first _ _ _ same c.if-is_apart.ensures c.if-height-eq0.true c.node_position-position.ensures c.leaf_digest.ensures
+    (c.as_slice.ensures ∙ element_at g.E.AsSlice.items c.args.self.now.elements.now c.args.self.now.start c.args.self.now.end c.args.first c.args.height c.index-self-first.result c.if-is_apart.ensures c.if-height-eq0.true c.requires.given.range)
+
+pub node-left-requires : goal.node-left-requires
+node-left-requires g t c κs within =
     let l = in_tree_left g.F.Family.shape g.met.F.Family.laws c.args.self.now.leaves c.args.first c.args.height c.requires.within c.if-height-eq0.false in
+    let p = (present_halves g.F.Family.shape c.args.self.now.siblings.now c.args.self.now.start c.args.self.now.end c.args.height c.args.first c.if-is_apart.ensures c.if-height-eq0.false c.requires.present).0 in
     search rules
 
 pub overflow_add-first : goal.overflow_add-first
 overflow_add-first g t c =
     let h = halves c.args.first c.args.height c.requires.within.aligned c.if-height-eq0.false in
-    omega (arith, in_tree_leaves g.F.Family.shape g.met.F.Family.laws c.args.self.now.leaves c.args.first c.args.height c.requires.within, c.requires.few, c.power.ensures, h.length)
+    omega (arith, in_tree_leaves g.F.Family.shape g.met.F.Family.laws c.args.self.now.leaves c.args.first c.args.height c.requires.within, c.requires.given.few, c.power.ensures, h.length)
 
-pub node-requires-2 : goal.node-requires-2
-node-requires-2 g t c κs within =
+pub node-right-requires : goal.node-right-requires
+node-right-requires g t c κs within =
     let l = in_tree_right g.F.Family.shape g.met.F.Family.laws c.args.self.now.leaves c.args.first c.args.height c.requires.within c.if-height-eq0.false in
+    let p = (present_halves g.F.Family.shape c.args.self.now.siblings.now c.args.self.now.start c.args.self.now.end c.args.height c.args.first c.if-is_apart.ensures c.if-height-eq0.false c.requires.present).1 in
     rw c.power.ensures (search rules)
+
+pub returns : goal.returns
+returns g t c = λ digest same serves.
+    node_halves g.H.Hasher.hash_of (g.H.Hasher.layout c.args.hasher.now) c.args.self.now.start c.args.self.now.end
+    (given_values digest c.args.self.now.start (map g.E.AsSlice.items c.args.self.now.elements.now) (g.H.Hasher.chunk c.args.hasher.now))
+    c.args.height c.args.first _ _ _ c.if-is_apart.ensures c.if-height-eq0.false (c.node-left.ensures digest same serves) (rw c.power.ensures at c.node-right.ensures digest same serves)
+    (c.node_digest.ensures c.args.first c.args.height (record { aligned = c.requires.within.aligned; at = sym c.node_position-position.ensures }))
