@@ -9,5 +9,6 @@ pub mod Witnesses
 pub mod Families
 pub mod Examples
 mod Grafts
-mod Windows
+pub mod Windows
+mod Checks
 mod Written

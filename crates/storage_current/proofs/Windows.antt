@@ -36,10 +36,10 @@ module _ (h : HashFunction) (g : Grafting) (proof : CurrentProof) (start : ℕ) 
   abbrev count : ℕ
   count = length operations
 
-  abbrev Pending : Type 0
+  abbrev pub Pending : Type 0
   Pending = IsMatched h proof.pending (ltb (graftable g leaves) (complete g leaves)) (first_chunk g start) (last_chunk g start count) (graftable g leaves) chunks
 
-  abbrev Partial : Type 0
+  abbrev pub Partial : Type 0
   Partial = IsMatched h proof.partial (not (eqb (leaves % 2 ^ height g) 0)) (first_chunk g start) (last_chunk g start count) (complete g leaves) chunks
 
   abbrev Fits : Type 0

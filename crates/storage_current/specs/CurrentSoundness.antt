@@ -26,12 +26,27 @@ CurrentProofsAreSound =
     (proof ≡ own_current_proof h g s start (start + length operations)) × Holds g s start operations chunks
     ⊎ Cross h (current_strings h g proof start operations chunks) (snapshot_strings h g s)
 
+-- What a yes of that check against a root means: of each snapshot with that root, the proof is the snapshot's own, field for field,
+-- and its operations and chunks are the snapshot's, or two strings cross.
+abbrev pub MeansCurrent : HashFunction → Grafting → CurrentProof → ℕ → List (List ℕ) → List (List ℕ) → List ℕ → Type 0
+MeansCurrent h g proof start operations chunks root =
+    (s : Snapshot) → IsSnapshot s → canonical_root h g s ≡ root →
+    (proof ≡ own_current_proof h g s start (start + length operations)) × Holds g s start operations chunks
+    ⊎ Cross h (current_strings h g proof start operations chunks) (snapshot_strings h g s)
+
 -- The same of an operation proof, which says moreover that the operation is active.
 abbrev pub OperationProofsAreSound : Type 0
 OperationProofsAreSound =
     (d : ℕ) (h : HashFunction) → (d ≡ 32) ⊎ (d ≡ 64) → IsSized d h → (g : Grafting) → Laws g.shape →
     (proof : OperationProof) (operation : List ℕ) → HasDigests d proof.range →
     (s : Snapshot) → IsSnapshot s → IsActiveCurrent h g proof operation (canonical_root h g s) →
+    (proof ≡ own_operation_proof h g s proof.location) × IsActive s proof.location operation
+    ⊎ Cross h (operation_strings h g proof operation) (snapshot_strings h g s)
+
+-- What its yes against a root means.
+abbrev pub MeansActive : HashFunction → Grafting → OperationProof → List ℕ → List ℕ → Type 0
+MeansActive h g proof operation root =
+    (s : Snapshot) → IsSnapshot s → canonical_root h g s ≡ root →
     (proof ≡ own_operation_proof h g s proof.location) × IsActive s proof.location operation
     ⊎ Cross h (operation_strings h g proof operation) (snapshot_strings h g s)
 

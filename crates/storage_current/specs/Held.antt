@@ -2,8 +2,9 @@
 use Rattle.std.specs.Prelude.{ℕ, List, map, option_map}
 use Rattle.storage_merkle.specs.RangeProofs.{RangeProof as Range}
 use Rattle.storage_merkle.specs.declared.merkle.proof.Proof.{Proof}
-use Rattle.storage_current.specs.Snapshots.{CurrentProof}
+use Rattle.storage_current.specs.Snapshots.{CurrentProof, OperationProof}
 use Rattle.storage_current.specs.declared.qmdb.current.proof.RangeProof.{RangeProof}
+use Rattle.storage_current.specs.declared.qmdb.current.proof.operation.Proof.{Proof as OneProof}
 
 -- a range proof, its digests by their bytes
 abbrev pub range_of : {F D : Type 0} → (D → List ℕ) → Proof F D → Range
@@ -11,3 +12,7 @@ range_of text p = record { leaves = p.leaves; inactive = p.inactive_peaks; diges
 
 abbrev pub current_of : {F D : Type 0} → (D → List ℕ) → RangeProof F D → CurrentProof
 current_of text p = record { range = range_of text p.proof; pending = option_map text p.pending_chunk_digest; partial = option_map text p.partial_chunk_digest; ops_root = text p.ops_root }
+
+-- an operation proof, its chunk by its bytes
+abbrev pub operation_of : {F D C : Type 0} → (D → List ℕ) → (C → List ℕ) → OneProof F D C → OperationProof
+operation_of text bytes p = record { location = p.loc; chunk = bytes p.chunk; range = current_of text p.range_proof }

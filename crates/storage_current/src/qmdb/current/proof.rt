@@ -1,7 +1,12 @@
 //! Range proofs of operations and of their activity.
 
-ghost use Rattle.std.specs.Prelude.{◌≡◌, ℕ, ◌+◌, ◌-◌, ◌*◌, ◌/◌, ◌%◌, ◌^◌, ◌<◌, ◌≤◌, ◌↔◌, OnOk, IfOk, IfSome, IsTrue, length, map};
+ghost use Rattle.std.specs.Prelude.{◌≡◌, ℕ, ◌+◌, ◌-◌, ◌*◌, ◌/◌, ◌%◌, ◌^◌, ◌<◌, ◌≤◌, ◌↔◌, ◌⊎◌, OnOk, IfOk, MatchOption, IsTrue, Ok, false, length, map, option_map};
 ghost use Rattle.storage_merkle.specs.RangeProofs.{AreDigests};
+ghost use Rattle.storage_current.specs.Snapshots.{canonical_string};
+ghost use Rattle.storage_current.specs.CurrentProofs.{IsCurrent};
+ghost use Rattle.storage_current.specs.CurrentSoundness.{MeansCurrent};
+ghost use Rattle.storage_current.specs.Held.{current_of};
+ghost use Rattle.storage_current.specs.Windows.{IsWindow, IsWindowOf};
 ghost use Rattle.storage_bitmap.specs.Chunks.{bit_count};
 
 mod chunk;
@@ -10,6 +15,7 @@ pub mod operation;
 mod slots;
 mod window;
 
+use crate::laws::current_proofs_are_sound;
 use crate::qmdb::current::chunks::ChunkCounts;
 use crate::qmdb::current::grafting::{self, Verifier, aligned_inactive};
 use crate::qmdb::current::proof::window::Window;
@@ -92,7 +98,11 @@ impl<F: Graftable, D: Digest> RangeProof<F, D> {
         operations: &[O],
         chunks: &[[u8; N]],
         root: &D,
-    ) -> Result<bool, NoMemory> {
+    ) -> Result<bool, NoMemory>
+        ensures exact { IfOk result (λ yes. IsTrue yes ↔ IsCurrent H.hash_of (record { shape = F.shape; bytes = N }) (current_of D.text self.now) start (map O.text operations.now) chunks.now (D.text root.now)) }
+        ensures meaning { (D.size ≡ 32) ⊎ (D.size ≡ 64) → IfOk result (λ yes. IsTrue yes → MeansCurrent H.hash_of (record { shape = F.shape; bytes = N }) (current_of D.text self.now) start (map O.text operations.now) chunks.now (D.text root.now)) }
+        ensures at_once { (IsWindow (record { shape = F.shape; bytes = N }) self.now.proof.leaves start (length operations.now) (length chunks.now) → ⊥) → result ≡ Ok false }
+    {
         self.verify_with_chunk_size::<H, O, [u8; N]>(alloc, start, operations, chunks, N, root)
     }
 
@@ -106,7 +116,11 @@ impl<F: Graftable, D: Digest> RangeProof<F, D> {
         chunks: &[C],
         chunk_size: usize,
         root: &D,
-    ) -> Result<bool, NoMemory> {
+    ) -> Result<bool, NoMemory>
+        ensures exact { IfOk result (λ yes. IsTrue yes ↔ IsCurrent H.hash_of (record { shape = F.shape; bytes = chunk_size }) (current_of D.text self.now) start (map O.text operations.now) (map C.text chunks.now) (D.text root.now)) }
+        ensures meaning { (D.size ≡ 32) ⊎ (D.size ≡ 64) → IfOk result (λ yes. IsTrue yes → MeansCurrent H.hash_of (record { shape = F.shape; bytes = chunk_size }) (current_of D.text self.now) start (map O.text operations.now) (map C.text chunks.now) (D.text root.now)) }
+        ensures at_once { (IsWindow (record { shape = F.shape; bytes = chunk_size }) self.now.proof.leaves start (length operations.now) (length chunks.now) → ⊥) → result ≡ Ok false }
+    {
         let Some(window) = self.window(start, operations.len(), chunks, chunk_size) else {
             return Ok(false);
         };
@@ -123,7 +137,11 @@ impl<F: Graftable, D: Digest> RangeProof<F, D> {
         chunks: &[C],
         chunk_size: usize,
         root: &D,
-    ) -> Result<bool, NoMemory> {
+    ) -> Result<bool, NoMemory>
+        ensures exact { IfOk result (λ yes. IsTrue yes ↔ IsCurrent H.hash_of (record { shape = F.shape; bytes = chunk_size }) (current_of D.text self.now) start (map E.items operations.now) (map C.text chunks.now) (D.text root.now)) }
+        ensures meaning { (D.size ≡ 32) ⊎ (D.size ≡ 64) → IfOk result (λ yes. IsTrue yes → MeansCurrent H.hash_of (record { shape = F.shape; bytes = chunk_size }) (current_of D.text self.now) start (map E.items operations.now) (map C.text chunks.now) (D.text root.now)) }
+        ensures at_once { (IsWindow (record { shape = F.shape; bytes = chunk_size }) self.now.proof.leaves start (length operations.now) (length chunks.now) → ⊥) → result ≡ Ok false }
+    {
         let Some(window) = self.window(start, operations.len(), chunks, chunk_size) else {
             return Ok(false);
         };
@@ -139,14 +157,15 @@ impl<F: Graftable, D: Digest> RangeProof<F, D> {
         chunks: &[C],
         chunk_size: usize,
     ) -> Option<Window>
-        ensures { IfSome result (λ w. length chunks.now ≡ w.last_chunk - w.first_chunk + 1) }
+        ensures { MatchOption result (IsWindow (record { shape = F.shape; bytes = chunk_size }) self.now.proof.leaves start count (length chunks.now) → AreDigests chunk_size (map C.text chunks.now) → ⊥) (λ w. IsWindowOf (record { shape = F.shape; bytes = chunk_size }) self.now.proof.leaves start count (length chunks.now) w × AreDigests chunk_size (map C.text chunks.now)) }
     {
         let leaves = self.proof.leaves.as_u64();
         let window = Window::of::<F>(leaves, start.as_u64(), count, chunks.len(), chunk_size)?;
-        if !are_sized(chunks, chunk_size) {
-            return None;
+        if are_sized(chunks, chunk_size) {
+            Some(window)
+        } else {
+            None
         }
-        Some(window)
     }
 
     /// The check of a claim whose counts and lengths fit.
@@ -159,15 +178,31 @@ impl<F: Graftable, D: Digest> RangeProof<F, D> {
         chunks: &[C],
         root: &D,
     ) -> Result<bool, NoMemory>
-        requires { length chunks.now ≡ window.now.last_chunk - window.now.first_chunk + 1 }
+        requires { (n : ℕ) × IsWindowOf (record { shape = F.shape; bytes = n }) self.now.proof.leaves start (length operations.now) (length chunks.now) window.now }
+        ensures exact { (n : ℕ) → IsWindowOf (record { shape = F.shape; bytes = n }) self.now.proof.leaves start (length operations.now) (length chunks.now) window.now → AreDigests n (map C.text chunks.now) → IfOk result (λ yes. IsTrue yes ↔ IsCurrent H.hash_of (record { shape = F.shape; bytes = n }) (current_of D.text self.now) start (map E.items operations.now) (map C.text chunks.now) (D.text root.now)) }
+        ensures meaning { (n : ℕ) → IsWindowOf (record { shape = F.shape; bytes = n }) self.now.proof.leaves start (length operations.now) (length chunks.now) window.now → AreDigests n (map C.text chunks.now) → (D.size ≡ 32) ⊎ (D.size ≡ 64) → IfOk result (λ yes. IsTrue yes → MeansCurrent H.hash_of (record { shape = F.shape; bytes = n }) (current_of D.text self.now) start (map E.items operations.now) (map C.text chunks.now) (D.text root.now)) }
+    {
+        current_proofs_are_sound();
+        self.decide_in::<H, E, C>(alloc, window, start, operations, chunks, root)
+    }
+
+    /// What the check answers of such a claim.
+    fn decide_in<H: Hasher<Digest = D>, E: AsSlice<u8>, C: Chunk>(
+        &self,
+        alloc: Global,
+        window: &Window,
+        start: Location<F>,
+        operations: &[E],
+        chunks: &[C],
+        root: &D,
+    ) -> Result<bool, NoMemory>
+        requires { (n : ℕ) × IsWindowOf (record { shape = F.shape; bytes = n }) self.now.proof.leaves start (length operations.now) (length chunks.now) window.now }
+        ensures { (n : ℕ) → IsWindowOf (record { shape = F.shape; bytes = n }) self.now.proof.leaves start (length operations.now) (length chunks.now) window.now → AreDigests n (map C.text chunks.now) → IfOk result (λ yes. IsTrue yes ↔ IsCurrent H.hash_of (record { shape = F.shape; bytes = n }) (current_of D.text self.now) start (map E.items operations.now) (map C.text chunks.now) (D.text root.now)) }
     {
         if !slots::match_chunks::<H, C, F>(self, window, chunks) {
             return Ok(false);
         }
-        let mut lent = Vec::with_capacity(alloc, chunks.len())?;
-        for chunk in chunks {
-            lent.push(chunk.bytes())?;
-        }
+        let lent = lend(alloc, chunks)?;
         let verifier = Verifier::<F, H>::new(
             window.height,
             window.first_chunk,
@@ -184,7 +219,9 @@ impl<F: Graftable, D: Digest> RangeProof<F, D> {
     }
 
     /// The canonical root of the proof's parts and a grafted root.
-    fn canonical<H: Hasher<Digest = D>>(&self, grafted_root: &D, window: &Window) -> D {
+    fn canonical<H: Hasher<Digest = D>>(&self, grafted_root: &D, window: &Window) -> D
+        ensures { D.text result ≡ H.hash_of (canonical_string (D.text self.now.ops_root) (D.text grafted_root.now) (option_map D.text self.now.pending_chunk_digest) window.now.counts.next_bit (option_map D.text self.now.partial_chunk_digest)) }
+    {
         canonical_root::<H>(
             &self.ops_root,
             grafted_root,
@@ -207,9 +244,21 @@ fn are_sized<C: Chunk>(chunks: &[C], size: usize) -> bool
     true
 }
 
+/// The bytes of each chunk.
+fn lend<'a, C: Chunk>(alloc: Global, chunks: &'a [C]) -> Result<Vec<&'a [u8]>, NoMemory>
+    ensures { IfOk result (λ v. map (λ c. c.now) v.items ≡ map C.text chunks.now) }
+{
+    let mut lent = Vec::with_capacity(alloc, chunks.len())?;
+    for chunk in chunks {
+        lent.push(chunk.bytes())?;
+    }
+    Ok(lent)
+}
+
 /// What each operation is written as.
 fn encoded<O: Write>(alloc: Global, operations: &[O]) -> Result<Vec<Vec<u8>>, NoMemory>
-    ensures { IfOk result (λ v. map (λ e. e.items) v.items ≡ map O.text operations.now) }
+    ensures bytes { IfOk result (λ v. map (λ e. e.items) v.items ≡ map O.text operations.now) }
+    ensures count { IfOk result (λ v. length v.items ≡ length operations.now) }
 {
     let mut elements = Vec::with_capacity(alloc, operations.len())?;
     for operation in operations {

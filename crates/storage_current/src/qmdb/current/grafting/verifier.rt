@@ -36,7 +36,12 @@ impl<'a, F: Graftable, H: digest::Hasher> Verifier<'a, F, H> {
         start_chunk_index: u64,
         chunks: Vec<&'a [u8]>,
         graftable_chunks: u64,
-    ) -> Self {
+    ) -> Self
+        ensures height { result.height ≡ height }
+        ensures start { result.start_chunk_index ≡ start_chunk_index }
+        ensures chunks { map (λ c. c.now) result.chunks.items ≡ map (λ c. c.now) chunks.entry.items }
+        ensures graftable { result.graftable_chunks ≡ graftable_chunks }
+    {
         Verifier {
             hasher: Standard::new(Bagging::BackwardFold),
             height,

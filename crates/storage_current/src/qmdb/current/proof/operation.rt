@@ -1,12 +1,16 @@
 //! Proofs that one operation is active.
 
-ghost use Rattle.std.specs.Prelude.{◌≡◌, ◌↔◌, IsTrue, true, ℕ, ◌+◌, ◌-◌, ◌*◌, ◌/◌, ◌%◌, ◌^◌, ◌<◌, ◌≤◌, length};
+ghost use Rattle.std.specs.Prelude.{◌≡◌, ◌↔◌, ◌⊎◌, IfOk, IsTrue, Ok, true, false, ℕ, ◌+◌, ◌-◌, ◌*◌, ◌/◌, ◌%◌, ◌^◌, ◌<◌, ◌≤◌, length};
 ghost use Rattle.storage_bitmap.specs.Chunks.{IsChunkSize};
 ghost use Rattle.storage_bitmap.specs.Packed.{bit_in};
+ghost use Rattle.storage_current.specs.CurrentProofs.{IsActiveCurrent};
+ghost use Rattle.storage_current.specs.CurrentSoundness.{MeansActive};
+ghost use Rattle.storage_current.specs.Held.{operation_of};
 ghost use Rattle.storage_current.specs.Snapshots.{height};
 
 mod codec;
 
+use crate::laws::operation_proofs_are_sound;
 use crate::qmdb::current::grafting;
 use crate::qmdb::current::proof::{Chunk, RangeProof};
 use std::alloc::Global;
@@ -78,7 +82,11 @@ impl<F: Graftable, D: Digest, C: Chunk> Proof<F, D, C> {
         alloc: Global,
         operation: O,
         root: &D,
-    ) -> Result<bool, NoMemory> {
+    ) -> Result<bool, NoMemory>
+        ensures exact { IfOk result (λ yes. IsTrue yes ↔ IsActiveCurrent H.hash_of (record { shape = F.shape; bytes = length (C.text self.now.chunk) }) (operation_of D.text C.text self.now) (O.text operation) (D.text root.now)) }
+        ensures meaning { (D.size ≡ 32) ⊎ (D.size ≡ 64) → IfOk result (λ yes. IsTrue yes → MeansActive H.hash_of (record { shape = F.shape; bytes = length (C.text self.now.chunk) }) (operation_of D.text C.text self.now) (O.text operation) (D.text root.now)) }
+        ensures at_once { (IsChunkSize (length (C.text self.now.chunk)) → bit_in (C.text self.now.chunk) (self.now.loc % 2 ^ height (record { shape = F.shape; bytes = length (C.text self.now.chunk) })) ≡ true → ⊥) → result ≡ Ok false }
+    {
         if !self.is_active() {
             return Ok(false);
         }
@@ -93,10 +101,15 @@ impl<F: Graftable, D: Digest, C: Chunk> Proof<F, D, C> {
         alloc: Global,
         operation: &[u8],
         root: &D,
-    ) -> Result<bool, NoMemory> {
+    ) -> Result<bool, NoMemory>
+        ensures exact { IfOk result (λ yes. IsTrue yes ↔ IsActiveCurrent H.hash_of (record { shape = F.shape; bytes = length (C.text self.now.chunk) }) (operation_of D.text C.text self.now) operation.now (D.text root.now)) }
+        ensures meaning { (D.size ≡ 32) ⊎ (D.size ≡ 64) → IfOk result (λ yes. IsTrue yes → MeansActive H.hash_of (record { shape = F.shape; bytes = length (C.text self.now.chunk) }) (operation_of D.text C.text self.now) operation.now (D.text root.now)) }
+        ensures at_once { (IsChunkSize (length (C.text self.now.chunk)) → bit_in (C.text self.now.chunk) (self.now.loc % 2 ^ height (record { shape = F.shape; bytes = length (C.text self.now.chunk) })) ≡ true → ⊥) → result ≡ Ok false }
+    {
         if !self.is_active() {
             return Ok(false);
         }
+        operation_proofs_are_sound();
         let chunk = self.chunk.bytes();
         self.range_proof
             .verify_encoded::<H, &[u8], &[u8]>(

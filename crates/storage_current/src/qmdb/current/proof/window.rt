@@ -1,8 +1,7 @@
 //! Where a claimed range stands among the chunks.
 
-ghost use Rattle.std.specs.Prelude.{◌≡◌, ℕ, ◌+◌, ◌-◌, ◌*◌, ◌/◌, ◌%◌, ◌^◌, ◌<◌, ◌≤◌, IfSome, MatchOption};
-ghost use Rattle.storage_current.specs.Snapshots.{height, complete, graftable, first_chunk, last_chunk};
-ghost use Rattle.storage_current.specs.Windows.{IsWindow};
+ghost use Rattle.std.specs.Prelude.{◌≡◌, ℕ, ◌+◌, ◌-◌, ◌*◌, ◌/◌, ◌%◌, ◌^◌, ◌<◌, ◌≤◌, MatchOption};
+ghost use Rattle.storage_current.specs.Windows.{IsWindow, IsWindowOf};
 
 use crate::qmdb::current::chunks::ChunkCounts;
 use crate::qmdb::current::grafting;
@@ -32,13 +31,7 @@ impl Window {
         chunks: usize,
         chunk_size: usize,
     ) -> Option<Window>
-        ensures window { MatchOption result (IsWindow (record { shape = F.shape; bytes = chunk_size }) leaves start count chunks → ⊥) (λ _. IsWindow (record { shape = F.shape; bytes = chunk_size }) leaves start count chunks) }
-        ensures height { IfSome result (λ w. w.height ≡ height (record { shape = F.shape; bytes = chunk_size })) }
-        ensures first_chunk { IfSome result (λ w. w.first_chunk ≡ first_chunk (record { shape = F.shape; bytes = chunk_size }) start) }
-        ensures last_chunk { IfSome result (λ w. w.last_chunk ≡ last_chunk (record { shape = F.shape; bytes = chunk_size }) start count) }
-        ensures complete { IfSome result (λ w. w.counts.complete ≡ complete (record { shape = F.shape; bytes = chunk_size }) leaves) }
-        ensures graftable { IfSome result (λ w. w.counts.graftable ≡ graftable (record { shape = F.shape; bytes = chunk_size }) leaves) }
-        ensures next_bit { IfSome result (λ w. w.counts.next_bit ≡ leaves % 2 ^ height (record { shape = F.shape; bytes = chunk_size })) }
+        ensures { MatchOption result (IsWindow (record { shape = F.shape; bytes = chunk_size }) leaves start count chunks → ⊥) (IsWindowOf (record { shape = F.shape; bytes = chunk_size }) leaves start count chunks) }
     {
         let height = grafting::chunk_height(chunk_size)?;
         let end = start.checked_add(count as u64)?;

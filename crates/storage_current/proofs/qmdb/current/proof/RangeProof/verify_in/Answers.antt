@@ -1,8 +1,13 @@
-use Rattle.std.proofs.Common.{arith, ◌^◌}
-use Rattle.storage_merkle.specs.ShapeLaws.{size_order}
+use Rattle.std.proofs.Common.{map}
+use Rattle.storage_current.specs.CurrentWireLaws.{held_digests}
+use Rattle.storage_current.specs.Held.{current_of}
+use Rattle.storage_current.specs.Snapshots.{Grafting}
+use Rattle.storage_current.proofs.Checks.{current_means}
 use Rattle.storage_current.proofs.qmdb.current.proof.RangeProof.verify_in.Goals as goal
 
-pub recompute_root-requires : goal.recompute_root-requires
-recompute_root-requires g c = λ p few below.
-    let order = size_order g.F.Family.shape g.met.F.Family.laws c.args.self.now.proof.leaves (2 ^ 62) few in
-    omega (arith, order)
+pub returns-clause-meaning : goal.returns-clause-meaning
+returns-clause-meaning g c = λ n of chunks wide.
+    let S : Grafting = record { shape = g.F.Family.shape; bytes = n } in
+    current_means c.current_proofs_are_sound.ensures g.D.FixedSize.size g.H.Hasher.hash_of wide g.met.H.Hasher.sized S g.met.F.Family.laws
+    (current_of g.D.Write.text c.args.self.now) c.args.start (map g.E.AsSlice.items c.args.operations.now) (map g.C.Chunk.text c.args.chunks.now)
+    (held_digests g.D.Write.text g.D.FixedSize.size g.met.D.FixedSize.sized c.args.self.now) (g.D.Write.text c.args.root.now) c.decide_in.result (c.decide_in.ensures n of chunks)
