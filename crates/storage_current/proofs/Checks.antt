@@ -1,8 +1,7 @@
 -- The check of a current range proof, from what its steps answer.
-use Rattle.std.proofs.Common.{◌≡◌, ℕ, ◌/◌, ◌%◌, ◌^◌, List, length, map, Bool, true, false, not, ltb, eqb, refl, sym, ◌∙◌, ◌⊎◌, [], ◌∷◌, Option, Some, None, Result, Ok, Err, subst}
+use Rattle.std.proofs.Common.{◌≡◌, ℕ, ◌/◌, ◌%◌, ◌^◌, List, length, map, Bool, true, false, not, ltb, eqb, sym, ◌∙◌, ◌⊎◌, [], ◌∷◌, Some, None, Result, Ok, Err, subst}
 use Rattle.std.proofs.lemmas.List.{length-map}
 use Rattle.std.specs.Bool.{IsTrue}
-use Rattle.std.specs.Option.{option_map}
 use Rattle.std.specs.Result.{IfOk}
 use Rattle.storage_codec.specs.Digests.{HashFunction, IsSized}
 use Rattle.storage_merkle.specs.Shape.{Laws}
@@ -13,11 +12,11 @@ use Rattle.storage_merkle.specs.RangeProofs.{AreDigests, CountsFit, recomputed_r
 use Rattle.storage_merkle.specs.Checks.{IsRecomputed}
 use Rattle.storage_current.specs.declared.qmdb.current.proof.window.Window.{Window}
 use Rattle.storage_current.specs.Grafted.{grafted_over, supplied}
-use Rattle.storage_current.specs.Snapshots.{Grafting, height, complete, graftable, view, canonical_string, first_chunk, last_chunk, CurrentProof, OperationProof}
+use Rattle.storage_current.specs.Snapshots.{Grafting, height, graftable, view, canonical_string, first_chunk, CurrentProof, OperationProof}
 use Rattle.storage_current.specs.CurrentProofs.{claim, IsCurrent, IsActiveCurrent}
 use Rattle.storage_current.specs.CurrentSoundness.{CurrentProofsAreSound, OperationProofsAreSound, HasDigests, MeansCurrent, MeansActive}
-use Rattle.storage_current.specs.Windows.{IsWindow, IsWindowOf, IsMatched}
-use Rattle.storage_current.proofs.Windows.{Pending, Partial, current_from, current_window, current_slots}
+use Rattle.storage_current.specs.Windows.{IsWindowOf, IsMatched}
+use Rattle.storage_current.proofs.Windows.{Pending, Partial, current_from, current_slots}
 
 -- the lengths of lists that are seen
 pub seen_lengths : {X Y : Type 0} (f : X → List ℕ) (k : Y → List ℕ) (xs : List X) (ys : List Y) (g : Grafting) (leaves start : ℕ) (w : Window)

@@ -1,4 +1,4 @@
-use Rattle.std.proofs.Common.{◌≡◌, ◌+◌, ◌-◌, ◌/◌, ◌^◌, ◌≤◌, refl, sym, arith}
+use Rattle.std.proofs.Common.{refl, sym, arith}
 use Rattle.storage_current.specs.GraftingLaws.{height_of_power}
 use Rattle.storage_current.proofs.qmdb.current.proof.window.Window.of.Goals as goal
 
