@@ -12,6 +12,11 @@ pub mod Ascending
 pub mod Walks
 pub mod PlanWalk
 pub mod PlanSites
+pub mod PlanAnswers
+pub mod PlanFolds
+pub mod PlanTops
+pub mod PlanAmong
+pub mod PlanOwn
 pub mod Folds
 pub mod Written
 pub mod Rising

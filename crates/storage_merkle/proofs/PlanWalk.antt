@@ -1,10 +1,11 @@
 -- A walk along the peaks meets those that are apart from a range in the order of its proof.
-use Rattle.std.proofs.Common.{◌≡◌, ℕ, zero, suc, ◌+◌, ◌-◌, ◌<◌, ◌≤◌, ◌^◌, List, [], ◌∷◌, ◌++◌, length, map, take, drop, Bool, true, false, if◌then◌else◌, ◌||◌, inl, inr, refl, sym, ap, ap₂, ◌∙◌, arith, leb, le-leb, subst}
+use Rattle.std.proofs.Common.{◌≡◌, ℕ, zero, suc, ◌+◌, ◌-◌, ◌<◌, ◌≤◌, ◌^◌, List, [], ◌∷◌, ◌++◌, length, map, take, drop, Bool, true, false, if◌then◌else◌, ◌||◌, inl, inr, refl, sym, ap, ap₂, ◌∙◌, arith, leb, le-leb, leb-false, subst}
 use Rattle.std.proofs.lemmas.Bool.{lt-leb, cases_lt}
 use Rattle.storage_merkle.specs.Calc.{Site, front, back, node, Calc, given, leaf, pair, graft, be8}
 use Rattle.storage_merkle.specs.Trees.{Layout, Peak, places, part, node_calc, join_calc}
 use Rattle.storage_merkle.specs.RangeProofs.{apart, leading, not_leading, up_to, trailing, sites_of, sites_in, front_sites, back_sites}
-use Rattle.storage_merkle.specs.PlanParts.{tops}
+use Rattle.storage_merkle.specs.Shape.{Shape}
+use Rattle.storage_merkle.specs.Rests.{peaks_from, AreAfterLeading}
 
 -- past the leading ones, f of the peaks are folded from the left; the others from the right, up to those past the range
 abbrev pub walk : ℕ → ℕ → ℕ → List Peak → List Site
@@ -84,3 +85,37 @@ module _ (T : Layout) (low high : ℕ) where
       let ends : leb (s + 2 ^ k) low ≡ false = lt-leb (s + 2 ^ k) low after in
       let none = leading-past (s + 2 ^ k) f ks after in
       late_step s k f ks after (late (s + 2 ^ k) f ks after) ∙ rw (none, ends) refl
+
+-- ---- after the leading peaks that are folded from the left
+
+not_leading-head : (low : ℕ) (xs : List Peak) (p : Peak) (ps : List Peak) → not_leading low xs ≡ p ∷ ps → leb (p.first + 2 ^ p.height) low ≡ false
+not_leading-head low [] p ps e = absurd cc
+not_leading-head low (x ∷ xs) p ps e = go (leb (x.first + 2 ^ x.height) low) refl e (not_leading-head low xs p ps)
+  where
+    go : (b : Bool) → leb (x.first + 2 ^ x.height) low ≡ b → (if b then not_leading low xs else x ∷ xs) ≡ p ∷ ps → (not_leading low xs ≡ p ∷ ps → leb (p.first + 2 ^ p.height) low ≡ false) → leb (p.first + 2 ^ p.height) low ≡ false
+    go true f g rec = rec g
+    go false f g rec = let same : x ≡ p = cc in subst (λ y. leb (y.first + 2 ^ y.height) low ≡ false) same f
+
+not_leading-twice : (low : ℕ) (xs : List Peak) → not_leading low (not_leading low xs) ≡ not_leading low xs
+not_leading-twice low [] = refl
+not_leading-twice low (x ∷ xs) = go (leb (x.first + 2 ^ x.height) low) refl (not_leading-twice low xs)
+  where
+    go : (b : Bool) → leb (x.first + 2 ^ x.height) low ≡ b → not_leading low (not_leading low xs) ≡ not_leading low xs → not_leading low (if b then not_leading low xs else x ∷ xs) ≡ (if b then not_leading low xs else x ∷ xs)
+    go true f rec = rec
+    go false f rec = rw f refl
+
+module _ (T : Layout) (low high : ℕ) where
+  walk-rest : (b g : ℕ) (ks : List ℕ) (xs : List Peak) → low < high → take g (places b ks) ≡ not_leading low xs → walk low high g (places b ks) ≡ rest_tops T low high g (places b ks)
+  walk-rest b zero ks xs some e = walk-unfolded T low high b ks some
+  walk-rest b (suc g) [] xs some e = refl
+  walk-rest b (suc g) (k ∷ ks) xs some e = walk-folded T low high b k g ks (omega (arith, leb-false (b + 2 ^ k) low (not_leading-head low xs (record { first = b; height = k }) (take g (places (b + 2 ^ k) ks)) (sym e))))
+
+  pub after_leading : (S : Shape) (a r f b s g : ℕ) → low < high → AreAfterLeading S low a r f b s g → walk low high g (peaks_from S b s) ≡ rest_tops T low high f (peaks_from S a r)
+  after_leading S a r f b s g some after =
+      let ins : List Peak → List Site = λ ps. sites_in T (apart low high) ps in
+      let xs = take f (peaks_from S a r) in
+      let ys = drop f (peaks_from S a r) in
+      let same : not_leading low (take g (peaks_from S b s)) ≡ not_leading low xs = ap (not_leading low) after.folded_are ∙ not_leading-twice low xs in
+      walk-rest b g (S.peaks s) xs some after.folded_are
+      ∙ ap (λ ps. ins (leading low ps) ++ (ins (trailing high (not_leading low (take g (peaks_from S b s)))) ++ back_sites (trailing high ps))) after.unfolded_are
+      ∙ ap (λ ps. ins (leading low ys) ++ (ins (trailing high ps) ++ back_sites (trailing high ys))) same

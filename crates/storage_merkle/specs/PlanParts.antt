@@ -1,5 +1,6 @@
 -- What the parts of a plan answer: the digests that stand at positions, and the peaks and folds apart from a range.
-use Rattle.std.specs.Prelude.{◌≡◌, ℕ, ◌+◌, ◌≤◌, ◌^◌, ◌⊎◌, List, [], ◌∷◌, ◌++◌, map, Option, Some, None}
+use Rattle.std.specs.Prelude.{◌≡◌, ℕ, ◌+◌, ◌≤◌, ◌^◌, ◌⊎◌, List, [], ◌∷◌, ◌++◌, length, map, true, Option, Some, None}
+use Rattle.std.specs.List.Sorted.{IsNonDecreasing}
 use Rattle.storage_codec.specs.Digests.{HashFunction}
 use Rattle.storage_merkle.specs.Shape.{Shape}
 use Rattle.storage_merkle.specs.Nodes.{IsNode}
@@ -7,6 +8,29 @@ use Rattle.storage_merkle.specs.Calc.{Site, front, back, node}
 use Rattle.storage_merkle.specs.Trees.{Layout, Peak}
 use Rattle.storage_merkle.specs.RangeProofs.{apart, leading, not_leading, trailing, sites_in, front_sites, back_sites}
 use Rattle.storage_merkle.specs.Hashers.{forward_of, folded_onto}
+
+-- the position p is one of these
+abbrev pub IsAmong : List ℕ → ℕ → Type 0
+IsAmong [] p = ⊥
+IsAmong (q ∷ qs) p = (p ≡ q) ⊎ IsAmong qs p
+
+abbrev pub AreAmong : List ℕ → List ℕ → Type 0
+AreAmong qs [] = Unit {0}
+AreAmong qs (p ∷ ps) = IsAmong qs p × AreAmong qs ps
+
+-- positions in ascending order, and a digest for each
+pub record AreInOrder {D : Type 0} (positions : List ℕ) (digests : List D) : Type 0 where
+  pub rising : IsNonDecreasing positions
+  pub all : length digests ≡ length positions
+
+-- the positions of these peaks are among the planned ones, where they are apart from the range; and those of all of them
+abbrev pub ArePlannedApart : Shape → ℕ → ℕ → List ℕ → List Peak → Type 0
+ArePlannedApart S low high positions [] = Unit {0}
+ArePlannedApart S low high positions (p ∷ ps) = (apart low high p.first p.height ≡ true → IsAmong positions (S.position p.first p.height)) × ArePlannedApart S low high positions ps
+
+abbrev pub ArePlannedAll : Shape → List ℕ → List Peak → Type 0
+ArePlannedAll S positions [] = Unit {0}
+ArePlannedAll S positions (p ∷ ps) = IsAmong positions (S.position p.first p.height) × ArePlannedAll S positions ps
 
 -- the digest d stands at the position p
 abbrev pub StandsAt : {D : Type 0} → List ℕ → List D → ℕ → D → Type 0

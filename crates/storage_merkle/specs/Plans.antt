@@ -1,17 +1,21 @@
 -- Which nodes are asked for, and the first that is not there.
-use Rattle.std.specs.Prelude.{◌≡◌, ℕ, ◌+◌, ◌-◌, ◌%◌, ◌<◌, ◌≤◌, ◌^◌, List, [], ◌∷◌, map, ◌⊎◌, Option, Some, None, IsSome, leb, ltb, if◌then◌else◌}
+use Rattle.std.specs.Prelude.{◌≡◌, ℕ, ◌+◌, ◌-◌, ◌%◌, ◌<◌, ◌≤◌, ◌^◌, List, [], ◌∷◌, length, map, ◌⊎◌, Option, Some, None, leb, ltb, if◌then◌else◌}
+use Rattle.std.specs.List.{Contains}
+use Rattle.storage_codec.specs.Digests.{HashFunction}
 use Rattle.storage_merkle.specs.declared.merkle.error.Error.{Error}
 use Rattle.storage_merkle.specs.declared.merkle.error.Error.TheVariants.{Empty, RangeOutOfBounds, LocationOverflow}
 use Rattle.storage_merkle.specs.Shape.{Shape, size, Inside, AreAligned}
 use Rattle.storage_merkle.specs.Calc.{Site}
-use Rattle.storage_merkle.specs.Trees.{Layout, ungrafted, peaks_of}
-use Rattle.storage_merkle.specs.RangeProofs.{apart, sites_in, position_of, by_position}
+use Rattle.storage_merkle.specs.Nodes.{IsNode}
+use Rattle.storage_merkle.specs.declared.merkle.bagging.Bagging.{Bagging}
+use Rattle.storage_merkle.specs.Trees.{Layout, Content, ungrafted, peaks_of, tree_node}
+use Rattle.storage_merkle.specs.RangeProofs.{RangeProof, apart, sites_in, position_of, by_position, own_proof}
 use Rattle.storage_merkle.specs.Siblings.{sibling_sites}
 
--- p is the first of the positions at which there is nothing
-abbrev pub IsFirstAbsent : {D : Type 0} → (ℕ → Option D) → List ℕ → ℕ → Type 0
-IsFirstAbsent node [] p = ⊥
-IsFirstAbsent node (q ∷ qs) p = ((node q ≡ None) × (p ≡ q)) ⊎ (IsSome (node q) × IsFirstAbsent node qs p)
+-- p is the first of the positions for which the answer is none
+abbrev pub IsFirstAbsent : {D : Type 0} → (ℕ → Option D → Type 0) → List ℕ → ℕ → Type 0
+IsFirstAbsent answers [] p = ⊥
+IsFirstAbsent {D} answers (q ∷ qs) p = (answers q None × (p ≡ q)) ⊎ ((d : D) × answers q (Some d) × IsFirstAbsent answers qs p)
 
 -- a range of leaves, from start to before end, of a tree
 pub record PlanOf : Type 0 where
@@ -35,6 +39,17 @@ planned_sites T n low high = by_position T (sites_in T (apart low high) (peaks_o
 -- their positions
 abbrev pub planned : Shape → ℕ → ℕ → ℕ → List ℕ
 planned S n low high = map (position_of (ungrafted S)) (planned_sites (ungrafted S) n low high)
+
+-- what is answered for each of the positions is the digest of the node there of the tree over some content
+abbrev pub AnswersAre : {D : Type 0} → (D → List ℕ) → (ℕ → Option D → Type 0) → List ℕ → HashFunction → Layout → Content → Type 0
+AnswersAre {D} text answers positions h T content = (p a k : ℕ) (d : D) → Contains positions p → IsNode T.shape p a k → answers p (Some d) → text d ≡ tree_node h T content a k
+
+-- a proof with so many inactive peaks is the own one of each tree of which the answers for the planned positions are
+abbrev pub IsOwnOfEach : {D : Type 0} → (D → List ℕ) → (ℕ → Option D → Type 0) → HashFunction → Shape → Bagging → PlanOf → ℕ → RangeProof → Type 0
+IsOwnOfEach text answers h S b plan inactive proof =
+    (T : Layout) (content : Content) → T.shape ≡ S → length content.elements ≡ plan.leaves →
+    AnswersAre text answers (planned S plan.leaves plan.start plan.end) h T content →
+    proof ≡ own_proof h T b content inactive plan.start plan.end
 
 -- a plan's positions are those that are planned, and its siblings' those of the siblings
 pub record ArePlanned (S : Shape) (leaves start end : ℕ) (positions siblings : List ℕ) : Type 0 where

@@ -1,15 +1,20 @@
 //! Which nodes a range proof needs, and the proof from their digests.
-ghost use Rattle.std.specs.Prelude.{◌≡◌, ℕ, ◌+◌, ◌-◌, ◌*◌, ◌%◌, ◌^◌, ◌<◌, ◌≤◌, ◌++◌, List, length, map, Some, None, Err, IfOk, OnOk, MatchOption, MatchResult};
+ghost use Rattle.std.specs.Prelude.{◌≡◌, ℕ, ◌+◌, ◌-◌, ◌*◌, ◌%◌, ◌^◌, ◌<◌, ◌≤◌, ◌++◌, ◌⊎◌, List, length, map, Some, None, Err, IfOk, IfErr, OnOk, MatchOption, MatchResult};
+ghost use Rattle.std.specs.List.{All, AllZip};
 ghost use Rattle.std.specs.List.Sorted.{IsStrictlyIncreasing};
 ghost use Rattle.storage_merkle.specs.Shape.{AreAligned};
-ghost use Rattle.storage_merkle.specs.Plans.{ArePeaks, ArePlanned, PlanOf, planned, refusal};
+ghost use Rattle.storage_merkle.specs.Plans.{ArePeaks, ArePlanned, IsFirstAbsent, IsOwnOfEach, PlanOf, planned, refusal};
+ghost use Rattle.storage_merkle.specs.PlanParts.{AreOf, site_digest, tops};
 ghost use Rattle.storage_merkle.specs.RangeProofs.{apart, position_of, sites_of};
-ghost use Rattle.storage_merkle.specs.Rests.{AreAfterLeading, AreFolded};
+ghost use Rattle.storage_merkle.specs.Rests.{AreAfterLeading, AreFolded, peaks_from};
 ghost use Rattle.storage_merkle.specs.Siblings.{sibling_sites};
-ghost use Rattle.storage_merkle.specs.Trees.{node_calc, ungrafted};
+ghost use Rattle.storage_merkle.specs.Trees.{folded, node_calc, unfolded, ungrafted};
+
+mod nodes;
 
 use crate::merkle::family::power;
-use crate::merkle::hasher::{Hasher, append, join};
+use crate::merkle::hasher::Hasher;
+use crate::merkle::plan::nodes::Nodes;
 use crate::merkle::{Bagging, Error, Family, Location, MAX_LEAVES, Position, Proof};
 use std::alloc::{AllocError, Global};
 use std::marker::Model;
@@ -132,66 +137,76 @@ impl<F: Family> RangePlan<F> {
         get_node: G,
     ) -> Result<Proof<F, H::Digest>, Error<F>>
         requires { G.IsAlwaysCallable get_node }
+        ensures own { IfOk result (λ proof. IsOwnOfEach H.Digest.text (G.post get_node) H.hash_of F.shape (H.bagging hasher.now) self.now inactive (record { leaves = proof.leaves; inactive = proof.inactive_peaks; digests = map H.Digest.text proof.digests.items })) }
+        ensures answered { IfOk result (λ _. All (λ p. (d : _) × G.post get_node p (Some d)) (planned F.shape self.now.leaves self.now.start self.now.end)) }
+        ensures counts { IfOk result (λ proof. (proof.leaves ≡ self.now.leaves) × (proof.inactive_peaks ≡ inactive) × (inactive ≤ length (F.shape.peaks self.now.leaves))) }
+        ensures why { IfErr result (λ e. ((length (F.shape.peaks self.now.leaves) < inactive) × (e ≡ Error.InvalidProof)) ⊎ ((inactive ≤ length (F.shape.peaks self.now.leaves)) × (((p : ℕ) × (e ≡ Error.ElementPruned p) × IsFirstAbsent (G.post get_node) (planned F.shape self.now.leaves self.now.start self.now.end) p) ⊎ (e ≡ Error.Memory)))) }
     {
         if inactive as u64 > peak_count::<F>(self.leaves.as_u64()) {
             return Err(Error::InvalidProof);
         }
-        let mut nodes = Vec::with_capacity(alloc, self.positions.len())?;
-        for position in &self.positions {
-            let Some(node) = get_node(*position) else {
-                return Err(Error::ElementPruned(*position));
-            };
-            nodes.push(node)?;
-        }
-        let mut digests = Vec::with_capacity(alloc, self.positions.len())?;
-        let nodes = Nodes {
-            positions: &self.positions,
-            digests: &nodes,
+        let answered = match answers(alloc, &self.positions, get_node) {
+            Ok(answered) => answered,
+            Err(error) => return Err(error),
         };
-        self.add_peaks(hasher, inactive, &nodes, &mut digests)?;
-        for position in &self.siblings {
-            push_some(&mut digests, nodes.digest(*position))?;
-        }
         Ok(Proof {
             leaves: self.leaves,
             inactive_peaks: inactive,
-            digests,
+            digests: self.digests(alloc, hasher, inactive, &answered)?,
         })
     }
 
-    /// Adds the digests of the peaks and folds apart from the range, in leaf order.
-    fn add_peaks<H: Hasher<F>>(
+    /// The digests of the proof, from those of the planned nodes.
+    fn digests<H: Hasher<F>>(
         &self,
+        alloc: Global,
         hasher: &H,
         inactive: usize,
-        nodes: &Nodes<'_, F, H::Digest>,
-        digests: &mut Vec<H::Digest>,
-    ) -> Result<(), AllocError> {
-        let end = self.end.as_u64();
-        let all = Rest::all::<F, H>(hasher, self.leaves.as_u64(), inactive);
-        let rest = all.after_leading::<F>(self.start.as_u64());
-        push_some(
-            digests,
-            nodes.fold_front(hasher, self.leaves.as_u64(), rest.first),
+        answered: &[H::Digest],
+    ) -> Result<Vec<H::Digest>, AllocError>
+        requires { length answered.now ≡ length (planned F.shape self.now.leaves self.now.start self.now.end) }
+        ensures { let xs = folded (H.bagging hasher.now) inactive (peaks_from F.shape 0 self.now.leaves) in let ys = unfolded (H.bagging hasher.now) inactive (peaks_from F.shape 0 self.now.leaves) in IfOk result (λ v. (digest_of : ℕ → ℕ → List ℕ) → AreOf H.Digest.text F.shape (planned F.shape self.now.leaves self.now.start self.now.end) answered.now digest_of → map H.Digest.text v.items ≡ map (site_digest self.now.start self.now.end xs ys H.hash_of digest_of) (tops self.now.start self.now.end xs ys (ungrafted F.shape) ++ sibling_sites (ungrafted F.shape) self.now.leaves self.now.start self.now.end)) }
+    {
+        let nodes = Nodes {
+            positions: &self.positions,
+            digests: answered,
+        };
+        let mut digests = Vec::with_capacity(alloc, self.positions.len())?;
+        let peaks = Rest::all::<F, H>(hasher, self.leaves.as_u64(), inactive);
+        nodes.add_peaks(
+            hasher,
+            peaks,
+            self.start.as_u64(),
+            self.end.as_u64(),
+            &mut digests,
         )?;
-        let mut rest = rest;
-        while rest.left > 0 && (rest.folded > 0 || rest.first < end) {
-            let height = F::first_peak(rest.left);
-            if rest.first + power(height) <= self.start.as_u64() || end <= rest.first {
-                push_some(digests, nodes.node(rest.first, height))?;
-            }
-            rest = rest.next(height);
-        }
-        push_some(digests, nodes.fold_back(hasher, rest.first, rest.left))
+        nodes.add_all(&self.siblings, &mut digests)?;
+        Ok(digests)
     }
 }
 
-/// Adds a digest if there is one.
-fn push_some<D: Digest>(digests: &mut Vec<D>, digest: Option<D>) -> Result<(), AllocError> {
-    if let Some(digest) = digest {
-        digests.push(digest)?;
+/// What `get_node` answers at positions, which it is asked for in their order.
+///
+/// # Errors
+///
+/// `ElementPruned` of the first position that it does not have; `Memory`.
+fn answers<F: Family, D: Digest, G: Fn(Position<F>) -> Option<D>>(
+    alloc: Global,
+    positions: &[Position<F>],
+    get_node: G,
+) -> Result<Vec<D>, Error<F>>
+    requires { G.IsAlwaysCallable get_node }
+    ensures served { IfOk result (λ v. AllZip (λ p d. G.post get_node p (Some d)) positions.now v.items) }
+    ensures why { IfErr result (λ e. ((p : ℕ) × (e ≡ Error.ElementPruned p) × IsFirstAbsent (G.post get_node) positions.now p) ⊎ (e ≡ Error.Memory)) }
+{
+    let mut answered = Vec::with_capacity(alloc, positions.len())?;
+    for position in positions {
+        let Some(digest) = get_node(*position) else {
+            return Err(Error::ElementPruned(*position));
+        };
+        answered.push(digest)?;
     }
-    Ok(())
+    Ok(answered)
 }
 
 /// The peaks over `left` leaves from the leaf `first` on, of which `folded` leading ones are folded from the left.
@@ -255,62 +270,6 @@ impl Rest {
             rest = rest.next(height);
         }
         rest
-    }
-}
-
-/// The digests of planned nodes, by their positions in ascending order.
-#[derive_where(Clone, Copy)]
-struct Nodes<'a, F, D> {
-    positions: &'a [Position<F>],
-    digests: &'a [D],
-}
-
-impl<F: Family, D: Digest> Nodes<'_, F, D> {
-    /// The digest at a position.
-    fn digest(&self, position: Position<F>) -> Option<D> {
-        let index = self.positions.binary_search(&position).ok()?;
-        self.digests.get(index).copied()
-    }
-
-    /// The digest of a node.
-    fn node(&self, first: u64, height: u32) -> Option<D>
-        requires aligned { first % 2 ^ height ≡ 0 }
-        requires within { first + 2 ^ height ≤ 2 ^ 62 }
-    {
-        self.digest(node_position(first, height))
-    }
-
-    /// The peaks before a leaf, folded from the left; none for no peaks.
-    fn fold_front<H: Hasher<F, Digest = D>>(&self, hasher: &H, leaves: u64, end: u64) -> Option<D>
-        requires { leaves ≤ 2 ^ 62 }
-    {
-        let mut folded = None;
-        let mut rest = Rest {
-            first: 0,
-            left: leaves,
-            folded: 0,
-        };
-        while rest.left > 0 && rest.first < end {
-            let height = F::first_peak(rest.left);
-            let node = self.node(rest.first, height)?;
-            folded = Some(append(hasher, folded, &node));
-            rest = rest.next(height);
-        }
-        folded
-    }
-
-    /// The peaks from a leaf on, folded from the right; none for no peaks.
-    fn fold_back<H: Hasher<F, Digest = D>>(&self, hasher: &H, first: u64, left: u64) -> Option<D>
-        requires few { first + left ≤ 2 ^ 62 }
-        requires aligned { AreAligned (F.shape.peaks left) first }
-    {
-        if left == 0 {
-            return None;
-        }
-        let height = F::first_peak(left);
-        let node = self.node(first, height)?;
-        let rest = self.fold_back(hasher, first + power(height), left - power(height));
-        Some(join(hasher, &node, rest))
     }
 }
 
