@@ -3,6 +3,41 @@
 mod command;
 mod fault;
 mod lines;
+mod reply;
 
 pub use command::{Action, Chunk, Command, Tree};
 pub use fault::Fault;
+use reply::Reply;
+use std::alloc::Global;
+use std::io::{self, Read, Write};
+
+/// Runs the program over its words, its own name left out, and answers the exit status: 0, or 1 for a no. After a fault
+/// `output` has nothing, `errors` one line, and the status is 2. After a failed write it is 2 as well, and nothing more is
+/// written.
+pub fn run<R: Read + Drop, O: Write, E: Write>(
+    alloc: Global,
+    words: &[String],
+    input: R,
+    output: &mut O,
+    errors: &mut E,
+) -> u8 {
+    match Reply::of(alloc, words, input) {
+        Ok(reply) => match print(output, reply.text.as_str()) {
+            Ok(()) => reply.status,
+            Err(_) => 2,
+        },
+        Err(fault) => fail(fault, errors),
+    }
+}
+
+/// Writes the line of a fault, and answers its exit status.
+pub fn fail<E: Write>(fault: Fault, errors: &mut E) -> u8 {
+    let _ = writeln!(errors, "{fault}");
+    2
+}
+
+/// Writes the whole text.
+fn print<O: Write>(output: &mut O, text: &str) -> io::Result<()> {
+    output.write_all(text.as_bytes())?;
+    output.flush()
+}

@@ -5,6 +5,8 @@ ghost use Rattle.commonware_storage.specs.declared.stateproof.fault.Fault.TheVar
 
 use std::alloc::{AllocError, AllocFailed};
 use storage_codec::NoMemory;
+use storage_merkle::merkle;
+use storage_ops::qmdb;
 use thiserror::Error;
 
 /// The first fault of a run, in the order of the variants; want of memory comes at any point.
@@ -48,5 +50,25 @@ impl<T: Drop> From<AllocFailed<T>> for Fault {
 
     fn from(_error: AllocFailed<T>) -> Fault {
         Fault::Memory
+    }
+}
+
+impl<F> From<qmdb::Error<F>> for Fault {
+    /// The fault of a snapshot or of a proof of it, whose operations and bits are as many.
+    fn from(error: qmdb::Error<F>) -> Fault {
+        match error {
+            qmdb::Error::Merkle(error) => Fault::from(error),
+            _ => Fault::Memory,
+        }
+    }
+}
+
+impl<F> From<merkle::Error<F>> for Fault {
+    /// The fault of a plan or of a floor.
+    fn from(error: merkle::Error<F>) -> Fault {
+        match error {
+            merkle::Error::RangeOutOfBounds(_) | merkle::Error::LocationOverflow(_) => Fault::Range,
+            _ => Fault::Memory,
+        }
     }
 }

@@ -9,7 +9,9 @@ use crate::stateproof::Fault;
 use hex::FromHexError;
 use std::alloc::Global;
 use storage_bitmap::bitmap::{Prunable, Readable};
-use storage_merkle::merkle::MAX_LEAVES;
+use storage_codec::digest::Sha256;
+use storage_current::qmdb::current::Snapshot;
+use storage_merkle::merkle::{ElementPlan, Graftable, Location, MAX_LEAVES};
 
 /// A line of operations: the operation's bit, and its bytes.
 #[derive(Debug, Drop)]
@@ -77,5 +79,31 @@ impl<const N: usize> Operations<N> {
         self.strings.push(operation.bytes)?;
         self.bits.push(operation.active)?;
         Ok(())
+    }
+
+    /// The plan of a proof of the operation at a location.
+    pub fn plan<F: Graftable>(
+        &self,
+        alloc: Global,
+        location: u64,
+    ) -> Result<ElementPlan<F>, Fault> {
+        let leaves = Location::new(self.strings.len() as u64);
+        match ElementPlan::new(alloc, leaves, Location::new(location)) {
+            Ok(plan) => Ok(plan),
+            Err(error) => Err(Fault::from(error)),
+        }
+    }
+
+    /// The snapshot of the operations, with a floor.
+    pub fn snapshot<F: Graftable>(
+        self,
+        alloc: Global,
+        floor: u64,
+    ) -> Result<Snapshot<F, Sha256, N>, Fault> {
+        let Operations { strings, bits } = self;
+        match Snapshot::new(alloc, &strings, bits, Location::new(floor)) {
+            Ok(snapshot) => Ok(snapshot),
+            Err(error) => Err(Fault::from(error)),
+        }
     }
 }

@@ -1,0 +1,74 @@
+//! Answers for a client that trusts one digest, the canonical root of a snapshot, from bytes that anyone may have made.
+
+ghost use Rattle.std.specs.Prelude.{◌≡◌, ⊥, IfOk, Ok, true};
+ghost use Rattle.storage_bitmap.specs.Chunks.{IsChunkSize};
+ghost use Rattle.commonware_storage.specs.Light.{IsProofAt};
+
+mod text_error;
+
+use std::alloc::Global;
+use storage_codec::NoMemory;
+use storage_codec::codec::{Decode, Error};
+use storage_codec::digest::Hasher;
+use storage_current::qmdb::current::grafting;
+use storage_current::qmdb::current::proof::dynamic;
+use storage_merkle::merkle::{Graftable, Location};
+pub use text_error::TextError;
+
+/// The most digests that a proof may have. No tree needs more for one location.
+pub const MAX_DIGESTS: usize = 128;
+
+/// Whether the operation with these bytes stands at the location of the snapshot with that canonical root, and is active.
+/// `proof` is an operation proof as it is written, over a chunk of `chunk_size` bytes.
+///
+/// The answer is no where the bytes are not one whole proof with at most [`MAX_DIGESTS`] digests, where it is the proof of
+/// another location, and where no chunk has that size: this last no takes no memory. Else it is what the proof's `verify`
+/// answers.
+pub fn check_operation<F: Graftable, H: Hasher>(
+    alloc: Global,
+    proof: &[u8],
+    chunk_size: usize,
+    loc: Location<F>,
+    operation: &[u8],
+    root: &H::Digest,
+) -> Result<bool, NoMemory> {
+    if grafting::chunk_height(chunk_size).is_none() {
+        return Ok(false);
+    }
+    let cfg = (chunk_size, MAX_DIGESTS);
+    match dynamic::OperationProof::<F, H::Digest>::decode_cfg(alloc, proof, &cfg) {
+        Ok(proof) if proof.loc == loc => proof.verify_encoded::<H>(alloc, operation, root),
+        Ok(_) => Ok(false),
+        Err(Error::Memory) => Err(NoMemory),
+        Err(_) => Ok(false),
+    }
+}
+
+/// What [`check_operation`] answers for the bytes that these texts spell in hexadecimal, in either case.
+///
+/// # Errors
+///
+/// The first of: `Operation` where the operation's text spells no bytes; `Proof` where the proof's does not, also for a
+/// chunk size that no chunk has; `Memory`, which may come at any point.
+pub fn check_text<F: Graftable, H: Hasher>(
+    alloc: Global,
+    proof: &str,
+    chunk_size: usize,
+    loc: Location<F>,
+    operation: &str,
+    root: &H::Digest,
+) -> Result<bool, TextError> {
+    let operation = spelled(alloc, operation, TextError::Operation)?;
+    let proof = spelled(alloc, proof, TextError::Proof)?;
+    let yes = check_operation::<F, H>(alloc, &proof, chunk_size, loc, &operation, root)?;
+    Ok(yes)
+}
+
+/// The bytes that a text spells; this fault where it spells none.
+fn spelled(alloc: Global, text: &str, fault: TextError) -> Result<Vec<u8>, TextError> {
+    match hex::decode(alloc, text) {
+        Ok(bytes) => Ok(bytes),
+        Err(hex::FromHexError::OutOfMemory) => Err(TextError::Memory),
+        Err(_) => Err(fault),
+    }
+}

@@ -1,0 +1,152 @@
+//! What the program answers.
+
+ghost use Rattle.storage_bitmap.specs.Chunks.{IsChunkSize};
+
+use crate::light::{TextError, check_text};
+use crate::stateproof::lines::Operations;
+use crate::stateproof::{Action, Chunk, Command, Fault, Tree};
+use std::alloc::Global;
+use std::io::{self, ErrorKind, Read};
+use storage_bitmap::bitmap::Prunable;
+use storage_codec::codec::{Encode, FixedBytes};
+use storage_codec::digest::Sha256;
+use storage_current::qmdb::current::proof::constant::OperationProof;
+use storage_merkle::merkle::{ElementPlan, Graftable, Location, mmb, mmr};
+
+/// What the program writes, and its exit status.
+#[derive(Drop)]
+pub(crate) struct Reply {
+    pub text: String,
+    pub status: u8,
+}
+
+impl Reply {
+    /// The reply to these words and this input. The input is read where the words are good.
+    pub(crate) fn of<R: Read + Drop>(
+        alloc: Global,
+        words: &[String],
+        input: R,
+    ) -> Result<Reply, Fault> {
+        let Some(command) = Command::parse(words) else {
+            return Err(Fault::Usage);
+        };
+        let text = text_of(alloc, input)?;
+        match command.tree {
+            Tree::Mmr => over_tree::<mmr::Family>(alloc, &command, text),
+            Tree::Mmb => over_tree::<mmb::Family>(alloc, &command, text),
+        }
+    }
+}
+
+/// All of the input.
+fn text_of<R: Read + Drop>(alloc: Global, input: R) -> Result<String, Fault> {
+    io::read_to_string(alloc, input).map_err(|error| match error.kind() {
+        ErrorKind::OutOfMemory => Fault::Memory,
+        _ => Fault::Input,
+    })
+}
+
+fn over_tree<F: Graftable>(alloc: Global, command: &Command, text: String) -> Result<Reply, Fault> {
+    match command.chunk {
+        Chunk::One => over_chunk::<F, 1>(alloc, &command.action, text),
+        Chunk::ThirtyTwo => over_chunk::<F, 32>(alloc, &command.action, text),
+    }
+}
+
+fn over_chunk<F: Graftable, const N: usize>(
+    alloc: Global,
+    action: &Action,
+    text: String,
+) -> Result<Reply, Fault>
+    requires { IsChunkSize N }
+{
+    match action {
+        Action::Root { floor } => root::<F, N>(alloc, text, *floor),
+        Action::Prove { floor, location } => prove::<F, N>(alloc, text, *floor, *location),
+        Action::Check { root, location } => {
+            check::<F>(alloc, text.as_str(), N, root, *location)
+        }
+    }
+}
+
+/// The canonical root of the operations of these lines.
+fn root<F: Graftable, const N: usize>(
+    alloc: Global,
+    text: String,
+    floor: u64,
+) -> Result<Reply, Fault>
+    requires { IsChunkSize N }
+{
+    let operations = Operations::<N>::parse(alloc, text.as_str())?;
+    drop(text);
+    let snapshot = operations.snapshot::<F>(alloc, floor)?;
+    let root = hex::encode(alloc, snapshot.root().bytes)?;
+    Ok(Reply {
+        text: format!(in alloc; "{root}\n")?,
+        status: 0,
+    })
+}
+
+/// The canonical root of the operations of these lines, and the proof of the one at a location.
+fn prove<F: Graftable, const N: usize>(
+    alloc: Global,
+    text: String,
+    floor: u64,
+    location: u64,
+) -> Result<Reply, Fault>
+    requires { IsChunkSize N }
+{
+    let operations = Operations::<N>::parse(alloc, text.as_str())?;
+    drop(text);
+    let plan = operations.plan::<F>(alloc, location)?;
+    let snapshot = operations.snapshot::<F>(alloc, floor)?;
+    let proof = match OperationProof::<F, FixedBytes<32>, N>::build::<Sha256, Prunable<N>, _>(
+        alloc,
+        snapshot.status(),
+        plan,
+        |position| snapshot.get_node(position),
+        Location::new(floor),
+        snapshot.ops_root(),
+    ) {
+        Ok(proof) => proof.encode(alloc)?,
+        Err(error) => return Err(Fault::from(error)),
+    };
+    let root = hex::encode(alloc, snapshot.root().bytes)?;
+    let proof = hex::encode(alloc, proof)?;
+    Ok(Reply {
+        text: format!(in alloc; "{root}\n{proof}\n")?,
+        status: 0,
+    })
+}
+
+/// Whether the proof of the second line shows the operation of the first one.
+fn check<F: Graftable>(
+    alloc: Global,
+    text: &str,
+    chunk_size: usize,
+    root: &FixedBytes<32>,
+    location: u64,
+) -> Result<Reply, Fault> {
+    let mut lines = text.split_terminator('\n');
+    let operation = lines.next().ok_or(Fault::Line(1))?;
+    let proof = lines.next();
+    let loc = Location::<F>::new(location);
+    let text = proof.unwrap_or("");
+    let answer = check_text::<F, Sha256>(alloc, text, chunk_size, loc, operation, root);
+    let yes = answer.map_err(|error| match error {
+        TextError::Operation => Fault::Line(1),
+        TextError::Proof => Fault::Line(2),
+        TextError::Memory => Fault::Memory,
+    })?;
+    if proof.is_none() {
+        return Err(Fault::Line(2));
+    }
+    if lines.next().is_some() {
+        return Err(Fault::Line(3));
+    }
+    let (word, status) = if yes { ("yes", 0) } else { ("no", 1) };
+    Ok(Reply {
+        text: format!(in alloc; "{word}\n")?,
+        status,
+    })
+}
