@@ -68,6 +68,20 @@ def cases(folder):
         yield "plain_checks", given, ["yes", root]
     for given, asked in cut(folder, "plain_checks", 9):
         yield "plain_checks", given, asked
+    for columns in rows(folder, "golden"):
+        # the first column is a label; grafted roots and witnesses have no call that answers them
+        canonical, ops, _, _, proof, operation = columns[8:]
+        yield "golden", columns[1:8], [canonical, ops, proof, operation]
+    for columns in rows(folder, "program"):
+        # `root` and `prove` write the root, and `check` is asked about what `prove` wrote
+        root, _, _, _, proof, answer = columns[5:]
+        yield "program", columns[:5], [root, root, proof, answer]
+    for given, asked in cut(folder, "program_checks", 7):
+        yield "program_checks", given, asked
+    for given, asked in cut(folder, "ranges", 7):
+        yield "ranges", given, asked
+    for given, asked in cut(folder, "ranges_checks", 9):
+        yield "ranges_checks", given, asked
 
 
 def main():

@@ -2,8 +2,10 @@
 
 mod codecs;
 mod operations;
+mod program;
 mod proofs;
 mod refusals;
+mod snapshots;
 mod spelling;
 mod trees;
 
@@ -21,6 +23,9 @@ pub fn answer(alloc: Global, line: &str) -> Result<String, Fault> {
         "golden_hash" => codecs::golden_hash(alloc, columns),
         "operations" => operations::operations(alloc, columns),
         "written" => operations::written(alloc, columns),
+        "program" => program::program(alloc, columns),
+        "program_checks" => program::program_checks(alloc, columns),
+        "golden" | "ranges" | "ranges_checks" => snapshots::answer(alloc, *list, columns),
         _ => trees::answer(alloc, *list, columns),
     }
 }

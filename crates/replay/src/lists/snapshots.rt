@@ -1,0 +1,275 @@
+//! Lists on snapshots, their roots, and proofs of ranges and of single operations.
+
+ghost use Rattle.std.specs.Prelude.{◌^◌, ◌<◌};
+ghost use Rattle.storage_bitmap.specs.Chunks.{IsChunkSize};
+
+use crate::columns::{Fault, bytes, digest, number, strings};
+use commonware_storage::bitmap::{Prunable, Readable};
+use commonware_storage::codec::{Decode, Encode, Error, FixedBytes};
+use commonware_storage::digest::Sha256;
+use commonware_storage::merkle::{
+    ElementPlan, Graftable, Location, MAX_LEAVES, RangePlan, mmb, mmr,
+};
+use commonware_storage::qmdb::current::Snapshot;
+use commonware_storage::qmdb::current::proof::RangeProof;
+use commonware_storage::qmdb::current::proof::constant::OperationProof;
+use std::alloc::Global;
+
+/// The answer of a list whose first columns are the family and the size of a chunk.
+pub fn answer(alloc: Global, list: &str, columns: &[&str]) -> Result<String, Fault> {
+    let [family, chunk_size, rest @ ..] = columns else {
+        return Err(Fault::Malformed);
+    };
+    match *family {
+        "mmr" => over::<mmr::Family>(alloc, list, *chunk_size, rest),
+        "mmb" => over::<mmb::Family>(alloc, list, *chunk_size, rest),
+        _ => Err(Fault::Malformed),
+    }
+}
+
+fn over<F: Graftable>(
+    alloc: Global,
+    list: &str,
+    chunk_size: &str,
+    columns: &[&str],
+) -> Result<String, Fault> {
+    if list == "ranges_checks" {
+        return ranges_checks::<F>(alloc, number(chunk_size)? as usize, columns);
+    }
+    match chunk_size {
+        "1" => over_snapshot::<F, 1>(alloc, list, columns),
+        "2" => over_snapshot::<F, 2>(alloc, list, columns),
+        "4" => over_snapshot::<F, 4>(alloc, list, columns),
+        "32" => over_snapshot::<F, 32>(alloc, list, columns),
+        _ => Err(Fault::Malformed),
+    }
+}
+
+/// `floor bits operations start count`: for `golden` the canonical root, the operations root, the proof of the range and,
+/// where it has one location, of the operation there; for `ranges` the proof of the range, the root, and whether the proof
+/// is accepted.
+fn over_snapshot<F: Graftable, const N: usize>(
+    alloc: Global,
+    list: &str,
+    columns: &[&str],
+) -> Result<String, Fault>
+    requires { IsChunkSize N }
+{
+    let [floor, bits, operations, start, count] = columns else {
+        return Err(Fault::Malformed);
+    };
+    let operations = strings(alloc, *operations)?;
+    let served = Served::<F, N>::new(alloc, &operations, *bits, number(*floor)?)?;
+    let start = number(*start)?;
+    let count = number(*count)?;
+    if list == "golden" {
+        return served.golden(alloc, start, count);
+    }
+    let end = start.checked_add(count).ok_or(Fault::Malformed)?;
+    let chunks = chunks_of::<N>(alloc, *bits)?;
+    let claim = Claim {
+        operations: places(&operations, start, end)?,
+        chunks: places(&chunks, start / (8 * N as u64), end.div_ceil(8 * N as u64))?,
+    };
+    served.ranges(alloc, start, count, &claim)
+}
+
+/// Operations, and the chunks with their bits.
+#[derive(Drop)]
+struct Claim<'a, const N: usize> {
+    operations: &'a [Vec<u8>],
+    chunks: &'a [[u8; N]],
+}
+
+/// What stands from one place to before another.
+fn places<T>(items: &[T], start: u64, end: u64) -> Result<&[T], Fault> {
+    items
+        .get(start as usize..end as usize)
+        .ok_or(Fault::Malformed)
+}
+
+/// A bit for each digit; `-` is none.
+fn bits_of<const N: usize>(alloc: Global, digits: &str) -> Result<Prunable<N>, Fault>
+    requires { IsChunkSize N }
+{
+    let mut bits = Prunable::new(alloc);
+    if digits == "-" {
+        return Ok(bits);
+    }
+    for digit in digits.bytes() {
+        if bits.len() >= MAX_LEAVES {
+            return Err(Fault::Memory);
+        }
+        bits.push(digit == b'1')?;
+    }
+    Ok(bits)
+}
+
+/// The digits in chunks, the last one filled up with zeros.
+fn chunks_of<const N: usize>(alloc: Global, digits: &str) -> Result<Vec<[u8; N]>, Fault>
+    requires { IsChunkSize N }
+{
+    let mut chunks = Vec::new(alloc);
+    for part in digits.as_bytes().chunks(8 * N) {
+        let mut chunk = [0; N];
+        for (place, digit) in part.iter().enumerate() {
+            if *digit == b'1' {
+                set(&mut chunk, place);
+            }
+        }
+        chunks.push(chunk)?;
+    }
+    Ok(chunks)
+}
+
+/// Sets the bit at a place, low to high in each byte.
+fn set(chunk: &mut [u8], place: usize) {
+    if let Some(byte) = chunk.get_mut(place / 8) {
+        *byte |= 1 << (place % 8);
+    }
+}
+
+/// A snapshot with its floor.
+#[derive(Drop)]
+struct Served<F: Graftable, const N: usize> {
+    snapshot: Snapshot<F, Sha256, N>,
+    floor: Location<F>,
+}
+
+impl<F: Graftable, const N: usize> Served<F, N> {
+    fn new(
+        alloc: Global,
+        operations: &[Vec<u8>],
+        bits: &str,
+        floor: u64,
+    ) -> Result<Self, Fault>
+        requires { IsChunkSize N }
+    {
+        let bits = bits_of(alloc, bits)?;
+        let floor = Location::new(floor);
+        match Snapshot::new(alloc, operations, bits, floor) {
+            Ok(snapshot) => Ok(Served { snapshot, floor }),
+            Err(_) => Err(Fault::Malformed),
+        }
+    }
+
+    fn golden(&self, alloc: Global, start: u64, count: u64) -> Result<String, Fault> {
+        let root = hex::encode(alloc, self.snapshot.root().bytes)?;
+        let ops_root = hex::encode(alloc, self.snapshot.ops_root().bytes)?;
+        if count == 0 {
+            return Ok(format!(in alloc; "{root} {ops_root} - -")?);
+        }
+        let range = hex::encode(alloc, self.range(alloc, start, count)?.encode(alloc)?)?;
+        if count > 1 {
+            return Ok(format!(in alloc; "{root} {ops_root} {range} -")?);
+        }
+        let operation = hex::encode(alloc, self.operation(alloc, start)?.encode(alloc)?)?;
+        Ok(format!(in alloc; "{root} {ops_root} {range} {operation}")?)
+    }
+
+    fn ranges(
+        &self,
+        alloc: Global,
+        start: u64,
+        count: u64,
+        claim: &Claim<'_, N>,
+    ) -> Result<String, Fault> {
+        let proof = self.range(alloc, start, count)?;
+        let root = self.snapshot.root();
+        let loc = Location::new(start);
+        let yes = proof.verify_encoded::<Sha256, _, _>(
+            alloc,
+            loc,
+            claim.operations,
+            claim.chunks,
+            N,
+            &root,
+        )?;
+        let yes = if yes { "yes" } else { "no" };
+        let proof = hex::encode(alloc, proof.encode(alloc)?)?;
+        let root = hex::encode(alloc, root.bytes)?;
+        Ok(format!(in alloc; "{proof} {root} {yes}")?)
+    }
+
+    fn range(
+        &self,
+        alloc: Global,
+        start: u64,
+        count: u64,
+    ) -> Result<RangeProof<F, FixedBytes<32>>, Fault> {
+        let end = start.checked_add(count).ok_or(Fault::Malformed)?;
+        let leaves = Location::new(self.snapshot.status().len());
+        let range = Location::new(start)..Location::new(end);
+        let Ok(plan) = RangePlan::new(alloc, leaves, range) else {
+            return Err(Fault::Malformed);
+        };
+        match RangeProof::build::<Sha256, Prunable<N>, _, N>(
+            alloc,
+            self.snapshot.status(),
+            plan,
+            |position| self.snapshot.get_node(position),
+            self.floor,
+            self.snapshot.ops_root(),
+        ) {
+            Ok(proof) => Ok(proof),
+            Err(_) => Err(Fault::Malformed),
+        }
+    }
+
+    fn operation(
+        &self,
+        alloc: Global,
+        location: u64,
+    ) -> Result<OperationProof<F, FixedBytes<32>, N>, Fault> {
+        let leaves = Location::new(self.snapshot.status().len());
+        let Ok(plan) = ElementPlan::new(alloc, leaves, Location::new(location)) else {
+            return Err(Fault::Malformed);
+        };
+        match OperationProof::build::<Sha256, Prunable<N>, _>(
+            alloc,
+            self.snapshot.status(),
+            plan,
+            |position| self.snapshot.get_node(position),
+            self.floor,
+            self.snapshot.ops_root(),
+        ) {
+            Ok(proof) => Ok(proof),
+            Err(_) => Err(Fault::Malformed),
+        }
+    }
+}
+
+/// `most start operations chunks proof root label`: whether the bytes are a range proof of at most so many digests that shows
+/// the operations and chunks. The label says how the case was made.
+fn ranges_checks<F: Graftable>(
+    alloc: Global,
+    chunk_size: usize,
+    columns: &[&str],
+) -> Result<String, Fault> {
+    let [most, start, operations, chunks, proof, root, _] = columns else {
+        return Err(Fault::Malformed);
+    };
+    let operations = strings(alloc, *operations)?;
+    let chunks = strings(alloc, *chunks)?;
+    let mut lent = Vec::new(alloc);
+    for chunk in &chunks {
+        lent.push(chunk.as_slice())?;
+    }
+    let proof = bytes(alloc, *proof)?;
+    let root = digest(*root)?;
+    let start = Location::new(number(*start)?);
+    let most = number(*most)? as usize;
+    let yes = match RangeProof::<F, FixedBytes<32>>::decode_cfg(alloc, proof.as_slice(), &most) {
+        Ok(proof) => proof.verify_encoded::<Sha256, _, &[u8]>(
+            alloc,
+            start,
+            &operations,
+            &lent,
+            chunk_size,
+            &root,
+        )?,
+        Err(Error::Memory) => return Err(Fault::Memory),
+        Err(_) => false,
+    };
+    Ok(String::from_str(alloc, if yes { "yes" } else { "no" })?)
+}

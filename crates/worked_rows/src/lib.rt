@@ -1,0 +1,22 @@
+//! The cases that cross the crates, worked by hand: each test is one of them. What they expect is what the definitions give,
+//! and not what this code answered.
+#![tactic(auto)]
+
+#[cfg(test)]
+mod altered;
+#[cfg(test)]
+mod floors;
+#[cfg(test)]
+mod operation_proofs;
+#[cfg(test)]
+mod program;
+#[cfg(test)]
+mod program_faults;
+#[cfg(test)]
+mod range_proofs;
+#[cfg(test)]
+mod served;
+#[cfg(test)]
+mod shared_chunks;
+#[cfg(test)]
+mod sweep;
