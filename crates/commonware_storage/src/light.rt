@@ -1,8 +1,10 @@
 //! Answers for a client that trusts one digest, the canonical root of a snapshot, from bytes that anyone may have made.
 
-ghost use Rattle.std.specs.Prelude.{◌≡◌, ⊥, IfOk, Ok, true};
+ghost use Rattle.std.specs.Prelude.{◌≡◌, ◌⊎◌, IfOk, IfErr, OnOk, IsOk, IsErr, IsTrue, false};
+ghost use Rattle.hex.specs.Hex.{decode_of};
 ghost use Rattle.storage_bitmap.specs.Chunks.{IsChunkSize};
-ghost use Rattle.commonware_storage.specs.Light.{IsProofAt};
+ghost use Rattle.commonware_storage.specs.Light.{IsProofAt, IsProofTextAt, IsTextRefusal};
+ghost use Rattle.commonware_storage.specs.declared.light.text_error.TextError.TheVariants.{Memory};
 
 mod text_error;
 
@@ -31,7 +33,10 @@ pub fn check_operation<F: Graftable, H: Hasher>(
     loc: Location<F>,
     operation: &[u8],
     root: &H::Digest,
-) -> Result<bool, NoMemory> {
+) -> Result<bool, NoMemory>
+    ensures refused { ¬ IsChunkSize chunk_size → result ≡ Ok false }
+    ensures whole { IfOk result (λ yes. IsTrue yes → IsProofAt F.has_pending H.Digest.size chunk_size loc proof.now) }
+{
     if grafting::chunk_height(chunk_size).is_none() {
         return Ok(false);
     }
@@ -57,7 +62,12 @@ pub fn check_text<F: Graftable, H: Hasher>(
     loc: Location<F>,
     operation: &str,
     root: &H::Digest,
-) -> Result<bool, TextError> {
+) -> Result<bool, TextError>
+    ensures refused { ¬ IsChunkSize chunk_size → IfOk result (λ yes. yes ≡ false) }
+    ensures whole { IfOk result (λ yes. IsTrue yes → IsProofTextAt F.has_pending H.Digest.size chunk_size loc proof.now) }
+    ensures spelled { OnOk result (IsOk (decode_of operation.now) × IsOk (decode_of proof.now)) }
+    ensures why { IfErr result (λ error. IsTextRefusal error operation.now proof.now) }
+{
     let operation = spelled(alloc, operation, TextError::Operation)?;
     let proof = spelled(alloc, proof, TextError::Proof)?;
     let yes = check_operation::<F, H>(alloc, &proof, chunk_size, loc, &operation, root)?;
@@ -65,7 +75,10 @@ pub fn check_text<F: Graftable, H: Hasher>(
 }
 
 /// The bytes that a text spells; this fault where it spells none.
-fn spelled(alloc: Global, text: &str, fault: TextError) -> Result<Vec<u8>, TextError> {
+fn spelled(alloc: Global, text: &str, fault: TextError) -> Result<Vec<u8>, TextError>
+    ensures bytes { IfOk result (λ bytes. decode_of text.now ≡ Ok bytes.items) }
+    ensures why { IfErr result (λ error. (error ≡ Memory) ⊎ ((error ≡ fault) × IsErr (decode_of text.now))) }
+{
     match hex::decode(alloc, text) {
         Ok(bytes) => Ok(bytes),
         Err(hex::FromHexError::OutOfMemory) => Err(TextError::Memory),

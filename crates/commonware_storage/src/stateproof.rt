@@ -1,5 +1,7 @@
 //! The work of the program `stateproof`, over any reader and writers.
 
+ghost use Rattle.std.specs.Prelude.{◌≡◌, ◌≤◌};
+
 mod command;
 mod fault;
 mod lines;
@@ -20,7 +22,9 @@ pub fn run<R: Read + Drop, O: Write, E: Write>(
     input: R,
     output: &mut O,
     errors: &mut E,
-) -> u8 {
+) -> u8
+    ensures { result ≤ 2 }
+{
     match Reply::of(alloc, words, input) {
         Ok(reply) => match print(output, reply.text.as_str()) {
             Ok(()) => reply.status,
@@ -31,7 +35,9 @@ pub fn run<R: Read + Drop, O: Write, E: Write>(
 }
 
 /// Writes the line of a fault, and answers its exit status.
-pub fn fail<E: Write>(fault: Fault, errors: &mut E) -> u8 {
+pub fn fail<E: Write>(fault: Fault, errors: &mut E) -> u8
+    ensures { result ≡ 2 }
+{
     let _ = writeln!(errors, "{fault}");
     2
 }
