@@ -26,7 +26,13 @@ fn fault(error: io::Error) -> Fault {
 
 fn main(rt: HostRuntime) -> ExitCode {
     let status = match words(&rt) {
-        Ok(words) => run(rt.alloc(), &words, rt.stdin(), &mut rt.stdout(), &mut rt.stderr()),
+        Ok(words) => run(
+            rt.alloc(),
+            &words,
+            rt.stdin(),
+            &mut rt.stdout(),
+            &mut rt.stderr(),
+        ),
         Err(fault) => fail(fault, &mut rt.stderr()),
     };
     ExitCode::from(status)

@@ -19,7 +19,10 @@ fn assert_cut(
     mut bytes: Vec<u8>,
 ) -> Result<(), Fail> {
     for length in 0..bytes.len() {
-        assert!(rt; !checked(alloc, snapshot, 3, &bytes[..length])?, "{length} bytes");
+        assert!(rt;
+            !checked(alloc, snapshot, 3, &bytes[..length])?,
+            "{length} bytes"
+        );
     }
     assert!(rt; checked(alloc, snapshot, 3, &bytes)?);
     bytes.push(0)?;
@@ -75,11 +78,15 @@ fn assert_impossible<F: Graftable>(rt: &impl Abort, alloc: Global) -> Result<(),
     for size in [0, 3, TOO_LARGE] {
         assert!(rt; !check_operation::<F, Sha256>(alloc, &bytes, size, here, &operation, &root)?);
         let range = &proof.range_proof;
-        assert!(rt; !range.verify_encoded::<Sha256, _, _>(alloc, here, &operations, &chunks, size, &root)?);
+        assert!(rt;
+            !range.verify_encoded::<Sha256, _, _>(alloc, here, &operations, &chunks, size, &root)?
+        );
     }
     let range = &proof.range_proof;
     assert!(rt; range.verify_encoded::<Sha256, _, _>(alloc, here, &operations, &chunks, 1, &root)?);
-    assert!(rt; !range.verify_encoded::<Sha256, _, _>(alloc, last, &operations, &chunks, 1, &root)?);
+    assert!(rt;
+        !range.verify_encoded::<Sha256, _, _>(alloc, last, &operations, &chunks, 1, &root)?
+    );
     proof.range_proof.proof.leaves = Location::new(MAX_LEAVES + 1);
     assert!(rt; !proof.verify_encoded::<Sha256>(alloc, &operation, &root)?);
     let bytes = proof.encode(alloc)?;

@@ -2,9 +2,9 @@
 
 use crate::program::{outcome_of, words};
 use commonware_storage::stateproof::run;
+use std::alloc::Global;
 use std::io::{self, ErrorKind, Read};
 use std::process::Abort;
-use std::alloc::Global;
 use std::test::Fail;
 
 /// Stops where a run of each command line over an input does not end with that line on standard error alone.
@@ -59,16 +59,25 @@ fn program_lines(rt: HostRuntime) -> Result<(), Fail> {
         ("root mmr 1 0", b"1 ab\n\n", "stateproof: line 2\n"),
         ("root mmr 1 0", b"1 ab\n1 \n", "stateproof: line 2\n"),
         ("root mmr 1 0", b"1 ab\r\n", "stateproof: line 1\n"),
-        ("root mmr 32 0", b"1 ab\n1 AB\n1 abc\n", "stateproof: line 3\n"),
+        (
+            "root mmr 32 0",
+            b"1 ab\n1 AB\n1 abc\n",
+            "stateproof: line 3\n",
+        ),
         ("root mmb 1 2", b"1 ab\n", "stateproof: range\n"),
         ("prove mmb 1 0 1", b"1 ab\n", "stateproof: range\n"),
         ("prove mmr 1 0 0", b"", "stateproof: range\n"),
-        ("prove mmr 1 0 18446744073709551615", b"1 ab", "stateproof: range\n"),
+        (
+            "prove mmr 1 0 18446744073709551615",
+            b"1 ab",
+            "stateproof: range\n",
+        ),
     ];
     assert_faults(&rt, rt.alloc(), &cases)
 }
 
-const ZEROS: &str = "check mmr 1 0000000000000000000000000000000000000000000000000000000000000000 0";
+const ZEROS: &str =
+    "check mmr 1 0000000000000000000000000000000000000000000000000000000000000000 0";
 
 #[test]
 fn program_lines_to_check(rt: HostRuntime) -> Result<(), Fail> {
@@ -121,11 +130,23 @@ fn program_failed_writes(rt: HostRuntime) -> Result<(), Fail> {
     let words = words(alloc, "root mmr 1 0")?;
     let mut room = [0u8; 10];
     let mut errors = Vec::new(alloc);
-    let status = run(alloc, &words, b"1 ab".as_slice(), &mut room.as_mut_slice(), &mut errors);
+    let status = run(
+        alloc,
+        &words,
+        b"1 ab".as_slice(),
+        &mut room.as_mut_slice(),
+        &mut errors,
+    );
     assert_eq!(rt; status, 2);
     assert!(rt; errors.is_empty());
     let mut output = Vec::new(alloc);
-    let status = run(alloc, &words, b"1 a".as_slice(), &mut output, &mut room.as_mut_slice());
+    let status = run(
+        alloc,
+        &words,
+        b"1 a".as_slice(),
+        &mut output,
+        &mut room.as_mut_slice(),
+    );
     assert_eq!(rt; status, 2);
     assert!(rt; output.is_empty());
     Ok(())

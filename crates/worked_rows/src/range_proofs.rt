@@ -55,7 +55,16 @@ fn range_to_the_end(rt: HostRuntime) -> Result<(), Fail> {
     assert!(rt; shows(alloc, &snapshot, &proof, 5, &all[5..], &chunks)?);
     assert!(rt; !shows(alloc, &snapshot, &proof, 4, &all[5..], &chunks)?);
     assert!(rt; !shows(alloc, &snapshot, &proof, 5, &all[5..10], &chunks)?);
-    assert!(rt; !shows(alloc, &snapshot, &proof, 5, &all[5..], &[[0b10_0010], [0b11]])?);
+    assert!(rt;
+        !shows(
+            alloc,
+            &snapshot,
+            &proof,
+            5,
+            &all[5..],
+            &[[0b10_0010], [0b11]]
+        )?
+    );
     assert!(rt; !shows(alloc, &snapshot, &proof, 5, &all[5..], &[[0b10_0010]])?);
     assert!(rt; !shows(alloc, &snapshot, &proof, 5, &[], &[])?);
     Ok(())

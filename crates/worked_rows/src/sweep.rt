@@ -1,12 +1,12 @@
 //! Every location of many snapshots.
 
+use crate::served::{proof, range_proof};
 use commonware_storage::bitmap::{Prunable, Readable};
 use commonware_storage::codec::Encode;
 use commonware_storage::digest::Sha256;
 use commonware_storage::light::check_operation;
 use commonware_storage::merkle::{Graftable, Location, MAX_LEAVES, mmb, mmr};
 use commonware_storage::qmdb::current::Snapshot;
-use crate::served::{proof, range_proof};
 use std::alloc::Global;
 use std::process::Abort;
 use std::test::Fail;
@@ -26,7 +26,9 @@ fn numbers<F: Graftable>(
         }
     }
     let floor = Location::new((count / 2) as u64);
-    let snapshot = Snapshot::new(alloc, &operations, bits, floor).ok().ok_or("no snapshot")?;
+    let snapshot = Snapshot::new(alloc, &operations, bits, floor)
+        .ok()
+        .ok_or("no snapshot")?;
     Ok((operations, snapshot))
 }
 

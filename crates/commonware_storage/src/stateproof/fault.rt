@@ -53,19 +53,17 @@ impl<T: Drop> From<AllocFailed<T>> for Fault {
     }
 }
 
-impl<F> From<qmdb::Error<F>> for Fault {
+impl Fault {
     /// The fault of a snapshot or of a proof of it, whose operations and bits are as many.
-    fn from(error: qmdb::Error<F>) -> Fault {
+    pub(crate) fn of_snapshot<F>(error: &qmdb::Error<F>) -> Fault {
         match error {
-            qmdb::Error::Merkle(error) => Fault::from(error),
+            qmdb::Error::Merkle(error) => Fault::of_plan(error),
             _ => Fault::Memory,
         }
     }
-}
 
-impl<F> From<merkle::Error<F>> for Fault {
     /// The fault of a plan or of a floor.
-    fn from(error: merkle::Error<F>) -> Fault {
+    pub(crate) fn of_plan<F>(error: &merkle::Error<F>) -> Fault {
         match error {
             merkle::Error::RangeOutOfBounds(_) | merkle::Error::LocationOverflow(_) => Fault::Range,
             _ => Fault::Memory,

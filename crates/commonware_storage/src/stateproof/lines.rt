@@ -90,7 +90,7 @@ impl<const N: usize> Operations<N> {
         let leaves = Location::new(self.strings.len() as u64);
         match ElementPlan::new(alloc, leaves, Location::new(location)) {
             Ok(plan) => Ok(plan),
-            Err(error) => Err(Fault::from(error)),
+            Err(error) => Err(Fault::of_plan(&error)),
         }
     }
 
@@ -103,7 +103,7 @@ impl<const N: usize> Operations<N> {
         let Operations { strings, bits } = self;
         match Snapshot::new(alloc, &strings, bits, Location::new(floor)) {
             Ok(snapshot) => Ok(snapshot),
-            Err(error) => Err(Fault::from(error)),
+            Err(error) => Err(Fault::of_snapshot(&error)),
         }
     }
 }

@@ -1,5 +1,6 @@
 //! What the program answers.
 
+ghost use Rattle.std.specs.Prelude.{◌≤◌};
 ghost use Rattle.storage_bitmap.specs.Chunks.{IsChunkSize};
 
 use crate::light::{TextError, check_text};
@@ -10,6 +11,7 @@ use std::io::{self, ErrorKind, Read};
 use storage_bitmap::bitmap::Prunable;
 use storage_codec::codec::{Encode, FixedBytes};
 use storage_codec::digest::Sha256;
+use storage_current::qmdb::current::Snapshot;
 use storage_current::qmdb::current::proof::constant::OperationProof;
 use storage_merkle::merkle::{ElementPlan, Graftable, Location, mmb, mmr};
 
@@ -18,6 +20,7 @@ use storage_merkle::merkle::{ElementPlan, Graftable, Location, mmb, mmr};
 pub(crate) struct Reply {
     pub text: String,
     pub status: u8,
+    ghost answers: { status ≤ 1 },
 }
 
 impl Reply {
@@ -63,9 +66,7 @@ fn over_chunk<F: Graftable, const N: usize>(
     match action {
         Action::Root { floor } => root::<F, N>(alloc, text, *floor),
         Action::Prove { floor, location } => prove::<F, N>(alloc, text, *floor, *location),
-        Action::Check { root, location } => {
-            check::<F>(alloc, text.as_str(), N, root, *location)
-        }
+        Action::Check { root, location } => { check::<F>(alloc, text.as_str(), N, root, *location) }
     }
 }
 
@@ -100,23 +101,32 @@ fn prove<F: Graftable, const N: usize>(
     drop(text);
     let plan = operations.plan::<F>(alloc, location)?;
     let snapshot = operations.snapshot::<F>(alloc, floor)?;
-    let proof = match OperationProof::<F, FixedBytes<32>, N>::build::<Sha256, Prunable<N>, _>(
-        alloc,
-        snapshot.status(),
-        plan,
-        |position| snapshot.get_node(position),
-        Location::new(floor),
-        snapshot.ops_root(),
-    ) {
-        Ok(proof) => proof.encode(alloc)?,
-        Err(error) => return Err(Fault::from(error)),
-    };
+    let proof = proof_of(alloc, &snapshot, plan, floor)?.encode(alloc)?;
     let root = hex::encode(alloc, snapshot.root().bytes)?;
     let proof = hex::encode(alloc, proof)?;
     Ok(Reply {
         text: format!(in alloc; "{root}\n{proof}\n")?,
         status: 0,
     })
+}
+
+/// The proof of the planned operation of a snapshot with that floor.
+fn proof_of<F: Graftable, const N: usize>(
+    alloc: Global,
+    snapshot: &Snapshot<F, Sha256, N>,
+    plan: ElementPlan<F>,
+    floor: u64,
+) -> Result<OperationProof<F, FixedBytes<32>, N>, Fault> {
+    let get_node = |position| snapshot.get_node(position);
+    let floor = Location::new(floor);
+    let ops_root = snapshot.ops_root();
+    let status = snapshot.status();
+    match OperationProof::build::<Sha256, Prunable<N>, _>(
+        alloc, status, plan, get_node, floor, ops_root,
+    ) {
+        Ok(proof) => Ok(proof),
+        Err(error) => Err(Fault::of_snapshot(&error)),
+    }
 }
 
 /// Whether the proof of the second line shows the operation of the first one.

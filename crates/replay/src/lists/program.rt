@@ -54,10 +54,7 @@ pub fn program(alloc: Global, columns: &[&str]) -> Result<String, Fault> {
     let root = output_of(alloc, line.as_str(), input.as_str())?;
     let line = format!(in alloc; "prove {family} {chunk} {floor} {location}")?;
     let made = output_of(alloc, line.as_str(), input.as_str())?;
-    let proof = made
-        .as_str()
-        .split_once(' ')
-        .map_or("", |(_, proof)| proof);
+    let proof = made.as_str().split_once(' ').map_or("", |(_, proof)| proof);
     let line = format!(in alloc; "check {family} {chunk} {root} {location}")?;
     let input = format!(in alloc; "{claimed}\n{proof}\n")?;
     let answer = output_of(alloc, line.as_str(), input.as_str())?;

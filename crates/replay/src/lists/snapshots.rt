@@ -137,12 +137,7 @@ struct Served<F: Graftable, const N: usize> {
 }
 
 impl<F: Graftable, const N: usize> Served<F, N> {
-    fn new(
-        alloc: Global,
-        operations: &[Vec<u8>],
-        bits: &str,
-        floor: u64,
-    ) -> Result<Self, Fault>
+    fn new(alloc: Global, operations: &[Vec<u8>], bits: &str, floor: u64) -> Result<Self, Fault>
         requires { IsChunkSize N }
     {
         let bits = bits_of(alloc, bits)?;
