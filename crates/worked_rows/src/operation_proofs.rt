@@ -72,7 +72,7 @@ fn clear_bit(rt: HostRuntime) -> Result<(), Fail> {
 /// The digest of the plain node over the first eight operations.
 fn first_eight(alloc: Global) -> Result<[u8; 32], Fail> {
     let mut tree = Mem::<mmr::Family, _>::new(alloc);
-    for operation in &operations(alloc, 8)? {
+    for operation in &operations(alloc, 0, 8)? {
         if tree.add(&qmdb::hasher::<Sha256>(), operation).is_err() {
             return Err(Fail::new("no leaf"));
         }

@@ -31,7 +31,7 @@ fn proved<F: Graftable>(
     Ok(read)
 }
 
-/// Whether the proof shows these of the first operations from a location on, with their chunks.
+/// Whether the proof shows the operations of a range, with these chunks.
 fn shows<F: Graftable>(
     alloc: Global,
     snapshot: &Snapshot<F, Sha256, 1>,
@@ -50,22 +50,24 @@ fn range_to_the_end(rt: HostRuntime) -> Result<(), Fail> {
     let alloc = rt.alloc();
     let snapshot = snapshot::<mmr::Family>(alloc, 11, &[1, 5, 9], 0)?;
     let proof = proved(&rt, alloc, &snapshot, (5, 11), 2, 132)?;
-    let all = operations(alloc, 11)?;
+    let claimed = operations(alloc, 5, 11)?;
     let chunks = [[0b10_0010], [0b10]];
-    assert!(rt; shows(alloc, &snapshot, &proof, 5, &all[5..], &chunks)?);
-    assert!(rt; !shows(alloc, &snapshot, &proof, 4, &all[5..], &chunks)?);
-    assert!(rt; !shows(alloc, &snapshot, &proof, 5, &all[5..10], &chunks)?);
+    assert!(rt; shows(alloc, &snapshot, &proof, 5, &claimed, &chunks)?);
+    assert!(rt; !shows(alloc, &snapshot, &proof, 4, &claimed, &chunks)?);
     assert!(rt;
         !shows(
             alloc,
             &snapshot,
             &proof,
             5,
-            &all[5..],
-            &[[0b10_0010], [0b11]]
+            &operations(alloc, 5, 10)?,
+            &chunks
         )?
     );
-    assert!(rt; !shows(alloc, &snapshot, &proof, 5, &all[5..], &[[0b10_0010]])?);
+    for chunks in [[[0b10_0010], [0b11]], [[0b10_0011], [0b10]]] {
+        assert!(rt; !shows(alloc, &snapshot, &proof, 5, &claimed, &chunks)?);
+    }
+    assert!(rt; !shows(alloc, &snapshot, &proof, 5, &claimed, &[[0b10_0010]])?);
     assert!(rt; !shows(alloc, &snapshot, &proof, 5, &[], &[])?);
     Ok(())
 }
@@ -75,10 +77,19 @@ fn range_of_two(rt: HostRuntime) -> Result<(), Fail> {
     let alloc = rt.alloc();
     let snapshot = snapshot::<mmr::Family>(alloc, 11, &[1, 5, 9], 0)?;
     let proof = proved(&rt, alloc, &snapshot, (5, 7), 4, 196)?;
-    let all = operations(alloc, 11)?;
-    assert!(rt; shows(alloc, &snapshot, &proof, 5, &all[5..7], &[[0b10_0010]])?);
-    assert!(rt; !shows(alloc, &snapshot, &proof, 5, &all[6..8], &[[0b10_0010]])?);
-    assert!(rt; !shows(alloc, &snapshot, &proof, 5, &all[5..7], &[[0b10_0011]])?);
+    let claimed = operations(alloc, 5, 7)?;
+    assert!(rt; shows(alloc, &snapshot, &proof, 5, &claimed, &[[0b10_0010]])?);
+    assert!(rt;
+        !shows(
+            alloc,
+            &snapshot,
+            &proof,
+            5,
+            &operations(alloc, 6, 8)?,
+            &[[0b10_0010]]
+        )?
+    );
+    assert!(rt; !shows(alloc, &snapshot, &proof, 5, &claimed, &[[0b10_0011]])?);
     Ok(())
 }
 
@@ -87,7 +98,7 @@ fn mmb_zero_chunks(rt: HostRuntime) -> Result<(), Fail> {
     let alloc = rt.alloc();
     let snapshot = snapshot::<mmb::Family>(alloc, 18, &[], 0)?;
     let proof = proved(&rt, alloc, &snapshot, (0, 18), 0, 101)?;
-    let all = operations(alloc, 18)?;
+    let all = operations(alloc, 0, 18)?;
     assert!(rt; shows(alloc, &snapshot, &proof, 0, &all, &[[0], [0], [0]])?);
     Ok(())
 }
@@ -97,7 +108,7 @@ fn mmb_claimed_bit_set(rt: HostRuntime) -> Result<(), Fail> {
     let alloc = rt.alloc();
     let snapshot = snapshot::<mmb::Family>(alloc, 18, &[], 0)?;
     let proof = proved(&rt, alloc, &snapshot, (0, 18), 0, 101)?;
-    let all = operations(alloc, 18)?;
+    let all = operations(alloc, 0, 18)?;
     for chunks in [[[1], [0], [0]], [[0], [1], [0]], [[0], [0], [1]]] {
         assert!(rt; !shows(alloc, &snapshot, &proof, 0, &all, &chunks)?);
     }

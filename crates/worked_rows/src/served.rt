@@ -38,10 +38,10 @@ pub fn operation(alloc: Global, i: u16) -> Result<Vec<u8>, Fail> {
     Ok(bytes)
 }
 
-/// The first operations.
-pub fn operations(alloc: Global, count: u16) -> Result<Vec<Vec<u8>>, Fail> {
+/// The operations from a location to before another.
+pub fn operations(alloc: Global, start: u16, end: u16) -> Result<Vec<Vec<u8>>, Fail> {
     let mut operations = Vec::new(alloc);
-    for i in 0..count {
+    for i in start..end {
         operations.push(operation(alloc, i)?)?;
     }
     Ok(operations)
@@ -72,7 +72,7 @@ pub fn snapshot<F: Graftable>(
     set: &[u16],
     floor: u64,
 ) -> Result<Snapshot<F, Sha256, 1>, Fail> {
-    let operations = operations(alloc, count)?;
+    let operations = operations(alloc, 0, count)?;
     let bits = bits(alloc, count, set)?;
     Ok(
         Snapshot::new(alloc, &operations, bits, Location::new(floor))
