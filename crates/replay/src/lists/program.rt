@@ -40,25 +40,44 @@ pub fn program(alloc: Global, columns: &[&str]) -> Result<String, Fault> {
     let [family, chunk, floor, location, operations] = columns else {
         return Err(Fault::Malformed);
     };
-    let mut input = String::new(alloc);
-    let mut claimed = "";
-    let place = number(*location)?;
-    for (index, operation) in operations.split(',').enumerate() {
-        let (bit, bytes) = operation.split_once(':').ok_or(Fault::Malformed)?;
-        if index as u64 == place {
-            claimed = bytes;
-        }
-        writeln!(input, "{bit} {bytes}")?;
-    }
+    let input = lines(alloc, *operations)?;
     let line = format!(in alloc; "root {family} {chunk} {floor}")?;
     let root = output_of(alloc, line.as_str(), input.as_str())?;
     let line = format!(in alloc; "prove {family} {chunk} {floor} {location}")?;
     let made = output_of(alloc, line.as_str(), input.as_str())?;
     let proof = made.as_str().split_once(' ').map_or("", |(_, proof)| proof);
     let line = format!(in alloc; "check {family} {chunk} {root} {location}")?;
+    let claimed = claimed(*operations, number(*location)?)?;
     let input = format!(in alloc; "{claimed}\n{proof}\n")?;
     let answer = output_of(alloc, line.as_str(), input.as_str())?;
     Ok(format!(in alloc; "{root} {made} {answer}")?)
+}
+
+/// The bit of an operation, and its bytes.
+fn parts(operation: &str) -> Result<(&str, &str), Fault> {
+    operation.split_once(':').ok_or(Fault::Malformed)
+}
+
+/// A line for each operation.
+fn lines(alloc: Global, operations: &str) -> Result<String, Fault> {
+    let mut lines = String::new(alloc);
+    for operation in operations.split(',') {
+        let (bit, bytes) = parts(operation)?;
+        lines.push_str(bit)?;
+        lines.push(' ')?;
+        lines.push_str(bytes)?;
+        lines.push('\n')?;
+    }
+    Ok(lines)
+}
+
+/// The bytes of the operation at a location.
+fn claimed(operations: &str, location: u64) -> Result<&str, Fault> {
+    let operation = operations
+        .split(',')
+        .nth(location as usize)
+        .ok_or(Fault::Malformed)?;
+    Ok(parts(operation)?.1)
 }
 
 /// `family chunk location operation proof root label`: what a client answers. The label says how the case was made.

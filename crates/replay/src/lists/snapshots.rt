@@ -148,7 +148,9 @@ impl<F: Graftable, const N: usize> Served<F, N> {
         }
     }
 
-    fn golden(&self, alloc: Global, start: u64, count: u64) -> Result<String, Fault> {
+    fn golden(&self, alloc: Global, start: u64, count: u64) -> Result<String, Fault>
+        requires { IsChunkSize N }
+    {
         let root = hex::encode(alloc, self.snapshot.root().bytes)?;
         let ops_root = hex::encode(alloc, self.snapshot.ops_root().bytes)?;
         if count == 0 {
@@ -168,7 +170,9 @@ impl<F: Graftable, const N: usize> Served<F, N> {
         start: u64,
         count: u64,
         claim: &Claim<'_, N>,
-    ) -> Result<String, Fault> {
+    ) -> Result<String, Fault>
+        requires { IsChunkSize N }
+    {
         let proof = self.range(alloc, start, count)?;
         let root = self.snapshot.root();
         let loc = Location::new(start);
@@ -215,7 +219,9 @@ impl<F: Graftable, const N: usize> Served<F, N> {
         &self,
         alloc: Global,
         location: u64,
-    ) -> Result<OperationProof<F, FixedBytes<32>, N>, Fault> {
+    ) -> Result<OperationProof<F, FixedBytes<32>, N>, Fault>
+        requires { IsChunkSize N }
+    {
         let leaves = Location::new(self.snapshot.status().len());
         let Ok(plan) = ElementPlan::new(alloc, leaves, Location::new(location)) else {
             return Err(Fault::Malformed);
