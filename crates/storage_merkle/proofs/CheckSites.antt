@@ -132,7 +132,7 @@ module _ (T : Layout) (low high : ℕ) where
   overlapped-drop f s ks = ap (overlapped low high) (places-drop f s ks) ∙ overlapped-is low high (s + leaves_of (take f ks)) (drop f ks) ∙ ap (λ ps. up_to high (not_leading low ps)) (sym (places-drop f s ks))
 
   -- the siblings are those in both
-  siblings_both : (f s : ℕ) (ks : List ℕ) → sites_in T (apart low high) (up_to high (not_leading low (take f (places s ks)))) ++ sites_in T (apart low high) (up_to high (not_leading low (drop f (places s ks)))) ≡ sites_in T (apart low high) (up_to high (not_leading low (places s ks)))
+  pub siblings_both : (f s : ℕ) (ks : List ℕ) → sites_in T (apart low high) (up_to high (not_leading low (take f (places s ks)))) ++ sites_in T (apart low high) (up_to high (not_leading low (drop f (places s ks)))) ≡ sites_in T (apart low high) (up_to high (not_leading low (places s ks)))
   siblings_both f s ks =
       let ps = places s ks in
       let cut = sites_in T (apart low high) in

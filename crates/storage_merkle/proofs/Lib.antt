@@ -17,6 +17,7 @@ pub mod PlanFolds
 pub mod PlanTops
 pub mod PlanAmong
 pub mod PlanOwn
+pub mod Greatest
 pub mod Folds
 pub mod Written
 pub mod Rising

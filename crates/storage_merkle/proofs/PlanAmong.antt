@@ -1,5 +1,5 @@
 -- The peaks apart from a range, and the siblings, are among the planned nodes.
-use Rattle.std.proofs.Common.{◌≡◌, ℕ, zero, suc, ◌+◌, ◌-◌, ◌%◌, ◌<◌, ◌≤◌, ◌^◌, List, [], ◌∷◌, ◌++◌, length, map, take, drop, Bool, true, false, inl, inr, refl, sym, ap, ap₂, ◌∙◌, arith, subst, append-nil}
+use Rattle.std.proofs.Common.{◌≡◌, ℕ, ◌+◌, ◌≤◌, ◌^◌, List, [], ◌∷◌, ◌++◌, length, map, take, drop, Bool, true, false, inl, inr, refl, sym, ap, ap₂, ◌∙◌, arith, subst}
 use Rattle.std.specs.List.{AllZip}
 use Rattle.std.specs.List.Sorted.{IsNonDecreasing}
 use Rattle.std.proofs.lemmas.List.{map-append}
@@ -12,7 +12,7 @@ use Rattle.storage_merkle.specs.Trees.{Layout, ungrafted, Peak, places, peaks_of
 use Rattle.storage_merkle.specs.RangeProofs.{apart, leading, not_leading, up_to, trailing, sites_of, sites_in, position_of, by_position, same_site}
 use Rattle.storage_merkle.specs.Rests.{peaks_from, AreFolded}
 use Rattle.storage_merkle.specs.Siblings.{sibling_sites}
-use Rattle.storage_merkle.specs.Plans.{planned, planned_sites}
+use Rattle.storage_merkle.specs.Plans.{planned}
 use Rattle.storage_merkle.specs.PlanParts.{IsAmong, AreAmong, AreInOrder, ArePlannedApart, AreOf, StandsAt, site_digest, tops}
 use Rattle.storage_merkle.proofs.Prune.{leading-all, up_to-all}
 use Rattle.storage_merkle.proofs.Distinct.{times, one_if, same_itself, times-append, times-by_position, times-in}
@@ -22,7 +22,7 @@ use Rattle.storage_merkle.proofs.Siblings.{positions, sites-cut, sort_rises}
 use Rattle.storage_merkle.proofs.PlanSites.{AllSites, IsAlignedNode, aligned_in}
 
 -- positions of sites that stand in a list
-times_among : (T : Layout) (s : Site) (ss : List Site) → 1 ≤ times s ss → IsAmong (positions T ss) (position_of T s)
+pub times_among : (T : Layout) (s : Site) (ss : List Site) → 1 ≤ times s ss → IsAmong (positions T ss) (position_of T s)
 times_among T s [] l = absurd (omega arith)
 times_among T s (t ∷ ts) l = go (same_site t s) refl (times_among T s ts)
   where
@@ -37,7 +37,7 @@ all_among T ss (t ∷ ts) f =
     (times_among T t ss (f t (omega arith)), all_among T ss ts (λ s l. f s (omega arith)))
 
 -- a fact of each site
-site_has : (Q : Site → Type 0) (s : Site) (ss : List Site) → AllSites Q ss → 1 ≤ times s ss → Q s
+pub site_has : (Q : Site → Type 0) (s : Site) (ss : List Site) → AllSites Q ss → 1 ≤ times s ss → Q s
 site_has Q s [] a l = absurd (omega arith)
 site_has Q s (t ∷ ts) a l = go (same_site t s) refl (site_has Q s ts a.1)
   where
@@ -45,7 +45,7 @@ site_has Q s (t ∷ ts) a l = go (same_site t s) refl (site_has Q s ts a.1)
     go true e rest = subst Q (same_site-eq t s e) a.0
     go false e rest = rest (let z : one_if (same_site t s) ≡ 0 = ap one_if e in omega arith)
 
-all_have : (Q : Site → Type 0) (ss : List Site) → ((s : Site) → 1 ≤ times s ss → Q s) → AllSites Q ss
+pub all_have : (Q : Site → Type 0) (ss : List Site) → ((s : Site) → 1 ≤ times s ss → Q s) → AllSites Q ss
 all_have Q [] f = tt
 all_have Q (s ∷ ss) f =
     let itself : one_if (same_site s s) ≡ 1 = ap one_if (same_itself s) in

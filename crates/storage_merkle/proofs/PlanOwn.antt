@@ -1,13 +1,13 @@
 -- The digests that a plan gathers are those of the tree's own proof.
-use Rattle.std.proofs.Common.{◌≡◌, ℕ, zero, suc, ◌+◌, ◌-◌, ◌%◌, ◌<◌, ◌≤◌, ◌^◌, List, [], ◌∷◌, ◌++◌, length, map, take, drop, get_or, Bool, true, false, if◌then◌else◌, ◌⊎◌, inl, inr, refl, sym, ap, ap₂, ◌∙◌, arith, subst, append_assoc, append-nil, take-append-drop, Option, Some, None, leb}
+use Rattle.std.proofs.Common.{◌≡◌, ℕ, zero, suc, ◌+◌, ◌^◌, List, [], ◌∷◌, ◌++◌, length, map, Bool, true, false, if◌then◌else◌, inl, inr, refl, sym, ap, ap₂, ◌∙◌, arith, subst, append_assoc, append-nil, Option, Some, None}
 use Rattle.std.specs.List.{AllZip, All, Contains}
 use Rattle.storage_codec.specs.Digests.{HashFunction}
 use Rattle.storage_merkle.specs.Shape.{Shape}
-use Rattle.storage_merkle.specs.Calc.{Site, front, back, node, Calc, given, leaf, pair, graft, be8, Values, eval}
+use Rattle.storage_merkle.specs.Calc.{Site, front, back, node, given, leaf, be8, eval}
 use Rattle.storage_merkle.specs.declared.merkle.bagging.Bagging.{Bagging}
 use Rattle.storage_merkle.specs.declared.merkle.bagging.Bagging.TheVariants.{ForwardFold, BackwardFold}
-use Rattle.storage_merkle.specs.Trees.{Layout, ungrafted, Content, Peak, places, peaks_of, node_calc, join_calc, never, part, whole, fold_forward, fold_backward, bag, folded, unfolded, plain, tree_node}
-use Rattle.storage_merkle.specs.RangeProofs.{RangeProof, apart, leading, not_leading, up_to, trailing, sites_of, sites_in, front_sites, back_sites, position_of, place_in, by_position, sites, sites_over, fold_digest, own_digest, own_proof}
+use Rattle.storage_merkle.specs.Trees.{Layout, ungrafted, Content, Peak, places, peaks_of, node_calc, join_calc, whole, bag, folded, unfolded, plain, tree_node}
+use Rattle.storage_merkle.specs.RangeProofs.{RangeProof, apart, leading, not_leading, up_to, trailing, sites_of, sites_in, front_sites, back_sites, position_of, place_in, by_position, sites, fold_digest, own_digest, own_proof}
 use Rattle.storage_merkle.specs.Rests.{peaks_from}
 use Rattle.storage_merkle.specs.Siblings.{sibling_sites}
 use Rattle.storage_merkle.specs.Hashing.{folded_forward, folded_backward}
@@ -17,7 +17,8 @@ use Rattle.storage_merkle.specs.Nodes.{IsNode}
 use Rattle.storage_merkle.specs.Plans.{AnswersAre}
 use Rattle.storage_merkle.specs.PlanParts.{AreOf, StandsAt, digest_or, peaks_by, site_digest, tops}
 use Rattle.storage_merkle.proofs.Folds.{onto_none}
-use Rattle.storage_merkle.proofs.Siblings.{sites-join, overlapped, overlapped-is}
+use Rattle.storage_merkle.proofs.Siblings.{sites-join}
+use Rattle.storage_merkle.proofs.CheckSites.{siblings_both}
 
 -- ---- the same sites, whatever is grafted
 
@@ -39,47 +40,13 @@ module _ (T U : Layout) (cut : ℕ → ℕ → Bool) where
 
 -- ---- siblings in the peaks that are folded from the left, and in the others
 
-take_places : (f s : ℕ) (ks : List ℕ) → take f (places s ks) ≡ places s (take f ks)
-take_places zero s ks = refl
-take_places (suc f) s [] = refl
-take_places (suc f) s (k ∷ ks) = ap (λ ps. (record { first = s; height = k }) ∷ ps) (take_places f (s + 2 ^ k) ks)
-
-drop_places : (f s : ℕ) (ks : List ℕ) → (t : ℕ) × (js : List ℕ) × (drop f (places s ks) ≡ places t js)
-drop_places zero s ks = (s, ks, refl)
-drop_places (suc f) s [] = (s, [], refl)
-drop_places (suc f) s (k ∷ ks) = drop_places f (s + 2 ^ k) ks
-
 module _ (T : Layout) (low high : ℕ) where
   abbrev ins : List Peak → List Site
   ins ps = sites_in T (apart low high) ps
 
-  overlapped_both : (ps qs : List Peak) → overlapped low high (ps ++ qs) ≡ overlapped low high ps ++ overlapped low high qs
-  overlapped_both [] qs = refl
-  overlapped_both (p ∷ ps) qs =
-      elim (apart low high p.first p.height) as (λ b. (if b then overlapped low high (ps ++ qs) else p ∷ overlapped low high (ps ++ qs)) ≡ (if b then overlapped low high ps else p ∷ overlapped low high ps) ++ overlapped low high qs) [
-        | true ↦ overlapped_both ps qs
-        | false ↦ ap (λ xs. p ∷ xs) (overlapped_both ps qs)
-      ]
-
-  in_both : (ps qs : List Peak) → ins (ps ++ qs) ≡ ins ps ++ ins qs
-  in_both [] qs = refl
-  in_both (p ∷ ps) qs = ap (λ ss. sites_of (part T (apart low high) p) ++ ss) (in_both ps qs) ∙ sym (append_assoc (sites_of (part T (apart low high) p)) (ins ps) (ins qs))
-
-  split_at : (f s : ℕ) (ks : List ℕ) → ins (up_to high (not_leading low (places s ks))) ≡ ins (up_to high (not_leading low (take f (places s ks)))) ++ ins (up_to high (not_leading low (drop f (places s ks))))
-  split_at f s ks =
-      let ps = places s ks in
-      let d = drop_places f s ks in
-      let first : overlapped low high (take f ps) ≡ up_to high (not_leading low (take f ps)) =
-      ap (overlapped low high) (take_places f s ks) ∙ overlapped-is low high s (take f ks) ∙ ap (λ qs. up_to high (not_leading low qs)) (sym (take_places f s ks)) in
-      let last : overlapped low high (drop f ps) ≡ up_to high (not_leading low (drop f ps)) =
-      ap (overlapped low high) d.2 ∙ overlapped-is low high d.0 d.1 ∙ ap (λ qs. up_to high (not_leading low qs)) (sym d.2) in
-      ap ins (sym (overlapped-is low high s ks) ∙ ap (overlapped low high) (sym (take-append-drop f ps)) ∙ overlapped_both (take f ps) (drop f ps))
-      ∙ in_both (overlapped low high (take f ps)) (overlapped low high (drop f ps))
-      ∙ ap₂ (λ xs ys. ins xs ++ ins ys) first last
-
   split : (b : Bagging) (i s : ℕ) (ks : List ℕ) → ins (up_to high (not_leading low (places s ks))) ≡ ins (up_to high (not_leading low (folded b i (places s ks)))) ++ ins (up_to high (not_leading low (unfolded b i (places s ks))))
   split ForwardFold i s ks = sym (append-nil (ins (up_to high (not_leading low (places s ks)))))
-  split BackwardFold i s ks = split_at i s ks
+  split BackwardFold i s ks = sym (siblings_both T low high i s ks)
 
 -- ---- the same order, whatever is grafted
 

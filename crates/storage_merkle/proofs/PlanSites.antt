@@ -1,14 +1,14 @@
 -- The positions that are planned for a range.
-use Rattle.std.proofs.Common.{◌≡◌, ◌≢◌, ℕ, zero, suc, ◌+◌, ◌-◌, ◌%◌, ◌<◌, ◌≤◌, ◌^◌, List, [], ◌∷◌, ◌++◌, length, map, get_or, Bool, true, false, if◌then◌else◌, ◌⊎◌, inl, inr, refl, sym, ap, ap₂, ◌∙◌, arith, subst, eqb, eqb-true, eq-eqb, ne_eqb, pow_pos, append_assoc, append-nil}
+use Rattle.std.proofs.Common.{◌≡◌, ◌≢◌, ℕ, zero, suc, ◌+◌, ◌-◌, ◌%◌, ◌<◌, ◌≤◌, ◌^◌, List, [], ◌∷◌, ◌++◌, length, get_or, Bool, true, false, if◌then◌else◌, refl, sym, ap, ap₂, ◌∙◌, arith, subst, eqb, eqb-true, eq-eqb, pow_pos, append_assoc, append-nil}
 use Rattle.std.specs.List.Sorted.{IsPermutation, IsNonDecreasing, IsStrictlyIncreasing}
 use Rattle.std.proofs.lemmas.List.{map-append}
-use Rattle.std.proofs.lemmas.List.Sorted.{IsPermutation-map, IsPermutation-sym}
+use Rattle.std.proofs.lemmas.List.Sorted.{IsPermutation-map}
 use Rattle.storage_merkle.specs.Shape.{Shape, Laws, AreAligned}
-use Rattle.storage_merkle.specs.Multiples.{pow_two, multiple_down, multiple_add, power_multiple}
-use Rattle.storage_merkle.specs.Calc.{Site, front, back, node, Calc, given, leaf, pair, graft, be8}
-use Rattle.storage_merkle.specs.Trees.{Layout, ungrafted, Peak, places, peaks_of, part, node_calc, join_calc}
+use Rattle.storage_merkle.specs.Multiples.{multiple_down, multiple_add, power_multiple}
+use Rattle.storage_merkle.specs.Calc.{Site, front, back, node, given, leaf, be8}
+use Rattle.storage_merkle.specs.Trees.{Layout, ungrafted, places, peaks_of, node_calc, join_calc}
 use Rattle.storage_merkle.specs.RangeProofs.{apart, sites_of, sites_in, position_of, by_position, same_site}
-use Rattle.storage_merkle.specs.Plans.{planned, planned_sites}
+use Rattle.storage_merkle.specs.Plans.{planned}
 use Rattle.storage_merkle.proofs.Distinct.{times, one_if, same_itself, each_given_once}
 use Rattle.storage_merkle.proofs.Ascending.{sorted}
 use Rattle.storage_merkle.proofs.Rising.{Rising, count, count-permutation}

@@ -1,12 +1,12 @@
 -- The digests of the peaks and folds apart from a range, one after another.
-use Rattle.std.proofs.Common.{◌≡◌, ℕ, zero, suc, ◌+◌, ◌-◌, ◌<◌, ◌≤◌, ◌^◌, List, [], ◌∷◌, ◌++◌, length, map, take, drop, Bool, true, false, if◌then◌else◌, ◌||◌, ◌⊎◌, inl, inr, refl, sym, ap, ap₂, ◌∙◌, arith, subst, leb, le-leb, append_assoc, append-nil, Option, Some, None, option_map, MatchOption}
+use Rattle.std.proofs.Common.{◌≡◌, ℕ, zero, suc, ◌+◌, ◌-◌, ◌<◌, ◌≤◌, ◌^◌, List, [], ◌∷◌, ◌++◌, map, take, drop, Bool, true, false, if◌then◌else◌, ◌||◌, ◌⊎◌, inl, inr, refl, sym, ap, ap₂, ◌∙◌, arith, subst, leb, le-leb, append_assoc, append-nil, Option, Some, None, option_map, MatchOption}
 use Rattle.std.proofs.lemmas.Bool.{lt-leb}
 use Rattle.std.proofs.lemmas.List.{map-append}
 use Rattle.storage_codec.specs.Digests.{HashFunction}
 use Rattle.storage_merkle.specs.Shape.{Shape}
 use Rattle.storage_merkle.specs.Calc.{Site, front, back, node}
-use Rattle.storage_merkle.specs.Trees.{Layout, ungrafted, Peak, places}
-use Rattle.storage_merkle.specs.RangeProofs.{apart, leading, not_leading, trailing, front_sites, back_sites}
+use Rattle.storage_merkle.specs.Trees.{ungrafted, Peak, places}
+use Rattle.storage_merkle.specs.RangeProofs.{apart, leading, trailing, front_sites, back_sites}
 use Rattle.storage_merkle.specs.Rests.{peaks_from, AreAfterLeading}
 use Rattle.storage_merkle.specs.Hashers.{folded_onto, forward_of}
 use Rattle.storage_merkle.specs.PlanParts.{ArePlannedApart, ArePlannedAll, digest_or, peaks_by, site_digest, tops}

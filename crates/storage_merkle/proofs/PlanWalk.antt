@@ -1,9 +1,9 @@
 -- A walk along the peaks meets those that are apart from a range in the order of its proof.
-use Rattle.std.proofs.Common.{◌≡◌, ℕ, zero, suc, ◌+◌, ◌-◌, ◌<◌, ◌≤◌, ◌^◌, List, [], ◌∷◌, ◌++◌, length, map, take, drop, Bool, true, false, if◌then◌else◌, ◌||◌, inl, inr, refl, sym, ap, ap₂, ◌∙◌, arith, leb, le-leb, leb-false, subst}
+use Rattle.std.proofs.Common.{◌≡◌, ℕ, zero, suc, ◌+◌, ◌<◌, ◌≤◌, ◌^◌, List, [], ◌∷◌, ◌++◌, take, drop, Bool, true, false, if◌then◌else◌, inl, inr, refl, sym, ap, ◌∙◌, arith, leb, le-leb, leb-false, subst}
 use Rattle.std.proofs.lemmas.Bool.{lt-leb, cases_lt}
-use Rattle.storage_merkle.specs.Calc.{Site, front, back, node, Calc, given, leaf, pair, graft, be8}
-use Rattle.storage_merkle.specs.Trees.{Layout, Peak, places, part, node_calc, join_calc}
-use Rattle.storage_merkle.specs.RangeProofs.{apart, leading, not_leading, up_to, trailing, sites_of, sites_in, front_sites, back_sites}
+use Rattle.storage_merkle.specs.Calc.{Site, back, node}
+use Rattle.storage_merkle.specs.Trees.{Layout, Peak, places, node_calc}
+use Rattle.storage_merkle.specs.RangeProofs.{apart, leading, not_leading, trailing, sites_of, sites_in, back_sites}
 use Rattle.storage_merkle.specs.Shape.{Shape}
 use Rattle.storage_merkle.specs.Rests.{peaks_from, AreAfterLeading}
 

@@ -1,10 +1,10 @@
 -- Which nodes are asked for, and the first that is not there.
-use Rattle.std.specs.Prelude.{◌≡◌, ℕ, ◌+◌, ◌-◌, ◌%◌, ◌<◌, ◌≤◌, ◌^◌, List, [], ◌∷◌, length, map, ◌⊎◌, Option, Some, None, leb, ltb, if◌then◌else◌}
+use Rattle.std.specs.Prelude.{◌≡◌, ℕ, ◌+◌, ◌-◌, ◌%◌, ◌<◌, ◌≤◌, ◌^◌, ◌↔◌, true, List, [], ◌∷◌, length, map, ◌⊎◌, Option, Some, None, leb, ltb, if◌then◌else◌}
 use Rattle.std.specs.List.{Contains}
 use Rattle.storage_codec.specs.Digests.{HashFunction}
 use Rattle.storage_merkle.specs.declared.merkle.error.Error.{Error}
 use Rattle.storage_merkle.specs.declared.merkle.error.Error.TheVariants.{Empty, RangeOutOfBounds, LocationOverflow}
-use Rattle.storage_merkle.specs.Shape.{Shape, size, Inside, AreAligned}
+use Rattle.storage_merkle.specs.Shape.{Shape, Laws, size, Inside, AreAligned}
 use Rattle.storage_merkle.specs.Calc.{Site}
 use Rattle.storage_merkle.specs.Nodes.{IsNode}
 use Rattle.storage_merkle.specs.declared.merkle.bagging.Bagging.{Bagging}
@@ -69,3 +69,16 @@ pub record ArePeaks (S : Shape) (n s r : ℕ) : Type 0 where
   pub sum : s + r ≡ n
   pub aligned : AreAligned (S.peaks r) s
   pub inside : (a k : ℕ) → Inside (S.peaks r) s a k → Inside (S.peaks n) 0 a k
+
+-- the node of height k with first leaf a is one of the greatest of the tree over n leaves that hold no leaf from low to
+-- high - 1: no other such node covers it
+pub record IsGreatestApart (S : Shape) (n low high a k : ℕ) : Type 0 where
+  pub tree : InTree S n a k
+  pub outside : apart low high a k ≡ true
+  pub greatest : (b j : ℕ) → InTree S n b j → apart low high b j ≡ true → b ≤ a → a + 2 ^ k ≤ b + 2 ^ j → (b ≡ a) × (j ≡ k)
+
+-- The planned positions are those of the greatest nodes that hold no leaf of the range.
+abbrev pub GreatestNodesArePlanned : Type 0
+GreatestNodesArePlanned =
+    (S : Shape) → Laws S → (n low high p : ℕ) →
+    (Contains (planned S n low high) p ↔ ((a : ℕ) × (k : ℕ) × IsNode S p a k × IsGreatestApart S n low high a k))

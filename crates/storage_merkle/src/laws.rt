@@ -1,6 +1,7 @@
 //! What holds of every tree, every check and every proof: laws over the definitions, each the contract of a function that
 //! does nothing.
 
+ghost use Rattle.storage_merkle.specs.Plans.{GreatestNodesArePlanned};
 ghost use Rattle.storage_merkle.specs.Soundness.{OwnRangeProofsAreAccepted, RangeProofsAreSound, RootsAreOfLeaves, RootsBindTheirTrees, SiblingsAscend};
 
 pub mod families;
@@ -30,4 +31,10 @@ pub fn roots_bind_their_trees()
 /// The digests of a range proof end with the siblings inside the peaks that share a leaf with the range, ascending by position.
 pub fn siblings_ascend()
     ensures { SiblingsAscend }
+{}
+
+/// The planned positions are those of the greatest nodes of the tree that hold no leaf of the range: no other such node covers
+/// them.
+pub fn greatest_nodes_are_planned()
+    ensures { GreatestNodesArePlanned }
 {}

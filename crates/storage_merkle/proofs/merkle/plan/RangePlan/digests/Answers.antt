@@ -1,7 +1,7 @@
-use Rattle.std.proofs.Common.{◌≡◌, ◌∙◌, ◌++◌, ap, map, subst, sym, length, ℕ, List, arith}
+use Rattle.std.proofs.Common.{◌≡◌, ◌∙◌, ◌++◌, map, subst, sym, length, ℕ, List}
 use Rattle.storage_merkle.specs.Rests.{peaks_from}
 use Rattle.storage_merkle.specs.Plans.{PlanOf, planned}
-use Rattle.storage_merkle.specs.PlanParts.{AreOf, AreAmong, AreInOrder, site_digest, tops}
+use Rattle.storage_merkle.specs.PlanParts.{AreOf, site_digest, tops}
 use Rattle.storage_merkle.specs.Siblings.{sibling_sites}
 use Rattle.storage_merkle.specs.Trees.{ungrafted, folded, unfolded}
 use Rattle.storage_merkle.proofs.PlanAmong.{peaks_planned, siblings_planned, planned_in_order, of_folded, proof_digests}
