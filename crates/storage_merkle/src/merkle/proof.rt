@@ -81,7 +81,7 @@ impl<F: Family, D: Digest> Proof<F, D> {
         if elements.is_empty() {
             return Ok(self.verify_nothing(hasher, start, root));
         }
-        let computed = check::recompute(self, alloc, hasher, elements, start)?;
+        let computed = self.recompute_root(alloc, hasher, elements, start)?;
         Ok(computed == Some(*root))
     }
 
@@ -116,7 +116,7 @@ impl<F: Family, D: Digest> Proof<F, D> {
         ensures root { (H.layout hasher.now).shape ≡ F.shape → IfOk result (λ root. IsRecomputed H.hash_of (H.layout hasher.now) (H.bagging hasher.now) (record { leaves = self.now.leaves; inactive = self.now.inactive_peaks; digests = map D.text self.now.digests.items }) start (record { elements = map E.items elements.now; chunk = H.chunk hasher.now }) (Some (D.text root))) }
         ensures why { IfErr result (λ e. (e ≡ Error.Memory) ⊎ ((e ≡ Error.InvalidProof) × ((H.layout hasher.now).shape ≡ F.shape → IsRecomputed H.hash_of (H.layout hasher.now) (H.bagging hasher.now) (record { leaves = self.now.leaves; inactive = self.now.inactive_peaks; digests = map D.text self.now.digests.items }) start (record { elements = map E.items elements.now; chunk = H.chunk hasher.now }) None))) }
     {
-        match check::recompute(self, alloc, hasher, elements, start)? {
+        match self.recompute_root(alloc, hasher, elements, start)? {
             Some(root) => Ok(root),
             None => Err(Error::InvalidProof),
         }
