@@ -1,8 +1,10 @@
 -- What a client that trusts one digest learns from bytes and texts.
-use Rattle.std.specs.Prelude.{◌≡◌, ℕ, Bool, List, [], Ok, IsOk, IsErr}
+use Rattle.std.specs.Prelude.{◌≡◌, ◌⊎◌, ℕ, Bool, List, [], Ok, IsOk, IsErr}
+use Rattle.storage_codec.specs.Digests.{HashFunction, Cross}
 use Rattle.storage_codec.specs.Codec.{whole}
-use Rattle.storage_current.specs.Snapshots.{OperationProof}
-use Rattle.storage_current.specs.CurrentWire.{sized_operation_at}
+use Rattle.storage_current.specs.Snapshots.{Grafting, Snapshot, IsSnapshot, canonical_root, snapshot_strings, IsActive, OperationProof, own_operation_proof}
+use Rattle.storage_current.specs.CurrentProofs.{IsActiveCurrent, operation_strings}
+use Rattle.storage_current.specs.CurrentWire.{operation_text, sized_operation_at}
 use Rattle.hex.specs.Hex.{decode_of}
 use Rattle.commonware_storage.specs.declared.light.text_error.TextError.{TextError}
 use Rattle.commonware_storage.specs.declared.light.text_error.TextError.TheVariants.{Operation, Proof, Memory}
@@ -13,7 +15,39 @@ pub record IsProofAt (has_pending : Bool) (d size location : ℕ) (bytes : List 
   pub read : whole (sized_operation_at has_pending d size 128 bytes) ≡ Ok (proof, [])
   pub at : proof.location ≡ location
 
--- the same of a text, which spells the bytes in hexadecimal
+-- the same, and the check of that proof says yes for an operation against a root
+pub record IsAcceptedAt (h : HashFunction) (g : Grafting) (has_pending : Bool) (d location : ℕ) (bytes operation root : List ℕ) : Type 0 where
+  pub proof : OperationProof
+  pub read : whole (sized_operation_at has_pending d g.bytes 128 bytes) ≡ Ok (proof, [])
+  pub at : proof.location ≡ location
+  pub accepted : IsActiveCurrent h g proof operation root
+
+-- What a yes means, whatever the bytes are. Of each snapshot with that canonical root: the operation stands at the location and is
+-- active there, and the bytes are what the snapshot's own proof is written as, or a string that the check hashed and a different one
+-- of the root's calculation have one digest.
+pub record IsTrueAt (h : HashFunction) (g : Grafting) (has_pending : Bool) (d location : ℕ) (bytes operation root : List ℕ) : Type 0 where
+  pub proof : OperationProof
+  pub read : whole (sized_operation_at has_pending d g.bytes 128 bytes) ≡ Ok (proof, [])
+  pub means : (s : Snapshot) → IsSnapshot s → canonical_root h g s ≡ root →
+      IsActive s location operation × (bytes ≡ operation_text has_pending (own_operation_proof h g s location))
+      ⊎ Cross h (operation_strings h g proof operation) (snapshot_strings h g s)
+
+-- the same two of texts, which spell the proof's and the operation's bytes in hexadecimal
+pub record IsTextAcceptedAt (h : HashFunction) (g : Grafting) (has_pending : Bool) (d location : ℕ) (proof operation root : List ℕ) : Type 0 where
+  pub bytes : List ℕ
+  pub spelled : decode_of proof ≡ Ok bytes
+  pub operation_bytes : List ℕ
+  pub operation_spelled : decode_of operation ≡ Ok operation_bytes
+  pub accepted : IsAcceptedAt h g has_pending d location bytes operation_bytes root
+
+pub record IsTextTrueAt (h : HashFunction) (g : Grafting) (has_pending : Bool) (d location : ℕ) (proof operation root : List ℕ) : Type 0 where
+  pub bytes : List ℕ
+  pub spelled : decode_of proof ≡ Ok bytes
+  pub operation_bytes : List ℕ
+  pub operation_spelled : decode_of operation ≡ Ok operation_bytes
+  pub means : IsTrueAt h g has_pending d location bytes operation_bytes root
+
+-- the first of a text, which spells the bytes in hexadecimal
 pub record IsProofTextAt (has_pending : Bool) (d size location : ℕ) (text : List ℕ) : Type 0 where
   pub bytes : List ℕ
   pub spelled : decode_of text ≡ Ok bytes

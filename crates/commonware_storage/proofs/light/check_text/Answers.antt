@@ -1,0 +1,10 @@
+use Rattle.commonware_storage.proofs.light.check_text.Goals as goal
+
+pub returns-clause-meaning : goal.returns-clause-meaning
+returns-clause-meaning g c = λ wide accepted. record {
+  bytes = c.in_ok-proof.proof.items;
+  spelled = c.in_ok-proof.ensures.bytes;
+  operation_bytes = c.in_ok-operation.operation.items;
+  operation_spelled = c.in_ok-operation.ensures.bytes;
+  means = rw (← c.deref.ensures.value, ← c.deref-2.ensures.value) (c.in_ok-yes.ensures.meaning wide accepted);
+}
