@@ -11,4 +11,6 @@ pub mod Examples
 mod Grafts
 pub mod Windows
 mod Checks
+mod NodeSteps
+mod NodeLists
 mod Written

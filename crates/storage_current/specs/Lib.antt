@@ -5,5 +5,7 @@ pub mod CurrentSoundness
 pub mod Grafted
 pub mod Windows
 pub mod Held
+pub mod NodeLists
+pub mod KeptSnapshots
 pub mod CurrentWire
 pub mod CurrentWireLaws

@@ -1,8 +1,11 @@
 //! The digests of a tree over operations, and of its grafted view.
 
-ghost use Rattle.std.specs.Prelude.{◌≡◌, ℕ, ◌+◌, ◌-◌, ◌*◌, ◌/◌, ◌%◌, ◌^◌, ◌<◌, ◌≤◌, length, IfOk};
+ghost use Rattle.std.specs.Prelude.{◌≡◌, ℕ, ◌+◌, ◌-◌, ◌*◌, ◌/◌, ◌%◌, ◌^◌, ◌<◌, ◌≤◌, List, [], length, map, get_or, IfOk};
 ghost use Rattle.storage_merkle.specs.Shape.{size};
+ghost use Rattle.storage_merkle.specs.Trees.{listed, places, tree_node, ungrafted};
 ghost use Rattle.storage_bitmap.specs.Chunks.{IsChunkSize, bit_count};
+ghost use Rattle.storage_current.specs.NodeLists.{AreNodes};
+ghost use Rattle.storage_current.specs.Snapshots.{Grafting, Snapshot, view_node};
 
 use crate::qmdb::current::grafting::{self, graft, power};
 use std::alloc::{AllocError, Global};
@@ -30,8 +33,10 @@ pub(crate) fn hash_nodes<F: Graftable, H: Hasher, R: Readable<N>, const N: usize
     requires chunks { IsChunkSize N }
     requires unpruned { (R.retained status.now).pruned ≡ 0 }
     requires bits { bit_count N (R.retained status.now) ≡ length operations.now }
-    ensures plain { IfOk result (λ nodes. length nodes.plain.items ≡ size F.shape (length operations.now)) }
-    ensures view { IfOk result (λ nodes. length nodes.view.items ≡ size F.shape (length operations.now)) }
+    ensures plain_count { IfOk result (λ nodes. length nodes.plain.items ≡ size F.shape (length operations.now)) }
+    ensures view_count { IfOk result (λ nodes. length nodes.view.items ≡ size F.shape (length operations.now)) }
+    ensures plain { let elements = map (λ o. o.items) operations.now in IfOk result (λ nodes. AreNodes F.shape (tree_node H.hash_of (ungrafted F.shape) (listed elements)) (map H.Digest.text nodes.plain.items)) }
+    ensures view { let g : Grafting = record { shape = F.shape; bytes = N } in let s : Snapshot = record { operations = map (λ o. o.items) operations.now; bits = (R.retained status.now).bits; floor = 0 } in IfOk result (λ nodes. AreNodes F.shape (view_node H.hash_of g s) (map H.Digest.text nodes.view.items)) }
 {
     let capacity = F::nodes_over(operations.len() as u64) as usize;
     let mut plain = Vec::with_capacity(alloc, capacity)?;
@@ -60,6 +65,7 @@ fn plain_digest<F: Graftable, H: Hasher>(
     requires aligned { first % 2 ^ height ≡ 0 }
     requires next { F.shape.position first height ≡ length plain.now }
     requires few { length plain.now ≤ size F.shape (2 ^ 62) }
+    ensures { (elements : List (List ℕ)) → AreNodes F.shape (tree_node H.hash_of (ungrafted F.shape) (listed elements)) (map H.Digest.text plain.now) → (height ≡ 0 → get_or elements first [] ≡ operation.now) → H.Digest.text result ≡ tree_node H.hash_of (ungrafted F.shape) (listed elements) first height }
 {
     let hasher = qmdb::hasher::<H>();
     let position = Position::<F>::new(F::position(first, height));
@@ -85,7 +91,8 @@ fn view_digest<F: Graftable, H: Hasher, R: Readable<N>, const N: usize>(
     requires same { length view.now ≡ length plain.now }
     requires few { length plain.now ≤ size F.shape (2 ^ 62) }
     requires unpruned { (R.retained status.now).pruned ≡ 0 }
-    requires bits { first + 2 ^ height ≤ bit_count N (R.retained status.now) }
+    requires born { F.shape.birth first height ≤ bit_count N (R.retained status.now) }
+    ensures { let g : Grafting = record { shape = F.shape; bytes = N } in (elements : List (List ℕ)) → let s : Snapshot = record { operations = elements; bits = (R.retained status.now).bits; floor = 0 } in length elements ≡ bit_count N (R.retained status.now) → AreNodes F.shape (tree_node H.hash_of (ungrafted F.shape) (listed elements)) (map H.Digest.text plain.now) → AreNodes F.shape (view_node H.hash_of g s) (map H.Digest.text view.now) → H.Digest.text digest ≡ tree_node H.hash_of (ungrafted F.shape) (listed elements) first height → H.Digest.text result ≡ view_node H.hash_of g s first height }
 {
     let grafted = grafting::height::<N>();
     if height < grafted {
@@ -126,7 +133,8 @@ pub(crate) fn peak_digests<F: Family, D: Digest>(
 ) -> Result<Vec<D>, AllocError>
     requires few { leaves ≤ 2 ^ 62 }
     requires whole { length nodes.now ≡ size F.shape leaves }
-    ensures { IfOk result (λ peaks. length peaks.items ≡ length (F.shape.peaks leaves)) }
+    ensures count { IfOk result (λ peaks. length peaks.items ≡ length (F.shape.peaks leaves)) }
+    ensures digests { IfOk result (λ peaks. (digest_of : ℕ → ℕ → List ℕ) → AreNodes F.shape digest_of (map D.text nodes.now) → map D.text peaks.items ≡ map (λ p. digest_of p.first p.height) (places 0 (F.shape.peaks leaves))) }
 {
     let mut peaks = Vec::new(alloc);
     for (position, _) in F::peaks(Position::new(nodes.len() as u64)) {

@@ -1,0 +1,43 @@
+-- Snapshots in memory: what is kept of one, and why there is none.
+use Rattle.std.specs.Prelude.{◌≡◌, ℕ, ◌^◌, ◌<◌, ◌≤◌, ◌⊎◌, List, [], length}
+use Rattle.storage_codec.specs.Digests.{HashFunction}
+use Rattle.storage_merkle.specs.declared.merkle.error.Error.TheVariants.{RangeOutOfBounds, LocationOverflow}
+use Rattle.storage_merkle.specs.Shape.{size}
+use Rattle.storage_bitmap.specs.Chunks.{Retained, bit_count}
+use Rattle.storage_ops.specs.declared.qmdb.error.Error.{Error}
+use Rattle.storage_ops.specs.declared.qmdb.error.Error.TheVariants.{DataCorrupted, Merkle, Memory}
+use Rattle.storage_current.specs.NodeLists.{AreNodes}
+use Rattle.storage_current.specs.Snapshots.{Grafting, Snapshot, view_node, ops_root_of, canonical_root}
+
+-- the digests of the grafted view's nodes by position, the bits, and the roots
+pub record KeptSnapshot : Type 0 where
+  pub nodes : List (List ℕ)
+  pub status : Retained
+  pub ops_root : List ℕ
+  pub root : List ℕ
+
+-- these are the snapshot's
+pub record StandsFor (h : HashFunction) (g : Grafting) (kept : KeptSnapshot) (s : Snapshot) : Type 0 where
+  pub count : length kept.nodes ≡ size g.shape (length s.operations)
+  pub nodes : AreNodes g.shape (view_node h g s) kept.nodes
+  pub status : kept.status ≡ record { pruned = 0; bits = s.bits }
+  pub ops_root : kept.ops_root ≡ ops_root_of h g s
+  pub root : kept.root ≡ canonical_root h g s
+
+-- none of so many operations lacks its bit, and no bit is forgotten
+pub record HasEachBit (n count : ℕ) (bits : Retained) : Type 0 where
+  pub all : bit_count n bits ≡ count
+  pub unpruned : bits.pruned ≡ 0
+
+-- what is stored is that of no snapshot
+abbrev pub IsCorrupted : {F : Type 0} → Error F → Type 0
+IsCorrupted (DataCorrupted text) = Unit {0}
+IsCorrupted _ = ⊥
+
+-- why there is no snapshot of so many operations with these bits and this floor: the first reason that holds, else want of memory
+abbrev pub IsRefused : {F : Type 0} → ℕ → ℕ → Retained → ℕ → Error F → Type 0
+IsRefused n count bits floor error =
+    ((HasEachBit n count bits → ⊥) × IsCorrupted error)
+    ⊎ (HasEachBit n count bits × (count < floor) × (error ≡ Merkle (RangeOutOfBounds floor)))
+    ⊎ (HasEachBit n count bits × (floor ≤ count) × (2 ^ 62 < count) × (error ≡ Merkle (LocationOverflow count)))
+    ⊎ (HasEachBit n count bits × (floor ≤ count) × (count ≤ 2 ^ 62) × (error ≡ Memory))
