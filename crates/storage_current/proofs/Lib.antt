@@ -13,4 +13,5 @@ pub mod Windows
 mod Checks
 mod NodeSteps
 mod NodeLists
+mod Roots
 mod Written

@@ -87,5 +87,5 @@ pub hashed_graft : (h : HashFunction) (g : Grafting) → Laws g.shape → (s : S
     → out ≡ view_node h g s a k
 hashed_graft h g L s a k j bytes out inner level one aligned born e chunk_is place plain_is =
     let below : a / 2 ^ k < graftable g (length s.operations) =
-        subst (λ (i : ℕ). a % 2 ^ i ≡ 0 → g.shape.birth a i ≤ length s.operations → a / 2 ^ i < graftable g (length s.operations)) (sym level) (chunk_there g L (length s.operations) a) aligned born in
+    subst (λ (i : ℕ). a % 2 ^ i ≡ 0 → g.shape.birth a i ≤ length s.operations → a / 2 ^ i < graftable g (length s.operations)) (sym level) (chunk_there g L (length s.operations) a) aligned born in
     e ∙ rw (chunk_is, place, plain_is) (sym (view_at h g s a k level one aligned below))

@@ -1,11 +1,12 @@
 //! The chunks of a snapshot's bits that are under no node of their own.
 
-ghost use Rattle.std.specs.Prelude.{◌≡◌, ℕ, ◌+◌, ◌-◌, ◌*◌, ◌/◌, ◌%◌, ◌^◌, ◌<◌, ◌≤◌, ltb, eqb, not};
-ghost use Rattle.storage_bitmap.specs.Chunks.{IsChunkSize, bit_count};
+ghost use Rattle.std.specs.Prelude.{◌≡◌, ℕ, ◌+◌, ◌-◌, ◌*◌, ◌/◌, ◌%◌, ◌^◌, ◌<◌, ◌≤◌, ltb, eqb, not, if◌then◌else◌, option_map};
+ghost use Rattle.storage_bitmap.specs.Chunks.{IsChunkSize, bit_count, chunk};
 ghost use Rattle.storage_current.specs.Snapshots.{graftable_at};
 
 use crate::qmdb::current::grafting;
 use storage_bitmap::bitmap::Readable;
+use storage_codec::digest::Hasher;
 use storage_merkle::merkle::Family;
 
 /// How many chunks are complete over so many operations, and how many of them are graftable.
@@ -54,6 +55,7 @@ impl ChunkCounts {
         requires chunks { IsChunkSize N }
         requires unpruned { (R.retained status.now).pruned ≤ self.now.graftable }
         requires within { self.now.complete * (8 * N) ≤ bit_count N (R.retained status.now) }
+        ensures { result ≡ (if ltb self.now.graftable self.now.complete then Some (chunk N (R.retained status.now).bits (self.now.graftable - (R.retained status.now).pruned)) else None) }
     {
         if self.has_pending() {
             Some(status.get_chunk(self.graftable as usize))
@@ -66,11 +68,22 @@ impl ChunkCounts {
     pub(crate) fn partial<R: Readable<N>, const N: usize>(&self, status: &R) -> Option<[u8; N]>
         requires unpruned { (R.retained status.now).pruned ≤ self.now.complete }
         requires within { self.now.complete * (8 * N) + self.now.next_bit ≤ bit_count N (R.retained status.now) }
+        ensures { result ≡ (if eqb self.now.next_bit 0 then None else Some (chunk N (R.retained status.now).bits (self.now.complete - (R.retained status.now).pruned))) }
     {
         if self.has_partial() {
             Some(status.get_chunk(self.complete as usize))
         } else {
             None
         }
+    }
+}
+
+/// The digest of a chunk, where there is one.
+pub(crate) fn chunk_digest<H: Hasher, const N: usize>(chunk: Option<[u8; N]>) -> Option<H::Digest>
+    ensures { option_map H.Digest.text result ≡ option_map H.hash_of chunk.entry }
+{
+    match chunk {
+        None => None,
+        Some(chunk) => Some(H::hash(&[&chunk])),
     }
 }

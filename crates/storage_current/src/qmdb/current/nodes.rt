@@ -2,10 +2,10 @@
 
 ghost use Rattle.std.specs.Prelude.{◌≡◌, ℕ, ◌+◌, ◌-◌, ◌*◌, ◌/◌, ◌%◌, ◌^◌, ◌<◌, ◌≤◌, List, [], length, map, get_or, IfOk};
 ghost use Rattle.storage_merkle.specs.Shape.{size};
-ghost use Rattle.storage_merkle.specs.Trees.{listed, places, tree_node, ungrafted};
+ghost use Rattle.storage_merkle.specs.Trees.{places};
 ghost use Rattle.storage_bitmap.specs.Chunks.{IsChunkSize, bit_count};
-ghost use Rattle.storage_current.specs.NodeLists.{AreNodes};
-ghost use Rattle.storage_current.specs.Snapshots.{Grafting, Snapshot, view_node};
+ghost use Rattle.storage_current.specs.NodeLists.{AreNodes, plain_node, seen_node};
+ghost use Rattle.storage_current.specs.Snapshots.{Grafting};
 
 use crate::qmdb::current::grafting::{self, graft, power};
 use std::alloc::{AllocError, Global};
@@ -35,8 +35,8 @@ pub(crate) fn hash_nodes<F: Graftable, H: Hasher, R: Readable<N>, const N: usize
     requires bits { bit_count N (R.retained status.now) ≡ length operations.now }
     ensures plain_count { IfOk result (λ nodes. length nodes.plain.items ≡ size F.shape (length operations.now)) }
     ensures view_count { IfOk result (λ nodes. length nodes.view.items ≡ size F.shape (length operations.now)) }
-    ensures plain { let elements = map (λ o. o.items) operations.now in IfOk result (λ nodes. AreNodes F.shape (tree_node H.hash_of (ungrafted F.shape) (listed elements)) (map H.Digest.text nodes.plain.items)) }
-    ensures view { let g : Grafting = record { shape = F.shape; bytes = N } in let s : Snapshot = record { operations = map (λ o. o.items) operations.now; bits = (R.retained status.now).bits; floor = 0 } in IfOk result (λ nodes. AreNodes F.shape (view_node H.hash_of g s) (map H.Digest.text nodes.view.items)) }
+    ensures plain { IfOk result (λ nodes. AreNodes F.shape (plain_node H.hash_of F.shape (map (λ o. o.items) operations.now)) (map H.Digest.text nodes.plain.items)) }
+    ensures view { let g : Grafting = record { shape = F.shape; bytes = N } in IfOk result (λ nodes. AreNodes F.shape (seen_node H.hash_of g (map (λ o. o.items) operations.now) (R.retained status.now).bits) (map H.Digest.text nodes.view.items)) }
 {
     let capacity = F::nodes_over(operations.len() as u64) as usize;
     let mut plain = Vec::with_capacity(alloc, capacity)?;
@@ -65,7 +65,7 @@ fn plain_digest<F: Graftable, H: Hasher>(
     requires aligned { first % 2 ^ height ≡ 0 }
     requires next { F.shape.position first height ≡ length plain.now }
     requires few { length plain.now ≤ size F.shape (2 ^ 62) }
-    ensures { (elements : List (List ℕ)) → AreNodes F.shape (tree_node H.hash_of (ungrafted F.shape) (listed elements)) (map H.Digest.text plain.now) → (height ≡ 0 → get_or elements first [] ≡ operation.now) → H.Digest.text result ≡ tree_node H.hash_of (ungrafted F.shape) (listed elements) first height }
+    ensures { (list : List (List ℕ)) → AreNodes F.shape (plain_node H.hash_of F.shape list) (map H.Digest.text plain.now) → (height ≡ 0 → get_or list first [] ≡ operation.now) → H.Digest.text result ≡ plain_node H.hash_of F.shape list first height }
 {
     let hasher = qmdb::hasher::<H>();
     let position = Position::<F>::new(F::position(first, height));
@@ -92,7 +92,7 @@ fn view_digest<F: Graftable, H: Hasher, R: Readable<N>, const N: usize>(
     requires few { length plain.now ≤ size F.shape (2 ^ 62) }
     requires unpruned { (R.retained status.now).pruned ≡ 0 }
     requires born { F.shape.birth first height ≤ bit_count N (R.retained status.now) }
-    ensures { let g : Grafting = record { shape = F.shape; bytes = N } in (elements : List (List ℕ)) → let s : Snapshot = record { operations = elements; bits = (R.retained status.now).bits; floor = 0 } in length elements ≡ bit_count N (R.retained status.now) → AreNodes F.shape (tree_node H.hash_of (ungrafted F.shape) (listed elements)) (map H.Digest.text plain.now) → AreNodes F.shape (view_node H.hash_of g s) (map H.Digest.text view.now) → H.Digest.text digest ≡ tree_node H.hash_of (ungrafted F.shape) (listed elements) first height → H.Digest.text result ≡ view_node H.hash_of g s first height }
+    ensures { let g : Grafting = record { shape = F.shape; bytes = N } in let bits = (R.retained status.now).bits in (list : List (List ℕ)) → length list ≡ bit_count N (R.retained status.now) → AreNodes F.shape (plain_node H.hash_of F.shape list) (map H.Digest.text plain.now) → AreNodes F.shape (seen_node H.hash_of g list bits) (map H.Digest.text view.now) → H.Digest.text digest ≡ plain_node H.hash_of F.shape list first height → H.Digest.text result ≡ seen_node H.hash_of g list bits first height }
 {
     let grafted = grafting::height::<N>();
     if height < grafted {

@@ -1,14 +1,21 @@
 //! Snapshots.
 
-ghost use Rattle.std.specs.Prelude.{◌≡◌, ℕ, ◌≤◌, ◌^◌, length};
+ghost use Rattle.std.specs.Prelude.{◌≡◌, ℕ, ◌<◌, ◌≤◌, ◌^◌, List, length, map, option_map, None, Bool, IfOk, IfErr};
+ghost use Rattle.std.specs.List.{slice_get};
 ghost use Rattle.storage_merkle.specs.Shape.{size};
+ghost use Rattle.storage_merkle.specs.Trees.{Content, Layout, tree_node, tree_root};
+ghost use Rattle.storage_merkle.specs.declared.merkle.bagging.Bagging.TheVariants.{BackwardFold};
+ghost use Rattle.storage_bitmap.specs.Chunks.{IsChunkSize};
+ghost use Rattle.storage_current.specs.KeptSnapshots.{IsRefused, StandsFor};
+ghost use Rattle.storage_current.specs.NodeLists.{AreNodes};
+ghost use Rattle.storage_current.specs.Snapshots.{Grafting, IsServed, IsSnapshot, Snapshot as SnapshotOf, canonical_root, ops_root_of};
 
-use crate::qmdb::current::chunks::ChunkCounts;
+use crate::qmdb::current::chunks::{ChunkCounts, chunk_digest};
 use crate::qmdb::current::grafting::{self, aligned_inactive, exact_inactive};
 use crate::qmdb::current::nodes::{Nodes, hash_nodes, peak_digests};
 use crate::qmdb::current::root::canonical_root;
 use std::alloc::{AllocError, Global};
-use std::marker::PhantomData;
+use std::marker::{Model, PhantomData};
 use storage_bitmap::bitmap::{Prunable, Readable};
 use storage_codec::digest::Hasher;
 use storage_merkle::merkle::hasher::Hasher as _;
@@ -19,11 +26,20 @@ use storage_ops::qmdb::{self, Error};
 /// of the grafted view.
 #[derive(Drop)]
 pub struct Snapshot<F, H: Hasher, const N: usize> {
-    view: Vec<H::Digest>,
+    nodes: Vec<H::Digest>,
     status: Prunable<N>,
     ops_root: H::Digest,
     root: H::Digest,
     family: PhantomData<F>,
+}
+
+impl<F, H: Hasher, const N: usize> Model for Snapshot<F, H, N> {
+    ghost use Rattle.std.specs.Prelude.{map};
+    ghost use Rattle.storage_current.specs.KeptSnapshots.{KeptSnapshot};
+
+    ghost Value = { KeptSnapshot };
+
+    ghost view = { λ s. record { nodes = map H.Digest.text s.nodes.items; status = s.status; ops_root = H.Digest.text s.ops_root; root = H.Digest.text s.root } };
 }
 
 impl<F: Graftable, H: Hasher, const N: usize> Snapshot<F, H, N> {
@@ -39,7 +55,12 @@ impl<F: Graftable, H: Hasher, const N: usize> Snapshot<F, H, N> {
         operations: &[Vec<u8>],
         bits: Prunable<N>,
         floor: Location<F>,
-    ) -> Result<Self, Error<F>> {
+    ) -> Result<Self, Error<F>>
+        ensures size { IfOk result (λ _. IsChunkSize N) }
+        ensures status { IfOk result (λ kept. kept.status ≡ bits.entry) }
+        ensures stands { let g : Grafting = record { shape = F.shape; bytes = N } in let s : SnapshotOf = record { operations = map (λ o. o.items) operations.now; bits = bits.entry.bits; floor = floor } in IfOk result (λ kept. IsSnapshot s × StandsFor H.hash_of g kept s) }
+        ensures why { IfErr result (IsRefused N (length operations.now) bits.entry floor) }
+    {
         let leaves = operations.len() as u64;
         if bits.len() != leaves || bits.pruned_chunks() > 0 {
             return Err(Error::DataCorrupted("not one bit for each operation"));
@@ -58,12 +79,8 @@ impl<F: Graftable, H: Hasher, const N: usize> Snapshot<F, H, N> {
         let aligned = aligned_inactive::<F>(leaves, floor.as_u64(), height);
         let grafted_root = tree_root::<F, H>(alloc, &nodes.view, leaves, aligned)?;
         let counts = ChunkCounts::over::<F>(leaves, height);
-        let pending = counts
-            .pending::<Prunable<N>, N>(&bits)
-            .map(|chunk| H::hash(&[&chunk]));
-        let partial = counts
-            .partial::<Prunable<N>, N>(&bits)
-            .map(|chunk| H::hash(&[&chunk]));
+        let pending = chunk_digest::<H, N>(counts.pending::<Prunable<N>, N>(&bits));
+        let partial = chunk_digest::<H, N>(counts.partial::<Prunable<N>, N>(&bits));
         let root = canonical_root::<H>(
             &ops_root,
             &grafted_root,
@@ -72,7 +89,7 @@ impl<F: Graftable, H: Hasher, const N: usize> Snapshot<F, H, N> {
             &partial,
         );
         Ok(Snapshot {
-            view: nodes.view,
+            nodes: nodes.view,
             status: bits,
             ops_root,
             root,
@@ -81,22 +98,34 @@ impl<F: Graftable, H: Hasher, const N: usize> Snapshot<F, H, N> {
     }
 
     /// The canonical root. Takes no memory.
-    pub fn root(&self) -> H::Digest {
+    pub fn root(&self) -> H::Digest
+        ensures value { H.Digest.text result ≡ self.now.root }
+        ensures stands { (s : SnapshotOf) → StandsFor H.hash_of (record { shape = F.shape; bytes = N }) self.now s → H.Digest.text result ≡ canonical_root H.hash_of (record { shape = F.shape; bytes = N }) s }
+    {
         self.root
     }
 
     /// The root of the tree over the operations alone. Takes no memory.
-    pub fn ops_root(&self) -> H::Digest {
+    pub fn ops_root(&self) -> H::Digest
+        ensures value { H.Digest.text result ≡ self.now.ops_root }
+        ensures stands { (s : SnapshotOf) → StandsFor H.hash_of (record { shape = F.shape; bytes = N }) self.now s → H.Digest.text result ≡ ops_root_of H.hash_of (record { shape = F.shape; bytes = N }) s }
+    {
         self.ops_root
     }
 
     /// The digest that the grafted view has at a position; none past its nodes. Takes no memory.
-    pub fn get_node(&self, position: Position<F>) -> Option<H::Digest> {
-        self.view.get(position.as_u64() as usize).copied()
+    pub fn get_node(&self, position: Position<F>) -> Option<H::Digest>
+        ensures value { option_map H.Digest.text result ≡ slice_get self.now.nodes position }
+        ensures there { (s : SnapshotOf) → StandsFor H.hash_of (record { shape = F.shape; bytes = N }) self.now s → position < size F.shape (length s.operations) → IsServed H.hash_of (record { shape = F.shape; bytes = N }) s (λ _. option_map H.Digest.text result) position }
+        ensures past { (s : SnapshotOf) → StandsFor H.hash_of (record { shape = F.shape; bytes = N }) self.now s → size F.shape (length s.operations) ≤ position → result ≡ None }
+    {
+        self.nodes.get(position.as_u64() as usize).copied()
     }
 
     /// The bits. Takes no memory.
-    pub fn status(&self) -> &Prunable<N> {
+    pub fn status(&self) -> &Prunable<N>
+        ensures { result.now ≡ self.now.status }
+    {
         &self.status
     }
 }
@@ -111,6 +140,7 @@ fn tree_root<F: Graftable, H: Hasher>(
     requires few { leaves ≤ 2 ^ 62 }
     requires whole { length nodes.now ≡ size F.shape leaves }
     requires inactive { inactive ≤ length (F.shape.peaks leaves) }
+    ensures { IfOk result (λ root. (grafted : ℕ → ℕ → Bool) (content : Content) → let T : Layout = record { shape = F.shape; grafted = grafted } in length content.elements ≡ leaves → AreNodes F.shape (tree_node H.hash_of T content) (map H.Digest.text nodes.now) → H.Digest.text root ≡ tree_root H.hash_of T BackwardFold content inactive) }
 {
     let peaks = peak_digests::<F, H::Digest>(alloc, nodes, leaves)?;
     Ok(qmdb::hasher::<H>().root(Location::<F>::new(leaves), inactive, &peaks))

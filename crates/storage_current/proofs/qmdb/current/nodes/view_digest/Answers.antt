@@ -19,8 +19,7 @@ pub get_chunk-chunk-requires : goal.get_chunk-chunk-requires
 get_chunk-chunk-requires g c =
     let late = g.met.F.Family.laws.late c.args.first c.args.height in
     let all : ℕ = bit_count g.row.N (g.R.Readable.retained c.args.status.now) in
-    let within : c.args.first < all = omega (arith, c.requires.born, late, pow_pos c.args.height) in
-    (
+    let within : c.args.first < all = omega (arith, c.requires.born, late, pow_pos c.args.height) in (
       omega (arith, c.requires.chunks.1),
       (
         omega (arith, c.requires.unpruned),
