@@ -5,8 +5,6 @@
 #[cfg(test)]
 mod altered;
 #[cfg(test)]
-mod digests;
-#[cfg(test)]
 mod floors;
 #[cfg(test)]
 mod operation_proofs;
