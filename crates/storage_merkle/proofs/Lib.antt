@@ -30,3 +30,4 @@ pub mod CheckBags
 pub mod CheckSiblings
 pub mod Checks
 pub mod Meaning
+pub mod Built

@@ -31,6 +31,7 @@ pub mod Plans
 pub mod PlanParts
 pub mod ProofWire
 pub mod ProofWireLaws
+pub mod Built
 pub mod Siblings
 pub mod Rests
 pub mod Checks

@@ -1,8 +1,13 @@
 //! What holds of every tree, every check and every proof: laws over the definitions, each the contract of a function that
 //! does nothing.
 
+ghost use Rattle.std.specs.Prelude.{◌≡◌};
+ghost use Rattle.storage_merkle.specs.Built.{BuiltRangeProofsAreAccepted, BuiltRangeProofsAreReadAgain};
 ghost use Rattle.storage_merkle.specs.Plans.{GreatestNodesArePlanned};
 ghost use Rattle.storage_merkle.specs.Soundness.{OwnRangeProofsAreAccepted, RangeProofsAreSound, RootsAreOfLeaves, RootsBindTheirTrees, SiblingsAscend};
+
+use crate::merkle::hasher::Hasher;
+use crate::merkle::{Family, Position};
 
 pub mod families;
 
@@ -15,6 +20,17 @@ pub fn range_proofs_are_sound()
 /// A tree's own range proof is accepted against its root.
 pub fn own_range_proofs_are_accepted()
     ensures { OwnRangeProofsAreAccepted }
+{}
+
+/// A range proof that a plan builds from the nodes of a tree is accepted against the tree's root, and what it is written as is
+/// read as the same proof, whatever follows it.
+pub fn built_range_proofs_are_accepted<
+    F: Family,
+    H: Hasher<F>,
+    G: Fn(Position<F>) -> Option<H::Digest>,
+>()
+    ensures accepted { (hasher : H) (get_node : G) → (H.layout hasher).shape ≡ F.shape → BuiltRangeProofsAreAccepted H.Digest.text (G.post get_node) H.hash_of (H.layout hasher) (H.bagging hasher) }
+    ensures read_again { (hasher : H) (get_node : G) → (H.layout hasher).shape ≡ F.shape → BuiltRangeProofsAreReadAgain H.Digest.text (G.post get_node) H.Digest.size H.hash_of (H.layout hasher) (H.bagging hasher) }
 {}
 
 /// The root of a tree is the one calculated from the digests of its leaves.
