@@ -1,0 +1,106 @@
+//! Folds of digests, and roots from the digests of peaks.
+ghost use Rattle.std.specs.Prelude.{◌≡◌, ◌≤◌, ◌++◌, List, [], length, map, option_map};
+ghost use Rattle.storage_merkle.specs.Hashers.{or_nothing};
+ghost use Rattle.storage_merkle.specs.Hashing.{bagged, bagged_peaks, folded_backward, folded_forward, root_of};
+ghost use Rattle.storage_merkle.specs.Trees.{root_head, ungrafted};
+
+use storage_codec::digest::{Digest, Hasher};
+use storage_merkle::merkle::{Bagging, Family};
+
+/// An item and others folded from the left.
+pub fn fold_forward<H: Hasher>(first: H::Digest, others: &[H::Digest]) -> H::Digest
+    ensures { H.Digest.text result ≡ folded_forward H.hash_of (H.Digest.text first) (map H.Digest.text others.now) }
+{
+    match others.split_first() {
+        None => first,
+        Some((second, rest)) => fold_forward::<H>(fold_two::<H>(&first, second), rest),
+    }
+}
+
+/// An item and others folded from the right.
+pub fn fold_backward<H: Hasher>(first: H::Digest, others: &[H::Digest]) -> H::Digest
+    ensures { H.Digest.text result ≡ folded_backward H.hash_of (H.Digest.text first) (map H.Digest.text others.now) }
+{
+    match others.split_first() {
+        None => first,
+        Some((second, rest)) => {
+            let folded = fold_backward::<H>(*second, rest);
+            fold_two::<H>(&first, &folded)
+        }
+    }
+}
+
+/// Two items folded into one.
+fn fold_two<H: Hasher>(left: &H::Digest, right: &H::Digest) -> H::Digest
+    ensures { H.Digest.text result ≡ H.hash_of (H.Digest.text left.now ++ H.Digest.text right.now) }
+{
+    H::hash(&[left.bytes(), right.bytes()])
+}
+
+/// The first items folded from the left into one, and that and the others from the right; none for no items.
+pub fn bag<H: Hasher>(front: &[H::Digest], rest: &[H::Digest]) -> Option<H::Digest>
+    ensures { or_nothing (option_map H.Digest.text result) ≡ bagged H.hash_of (map H.Digest.text front.now) (map H.Digest.text rest.now) }
+{
+    match front.split_first() {
+        None => {
+            let (first, others) = rest.split_first()?;
+            Some(fold_backward::<H>(*first, others))
+        }
+        Some((first, others)) => {
+            let folded = fold_forward::<H>(*first, others);
+            Some(fold_backward::<H>(folded, rest))
+        }
+    }
+}
+
+/// The digests of peaks, of which so many are inactive, bagged; none for no peaks.
+pub fn bag_peaks<H: Hasher>(
+    bagging: Bagging,
+    inactive: usize,
+    peaks: &[H::Digest],
+) -> Option<H::Digest>
+    requires { inactive ≤ length peaks.now }
+    ensures { or_nothing (option_map H.Digest.text result) ≡ bagged_peaks H.hash_of bagging inactive (map H.Digest.text peaks.now) }
+{
+    match bagging {
+        Bagging::ForwardFold => bag::<H>(peaks, &[]),
+        Bagging::BackwardFold => {
+            let (front, rest) = peaks.split_at(inactive);
+            bag::<H>(front, rest)
+        }
+    }
+}
+
+/// The root over so many leaves of which so many leading peaks are inactive: the digest of the bytes of the family and the
+/// bagging, both numbers in eight bytes, and the bag.
+#[tactic(auto, unfolding(storage_merkle::specs::Calc::be8))]
+pub fn root_over<F: Family, H: Hasher>(
+    bagging: Bagging,
+    leaves: u64,
+    inactive: u64,
+    bag: Option<H::Digest>,
+) -> H::Digest
+    ensures { H.Digest.text result ≡ H.hash_of (root_head (ungrafted F.shape) bagging leaves inactive ++ or_nothing (option_map H.Digest.text bag)) }
+{
+    let head = [F::byte(), bagging.byte()];
+    let leaves = leaves.to_be_bytes();
+    let inactive = inactive.to_be_bytes();
+    hash_four::<H>(&head, &leaves, &inactive, bag_bytes(&bag))
+}
+
+/// The bytes of a digest; no bytes for none.
+fn bag_bytes<D: Digest>(bag: &Option<D>) -> &[u8]
+    ensures { result.now ≡ or_nothing (option_map D.text bag.now) }
+{
+    match bag {
+        None => &[],
+        Some(digest) => digest.bytes(),
+    }
+}
+
+/// The digest of four parts.
+fn hash_four<H: Hasher>(first: &[u8], second: &[u8], third: &[u8], fourth: &[u8]) -> H::Digest
+    ensures { H.Digest.text result ≡ H.hash_of (first.now ++ (second.now ++ (third.now ++ fourth.now))) }
+{
+    H::hash(&[first, second, third, fourth])
+}

@@ -1,0 +1,8 @@
+//! The definitions of trees, roots and proofs as a program: plain and slow. Each function follows the words of its
+//! definition, and computes anew what the fast calls keep.
+#![tactic(auto)]
+
+pub mod fold;
+pub mod node;
+pub mod shape;
+pub mod tree;

@@ -1,0 +1,196 @@
+//! Digests of nodes, from the leaves up.
+ghost use Rattle.std.specs.Prelude.{◌≡◌, ℕ, ◌+◌, ◌*◌, ◌^◌, ◌≤◌, ◌++◌, List, [], map, get_or, Bool, true, false, if◌then◌else◌, IfOk, OnOk, MatchOption};
+ghost use Rattle.storage_merkle.specs.Calc.{Site, node, eval, be8, grafted_digest};
+ghost use Rattle.storage_merkle.specs.Shape.{leaves_of};
+ghost use Rattle.storage_merkle.specs.Trees.{Peak, node_calc, never, part, places};
+ghost use Rattle.reference.specs.Layouts.{laid_out, valued};
+
+use crate::shape::{Digits, power};
+use std::alloc::{AllocError, Global};
+use std::convert::AsSlice;
+use std::marker::Model;
+use storage_codec::digest::{Digest, Hasher};
+
+/// A node: its first leaf and its height. It ends within `2^62` leaves.
+#[derive(Drop)]
+#[derive(Clone, Copy)]
+pub struct Node {
+    first: u64,
+    height: u32,
+}
+
+impl Model for Node {
+    ghost use Rattle.std.specs.Prelude.{◌+◌, ◌^◌, ◌≤◌};
+    ghost use Rattle.storage_merkle.specs.Trees.{Peak};
+
+    ghost Value = { Peak };
+
+    ghost view = { λ s. record { first = s.first; height = s.height } };
+
+    ghost invariant = { λ s. s.first + 2 ^ s.height ≤ 2 ^ 62 };
+
+    ghost inverse = { λ p. record { first = p.first; height = p.height } };
+}
+
+impl Node {
+    /// The node of a first leaf and a height.
+    pub fn new(first: u64, height: u32) -> Self
+        requires { first + 2 ^ height ≤ 2 ^ 62 }
+        ensures { result ≡ record { first = first; height = height } }
+    {
+        Node { first, height }
+    }
+
+    /// Its first leaf.
+    pub fn first(&self) -> u64
+        ensures { result ≡ self.now.first }
+    {
+        self.first
+    }
+
+    /// Its height, from 0 for a leaf.
+    pub fn height(&self) -> u32
+        ensures value { result ≡ self.now.height }
+        ensures within { self.now.first + 2 ^ self.now.height ≤ 2 ^ 62 }
+    {
+        self.height
+    }
+}
+
+/// What a calculation is over: elements, and digests that are given.
+pub trait Source<H: Hasher> {
+    /// The nodes whose digests are given.
+    ghost cut: { Self → ℕ → ℕ → Bool };
+
+    /// The digests that are given.
+    ghost digest: { Self → Site → List ℕ };
+
+    /// The elements.
+    ghost item: { Self → ℕ → List ℕ };
+
+    /// The digest of a node where it is given.
+    fn given(&self, first: u64, height: u32) -> Option<H::Digest>
+        ensures { MatchOption result (cut self.now first height ≡ false) (λ d. (cut self.now first height ≡ true) × (H.Digest.text d ≡ digest self.now (node first height))) };
+
+    /// The element at a location; no bytes where there is none.
+    fn element(&self, location: u64) -> &[u8]
+        ensures { result.now ≡ item self.now location };
+}
+
+/// Which nodes have a chunk grafted.
+pub trait Grafts<H: Hasher> {
+    /// The nodes that have one.
+    ghost grafted: { Self → ℕ → ℕ → Bool };
+
+    /// The chunk from a leaf on.
+    ghost chunk: { Self → ℕ → List ℕ };
+
+    /// The digest of a node from the one that it has with no chunk: as it is where none is grafted or the chunk is all
+    /// zero, else that of the chunk and it.
+    fn graft(&self, first: u64, height: u32, inner: H::Digest) -> H::Digest
+        ensures { H.Digest.text result ≡ (if grafted self.now first height then grafted_digest H.hash_of (chunk self.now first) (H.Digest.text inner) else H.Digest.text inner) };
+}
+
+/// No node has a chunk grafted.
+#[derive(Clone, Copy, Drop)]
+pub struct Ungrafted;
+
+impl<H: Hasher> Grafts<H> for Ungrafted {
+    ghost grafted = { λ _ _ _. false };
+
+    ghost chunk = { λ _ _. [] };
+
+    fn graft(&self, first: u64, height: u32, inner: H::Digest) -> H::Digest {
+        let _ = (first, height);
+        inner
+    }
+}
+
+/// A whole tree: all elements from the first leaf on, and no digests.
+#[derive(Drop)]
+#[derive_where(Clone, Copy)]
+pub struct Whole<'a, E> {
+    /// The elements.
+    pub elements: &'a [E],
+}
+
+impl<H: Hasher, E: AsSlice<u8>> Source<H> for Whole<'_, E> {
+    ghost cut = { λ _. never };
+
+    ghost digest = { λ _ _. H.hash_of [] };
+
+    ghost item = { λ s j. get_or (map E.items s.elements.now) j [] };
+
+    fn given(&self, first: u64, height: u32) -> Option<H::Digest> {
+        let _ = (first, height);
+        None
+    }
+
+    fn element(&self, location: u64) -> &[u8] {
+        match self.elements.get(location as usize) {
+            Some(element) => element.as_slice(),
+            None => &[],
+        }
+    }
+}
+
+/// The digest of a node: the one that is given, else of its position in eight bytes and the element, or the digests of
+/// its halves. Fails only where memory runs out.
+#[tactic(auto, unfolding(storage_merkle::specs::Calc::be8))]
+pub fn node_digest<F: Digits, H: Hasher, S: Source<H>, G: Grafts<H>>(
+    alloc: Global,
+    source: &S,
+    grafts: &G,
+    first: u64,
+    height: u32,
+) -> Result<H::Digest, AllocError>
+    requires { first + 2 ^ height ≤ 2 ^ 62 }
+    ensures { IfOk result (λ d. H.Digest.text d ≡ eval H.hash_of (valued (S.digest source.now) (S.item source.now) (G.chunk grafts.now)) (node_calc (laid_out F.shape (G.grafted grafts.now)) (S.cut source.now) height first)) }
+{
+    if let Some(digest) = source.given(first, height) {
+        return Ok(digest);
+    }
+    let position = F::place(alloc, first, height)?;
+    if height == 0 {
+        return Ok(leaf_digest::<H>(position, source.element(first)));
+    }
+    let middle = first + power(height - 1);
+    let left = node_digest::<F, H, S, G>(alloc, source, grafts, first, height - 1)?;
+    let right = node_digest::<F, H, S, G>(alloc, source, grafts, middle, height - 1)?;
+    let inner = pair_digest::<H>(position, &left, &right);
+    Ok(grafts.graft(first, height, inner))
+}
+
+/// The digest of a position in eight bytes and an element.
+#[tactic(auto, unfolding(storage_merkle::specs::Calc::be8))]
+fn leaf_digest<H: Hasher>(position: u64, element: &[u8]) -> H::Digest
+    ensures { H.Digest.text result ≡ H.hash_of (be8 position ++ element.now) }
+{
+    H::hash(&[&position.to_be_bytes(), element])
+}
+
+/// The digest of a position in eight bytes and two digests.
+#[tactic(auto, unfolding(storage_merkle::specs::Calc::be8))]
+fn pair_digest<H: Hasher>(position: u64, left: &H::Digest, right: &H::Digest) -> H::Digest
+    ensures { H.Digest.text result ≡ H.hash_of (be8 position ++ (H.Digest.text left.now ++ H.Digest.text right.now)) }
+{
+    H::hash(&[&position.to_be_bytes(), left.bytes(), right.bytes()])
+}
+
+/// Appends the digests of some nodes. Fails only where memory runs out.
+pub fn push_digests<F: Digits, H: Hasher, S: Source<H>, G: Grafts<H>>(
+    digests: &mut Vec<H::Digest>,
+    source: &S,
+    grafts: &G,
+    nodes: &[Node],
+) -> Result<(), AllocError>
+    ensures { OnOk result (map H.Digest.text digests.new.items ≡ map H.Digest.text digests.old.items ++ map (λ p. eval H.hash_of (valued (S.digest source.now) (S.item source.now) (G.chunk grafts.now)) (part (laid_out F.shape (G.grafted grafts.now)) (S.cut source.now) p)) nodes.now) }
+{
+    let Some((node, rest)) = nodes.split_first() else {
+        return Ok(());
+    };
+    let alloc = *digests.allocator();
+    let digest = node_digest::<F, H, S, G>(alloc, source, grafts, node.first(), node.height())?;
+    digests.push(digest)?;
+    push_digests::<F, H, S, G>(digests, source, grafts, rest)
+}
