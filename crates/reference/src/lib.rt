@@ -4,5 +4,7 @@
 
 pub mod fold;
 pub mod node;
+pub mod range_proof;
 pub mod shape;
+pub mod site;
 pub mod tree;

@@ -1,5 +1,5 @@
 //! Digests of nodes, from the leaves up.
-ghost use Rattle.std.specs.Prelude.{◌≡◌, ℕ, ◌+◌, ◌*◌, ◌^◌, ◌≤◌, ◌++◌, List, [], map, get_or, Bool, true, false, if◌then◌else◌, IfOk, OnOk, MatchOption};
+ghost use Rattle.std.specs.Prelude.{◌≡◌, ◌-◌, ◌<◌, ℕ, ◌+◌, ◌*◌, ◌^◌, ◌≤◌, ◌++◌, List, [], map, get_or, Bool, true, false, if◌then◌else◌, IfOk, OnOk, MatchOption};
 ghost use Rattle.storage_merkle.specs.Calc.{Site, node, eval, be8, grafted_digest};
 ghost use Rattle.storage_merkle.specs.Shape.{leaves_of};
 ghost use Rattle.storage_merkle.specs.Trees.{Peak, node_calc, never, part, places};
@@ -55,6 +55,35 @@ impl Node {
     {
         self.height
     }
+
+    /// The leaf after its last one.
+    pub fn end(&self) -> u64
+        ensures { result ≡ self.now.first + 2 ^ self.now.height }
+    {
+        self.first + power(self.height)
+    }
+
+    /// Its left half, where its height is at least 1.
+    pub fn left(&self) -> Self
+        requires { 0 < self.now.height }
+        ensures { result ≡ record { first = self.now.first; height = self.now.height - 1 } }
+    {
+        Node {
+            first: self.first,
+            height: self.height - 1,
+        }
+    }
+
+    /// Its right half, where its height is at least 1.
+    pub fn right(&self) -> Self
+        requires { 0 < self.now.height }
+        ensures { result ≡ record { first = self.now.first + 2 ^ (self.now.height - 1); height = self.now.height - 1 } }
+    {
+        Node {
+            first: self.first + power(self.height - 1),
+            height: self.height - 1,
+        }
+    }
 }
 
 /// What a calculation is over: elements, and digests that are given.
@@ -69,8 +98,8 @@ pub trait Source<H: Hasher> {
     ghost item: { Self → ℕ → List ℕ };
 
     /// The digest of a node where it is given.
-    fn given(&self, first: u64, height: u32) -> Option<H::Digest>
-        ensures { MatchOption result (cut self.now first height ≡ false) (λ d. (cut self.now first height ≡ true) × (H.Digest.text d ≡ digest self.now (node first height))) };
+    fn given(&self, place: Node) -> Option<H::Digest>
+        ensures { MatchOption result (cut self.now place.first place.height ≡ false) (λ d. (cut self.now place.first place.height ≡ true) × (H.Digest.text d ≡ digest self.now (node place.first place.height))) };
 
     /// The element at a location; no bytes where there is none.
     fn element(&self, location: u64) -> &[u8]
@@ -87,8 +116,8 @@ pub trait Grafts<H: Hasher> {
 
     /// The digest of a node from the one that it has with no chunk: as it is where none is grafted or the chunk is all
     /// zero, else that of the chunk and it.
-    fn graft(&self, first: u64, height: u32, inner: H::Digest) -> H::Digest
-        ensures { H.Digest.text result ≡ (if grafted self.now first height then grafted_digest H.hash_of (chunk self.now first) (H.Digest.text inner) else H.Digest.text inner) };
+    fn graft(&self, place: Node, inner: H::Digest) -> H::Digest
+        ensures { H.Digest.text result ≡ (if grafted self.now place.first place.height then grafted_digest H.hash_of (chunk self.now place.first) (H.Digest.text inner) else H.Digest.text inner) };
 }
 
 /// No node has a chunk grafted.
@@ -100,8 +129,7 @@ impl<H: Hasher> Grafts<H> for Ungrafted {
 
     ghost chunk = { λ _ _. [] };
 
-    fn graft(&self, first: u64, height: u32, inner: H::Digest) -> H::Digest {
-        let _ = (first, height);
+    fn graft(&self, _place: Node, inner: H::Digest) -> H::Digest {
         inner
     }
 }
@@ -121,8 +149,7 @@ impl<H: Hasher, E: AsSlice<u8>> Source<H> for Whole<'_, E> {
 
     ghost item = { λ s j. get_or (map E.items s.elements.now) j [] };
 
-    fn given(&self, first: u64, height: u32) -> Option<H::Digest> {
-        let _ = (first, height);
+    fn given(&self, _place: Node) -> Option<H::Digest> {
         None
     }
 
@@ -136,29 +163,27 @@ impl<H: Hasher, E: AsSlice<u8>> Source<H> for Whole<'_, E> {
 
 /// The digest of a node: the one that is given, else of its position in eight bytes and the element, or the digests of
 /// its halves. Fails only where memory runs out.
-#[tactic(auto, unfolding(storage_merkle::specs::Calc::be8))]
 pub fn node_digest<F: Digits, H: Hasher, S: Source<H>, G: Grafts<H>>(
     alloc: Global,
     source: &S,
     grafts: &G,
-    first: u64,
-    height: u32,
+    place: Node,
 ) -> Result<H::Digest, AllocError>
-    requires { first + 2 ^ height ≤ 2 ^ 62 }
-    ensures { IfOk result (λ d. H.Digest.text d ≡ eval H.hash_of (valued (S.digest source.now) (S.item source.now) (G.chunk grafts.now)) (node_calc (laid_out F.shape (G.grafted grafts.now)) (S.cut source.now) height first)) }
+    ensures { IfOk result (λ d. H.Digest.text d ≡ eval H.hash_of (valued (S.digest source.now) (S.item source.now) (G.chunk grafts.now)) (part (laid_out F.shape (G.grafted grafts.now)) (S.cut source.now) place)) }
 {
-    if let Some(digest) = source.given(first, height) {
+    if let Some(digest) = source.given(place) {
         return Ok(digest);
     }
+    let first = place.first();
+    let height = place.height();
     let position = F::place(alloc, first, height)?;
     if height == 0 {
         return Ok(leaf_digest::<H>(position, source.element(first)));
     }
-    let middle = first + power(height - 1);
-    let left = node_digest::<F, H, S, G>(alloc, source, grafts, first, height - 1)?;
-    let right = node_digest::<F, H, S, G>(alloc, source, grafts, middle, height - 1)?;
+    let left = node_digest::<F, H, S, G>(alloc, source, grafts, place.left())?;
+    let right = node_digest::<F, H, S, G>(alloc, source, grafts, place.right())?;
     let inner = pair_digest::<H>(position, &left, &right);
-    Ok(grafts.graft(first, height, inner))
+    Ok(grafts.graft(place, inner))
 }
 
 /// The digest of a position in eight bytes and an element.
@@ -190,7 +215,7 @@ pub fn push_digests<F: Digits, H: Hasher, S: Source<H>, G: Grafts<H>>(
         return Ok(());
     };
     let alloc = *digests.allocator();
-    let digest = node_digest::<F, H, S, G>(alloc, source, grafts, node.first(), node.height())?;
+    let digest = node_digest::<F, H, S, G>(alloc, source, grafts, *node)?;
     digests.push(digest)?;
     push_digests::<F, H, S, G>(digests, source, grafts, rest)
 }
