@@ -15,3 +15,6 @@ mod NodeSteps
 mod NodeLists
 mod Roots
 mod Written
+pub mod OwnSites
+pub mod OwnWritten
+mod Built

@@ -9,3 +9,5 @@ pub mod NodeLists
 pub mod KeptSnapshots
 pub mod CurrentWire
 pub mod CurrentWireLaws
+pub mod BuiltProofs
+pub mod OwnWire

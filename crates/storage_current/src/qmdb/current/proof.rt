@@ -1,13 +1,13 @@
 //! Range proofs of operations and of their activity.
 
-ghost use Rattle.std.specs.Prelude.{◌≡◌, ℕ, ◌+◌, ◌-◌, ◌*◌, ◌/◌, ◌%◌, ◌^◌, ◌<◌, ◌≤◌, ◌↔◌, ◌⊎◌, OnOk, IfOk, MatchOption, IsTrue, Ok, false, length, map, option_map};
+ghost use Rattle.std.specs.Prelude.{◌≡◌, ℕ, ◌+◌, ◌-◌, ◌*◌, ◌/◌, ◌%◌, ◌^◌, ◌<◌, ◌≤◌, ◌↔◌, ◌⊎◌, OnOk, IfOk, IfErr, MatchOption, IsTrue, Ok, false, length, map, option_map};
 ghost use Rattle.storage_merkle.specs.RangeProofs.{AreDigests};
-ghost use Rattle.storage_current.specs.Snapshots.{canonical_string};
+ghost use Rattle.storage_current.specs.BuiltProofs.{AreAnswered, AreBitsOf, ArePartsOf, IsNotBuilt};
+ghost use Rattle.storage_current.specs.Snapshots.{Grafting, Snapshot as SnapshotOf, canonical_string, own_current_proof};
 ghost use Rattle.storage_current.specs.CurrentProofs.{IsCurrent};
 ghost use Rattle.storage_current.specs.CurrentSoundness.{MeansCurrent};
 ghost use Rattle.storage_current.specs.Held.{current_of};
 ghost use Rattle.storage_current.specs.Windows.{IsWindow, IsWindowOf};
-ghost use Rattle.storage_bitmap.specs.Chunks.{bit_count};
 
 mod chunk;
 mod codec;
@@ -16,7 +16,7 @@ mod slots;
 mod window;
 
 use crate::laws::current_proofs_are_sound;
-use crate::qmdb::current::chunks::ChunkCounts;
+use crate::qmdb::current::chunks::{ChunkCounts, chunk_digest};
 use crate::qmdb::current::grafting::{self, Verifier, aligned_inactive};
 use crate::qmdb::current::proof::window::Window;
 use crate::qmdb::current::root::canonical_root;
@@ -66,12 +66,15 @@ impl<F: Graftable, D: Digest> RangeProof<F, D> {
         ops_root: D,
     ) -> Result<Self, Error<F>>
         requires { G.IsAlwaysCallable get_node }
-        ensures { OnOk result (bit_count N (R.retained status.now) ≡ plan.leaves) }
+        ensures own { let g : Grafting = record { shape = F.shape; bytes = N } in IfOk result (λ proof. (s : SnapshotOf) → ArePartsOf D.text (G.post get_node) H.hash_of g plan (R.retained status.now) floor (D.text ops_root) s → current_of D.text proof ≡ own_current_proof H.hash_of g s plan.start plan.end) }
+        ensures answered { OnOk result (AreAnswered (G.post get_node) F.shape plan) }
+        ensures bits { let g : Grafting = record { shape = F.shape; bytes = N } in OnOk result (AreBitsOf g plan.leaves (R.retained status.now)) }
+        ensures why { let g : Grafting = record { shape = F.shape; bytes = N } in IfErr result (IsNotBuilt (G.post get_node) g plan (R.retained status.now)) }
     {
         let len = status.len();
         let leaves = plan.leaves().as_u64();
         let height = grafting::height::<N>();
-        let inactive = aligned_inactive::<F>(leaves, floor.as_u64(), height);
+        let inactive = aligned_inactive::<F>(leaves, floor.as_u64().min(leaves), height);
         let proof = match plan.build(alloc, &qmdb::hasher::<H>(), inactive, get_node) {
             Ok(proof) => proof,
             Err(merkle::Error::Memory) => return Err(Error::Memory),
@@ -83,8 +86,8 @@ impl<F: Graftable, D: Digest> RangeProof<F, D> {
         }
         Ok(RangeProof {
             proof,
-            pending_chunk_digest: counts.pending(status).map(|chunk| H::hash(&[&chunk])),
-            partial_chunk_digest: counts.partial(status).map(|chunk| H::hash(&[&chunk])),
+            pending_chunk_digest: chunk_digest::<H, N>(counts.pending(status)),
+            partial_chunk_digest: chunk_digest::<H, N>(counts.partial(status)),
             ops_root,
         })
     }

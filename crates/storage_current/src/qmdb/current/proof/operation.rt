@@ -1,12 +1,13 @@
 //! Proofs that one operation is active.
 
-ghost use Rattle.std.specs.Prelude.{◌≡◌, ◌↔◌, ◌⊎◌, IfOk, IsTrue, Ok, true, false, ℕ, ◌+◌, ◌-◌, ◌*◌, ◌/◌, ◌%◌, ◌^◌, ◌<◌, ◌≤◌, length};
+ghost use Rattle.std.specs.Prelude.{◌≡◌, ◌↔◌, ◌⊎◌, OnOk, IfOk, IfErr, IsTrue, Ok, true, false, ℕ, ◌+◌, ◌-◌, ◌*◌, ◌/◌, ◌%◌, ◌^◌, ◌<◌, ◌≤◌, length};
 ghost use Rattle.storage_bitmap.specs.Chunks.{IsChunkSize};
 ghost use Rattle.storage_bitmap.specs.Packed.{bit_in};
 ghost use Rattle.storage_current.specs.CurrentProofs.{IsActiveCurrent};
 ghost use Rattle.storage_current.specs.CurrentSoundness.{MeansActive};
 ghost use Rattle.storage_current.specs.Held.{operation_of};
-ghost use Rattle.storage_current.specs.Snapshots.{height};
+ghost use Rattle.storage_current.specs.BuiltProofs.{AreAnswered, AreBitsOf, ArePartsOf, IsNotBuilt};
+ghost use Rattle.storage_current.specs.Snapshots.{Grafting, Snapshot as SnapshotOf, first_chunk, height, own_operation_proof};
 
 mod codec;
 
@@ -49,6 +50,11 @@ impl<F: Graftable, D: Digest, const N: usize> Proof<F, D, [u8; N]> {
         ops_root: D,
     ) -> Result<Self, Error<F>>
         requires { G.IsAlwaysCallable get_node }
+        ensures own { let g : Grafting = record { shape = F.shape; bytes = N } in IfOk result (λ proof. (s : SnapshotOf) → ArePartsOf D.text (G.post get_node) H.hash_of g plan (R.retained status.now) floor (D.text ops_root) s → operation_of D.text (λ c. c) proof ≡ own_operation_proof H.hash_of g s plan.start) }
+        ensures answered { OnOk result (AreAnswered (G.post get_node) F.shape plan) }
+        ensures bits { let g : Grafting = record { shape = F.shape; bytes = N } in OnOk result (AreBitsOf g plan.leaves (R.retained status.now)) }
+        ensures kept { let g : Grafting = record { shape = F.shape; bytes = N } in OnOk result ((R.retained status.now).pruned ≤ first_chunk g plan.start) }
+        ensures why { let g : Grafting = record { shape = F.shape; bytes = N } in IfErr result (λ error. ((first_chunk g plan.start < (R.retained status.now).pruned) × (error ≡ Error.OperationPruned plan.start)) ⊎ (((R.retained status.now).pruned ≤ first_chunk g plan.start) × IsNotBuilt (G.post get_node) g plan (R.retained status.now) error)) }
     {
         let loc = plan.location();
         let pruned = status.pruned_chunks();
