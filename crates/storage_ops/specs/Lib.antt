@@ -10,3 +10,5 @@ pub mod FixedBackLaws
 pub mod Variable
 pub mod VariableLaws
 pub mod Vectors
+pub mod Shown
+pub mod Equality

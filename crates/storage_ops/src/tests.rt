@@ -222,6 +222,30 @@ fn floors_past_the_limit(rt: HostRuntime) -> Result<(), Fail> {
     Ok(())
 }
 
+#[test]
+fn different_operations(rt: HostRuntime) -> Result<(), Fail> {
+    let alloc = rt.alloc();
+    let update = linked(vec![in alloc; 5u8, 6]?);
+    assert!(rt; update == linked(vec![in alloc; 5u8, 6]?));
+    assert!(rt; update != linked(vec![in alloc; 5u8]?));
+    let elsewhere = Variable::Update(update::Ordered {
+        key: key([1, 2, 3, 4]),
+        value: vec![in alloc; 5u8, 6]?,
+        next_key: key([4, 3, 2, 2]),
+    });
+    assert!(rt; update != elsewhere);
+    assert!(rt; Variable::Delete(key([1, 2, 3, 4])) != update);
+    let commit = Unlinked::CommitFloor(Some(7), Location::new(3));
+    assert!(rt; commit == Unlinked::CommitFloor(Some(7), Location::new(3)));
+    assert!(rt; commit != Unlinked::CommitFloor(Some(7), Location::new(4)));
+    assert!(rt; commit != Unlinked::CommitFloor(None, Location::new(3)));
+    assert!(rt;
+        update::Unordered::<FixedBytes<4>, FixedEncoding<u64>>(key([9, 8, 7, 6]), 77)
+            != update::Unordered(key([9, 8, 7, 5]), 77)
+    );
+    Ok(())
+}
+
 /// What a clone and an operation's accessors answer.
 fn assert_accessors<F: Family, S: Update + PartialEq>(
     rt: &impl Abort,

@@ -1,15 +1,18 @@
 //! How operations are displayed: keys by their bytes and values by their encoding, in hexadecimal.
 
-ghost use Rattle.std.specs.Prelude.{◌≡◌, IfOk};
+ghost use Rattle.std.specs.Fmt.{WritesOnOk};
+ghost use Rattle.std.specs.Prelude.{◌≡◌, IfOk, Some, None};
 ghost use Rattle.std.specs.String.{string_bytes};
 ghost use Rattle.hex.specs.Hex.{encode_lower};
+ghost use Rattle.storage_ops.specs.Operations.{CommitFloor, operation_map, parts};
+ghost use Rattle.storage_ops.specs.Shown.{shown};
 
 use crate::qmdb::any::operation::{Operation, Update};
 use crate::qmdb::operation::Key;
 use std::alloc::Global;
 use std::fmt;
 use storage_codec::codec::{Encode, EncodeSize, Write};
-use storage_merkle::merkle::Family;
+use storage_merkle::merkle::{Family, Location};
 
 /// An operation with the allocator that displaying it takes memory from.
 #[derive(Drop)]
@@ -38,6 +41,27 @@ pub(crate) fn hex_of_value<V: Write + EncodeSize>(
     hex_of_bytes(alloc, &bytes)
 }
 
+/// Writes a commit with the text of its value.
+fn write_commit<F: Family, W: fmt::Write>(
+    f: &mut fmt::Formatter<W>,
+    value: &str,
+    floor: Location<F>,
+) -> fmt::Result
+    ensures { WritesOnOk W.write_str_gives f.old result (shown (CommitFloor (Some value.now) floor)) f.new }
+{
+    write!(f, "[commit {value} with inactivity floor: {floor}]")
+}
+
+/// Writes a commit that has no value.
+fn write_empty_commit<F: Family, W: fmt::Write>(
+    f: &mut fmt::Formatter<W>,
+    floor: Location<F>,
+) -> fmt::Result
+    ensures { WritesOnOk W.write_str_gives f.old result (shown (CommitFloor None floor)) f.new }
+{
+    write!(f, "[commit with inactivity floor: {floor}]")
+}
+
 impl<F: Family, S: Update> Operation<F, S> {
     /// The operation as `Display`: `[key:KEY <deleted>]`, what its update is displayed as,
     /// `[commit VALUE with inactivity floor: LOC]`, or `[commit with inactivity floor: LOC]`. Displaying it is
@@ -53,6 +77,8 @@ impl<F: Family, S: Update> Operation<F, S> {
 }
 
 impl<F: Family, S: Update> fmt::Display for Displayed<'_, F, S> {
+    ghost output = { λ d. Some (shown (operation_map (λ k. encode_lower (S.Key.bytes_of k)) S.shown (λ v. encode_lower (S.Value.text v)) (parts d.operation.now))) };
+
     fn fmt<W: fmt::Write>(&self, f: &mut fmt::Formatter<W>) -> fmt::Result {
         match self.operation {
             Operation::Delete(key) => {
@@ -62,11 +88,9 @@ impl<F: Family, S: Update> fmt::Display for Displayed<'_, F, S> {
             Operation::Update(update) => update.fmt(self.alloc, f),
             Operation::CommitFloor(Some(value), floor) => {
                 let value = hex_of_value(self.alloc, value)?;
-                write!(f, "[commit {value} with inactivity floor: {floor}]")
+                write_commit(f, value.as_str(), *floor)
             }
-            Operation::CommitFloor(None, floor) => {
-                write!(f, "[commit with inactivity floor: {floor}]")
-            }
+            Operation::CommitFloor(None, floor) => write_empty_commit(f, *floor),
         }
     }
 }

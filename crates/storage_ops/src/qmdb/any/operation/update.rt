@@ -1,6 +1,7 @@
 //! Updates of a key's value.
 
 ghost use Rattle.std.specs.Prelude.{◌≡◌, ◌≤◌, ◌+◌, ◌*◌, ◌^◌, ℕ, List, ◌++◌, IfOk, OnOk, OnErr};
+ghost use Rattle.std.specs.Fmt.{WritesOnOk};
 ghost use Rattle.storage_codec.specs.Parts.{AppendsStart, size_of};
 
 mod ordered;
@@ -79,11 +80,15 @@ pub trait Update: sealed::Sealed + Write + EncodeSize + Drop {
         requires { C.pre update }
         ensures { (u : Self) → ((r : R) (v : Self) → C.post update r → R.deref_gives r v → v ≡ u) → IfOk result (is_cached u) };
 
+    /// What an update is displayed as: keys by their bytes and the value by its encoding, in hexadecimal.
+    ghost shown: { Self → List ℕ };
+
     /// Displays the update: keys by their bytes and the value by its encoding, in hexadecimal. It is refused where
     /// memory is.
     fn fmt<W: fmt::Write>(&self, alloc: Global, f: &mut fmt::Formatter<W>) -> fmt::Result
     where
-        Self: Sized;
+        Self: Sized,
+        ensures { WritesOnOk W.write_str_gives f.old result (shown self.now) f.new };
 
     /// A second update that is seen and written as this one.
     fn clone(&self) -> Result<Self, NoMemory>

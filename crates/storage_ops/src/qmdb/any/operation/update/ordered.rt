@@ -3,6 +3,8 @@
 ghost use Rattle.std.specs.Prelude.{◌≡◌, ℕ, List, ◌+◌, ◌++◌, IfOk, OnOk, OnErr};
 ghost use Rattle.storage_codec.specs.Codec.{Gives};
 ghost use Rattle.storage_codec.specs.Parts.{AppendsStart, IsEnding};
+ghost use Rattle.hex.specs.Hex.{encode_lower};
+ghost use Rattle.storage_ops.specs.Shown.{shown_ordered};
 ghost use Rattle.storage_ops.specs.Updates.{ordered_at};
 ghost use Rattle.storage_ops.specs.UpdatesLaws.{ordered_again, ordered_back, ordered_sized, three_small};
 
@@ -90,6 +92,8 @@ impl<K: Key, V: ValueEncoding> UpdateTrait for Update<K, V> {
         let update = update();
         Ok(update.deref().next_key.clone()?)
     }
+
+    ghost shown = { λ u. shown_ordered (encode_lower (K.bytes_of u.key)) (encode_lower (K.bytes_of u.next_key)) (encode_lower (V.Value.text u.value)) };
 
     fn fmt<W: fmt::Write>(&self, alloc: Global, f: &mut fmt::Formatter<W>) -> fmt::Result {
         let key = hex_of_bytes(alloc, self.key.bytes())?;

@@ -3,6 +3,8 @@
 ghost use Rattle.std.specs.Prelude.{◌≡◌, ℕ, List, ◌+◌, ◌++◌, IfOk, OnOk, OnErr};
 ghost use Rattle.storage_codec.specs.Codec.{Gives};
 ghost use Rattle.storage_codec.specs.Parts.{AppendsStart, IsEnding};
+ghost use Rattle.hex.specs.Hex.{encode_lower};
+ghost use Rattle.storage_ops.specs.Shown.{shown_unordered};
 ghost use Rattle.storage_ops.specs.Updates.{unordered_at};
 ghost use Rattle.storage_ops.specs.UpdatesLaws.{unordered_again, unordered_back, unordered_sized, two_small};
 
@@ -81,6 +83,8 @@ impl<K: Key, V: ValueEncoding> UpdateTrait for Update<K, V> {
     ) -> Result<(), NoMemory> {
         Ok(())
     }
+
+    ghost shown = { λ u. shown_unordered (encode_lower (K.bytes_of u.0)) (encode_lower (V.Value.text u.1)) };
 
     fn fmt<W: fmt::Write>(&self, alloc: Global, f: &mut fmt::Formatter<W>) -> fmt::Result {
         let key = hex_of_bytes(alloc, self.0.bytes())?;
