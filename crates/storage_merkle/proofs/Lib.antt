@@ -31,3 +31,4 @@ pub mod CheckSiblings
 pub mod Checks
 pub mod Meaning
 pub mod Built
+pub mod KeptRoots

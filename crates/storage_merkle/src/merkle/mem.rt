@@ -2,7 +2,7 @@
 
 ghost use Rattle.std.specs.Prelude.{◌≡◌, ℕ, ◌+◌, ◌^◌, ◌<◌, ◌≤◌, ◌∷◌, ◌++◌, [], ◌⊎◌, List, map, max, take, length, slice_index, All, IfOk, OnOk, OnErr, IfErr, MatchOption};
 ghost use Rattle.storage_merkle.specs.Calc.{be8};
-ghost use Rattle.storage_merkle.specs.Hashing.{node_over};
+ghost use Rattle.storage_merkle.specs.Hashing.{node_over, peak_digests, root_of};
 ghost use Rattle.storage_merkle.specs.Kept.{NodesOver, StandsBut, StandsFor, IsFirstAway, at_peaks, kept_at, pins, updated};
 ghost use Rattle.storage_merkle.specs.Shape.{size};
 
@@ -103,6 +103,34 @@ impl<F: Family, D: Digest> Mem<F, D> {
         ensures { result ≡ kept_at F.shape self.now.boundary self.now.pinned self.now.nodes position }
     {
         look_up::<F, D>(self.boundary, &self.pinned, &self.nodes, position.as_u64())
+    }
+
+    /// The root under a hasher, with so many leading peaks inactive. Takes no memory.
+    ///
+    /// # Errors
+    ///
+    /// `InvalidProof` where more peaks are to be inactive than there are.
+    pub fn root<H: Hasher<F, Digest = D>>(&self, hasher: &H, inactive: usize) -> Result<D, Error<F>>
+        ensures root { IfOk result (λ d. (list : List (List ℕ)) → StandsFor D.text F.shape (node_over H.hash_of (H.layout hasher.now) (H.chunk hasher.now)) self.now list → D.text d ≡ root_of H.hash_of (H.layout hasher.now) (H.bagging hasher.now) (length list) inactive (peak_digests H.hash_of (H.layout hasher.now) (H.chunk hasher.now) list (length list))) }
+        ensures fits { IfOk result (λ _. inactive ≤ length (F.shape.peaks self.now.leaves)) }
+        ensures why { IfErr result (λ e. (length (F.shape.peaks self.now.leaves) < inactive) × (e ≡ Error.InvalidProof)) }
+    {
+        if self.leaves == 0 {
+            if inactive > 0 {
+                return Err(Error::InvalidProof);
+            }
+            return Ok(hasher.root(self.leaves(), 0, &[]));
+        }
+        let (digests, count) = peaks_over::<F, D>(
+            self.boundary,
+            &self.pinned,
+            &self.nodes,
+            self.leaves,
+        );
+        if inactive > count {
+            return Err(Error::InvalidProof);
+        }
+        Ok(hasher.root(self.leaves(), inactive, &digests[..count]))
     }
 
     /// Appends a leaf for an element. Only the leaf and the nodes that are born with it are hashed.
