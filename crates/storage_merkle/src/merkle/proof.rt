@@ -30,7 +30,11 @@ pub struct Proof<F, D> {
 
 impl<F: Family, D: Digest> Proof<F, D> {
     /// The proof of no elements in the tree without leaves.
-    pub fn default(alloc: Global) -> Self {
+    pub fn default(alloc: Global) -> Self
+        ensures leaves { result.leaves ≡ 0 }
+        ensures inactive { result.inactive_peaks ≡ 0 }
+        ensures digests { result.digests.items ≡ [] }
+    {
         Proof {
             leaves: Location::new(0),
             inactive_peaks: 0,
@@ -39,11 +43,15 @@ impl<F: Family, D: Digest> Proof<F, D> {
     }
 
     /// An equal proof.
-    pub fn clone(&self) -> Result<Self, NoMemory> {
+    pub fn clone(&self) -> Result<Self, NoMemory>
+        ensures { IfOk result (λ copy. (copy.leaves ≡ self.now.leaves) × (copy.inactive_peaks ≡ self.now.inactive_peaks) × (copy.digests.items ≡ self.now.digests.items)) }
+    {
+        let mut digests = Vec::new(*self.digests.allocator());
+        digests.extend_from_slice(&self.digests)?;
         Ok(Proof {
             leaves: self.leaves,
             inactive_peaks: self.inactive_peaks,
-            digests: self.digests.clone()?,
+            digests,
         })
     }
 
