@@ -1,3 +1,6 @@
 pub mod Digits
 pub mod Nodes
 pub mod Sites
+pub mod Counts
+pub mod Chunks
+pub mod Snapshots

@@ -2,9 +2,12 @@
 //! definition, and computes anew what the fast calls keep.
 #![tactic(auto)]
 
+pub mod chunk;
+pub mod count;
 pub mod fold;
 pub mod node;
 pub mod range_proof;
 pub mod shape;
 pub mod site;
+pub mod snapshot;
 pub mod tree;

@@ -115,9 +115,9 @@ pub trait Grafts<H: Hasher> {
     ghost chunk: { Self → ℕ → List ℕ };
 
     /// The digest of a node from the one that it has with no chunk: as it is where none is grafted or the chunk is all
-    /// zero, else that of the chunk and it.
-    fn graft(&self, place: Node, inner: H::Digest) -> H::Digest
-        ensures { H.Digest.text result ≡ (if grafted self.now place.first place.height then grafted_digest H.hash_of (chunk self.now place.first) (H.Digest.text inner) else H.Digest.text inner) };
+    /// zero, else that of the chunk and it. Fails only where memory runs out.
+    fn graft(&self, alloc: Global, place: Node, inner: H::Digest) -> Result<H::Digest, AllocError>
+        ensures { IfOk result (λ d. H.Digest.text d ≡ if grafted self.now place.first place.height then grafted_digest H.hash_of (chunk self.now place.first) (H.Digest.text inner) else H.Digest.text inner) };
 }
 
 /// No node has a chunk grafted.
@@ -129,8 +129,13 @@ impl<H: Hasher> Grafts<H> for Ungrafted {
 
     ghost chunk = { λ _ _. [] };
 
-    fn graft(&self, _place: Node, inner: H::Digest) -> H::Digest {
-        inner
+    fn graft(
+        &self,
+        _alloc: Global,
+        _place: Node,
+        inner: H::Digest,
+    ) -> Result<H::Digest, AllocError> {
+        Ok(inner)
     }
 }
 
@@ -183,7 +188,8 @@ pub fn node_digest<F: Digits, H: Hasher, S: Source<H>, G: Grafts<H>>(
     let left = node_digest::<F, H, S, G>(alloc, source, grafts, place.left())?;
     let right = node_digest::<F, H, S, G>(alloc, source, grafts, place.right())?;
     let inner = pair_digest::<H>(position, &left, &right);
-    Ok(grafts.graft(place, inner))
+    let digest = grafts.graft(alloc, place, inner)?;
+    Ok(digest)
 }
 
 /// The digest of a position in eight bytes and an element.

@@ -140,7 +140,7 @@ fn digit(number: u64, place: u32) -> u64
 }
 
 /// The place of the highest digit of a number other than 0, which is at most `place`.
-fn highest_place(place: u32, number: u64) -> u32
+pub(crate) fn highest_place(place: u32, number: u64) -> u32
     requires few { place ≤ 63 }
     requires some { 0 < number }
     requires below { number < 2 * 2 ^ place }

@@ -14,4 +14,4 @@ returns g t c =
     node_halves g.H.Hasher.hash_of T (g.S.Source.cut c.args.source.now) v
     (c.args.place.height - 1) c.args.place.height c.args.place.first (c.args.place.first + 2 ^ (c.args.place.height - 1)) c.in_ok-position.position _ _ _ _ s c.in_default.ensures
     refl (c.in_ok-position.ensures ∙ ap₂ g.F.Family.shape.position c.first-first.ensures c.height-height.ensures.value)
-    (c.in_ok-left.ensures ∙ ap part_of c.left.ensures) (c.in_ok-right.ensures ∙ ap part_of c.right.ensures) c.pair_digest-inner.ensures c.graft.ensures
+    (c.in_ok-left.ensures ∙ ap part_of c.left.ensures) (c.in_ok-right.ensures ∙ ap part_of c.right.ensures) c.pair_digest-inner.ensures c.in_ok-digest.ensures

@@ -1,0 +1,111 @@
+//! Numbers of chunks, and of inactive peaks.
+ghost use Rattle.std.specs.Prelude.{◌≡◌, ℕ, ◌+◌, ◌*◌, ◌%◌, ◌^◌, ◌≤◌, ◌<◌, ◌&&◌, List, length, take, leb, eqb, IfOk};
+ghost use Rattle.storage_bitmap.specs.Chunks.{IsChunkSize};
+ghost use Rattle.storage_merkle.specs.Shape.{Shape, leaves_of};
+ghost use Rattle.storage_current.specs.Snapshots.{aligned, exact, graftable_at, greatest, height};
+
+use crate::shape::{Digits, highest_place, power};
+use std::alloc::{AllocError, Global};
+
+/// The height of a node over as many operations as a chunk of so many bytes has bits.
+pub fn height(chunk_size: usize) -> u32
+    requires { IsChunkSize chunk_size }
+    ensures value { (S : Shape) → result ≡ height (record { shape = S; bytes = chunk_size }) }
+    ensures bits { 2 ^ result ≡ 8 * chunk_size }
+    ensures small { result ≤ 62 }
+{
+    highest_place(63, 8 * chunk_size as u64)
+}
+
+/// How many chunks of `2^height` of at most `2^62` leaves lie inside one peak.
+pub fn graftable<F: Digits>(leaves: u64, height: u32) -> u64
+    requires few { leaves ≤ 2 ^ 62 }
+    requires small { height ≤ 62 }
+    ensures { result ≡ graftable_at F.shape height leaves }
+{
+    let birth = F::leaves_at_birth(0, height);
+    if leaves < birth {
+        0
+    } else {
+        (leaves - birth) / power(height) + 1
+    }
+}
+
+/// How many leading peaks over so many leaves end at or before a floor. Fails only where memory runs out.
+pub fn exact<F: Digits>(alloc: Global, leaves: u64, floor: u64) -> Result<usize, AllocError>
+    requires { leaves ≤ 2 ^ 62 }
+    ensures { IfOk result (λ count. count ≡ exact F.shape leaves floor) }
+{
+    let heights = F::peak_heights(alloc, leaves)?;
+    Ok(most_exact(&heights, floor, heights.len()))
+}
+
+/// The most leading peaks that end at or before a floor and on a multiple of `2^height`. Fails only where memory runs
+/// out.
+pub fn aligned<F: Digits>(
+    alloc: Global,
+    leaves: u64,
+    floor: u64,
+    height: u32,
+) -> Result<usize, AllocError>
+    requires few { leaves ≤ 2 ^ 62 }
+    requires small { height ≤ 62 }
+    ensures { IfOk result (λ count. count ≡ aligned F.shape leaves floor height) }
+{
+    let heights = F::peak_heights(alloc, leaves)?;
+    Ok(most_aligned(&heights, floor, height, heights.len()))
+}
+
+/// The most of at most `bound` leading peaks that end at or before a floor.
+fn most_exact(heights: &[u32], floor: u64, bound: usize) -> usize
+    requires few { leaves_of heights.now ≤ 2 ^ 62 }
+    requires within { bound ≤ length heights.now }
+    ensures { result ≡ greatest (λ r. leb (leaves_of (take r heights.now)) floor) bound }
+{
+    if bound == 0 {
+        return 0;
+    }
+    let front = &heights[..bound];
+    let end = leaves_of(front);
+    if end <= floor {
+        return bound;
+    }
+    most_exact(heights, floor, bound - 1)
+}
+
+/// The most of at most `bound` leading peaks that end at or before a floor and on a multiple of `2^height`.
+fn most_aligned(heights: &[u32], floor: u64, height: u32, bound: usize) -> usize
+    requires few { leaves_of heights.now ≤ 2 ^ 62 }
+    requires within { bound ≤ length heights.now }
+    requires small { height ≤ 62 }
+    ensures { result ≡ greatest (λ r. leb (leaves_of (take r heights.now)) floor && eqb (leaves_of (take r heights.now) % 2 ^ height) 0) bound }
+{
+    if bound == 0 {
+        return 0;
+    }
+    let front = &heights[..bound];
+    let end = leaves_of(front);
+    if is_aligned(end, floor, height) {
+        return bound;
+    }
+    most_aligned(heights, floor, height, bound - 1)
+}
+
+/// Whether a leaf is at or before a floor and a multiple of `2^height`.
+fn is_aligned(end: u64, floor: u64, height: u32) -> bool
+    requires { height ≤ 62 }
+    ensures { result ≡ (leb end floor && eqb (end % 2 ^ height) 0) }
+{
+    end <= floor && end % power(height) == 0
+}
+
+/// How many leaves peaks of these heights cover.
+fn leaves_of(heights: &[u32]) -> u64
+    requires { leaves_of heights.now ≤ 2 ^ 62 }
+    ensures { result ≡ leaves_of heights.now }
+{
+    match heights.split_first() {
+        None => 0,
+        Some((height, rest)) => power(*height) + leaves_of(rest),
+    }
+}

@@ -1,0 +1,193 @@
+//! Roots of snapshots.
+ghost use Rattle.std.specs.Prelude.{◌≡◌, ℕ, ◌+◌, ◌*◌, ◌/◌, ◌%◌, ◌^◌, ◌≤◌, ◌<◌, ◌++◌, List, [], length, map, option_map, Option, Some, None, ltb, eqb, if◌then◌else◌, IfOk};
+ghost use Rattle.storage_bitmap.specs.Chunks.{IsChunkSize, chunk};
+ghost use Rattle.storage_current.specs.Snapshots.{canonical_root, canonical_string, grafted_root_of, ops_root_of, slot};
+ghost use Rattle.reference.specs.Layouts.{grafting, snapshot};
+
+use crate::chunk::{Chunks, chunk};
+use crate::count::{aligned, exact, graftable, height};
+use crate::node::Ungrafted;
+use crate::shape::{Digits, power};
+use crate::tree::tree_root;
+use std::alloc::{AllocError, Global};
+use std::convert::AsSlice;
+use storage_codec::digest::{Digest, Hasher};
+use storage_merkle::merkle::Bagging;
+
+/// Operations, a bit for each that says whether it is active, and an inactivity floor, with chunks of so many bytes.
+#[derive(Drop)]
+#[derive_where(Clone, Copy)]
+pub struct Snapshot<'a, E> {
+    /// The operations.
+    pub operations: &'a [E],
+    /// A bit for each operation.
+    pub bits: &'a [bool],
+    /// The inactivity floor.
+    pub floor: u64,
+    /// How many bytes a chunk has.
+    pub chunk_size: usize,
+}
+
+/// The root of the tree over the operations of a snapshot. Fails only where memory runs out.
+pub fn ops_root<F: Digits, H: Hasher, E: AsSlice<u8>>(
+    alloc: Global,
+    of: &Snapshot<'_, E>,
+) -> Result<H::Digest, AllocError>
+    requires { length of.now.operations.now ≤ 2 ^ 62 }
+    ensures { IfOk result (λ root. H.Digest.text root ≡ ops_root_of H.hash_of (grafting F.shape of.now.chunk_size) (snapshot (map E.items of.now.operations.now) of.now.bits.now of.now.floor)) }
+{
+    let inactive = exact::<F>(alloc, of.operations.len() as u64, of.floor)?;
+    let root = tree_root::<F, H, Ungrafted, E>(
+        alloc,
+        &Ungrafted,
+        Bagging::BackwardFold,
+        of.operations,
+        inactive,
+    )?;
+    Ok(root)
+}
+
+/// The root of the grafted view of a snapshot. Fails only where memory runs out.
+pub fn grafted_root<F: Digits, H: Hasher, E: AsSlice<u8>>(
+    alloc: Global,
+    of: &Snapshot<'_, E>,
+) -> Result<H::Digest, AllocError>
+    requires few { length of.now.operations.now ≤ 2 ^ 62 }
+    requires size { IsChunkSize of.now.chunk_size }
+    ensures { IfOk result (λ root. H.Digest.text root ≡ grafted_root_of H.hash_of (grafting F.shape of.now.chunk_size) (snapshot (map E.items of.now.operations.now) of.now.bits.now of.now.floor)) }
+{
+    let leaves = of.operations.len() as u64;
+    let height = height(of.chunk_size);
+    let inactive = aligned::<F>(alloc, leaves, of.floor, height)?;
+    let chunks = Chunks {
+        bits: of.bits,
+        size: of.chunk_size,
+        height,
+        count: graftable::<F>(leaves, height),
+    };
+    let root = tree_root::<F, H, Chunks<'_>, E>(
+        alloc,
+        &chunks,
+        Bagging::BackwardFold,
+        of.operations,
+        inactive,
+    )?;
+    Ok(root)
+}
+
+/// The digest of the complete chunk that is not graftable; none where all are. Fails only where memory runs out.
+fn pending<H: Hasher>(
+    alloc: Global,
+    size: usize,
+    bits: &[bool],
+    graftable: u64,
+    complete: u64,
+) -> Result<Option<H::Digest>, AllocError>
+    requires each { 8 * size < 2 ^ 64 }
+    requires within { complete * (8 * size) < 2 ^ 64 }
+    ensures { IfOk result (λ digest. option_map H.Digest.text digest ≡ option_map H.hash_of (if ltb graftable complete then Some (chunk size bits.now graftable) else None)) }
+{
+    if graftable < complete {
+        let bytes = chunk(alloc, size, bits, graftable)?;
+        return Ok(Some(chunk_digest::<H>(&bytes)));
+    }
+    Ok(None)
+}
+
+/// The digest of the chunk after the complete ones; none where it has no bits. Fails only where memory runs out.
+fn partial<H: Hasher>(
+    alloc: Global,
+    size: usize,
+    bits: &[bool],
+    complete: u64,
+    next_bit: u64,
+) -> Result<Option<H::Digest>, AllocError>
+    requires each { 8 * size < 2 ^ 64 }
+    requires within { complete * (8 * size) < 2 ^ 64 }
+    ensures { IfOk result (λ digest. option_map H.Digest.text digest ≡ option_map H.hash_of (if eqb next_bit 0 then None else Some (chunk size bits.now complete))) }
+{
+    if next_bit == 0 {
+        return Ok(None);
+    }
+    let bytes = chunk(alloc, size, bits, complete)?;
+    Ok(Some(chunk_digest::<H>(&bytes)))
+}
+
+/// The digest of a chunk.
+fn chunk_digest<H: Hasher>(bytes: &[u8]) -> H::Digest
+    ensures { H.Digest.text result ≡ H.hash_of bytes.now }
+{
+    H::hash(&[bytes])
+}
+
+/// The canonical root of a snapshot. Fails only where memory runs out.
+pub fn canonical_root<F: Digits, H: Hasher, E: AsSlice<u8>>(
+    alloc: Global,
+    of: &Snapshot<'_, E>,
+) -> Result<H::Digest, AllocError>
+    requires few { length of.now.operations.now ≤ 2 ^ 62 }
+    requires size { IsChunkSize of.now.chunk_size }
+    ensures { IfOk result (λ root. H.Digest.text root ≡ canonical_root H.hash_of (grafting F.shape of.now.chunk_size) (snapshot (map E.items of.now.operations.now) of.now.bits.now of.now.floor)) }
+{
+    let leaves = of.operations.len() as u64;
+    let height = height(of.chunk_size);
+    let complete = leaves / power(height);
+    let next_bit = leaves % power(height);
+    let graftable = graftable::<F>(leaves, height);
+    let ops_root = ops_root::<F, H, E>(alloc, of)?;
+    let grafted_root = grafted_root::<F, H, E>(alloc, of)?;
+    let pending = pending::<H>(alloc, of.chunk_size, of.bits, graftable, complete)?;
+    let partial = partial::<H>(alloc, of.chunk_size, of.bits, complete, next_bit)?;
+    Ok(joined_root::<H>(&ops_root, &grafted_root, &pending, next_bit, &partial))
+}
+
+/// The digest of the operations root, the grafted root, the digest of the pending chunk, where there is one, and where there
+/// is a partial chunk, the number of its bits in eight bytes and its digest.
+#[tactic(auto, unfolding(storage_merkle::specs::Calc::be8))]
+fn joined_root<H: Hasher>(
+    ops_root: &H::Digest,
+    grafted_root: &H::Digest,
+    pending: &Option<H::Digest>,
+    next_bit: u64,
+    partial: &Option<H::Digest>,
+) -> H::Digest
+    ensures { H.Digest.text result ≡ H.hash_of (canonical_string (H.Digest.text ops_root.now) (H.Digest.text grafted_root.now) (option_map H.Digest.text pending.now) next_bit (option_map H.Digest.text partial.now)) }
+{
+    let pending = slot_bytes(pending);
+    match partial {
+        None => hash_five::<H>(ops_root.bytes(), grafted_root.bytes(), pending, &[], &[]),
+        Some(partial) => {
+            let count = next_bit.to_be_bytes();
+            hash_five::<H>(
+                ops_root.bytes(),
+                grafted_root.bytes(),
+                pending,
+                &count,
+                partial.bytes(),
+            )
+        }
+    }
+}
+
+/// The digest of five parts.
+fn hash_five<H: Hasher>(
+    first: &[u8],
+    second: &[u8],
+    third: &[u8],
+    fourth: &[u8],
+    fifth: &[u8],
+) -> H::Digest
+    ensures { H.Digest.text result ≡ H.hash_of (first.now ++ (second.now ++ (third.now ++ (fourth.now ++ fifth.now)))) }
+{
+    H::hash(&[first, second, third, fourth, fifth])
+}
+
+/// The bytes of a digest; no bytes for none.
+fn slot_bytes<D: Digest>(digest: &Option<D>) -> &[u8]
+    ensures { result.now ≡ slot (option_map D.text digest.now) }
+{
+    match digest {
+        None => &[],
+        Some(digest) => digest.bytes(),
+    }
+}
