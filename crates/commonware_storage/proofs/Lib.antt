@@ -1,1 +1,4 @@
 mod Answers
+mod OwnProofs
+mod OwnParts
+mod OwnYes

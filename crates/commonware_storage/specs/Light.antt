@@ -1,10 +1,11 @@
 -- What a client that trusts one digest learns from bytes and texts.
 use Rattle.std.specs.Prelude.{◌≡◌, ◌⊎◌, ℕ, Bool, List, [], Ok, IsOk, IsErr}
-use Rattle.storage_codec.specs.Digests.{HashFunction, Cross}
+use Rattle.storage_codec.specs.Digests.{HashFunction, IsSized, Cross}
 use Rattle.storage_codec.specs.Codec.{whole}
-use Rattle.storage_current.specs.Snapshots.{Grafting, Snapshot, IsSnapshot, canonical_root, snapshot_strings, IsActive, OperationProof, own_operation_proof}
+use Rattle.storage_current.specs.Snapshots.{Grafting, IsGrafting, Snapshot, IsSnapshot, canonical_root, snapshot_strings, IsActive, OperationProof, own_operation_proof}
 use Rattle.storage_current.specs.CurrentProofs.{IsActiveCurrent, operation_strings}
 use Rattle.storage_current.specs.CurrentWire.{operation_text, sized_operation_at}
+use Rattle.storage_current.specs.OwnWire.{IsPrompt}
 use Rattle.hex.specs.Hex.{decode_of}
 use Rattle.commonware_storage.specs.declared.light.text_error.TextError.{TextError}
 use Rattle.commonware_storage.specs.declared.light.text_error.TextError.TheVariants.{Operation, Proof, Memory}
@@ -31,6 +32,13 @@ pub record IsTrueAt (h : HashFunction) (g : Grafting) (has_pending : Bool) (d lo
   pub means : (s : Snapshot) → IsSnapshot s → canonical_root h g s ≡ root →
       IsActive s location operation × (bytes ≡ operation_text has_pending (own_operation_proof h g s location))
       ⊎ Cross h (operation_strings h g proof operation) (snapshot_strings h g s)
+
+-- The other half. What a snapshot's own proof of an active operation is written as is accepted at its location.
+abbrev pub OwnProofsAreAccepted : Type 0
+OwnProofsAreAccepted =
+    (d : ℕ) (h : HashFunction) → IsSized d h → (g : Grafting) → IsGrafting g → (has_pending : Bool) → IsPrompt has_pending g.shape →
+    (s : Snapshot) → IsSnapshot s → (location : ℕ) (operation : List ℕ) → IsActive s location operation →
+    IsAcceptedAt h g has_pending d location (operation_text has_pending (own_operation_proof h g s location)) operation (canonical_root h g s)
 
 -- the same two of texts, which spell the proof's and the operation's bytes in hexadecimal
 pub record IsTextAcceptedAt (h : HashFunction) (g : Grafting) (has_pending : Bool) (d location : ℕ) (proof operation root : List ℕ) : Type 0 where

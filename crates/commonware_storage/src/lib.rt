@@ -1,6 +1,7 @@
 //! Checked answers for a light client that trusts one digest, and the crates that they stand on, at one place.
 #![tactic(auto)]
 
+pub mod laws;
 pub mod light;
 pub mod qmdb;
 pub mod stateproof;

@@ -5,6 +5,8 @@
 #[cfg(test)]
 mod altered;
 #[cfg(test)]
+mod built;
+#[cfg(test)]
 mod floors;
 #[cfg(test)]
 mod operation_proofs;

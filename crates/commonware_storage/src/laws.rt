@@ -1,0 +1,73 @@
+//! What holds between the proofs that a server builds and the checks of a light client.
+
+ghost use Rattle.std.specs.Prelude.{◌≡◌, ℕ, ◌+◌, ◌-◌, ◌*◌, ◌/◌, ◌%◌, ◌^◌, ◌<◌, ◌≤◌, ◌⊎◌, IfOk, IfErr, MatchResult, length, true};
+ghost use Rattle.storage_bitmap.specs.Chunks.{IsChunkSize};
+ghost use Rattle.storage_current.specs.BuiltProofs.{ArePartsOf, IsNotBuilt};
+ghost use Rattle.storage_current.specs.KeptSnapshots.{KeptSnapshot};
+ghost use Rattle.storage_current.specs.Snapshots.{Grafting, IsActive, IsSnapshot, Snapshot as SnapshotOf, canonical_root, first_chunk};
+ghost use Rattle.commonware_storage.specs.Handed.{AreHandedOut};
+ghost use Rattle.commonware_storage.specs.Light.{OwnProofsAreAccepted};
+
+use crate::light::check_operation;
+use std::alloc::Global;
+use storage_bitmap::bitmap::Readable;
+use storage_codec::codec::Write;
+use storage_codec::digest::Hasher;
+use storage_current::laws::{own_operation_proofs_are_accepted, own_operation_proofs_are_read_again};
+use storage_current::qmdb::current::proof::constant::OperationProof;
+use storage_merkle::laws::greatest_nodes_are_planned;
+use storage_merkle::merkle::{ElementPlan, Graftable, Location, Position};
+use storage_ops::qmdb::Error;
+
+/// What a snapshot's own proof of an active operation is written as is accepted at its location: in each family, for each
+/// chunk size, and with at most 128 digests.
+pub fn own_proofs_are_accepted()
+    ensures { OwnProofsAreAccepted }
+{
+    own_operation_proofs_are_accepted();
+    own_operation_proofs_are_read_again();
+}
+
+/// Builds the proof of the planned operation, writes it, and answers what [`check_operation`] says of the bytes against
+/// `root`: yes wherever these are the parts of a snapshot and its canonical root, and the operation is active there. With
+/// the parts that a [`Snapshot`](crate::qmdb::current::Snapshot) hands out nothing is refused but for want of memory.
+///
+/// # Errors
+///
+/// Those of `OperationProof::build`, and `Memory`.
+pub fn built_proofs_are_accepted<
+    F: Graftable,
+    H: Hasher,
+    R: Readable<N>,
+    G: Fn(Position<F>) -> Option<H::Digest>,
+    const N: usize,
+>(
+    alloc: Global,
+    status: &R,
+    plan: ElementPlan<F>,
+    get_node: G,
+    floor: Location<F>,
+    ops_root: H::Digest,
+    operation: &[u8],
+    root: &H::Digest,
+) -> Result<bool, Error<F>>
+    requires size { IsChunkSize N }
+    requires callable { G.IsAlwaysCallable get_node }
+    ensures accepted { let g : Grafting = record { shape = F.shape; bytes = N } in (s : SnapshotOf) → IsSnapshot s → ArePartsOf H.Digest.text (G.post get_node) H.hash_of g plan (R.retained status.now) floor (H.Digest.text ops_root) s → H.Digest.text root.now ≡ canonical_root H.hash_of g s → IsActive s plan.start operation.now → IfOk result (λ yes. yes ≡ true) }
+    ensures handed { let g : Grafting = record { shape = F.shape; bytes = N } in (kept : KeptSnapshot) (s : SnapshotOf) → IsSnapshot s → AreHandedOut H.Digest.text (G.post get_node) H.hash_of g plan (R.retained status.now) floor (H.Digest.text ops_root) (H.Digest.text root.now) kept s → IsActive s plan.start operation.now → MatchResult result (λ yes. yes ≡ true) (λ error. error ≡ Error.Memory) }
+    ensures why { let g : Grafting = record { shape = F.shape; bytes = N } in IfErr result (λ error. ((first_chunk g plan.start < (R.retained status.now).pruned) × (error ≡ Error.OperationPruned plan.start)) ⊎ IsNotBuilt (G.post get_node) g plan (R.retained status.now) error) }
+{
+    own_proofs_are_accepted();
+    greatest_nodes_are_planned();
+    let loc = plan.location();
+    let proof = match OperationProof::build::<H, R, G>(
+        alloc, status, plan, get_node, floor, ops_root,
+    ) {
+        Ok(proof) => proof,
+        Err(error) => return Err(error),
+    };
+    let mut bytes = Vec::new(alloc);
+    proof.write(&mut bytes)?;
+    let yes = check_operation::<F, H>(alloc, &bytes, N, loc, operation, root)?;
+    Ok(yes)
+}
