@@ -17,8 +17,8 @@ use Rattle.storage_merkle.specs.Wire.{IsSlot}
 use Rattle.storage_current.specs.Snapshots.{Grafting, IsGrafting, height, complete, graftable, graftable_at, view, Snapshot, IsSnapshot, content, aligned_of, pending_of, partial_of, own_current_proof, own_operation_proof}
 use Rattle.storage_current.specs.CurrentProofs as check
 use Rattle.storage_current.specs.CurrentSoundness.{HasDigests}
-use Rattle.storage_current.specs.CurrentWire.{operation_text, sized_operation_at, IsAdmittedCurrent}
-use Rattle.storage_current.specs.CurrentWireLaws.{sized_again}
+use Rattle.storage_current.specs.CurrentWire.{current_text, current_at, operation_text, sized_operation_at, IsAdmittedCurrent}
+use Rattle.storage_current.specs.CurrentWireLaws.{current_again, sized_again}
 use Rattle.storage_current.specs.GraftingLaws.{aligned-le}
 use Rattle.storage_current.specs.OwnWire.{IsPrompt}
 use Rattle.storage_current.proofs.Canonical.{chunk-length}
@@ -68,25 +68,36 @@ module _ (d : ℕ) (h : HashFunction) (sized : IsSized d h) (g : Grafting) (graf
     partial = slot_sized d h sized _;
   }
 
-  own_admitted : (low : ℕ) → IsAdmittedCurrent has_pending 128 (own_current_proof h g s low (low + 1))
-  own_admitted low =
+  own_admitted : (low high most : ℕ) → length (own_current_proof h g s low high).range.digests ≤ most → most < 2 ^ 64 → IsAdmittedCurrent has_pending most (own_current_proof h g s low high)
+  own_admitted low high most count small =
       let n = length s.operations in
       let few = snapshot.few in
-      let T = view g n in
-      let i = aligned_of h g s in
-      let count : length (map (own_digest h T BackwardFold (content h g s) n i low (low + 1)) (sites T low (low + 1) BackwardFold n i)) ≡ length (sites T low (low + 1) BackwardFold n i) = length-map _ _ in
-      let most = few_sites T low grafting.laws BackwardFold n i few in
       let inactive = aligned-le g.shape n s.floor (height g) in
       let peaks = grafting.laws.few n few in
       record {
-        range = record { leaves = few; inactive = omega (arith, inactive, peaks); count = omega (arith, count, most); few = omega (arith, count, most) };
+        range = record { leaves = few; inactive = omega (arith, inactive, peaks); count = omega (arith, count, small); few = count };
         pending = slot_fits has_pending prompt;
       }
+
+  pub own_current_again : (low high most : ℕ) → length (own_current_proof h g s low high).range.digests ≤ most → most < 2 ^ 64 → (rest : List ℕ) →
+      current_at has_pending d most (current_text has_pending (own_current_proof h g s low high) ++ rest) ≡ Ok (own_current_proof h g s low high, rest)
+  own_current_again low high most count small rest =
+      current_again has_pending d most (own_current_proof h g s low high) rest (own_digests low high) (own_admitted low high most count small)
+
+  -- the proof of one operation has at most 127 digests
+  own_count : (low : ℕ) → length (own_current_proof h g s low (low + 1)).range.digests ≤ 128
+  own_count low =
+      let n = length s.operations in
+      let T = view g n in
+      let i = aligned_of h g s in
+      let count : length (map (own_digest h T BackwardFold (content h g s) n i low (low + 1)) (sites T low (low + 1) BackwardFold n i)) ≡ length (sites T low (low + 1) BackwardFold n i) = length-map _ _ in
+      let most = few_sites T low grafting.laws BackwardFold n i snapshot.few in
+      omega (arith, count, most)
 
   pub own_again : (location : ℕ) → location < length s.operations → (rest : List ℕ) →
       sized_operation_at has_pending d g.bytes 128 (operation_text has_pending (own_operation_proof h g s location) ++ rest) ≡ Ok (own_operation_proof h g s location, rest)
   own_again location within rest =
       sized_again has_pending d g.bytes 128 (own_operation_proof h g s location) rest (own_digests location (location + 1)) (record {
-        array = record { proof = record { location = omega (arith, snapshot.few, within); range = own_admitted location }; chunk = chunk-length g.bytes s.bits _ };
+        array = record { proof = record { location = omega (arith, snapshot.few, within); range = own_admitted location (location + 1) 128 (own_count location) (omega arith) }; chunk = chunk-length g.bytes s.bits _ };
         size_is = grafting.size;
       })

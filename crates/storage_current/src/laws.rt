@@ -2,7 +2,7 @@
 //! function that does nothing.
 
 ghost use Rattle.storage_current.specs.CurrentSoundness.{CurrentProofsAreSound, FamiliesAreLawful, OperationProofsAreSound, OwnCurrentProofsAreAccepted, OwnOperationProofsAreAccepted, OwnWitnessesAreAccepted, WitnessesAreSound};
-ghost use Rattle.storage_current.specs.OwnWire.{OwnOperationProofsAreReadAgain};
+ghost use Rattle.storage_current.specs.OwnWire.{OwnCurrentProofsAreReadAgain, OwnOperationProofsAreReadAgain};
 
 use storage_merkle::laws::{own_range_proofs_are_accepted, range_proofs_are_sound};
 
@@ -40,6 +40,11 @@ pub fn own_operation_proofs_are_accepted()
 {
     own_current_proofs_are_accepted();
 }
+
+/// What a snapshot's own range proof is written as is read again, by a reader of as many digests as it has.
+pub fn own_current_proofs_are_read_again()
+    ensures { OwnCurrentProofsAreReadAgain }
+{}
 
 /// What a snapshot's own operation proof is written as is read again, by a reader of at most 128 digests.
 pub fn own_operation_proofs_are_read_again()

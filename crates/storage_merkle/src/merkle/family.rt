@@ -245,7 +245,6 @@ pub fn node_at<F: Family>(position: u64) -> (u64, u32)
 
 /// How many chunks of `2^height` leaves lie inside one peak of the tree over so many leaves.
 pub fn graftable_chunks<F: Family>(leaves: u64, height: u32) -> u64
-    requires few { leaves ≤ 2 ^ 62 }
     requires low { 1 ≤ height }
     requires high { height ≤ 62 }
     ensures { AreGraftable F.shape leaves height result }
