@@ -32,3 +32,4 @@ pub mod Checks
 pub mod Meaning
 pub mod Built
 pub mod KeptRoots
+pub mod Served

@@ -1,8 +1,10 @@
 //! Trees in memory. The digests and roots are computed by an independent program over whole lists.
+ghost use Rattle.std.specs.Prelude.{◌+◌, ◌<◌, ◌^◌};
+
 use super::proofs::digest;
 use crate::merkle::hasher::Standard;
 use crate::merkle::mem::Mem;
-use crate::merkle::{Bagging, Error, Family, Location, Position, mmb, mmr};
+use crate::merkle::{Bagging, Error, Family, Location, Position, Readable, Storage, mmb, mmr};
 use std::alloc::Global;
 use std::test::Fail;
 use storage_codec::codec::FixedBytes;
@@ -35,6 +37,22 @@ fn write<F: Family>(
     mem.update_leaves(hasher, &updates).is_ok()
 }
 
+/// Whether a store has the digests at some positions.
+fn is_served<S: Storage<mmr::Family>>(
+    store: &mut S,
+    alloc: Global,
+    positions: &[Position<mmr::Family>],
+) -> bool
+    requires { S.failed store.old + 1 < 2 ^ 64 }
+{
+    store.get_nodes(alloc, positions).is_ok()
+}
+
+/// The digest at a position.
+fn read<R: Readable>(nodes: &R, position: u64) -> Option<R::Digest> {
+    nodes.get_node(Position::new(position))
+}
+
 fn init_refused(alloc: Global, boundary: u64, pinned: &[Digest]) -> Option<Error<mmr::Family>> {
     Mem::<mmr::Family, Digest>::init(alloc, Location::new(boundary), pinned).err()
 }
@@ -59,6 +77,12 @@ fn two_leaves_folded_forwards(rt: HostRuntime) -> Result<(), Fail> {
     let parent = digest(b"05f5f89d168830e6736cb7e7e8f5ac307f3cbc8741fd43e5a50c8179b2f74f72");
     assert_eq!(rt; mem.get_node(Position::new(2)), Some(parent));
     assert_eq!(rt; mem.get_node(Position::new(3)), None);
+    assert_eq!(rt; read(&mem, 2), Some(parent));
+    assert_eq!(rt; read(&mem, 3), None);
+    let kept = [Position::new(2), Position::new(0)];
+    assert!(rt; is_served(&mut mem, rt.alloc(), &kept));
+    let absent = [Position::new(2), Position::new(3)];
+    assert!(rt; !is_served(&mut mem, rt.alloc(), &absent));
     Ok(())
 }
 
