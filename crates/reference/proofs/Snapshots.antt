@@ -3,10 +3,11 @@ use Rattle.std.proofs.Common.{◌≡◌, ℕ, ◌/◌, ◌%◌, ◌^◌, List, l
 use Rattle.storage_codec.specs.Digests.{HashFunction}
 use Rattle.storage_bitmap.specs.Chunks.{chunk}
 use Rattle.storage_merkle.specs.declared.merkle.bagging.Bagging.TheVariants.{BackwardFold}
+use Rattle.storage_merkle.specs.RangeProofs.{RangeProof, own_proof}
 use Rattle.storage_merkle.specs.Shape.{Shape}
 use Rattle.storage_merkle.specs.Trees.{listed, tree_root}
 use Rattle.storage_current.specs.Grafted.{grafted_over}
-use Rattle.storage_current.specs.Snapshots.{aligned, canonical_root, canonical_string, exact, graftable_at, grafted_root_of, height, ops_root_of}
+use Rattle.storage_current.specs.Snapshots.{aligned, canonical_root, canonical_string, exact, graftable_at, grafted_root_of, height, ops_root_of, own_current_proof}
 use Rattle.reference.specs.Layouts.{grafting, laid_out, snapshot}
 
 module _ (h : HashFunction) (S : Shape) (n : ℕ) (ops : List (List ℕ)) (bits : List Bool) (floor : ℕ) where
@@ -21,6 +22,15 @@ module _ (h : HashFunction) (S : Shape) (n : ℕ) (ops : List (List ℕ)) (bits 
   grafted_from m k c i r count high chunks inactive root =
       let counted : view_root k c i ≡ view_root k (graftable_at S k m) (aligned S m floor k) = ap₂ (view_root k) chunks inactive in
       root ∙ counted ∙ ap₂ (λ (q p : ℕ). view_root q (graftable_at S q p) (aligned S p floor q)) high count
+
+  view_proof : ℕ → ℕ → ℕ → ℕ → ℕ → RangeProof
+  view_proof low high k c i = own_proof h (laid_out S (grafted_over k c)) BackwardFold (record { elements = ops; chunk = λ a. chunk n bits (a / 2 ^ k) }) i low high
+
+  pub range_from : (m k c i low high : ℕ) (p : RangeProof) → m ≡ length ops → k ≡ height (grafting S n) → c ≡ graftable_at S k m → i ≡ aligned S m floor k → p ≡ own_proof h (laid_out S (grafted_over k c)) BackwardFold (record { elements = ops; chunk = λ a. chunk n bits (a / 2 ^ k) }) i low high → p ≡ (own_current_proof h (grafting S n) (snapshot ops bits floor) low high).range
+  unfolding view_proof
+  range_from m k c i low high p count high_is chunks inactive own =
+      let counted : view_proof low high k c i ≡ view_proof low high k (graftable_at S k m) (aligned S m floor k) = ap₂ (view_proof low high k) chunks inactive in
+      own ∙ counted ∙ ap₂ (λ (q r : ℕ). view_proof low high q (graftable_at S q r) (aligned S r floor q)) high_is count
 
   pub canonical_from : (m k c w next : ℕ) (o g r : List ℕ) (p q : Option (List ℕ)) → m ≡ length ops → k ≡ height (grafting S n) → c ≡ graftable_at S k m → w ≡ m / 2 ^ k → next ≡ m % 2 ^ k
       → o ≡ ops_root_of h (grafting S n) (snapshot ops bits floor) → g ≡ grafted_root_of h (grafting S n) (snapshot ops bits floor)

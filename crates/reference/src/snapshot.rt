@@ -1,18 +1,19 @@
 //! Roots of snapshots.
 ghost use Rattle.std.specs.Prelude.{◌≡◌, ℕ, ◌+◌, ◌*◌, ◌/◌, ◌%◌, ◌^◌, ◌≤◌, ◌<◌, ◌++◌, List, [], length, map, option_map, Option, Some, None, ltb, eqb, if◌then◌else◌, IfOk};
 ghost use Rattle.storage_bitmap.specs.Chunks.{IsChunkSize, chunk};
-ghost use Rattle.storage_current.specs.Snapshots.{canonical_root, canonical_string, grafted_root_of, ops_root_of, slot};
+ghost use Rattle.storage_current.specs.Snapshots.{canonical_root, canonical_string, grafted_root_of, ops_root_of, own_current_proof, slot};
 ghost use Rattle.reference.specs.Layouts.{grafting, snapshot};
 
 use crate::chunk::{Chunks, chunk};
 use crate::count::{aligned, exact, graftable, height};
 use crate::node::Ungrafted;
+use crate::range_proof::{Tree, own_proof};
 use crate::shape::{Digits, power};
 use crate::tree::tree_root;
 use std::alloc::{AllocError, Global};
 use std::convert::AsSlice;
 use storage_codec::digest::{Digest, Hasher};
-use storage_merkle::merkle::Bagging;
+use storage_merkle::merkle::{Bagging, Proof};
 
 /// Operations, a bit for each that says whether it is active, and an inactivity floor, with chunks of so many bytes.
 #[derive(Drop)]
@@ -59,11 +60,12 @@ pub fn grafted_root<F: Digits, H: Hasher, E: AsSlice<u8>>(
     let leaves = of.operations.len() as u64;
     let height = height(of.chunk_size);
     let inactive = aligned::<F>(alloc, leaves, of.floor, height)?;
+    let count = graftable::<F>(leaves, height);
     let chunks = Chunks {
         bits: of.bits,
         size: of.chunk_size,
         height,
-        count: graftable::<F>(leaves, height),
+        count,
     };
     let root = tree_root::<F, H, Chunks<'_>, E>(
         alloc,
@@ -73,6 +75,37 @@ pub fn grafted_root<F: Digits, H: Hasher, E: AsSlice<u8>>(
         inactive,
     )?;
     Ok(root)
+}
+
+/// The range proof, of the operations from `low` to before `high`, of the grafted view of a snapshot. Fails only where memory
+/// runs out.
+pub fn own_range<F: Digits, H: Hasher, E: AsSlice<u8>>(
+    alloc: Global,
+    of: &Snapshot<'_, E>,
+    low: u64,
+    high: u64,
+) -> Result<Proof<F, H::Digest>, AllocError>
+    requires few { length of.now.operations.now ≤ 2 ^ 62 }
+    requires size { IsChunkSize of.now.chunk_size }
+    ensures { IfOk result (λ p. record { leaves = p.leaves; inactive = p.inactive_peaks; digests = map H.Digest.text p.digests.items } ≡ (own_current_proof H.hash_of (grafting F.shape of.now.chunk_size) (snapshot (map E.items of.now.operations.now) of.now.bits.now of.now.floor) low high).range) }
+{
+    let leaves = of.operations.len() as u64;
+    let height = height(of.chunk_size);
+    let inactive = aligned::<F>(alloc, leaves, of.floor, height)?;
+    let chunks = Chunks {
+        bits: of.bits,
+        size: of.chunk_size,
+        height,
+        count: graftable::<F>(leaves, height),
+    };
+    let tree = Tree {
+        elements: of.operations,
+        grafts: &chunks,
+        bagging: Bagging::BackwardFold,
+        inactive,
+    };
+    let proof = own_proof::<F, H, Chunks<'_>, E>(alloc, &tree, low, high)?;
+    Ok(proof)
 }
 
 /// The digest of the complete chunk that is not graftable; none where all are. Fails only where memory runs out.
