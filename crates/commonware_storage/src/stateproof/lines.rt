@@ -9,6 +9,7 @@ use crate::stateproof::Fault;
 use hex::FromHexError;
 use std::alloc::Global;
 use storage_bitmap::bitmap::{Prunable, Readable};
+use storage_codec::codec::{Read, UInt, Write};
 use storage_codec::digest::Sha256;
 use storage_current::qmdb::current::Snapshot;
 use storage_merkle::merkle::{ElementPlan, Graftable, Location, MAX_LEAVES};
@@ -48,8 +49,9 @@ impl Operation {
 /// Operations, and a bit for each.
 #[derive(Drop)]
 pub struct Operations<const N: usize> {
-    pub strings: Vec<Vec<u8>>,
-    pub bits: Prunable<N>,
+    /// The operations one behind the other, each with its length in front.
+    written: Vec<u8>,
+    bits: Prunable<N>,
 }
 
 impl<const N: usize> Operations<N> {
@@ -59,7 +61,7 @@ impl<const N: usize> Operations<N> {
         requires { IsChunkSize N }
     {
         let mut operations = Operations {
-            strings: Vec::new(alloc),
+            written: Vec::new(alloc),
             bits: Prunable::new(alloc),
         };
         for (index, line) in text.split_terminator('\n').enumerate() {
@@ -76,7 +78,7 @@ impl<const N: usize> Operations<N> {
         if self.bits.len() >= MAX_LEAVES {
             return Err(Fault::Memory);
         }
-        self.strings.push(operation.bytes)?;
+        operation.bytes.write(&mut self.written)?;
         self.bits.push(operation.active)?;
         Ok(())
     }
@@ -87,7 +89,7 @@ impl<const N: usize> Operations<N> {
         alloc: Global,
         location: u64,
     ) -> Result<ElementPlan<F>, Fault> {
-        let leaves = Location::new(self.strings.len() as u64);
+        let leaves = Location::new(self.bits.len());
         match ElementPlan::new(alloc, leaves, Location::new(location)) {
             Ok(plan) => Ok(plan),
             Err(error) => Err(Fault::of_plan(&error)),
@@ -100,10 +102,33 @@ impl<const N: usize> Operations<N> {
         alloc: Global,
         floor: u64,
     ) -> Result<Snapshot<F, Sha256, N>, Fault> {
-        let Operations { strings, bits } = self;
-        match Snapshot::new(alloc, &strings, bits, Location::new(floor)) {
+        let Operations { written, bits } = self;
+        let operations = parted(alloc, &written, bits.len())?;
+        match Snapshot::new(alloc, &operations, bits, Location::new(floor)) {
             Ok(snapshot) => Ok(snapshot),
             Err(error) => Err(Fault::of_snapshot(&error)),
         }
     }
+}
+
+/// So many byte strings that are written one behind the other, each with its length in front. They are lent, and not
+/// copied.
+fn parted<'a>(alloc: Global, written: &'a [u8], count: u64) -> Result<Vec<&'a [u8]>, Fault> {
+    let mut strings = Vec::with_capacity(alloc, count as usize)?;
+    let mut rest = written;
+    for _ in 0..count {
+        let Some((string, after)) = first(alloc, rest) else {
+            break;
+        };
+        strings.push(string)?;
+        rest = after;
+    }
+    Ok(strings)
+}
+
+/// The first of such byte strings, and what follows it; none where none is whole.
+fn first<'a>(alloc: Global, written: &'a [u8]) -> Option<(&'a [u8], &'a [u8])> {
+    let mut rest = written;
+    let UInt(length) = UInt::read_cfg(alloc, &mut rest, &()).ok()?;
+    rest.split_at_checked(length as usize)
 }

@@ -9,6 +9,7 @@ ghost use Rattle.storage_current.specs.Snapshots.{Grafting};
 
 use crate::qmdb::current::grafting::{self, graft, power};
 use std::alloc::{AllocError, Global};
+use std::convert::AsSlice;
 use storage_bitmap::bitmap::Readable;
 use storage_codec::digest::{Digest, Hasher};
 use storage_merkle::merkle::hasher::Hasher as _;
@@ -24,9 +25,9 @@ pub(crate) struct Nodes<D> {
 
 /// The nodes over operations and the chunks of their bits. Each node is hashed once, and once more where the view has
 /// another digest.
-pub(crate) fn hash_nodes<F: Graftable, H: Hasher, R: Readable<N>, const N: usize>(
+pub(crate) fn hash_nodes<F: Graftable, H: Hasher, E: AsSlice<u8>, R: Readable<N>, const N: usize>(
     alloc: Global,
-    operations: &[Vec<u8>],
+    operations: &[E],
     status: &R,
 ) -> Result<Nodes<H::Digest>, AllocError>
     requires few { length operations.now ≤ 2 ^ 62 }
@@ -35,8 +36,8 @@ pub(crate) fn hash_nodes<F: Graftable, H: Hasher, R: Readable<N>, const N: usize
     requires bits { bit_count N (R.retained status.now) ≡ length operations.now }
     ensures plain_count { IfOk result (λ nodes. length nodes.plain.items ≡ size F.shape (length operations.now)) }
     ensures view_count { IfOk result (λ nodes. length nodes.view.items ≡ size F.shape (length operations.now)) }
-    ensures plain { IfOk result (λ nodes. AreNodes F.shape (plain_node H.hash_of F.shape (map (λ o. o.items) operations.now)) (map H.Digest.text nodes.plain.items)) }
-    ensures view { let g : Grafting = record { shape = F.shape; bytes = N } in IfOk result (λ nodes. AreNodes F.shape (seen_node H.hash_of g (map (λ o. o.items) operations.now) (R.retained status.now).bits) (map H.Digest.text nodes.view.items)) }
+    ensures plain { IfOk result (λ nodes. AreNodes F.shape (plain_node H.hash_of F.shape (map E.items operations.now)) (map H.Digest.text nodes.plain.items)) }
+    ensures view { let g : Grafting = record { shape = F.shape; bytes = N } in IfOk result (λ nodes. AreNodes F.shape (seen_node H.hash_of g (map E.items operations.now) (R.retained status.now).bits) (map H.Digest.text nodes.view.items)) }
 {
     let capacity = F::nodes_over(operations.len() as u64) as usize;
     let mut plain = Vec::with_capacity(alloc, capacity)?;
@@ -46,7 +47,7 @@ pub(crate) fn hash_nodes<F: Graftable, H: Hasher, R: Readable<N>, const N: usize
         let count = F::nodes_over(leaf + 1) - F::nodes_over(leaf);
         for offset in 0..count {
             let (first, height) = F::node_after(leaf, offset);
-            let digest = plain_digest::<F, H>(&plain, operation, first, height);
+            let digest = plain_digest::<F, H>(&plain, operation.as_slice(), first, height);
             let seen = view_digest::<F, H, R, N>(&plain, &view, status, first, height, digest);
             plain.push(digest)?;
             view.push(seen)?;

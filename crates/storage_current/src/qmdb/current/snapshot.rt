@@ -15,6 +15,7 @@ use crate::qmdb::current::grafting::{self, aligned_inactive, exact_inactive};
 use crate::qmdb::current::nodes::{Nodes, hash_nodes, peak_digests};
 use crate::qmdb::current::root::canonical_root;
 use std::alloc::{AllocError, Global};
+use std::convert::AsSlice;
 use std::marker::{Model, PhantomData};
 use storage_bitmap::bitmap::{Prunable, Readable};
 use storage_codec::digest::Hasher;
@@ -50,15 +51,15 @@ impl<F: Graftable, H: Hasher, const N: usize> Snapshot<F, H, N> {
     /// The first of: `DataCorrupted` where there are not as many bits as operations, or bits are pruned;
     /// `RangeOutOfBounds(floor)` where the floor passes the number of operations; `LocationOverflow` of that number past
     /// `MAX_LEAVES`; `Memory`.
-    pub fn new(
+    pub fn new<E: AsSlice<u8>>(
         alloc: Global,
-        operations: &[Vec<u8>],
+        operations: &[E],
         bits: Prunable<N>,
         floor: Location<F>,
     ) -> Result<Self, Error<F>>
         ensures size { IfOk result (λ _. IsChunkSize N) }
         ensures status { IfOk result (λ kept. kept.status ≡ bits.entry) }
-        ensures stands { let g : Grafting = record { shape = F.shape; bytes = N } in let s : SnapshotOf = record { operations = map (λ o. o.items) operations.now; bits = bits.entry.bits; floor = floor } in IfOk result (λ kept. IsSnapshot s × StandsFor H.hash_of g kept s) }
+        ensures stands { let g : Grafting = record { shape = F.shape; bytes = N } in let s : SnapshotOf = record { operations = map E.items operations.now; bits = bits.entry.bits; floor = floor } in IfOk result (λ kept. IsSnapshot s × StandsFor H.hash_of g kept s) }
         ensures why { IfErr result (IsRefused N (length operations.now) bits.entry floor) }
     {
         let leaves = operations.len() as u64;
@@ -72,7 +73,7 @@ impl<F: Graftable, H: Hasher, const N: usize> Snapshot<F, H, N> {
             let leaves = Location::new(leaves);
             return Err(Error::Merkle(merkle::Error::LocationOverflow(leaves)));
         }
-        let nodes = hash_nodes::<F, H, Prunable<N>, N>(alloc, operations, &bits)?;
+        let nodes = hash_nodes::<F, H, E, Prunable<N>, N>(alloc, operations, &bits)?;
         let height = grafting::height::<N>();
         let exact = exact_inactive::<F>(leaves, floor.as_u64());
         let ops_root = tree_root::<F, H>(alloc, &nodes.plain, leaves, exact)?;

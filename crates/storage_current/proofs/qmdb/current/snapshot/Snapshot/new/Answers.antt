@@ -40,9 +40,9 @@ returns-clause-stands g c =
     let h = g.H.Hasher.hash_of in
     let text = g.H.Digest.Write.text in
     let G : Grafting = record { shape = S; bytes = g.row.N } in
-    let elements : List (List ℕ) = map (λ o. o.items) c.args.operations.now in
+    let elements : List (List ℕ) = map g.E.AsSlice.items c.args.operations.now in
     let s : Snapshot = record { operations = elements; bits = c.args.bits.bits; floor = c.args.floor } in
-    let count : length elements ≡ length c.args.operations.now = length-map c.args.operations.now (λ o. o.items) in
+    let count : length elements ≡ length c.args.operations.now = length-map c.args.operations.now g.E.AsSlice.items in
     let unpruned : c.args.bits.pruned ≡ 0 = omega (arith, c.if-pruned_chunks-gt0.false, c.pruned_chunks.ensures.value) in
     let rest = unpruned_rest g.row.N c.args.bits unpruned in
     let none : c.args.bits.pruned * (8 * g.row.N) ≡ 0 = ap (λ p. p * (8 * g.row.N)) unpruned ∙ zero-mul (8 * g.row.N) in
