@@ -1,6 +1,6 @@
 //! Proofs that someone changed, and counts that no tree has.
 
-use crate::served::{checked, operation, proof, snapshot, written};
+use crate::served::{checked, operation, proof, snapshot, verified, written};
 use commonware_storage::codec::Encode;
 use commonware_storage::digest::{Hasher, Sha256};
 use commonware_storage::light::check_operation;
@@ -30,22 +30,30 @@ fn assert_cut(
     Ok(())
 }
 
+/// Stops where the snapshot's proof is accepted with one digest more, or with its last one left out.
+fn assert_digests(
+    rt: &impl Abort,
+    alloc: Global,
+    snapshot: &Snapshot<mmr::Family, Sha256, 1>,
+) -> Result<(), Fail> {
+    let mut longer = proof(alloc, snapshot, 0, 3)?;
+    longer.range_proof.proof.digests.push(Sha256::fill(0))?;
+    assert!(rt; !verified(alloc, snapshot, 3, &longer)?);
+    let mut shorter = proof(alloc, snapshot, 0, 3)?;
+    let _ = shorter.range_proof.proof.digests.pop();
+    assert!(rt; !verified(alloc, snapshot, 3, &shorter)?);
+    Ok(())
+}
+
 #[test]
 fn altered_and_truncated(rt: HostRuntime) -> Result<(), Fail> {
     let alloc = rt.alloc();
     let snapshot = snapshot::<mmr::Family>(alloc, 8, &[3], 0)?;
-    let mut proof = proof(alloc, &snapshot, 0, 3)?;
+    let proof = proof(alloc, &snapshot, 0, 3)?;
+    assert!(rt; verified(alloc, &snapshot, 3, &proof)?);
     let bytes = written(&rt, alloc, &proof, 134)?;
     assert_cut(&rt, alloc, &snapshot, bytes)?;
-    let root = snapshot.root();
-    let operation = operation(alloc, 3)?;
-    proof.range_proof.proof.digests.push(Sha256::fill(0))?;
-    assert!(rt; !proof.verify_encoded::<Sha256>(alloc, &operation, &root)?);
-    let _ = proof.range_proof.proof.digests.pop();
-    assert!(rt; proof.verify_encoded::<Sha256>(alloc, &operation, &root)?);
-    let _ = proof.range_proof.proof.digests.pop();
-    assert!(rt; !proof.verify_encoded::<Sha256>(alloc, &operation, &root)?);
-    Ok(())
+    assert_digests(&rt, alloc, &snapshot)
 }
 
 #[test]
@@ -54,8 +62,7 @@ fn partial_slot_added(rt: HostRuntime) -> Result<(), Fail> {
     let snapshot = snapshot::<mmr::Family>(alloc, 8, &[3], 0)?;
     let mut proof = proof(alloc, &snapshot, 0, 3)?;
     proof.range_proof.partial_chunk_digest = Some(Sha256::fill(0));
-    let root = snapshot.root();
-    assert!(rt; !proof.verify_encoded::<Sha256>(alloc, &operation(alloc, 3)?, &root)?);
+    assert!(rt; !verified(alloc, &snapshot, 3, &proof)?);
     Ok(())
 }
 

@@ -7,6 +7,8 @@ mod altered;
 #[cfg(test)]
 mod built;
 #[cfg(test)]
+mod digests;
+#[cfg(test)]
 mod floors;
 #[cfg(test)]
 mod operation_proofs;

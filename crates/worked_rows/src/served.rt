@@ -139,6 +139,17 @@ pub fn checked<F: Graftable>(
     Ok(check_operation::<F, Sha256>(alloc, proof, 1, loc, &operation, &root)?)
 }
 
+/// What the check of a proof of an operation of the snapshot answers.
+pub fn verified<F: Graftable>(
+    alloc: Global,
+    snapshot: &Snapshot<F, Sha256, 1>,
+    location: u16,
+    proof: &OperationProof<F, Digest, 1>,
+) -> Result<bool, Fail> {
+    let operation = operation(alloc, location)?;
+    Ok(proof.verify_encoded::<Sha256>(alloc, &operation, &snapshot.root())?)
+}
+
 /// The proof as it is written. Stops where it has not so many bytes, or something else is read from them.
 pub fn written<F: Graftable>(
     rt: &impl Abort,
@@ -153,4 +164,19 @@ pub fn written<F: Graftable>(
         .ok_or("not read")?;
     assert!(rt; read == *proof);
     Ok(bytes)
+}
+
+/// The snapshot's proof of the operation at a location, as it is written. Stops where it has not so many digests and bytes.
+pub fn proved<F: Graftable>(
+    rt: &impl Abort,
+    alloc: Global,
+    snapshot: &Snapshot<F, Sha256, 1>,
+    floor: u64,
+    location: u16,
+    counts: (usize, usize),
+) -> Result<Vec<u8>, Fail> {
+    let (digests, size) = counts;
+    let proof = proof(alloc, snapshot, floor, location)?;
+    assert_eq!(rt; proof.range_proof.proof.digests.len(), digests);
+    written(rt, alloc, &proof, size)
 }
