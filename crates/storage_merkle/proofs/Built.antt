@@ -1,5 +1,5 @@
 -- A proof that a plan builds of a tree's nodes is the tree's own: it is accepted, and it is read as it was written.
-use Rattle.std.proofs.Common.{◌≡◌, ℕ, ◌+◌, ◌<◌, ◌≤◌, ◌^◌, ◌++◌, List, length, map, Option, Ok, refl, sym, ap, subst, arith}
+use Rattle.std.proofs.Common.{◌≡◌, ℕ, ◌<◌, ◌≤◌, ◌^◌, ◌++◌, List, length, Option, Ok, refl, sym, ap, subst, arith}
 use Rattle.storage_codec.specs.Digests.{HashFunction, IsSized}
 use Rattle.storage_merkle.specs.Shape.{Laws}
 use Rattle.storage_merkle.specs.declared.merkle.bagging.Bagging.{Bagging}

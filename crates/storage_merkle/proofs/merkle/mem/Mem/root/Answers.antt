@@ -1,9 +1,7 @@
-use Rattle.std.proofs.Common.{rules, ◌≡◌, ℕ, ◌+◌, ◌<◌, ◌≤◌, [], List, map, take, length, ap, ◌∙◌, sym, refl, arith, subst}
+use Rattle.std.proofs.Common.{rules, ◌≡◌, [], length, ap, ◌∙◌, sym, refl, arith}
 use Rattle.storage_merkle.specs.Kept.{at_peaks}
 use Rattle.storage_merkle.specs.Hashing.{node_over, root_of}
-use Rattle.storage_merkle.specs.Shape.{size}
 use Rattle.storage_merkle.specs.ShapeLaws.{no_peaks}
-use Rattle.storage_merkle.proofs.Keeping.{holds_at}
 use Rattle.storage_merkle.proofs.KeptRoots.{rooted}
 use Rattle.storage_merkle.proofs.merkle.mem.Mem.root.Goals as goal
 

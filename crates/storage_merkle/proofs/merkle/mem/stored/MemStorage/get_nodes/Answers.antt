@@ -1,4 +1,4 @@
-use Rattle.std.proofs.Common.{rules, map, Some}
+use Rattle.std.proofs.Common.{rules}
 use Rattle.storage_merkle.specs.Kept.{kept_at}
 use Rattle.storage_merkle.proofs.Served.{serves, if_ok}
 use Rattle.storage_merkle.proofs.merkle.mem.stored.MemStorage.get_nodes.Goals as goal
