@@ -16,7 +16,7 @@ own_accepted accepted again d h sized g grafting has_pending prompt s snapshot l
     let text = operation_text has_pending p in
     let none : List ℕ = [] in
     let read : sized_operation_at has_pending d g.bytes 128 text ≡ Ok (p, none) =
-        ap (sized_operation_at has_pending d g.bytes 128) (sym (append-nil text)) ∙ again d h sized g grafting has_pending prompt s snapshot location active.within none in
+    ap (sized_operation_at has_pending d g.bytes 128) (sym (append-nil text)) ∙ again d h sized g grafting has_pending prompt s snapshot location active.within none in
     record {
       proof = p;
       read = ap whole read;

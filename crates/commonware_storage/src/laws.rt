@@ -13,7 +13,9 @@ use std::alloc::Global;
 use storage_bitmap::bitmap::Readable;
 use storage_codec::codec::Write;
 use storage_codec::digest::Hasher;
-use storage_current::laws::{own_operation_proofs_are_accepted, own_operation_proofs_are_read_again};
+use storage_current::laws::{
+    own_operation_proofs_are_accepted, own_operation_proofs_are_read_again,
+};
 use storage_current::qmdb::current::proof::constant::OperationProof;
 use storage_merkle::laws::greatest_nodes_are_planned;
 use storage_merkle::merkle::{ElementPlan, Graftable, Location, Position};

@@ -1,6 +1,6 @@
 //! The work of the program `stateproof`, over any reader and writers.
 
-ghost use Rattle.std.specs.Prelude.{◌≡◌, ◌≤◌};
+ghost use Rattle.std.specs.Prelude.{◌≡◌, ◌<◌, ◌≤◌, ◌⊎◌};
 
 mod command;
 mod fault;
@@ -15,7 +15,7 @@ use std::io::{self, Read, Write};
 
 /// Runs the program over its words, its own name left out, and answers the exit status: 0, or 1 for a no. After a fault
 /// `output` has nothing, `errors` one line, and the status is 2. After a failed write it is 2 as well, and nothing more is
-/// written.
+/// written. So one of the two writers is never written to, and `errors` is not where there is an answer.
 pub fn run<R: Read + Drop, O: Write, E: Write>(
     alloc: Global,
     words: &[String],
@@ -23,7 +23,9 @@ pub fn run<R: Read + Drop, O: Write, E: Write>(
     output: &mut O,
     errors: &mut E,
 ) -> u8
-    ensures { result ≤ 2 }
+    ensures status { result ≤ 2 }
+    ensures answered { result < 2 → errors.new ≡ errors.old }
+    ensures one { (output.new ≡ output.old) ⊎ (errors.new ≡ errors.old) }
 {
     match Reply::of(alloc, words, input) {
         Ok(reply) => match print(output, reply.text.as_str()) {

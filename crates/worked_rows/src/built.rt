@@ -1,34 +1,55 @@
 //! Proofs that are built, written and checked in one call.
 
 use crate::served::{operation, snapshot};
+use commonware_storage::bitmap::{Prunable, Readable};
 use commonware_storage::digest::Sha256;
 use commonware_storage::laws::built_proofs_are_accepted;
-use commonware_storage::merkle::{ElementPlan, Location, mmb};
+use commonware_storage::merkle::{ElementPlan, Graftable, Location, mmb, mmr};
+use commonware_storage::qmdb::current::Snapshot;
 use std::alloc::Global;
 use std::test::Fail;
 
-/// What is answered of the operation at a location of eighteen, of which the one at 9 is active.
-fn answer(alloc: Global, location: u16) -> Result<bool, Fail> {
-    let snapshot = snapshot::<mmb::Family>(alloc, 18, &[9], 0)?;
-    let location_of = |number: u64| Location::<mmb::Family>::new(number);
-    let plan = ElementPlan::new(alloc, location_of(18), location_of(location as u64));
-    let yes = built_proofs_are_accepted::<_, Sha256, _, _, 1>(
+/// What is answered of the operation at a location, over floor 0.
+fn answer<F: Graftable>(
+    alloc: Global,
+    snapshot: &Snapshot<F, Sha256, 1>,
+    location: u16,
+) -> Result<bool, Fail> {
+    let operation = operation(alloc, location)?;
+    let leaves = Location::new(snapshot.status().len());
+    let plan = ElementPlan::new(alloc, leaves, Location::new(location as u64))
+        .ok()
+        .ok_or("no plan")?;
+    let root = snapshot.root();
+    match built_proofs_are_accepted::<F, Sha256, Prunable<1>, _, 1>(
         alloc,
         snapshot.status(),
-        plan.ok().ok_or("no plan")?,
+        plan,
         |position| snapshot.get_node(position),
-        location_of(0),
+        Location::new(0),
         snapshot.ops_root(),
-        &operation(alloc, location)?,
-        &snapshot.root(),
-    );
-    Ok(yes.ok().ok_or("not built")?)
+        &operation,
+        &root,
+    ) {
+        Ok(yes) => Ok(yes),
+        Err(_) => Err(Fail::new("not built")),
+    }
 }
 
 #[test]
 fn built_and_answered_yes(rt: HostRuntime) -> Result<(), Fail> {
     let alloc = rt.alloc();
-    assert!(rt; answer(alloc, 9)?);
-    assert!(rt; !answer(alloc, 8)?);
+    let snapshot = snapshot::<mmb::Family>(alloc, 18, &[9], 0)?;
+    assert!(rt; answer(alloc, &snapshot, 9)?);
+    assert!(rt; !answer(alloc, &snapshot, 8)?);
+    Ok(())
+}
+
+#[test]
+fn built_with_a_partial_chunk(rt: HostRuntime) -> Result<(), Fail> {
+    let alloc = rt.alloc();
+    let snapshot = snapshot::<mmr::Family>(alloc, 11, &[9], 0)?;
+    assert!(rt; answer(alloc, &snapshot, 9)?);
+    assert!(rt; !answer(alloc, &snapshot, 3)?);
     Ok(())
 }
