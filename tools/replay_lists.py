@@ -11,8 +11,6 @@ and the columns that are given, a line of stdout the columns that are asked for.
 import pathlib
 import sys
 
-MAX_LEAVES = 2**62
-
 
 def rows(folder, name):
     """The cases of a list as lists of columns; of those with a hash the ones over SHA-256, without that column."""
@@ -48,9 +46,7 @@ def cases(folder):
     for given, asked in cut(folder, "nodes", 3):
         yield "nodes", given, asked
     for given, asked in cut(folder, "graftable", 3):
-        # the function asks for a number of leaves that a tree may have
-        if int(given[1]) <= MAX_LEAVES:
-            yield "graftable", given, asked
+        yield "graftable", given, asked
     for given, asked in cut(folder, "maps", 3):
         # the position is mapped up, and down again
         yield "maps", given, asked + given[-1:]

@@ -138,7 +138,7 @@ fn graftable<F: Graftable>(alloc: Global, columns: &[&str]) -> Result<String, Fa
     };
     let leaves = number(*leaves)?;
     let height = number(*height)?;
-    if leaves > MAX_LEAVES || height < 1 || height > 62 {
+    if height < 1 || height > 62 {
         return Err(Fault::Malformed);
     }
     let chunks = graftable_chunks::<F>(leaves, height as u32);
