@@ -4,3 +4,4 @@ pub mod Sites
 pub mod Counts
 pub mod Chunks
 pub mod Snapshots
+pub mod Claims

@@ -17,7 +17,7 @@ apart_sites T cut zero a c = ap (λ (b : Bool). sites_of (if b then given (node 
 apart_sites T cut (suc k) a c = ap (λ (b : Bool). sites_of (if b then given (node a (suc k)) else join_calc T a (suc k) (node_calc T cut k a) (node_calc T cut k (a + 2 ^ k)))) c
 
 -- folds of peaks
-map_twice : (g : Calc → List ℕ) (f : Peak → Calc) (ps : List Peak) → map (λ p. g (f p)) ps ≡ map g (map f ps)
+pub map_twice : (g : Calc → List ℕ) (f : Peak → Calc) (ps : List Peak) → map (λ p. g (f p)) ps ≡ map g (map f ps)
 map_twice g f [] = refl
 map_twice g f (p ∷ ps) = ap (λ ds. g (f p) ∷ ds) (map_twice g f ps)
 

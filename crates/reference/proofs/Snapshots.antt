@@ -7,7 +7,7 @@ use Rattle.storage_merkle.specs.RangeProofs.{RangeProof, own_proof}
 use Rattle.storage_merkle.specs.Shape.{Shape}
 use Rattle.storage_merkle.specs.Trees.{listed, tree_root}
 use Rattle.storage_current.specs.Grafted.{grafted_over}
-use Rattle.storage_current.specs.Snapshots.{aligned, canonical_root, canonical_string, exact, graftable_at, grafted_root_of, height, ops_root_of, own_current_proof}
+use Rattle.storage_current.specs.Snapshots.{aligned, canonical_root, canonical_string, exact, graftable_at, grafted_root_of, height, ops_root_of, CurrentProof, own_current_proof}
 use Rattle.reference.specs.Layouts.{grafting, laid_out, snapshot}
 
 module _ (h : HashFunction) (S : Shape) (n : ℕ) (ops : List (List ℕ)) (bits : List Bool) (floor : ℕ) where
@@ -44,3 +44,16 @@ module _ (h : HashFunction) (S : Shape) (n : ℕ) (ops : List (List ℕ)) (bits 
       ∙ ap₂ (λ (x y : List ℕ). made x y c w next) ops_is view_is
       ∙ ap (λ (x : ℕ). made O V x w next) chunks ∙ ap₂ (λ (x y : ℕ). made O V (graftable_at S k m) x y) whole left
       ∙ ap₂ (λ (x y : ℕ). made O V (graftable_at S x y) (y / 2 ^ x) (y % 2 ^ x)) high count
+
+  pub current_from : (m k c w next low high : ℕ) (r : RangeProof) (o : List ℕ) (p q : Option (List ℕ)) → m ≡ length ops → k ≡ height (grafting S n) → c ≡ graftable_at S k m → w ≡ m / 2 ^ k → next ≡ m % 2 ^ k
+      → r ≡ (own_current_proof h (grafting S n) (snapshot ops bits floor) low high).range → o ≡ ops_root_of h (grafting S n) (snapshot ops bits floor)
+      → p ≡ option_map h (if ltb c w then Some (chunk n bits c) else None) → q ≡ option_map h (if eqb next 0 then None else Some (chunk n bits w))
+      → record { range = r; pending = p; partial = q; ops_root = o } ≡ own_current_proof h (grafting S n) (snapshot ops bits floor) low high
+  current_from m k c w next low high r o p q count high_is chunks whole left range_is ops_is pending partial =
+      let R = (own_current_proof h (grafting S n) (snapshot ops bits floor) low high).range in
+      let O = ops_root_of h (grafting S n) (snapshot ops bits floor) in
+      let parts : RangeProof → List ℕ → Option (List ℕ) → Option (List ℕ) → CurrentProof = λ r o p q. record { range = r; pending = p; partial = q; ops_root = o } in
+      let made : RangeProof → List ℕ → ℕ → ℕ → ℕ → CurrentProof = λ r o c w next. parts r o (option_map h (if ltb c w then Some (chunk n bits c) else None)) (option_map h (if eqb next 0 then None else Some (chunk n bits w))) in
+      ap₂ (parts r o) pending partial ∙ ap₂ (λ (x : RangeProof) (y : List ℕ). made x y c w next) range_is ops_is
+      ∙ ap (λ (x : ℕ). made R O x w next) chunks ∙ ap₂ (λ (x y : ℕ). made R O (graftable_at S k m) x y) whole left
+      ∙ ap₂ (λ (x y : ℕ). made R O (graftable_at S x y) (y / 2 ^ x) (y % 2 ^ x)) high_is count

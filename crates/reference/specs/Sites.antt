@@ -1,8 +1,10 @@
 -- Sites of given digests, as the program has them.
-use Rattle.std.specs.Prelude.{ℕ, List, [], ◌∷◌}
+use Rattle.std.specs.Prelude.{ℕ, List, [], ◌∷◌, ◌++◌, map, Option}
 use Rattle.storage_codec.specs.Digests.{HashFunction}
 use Rattle.storage_merkle.specs.Hashing.{folded_forward, folded_backward}
-use Rattle.storage_merkle.specs.Calc.{Site as CalcSite, front, back, node}
+use Rattle.storage_merkle.specs.Calc.{Site as CalcSite, front, back, node, Calc}
+use Rattle.storage_merkle.specs.Trees.{Layout, Peak, bag, part}
+use Rattle.storage_merkle.specs.RangeProofs.{apart, leading, not_leading, up_to, trailing, front_given, back_given}
 use Rattle.reference.specs.declared.site.Site.{Site}
 use Rattle.reference.specs.declared.site.Site.TheVariants.{Front, Back, Inner}
 
@@ -20,3 +22,7 @@ forward_digest h (x ∷ xs) = folded_forward h x xs
 abbrev pub backward_digest : HashFunction → List (List ℕ) → List ℕ
 backward_digest h [] = h []
 backward_digest h (x ∷ xs) = folded_backward h x xs
+
+-- what a check bags, where the peaks xs are folded from the left and the peaks ys from the right
+abbrev pub claimed : Layout → ℕ → ℕ → List Peak → List Peak → Option Calc
+claimed T low high xs ys = bag (front_given (leading low xs) ++ map (part T (apart low high)) (not_leading low xs)) (map (part T (apart low high)) (up_to high ys) ++ back_given (trailing high ys))

@@ -2,6 +2,7 @@
 //! definition, and computes anew what the fast calls keep.
 #![tactic(auto)]
 
+pub mod check;
 pub mod chunk;
 pub mod count;
 pub mod fold;

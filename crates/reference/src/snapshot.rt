@@ -1,6 +1,7 @@
 //! Roots of snapshots.
 ghost use Rattle.std.specs.Prelude.{◌≡◌, ℕ, ◌+◌, ◌*◌, ◌/◌, ◌%◌, ◌^◌, ◌≤◌, ◌<◌, ◌++◌, List, [], length, map, option_map, Option, Some, None, ltb, eqb, if◌then◌else◌, IfOk};
 ghost use Rattle.storage_bitmap.specs.Chunks.{IsChunkSize, chunk};
+ghost use Rattle.storage_current.specs.Held.{current_of};
 ghost use Rattle.storage_current.specs.Snapshots.{canonical_root, canonical_string, grafted_root_of, ops_root_of, own_current_proof, slot};
 ghost use Rattle.reference.specs.Layouts.{grafting, snapshot};
 
@@ -13,6 +14,7 @@ use crate::tree::tree_root;
 use std::alloc::{AllocError, Global};
 use std::convert::AsSlice;
 use storage_codec::digest::{Digest, Hasher};
+use storage_current::qmdb::current::proof::RangeProof;
 use storage_merkle::merkle::{Bagging, Proof};
 
 /// Operations, a bit for each that says whether it is active, and an inactivity floor, with chunks of so many bytes.
@@ -106,6 +108,34 @@ pub fn own_range<F: Digits, H: Hasher, E: AsSlice<u8>>(
     };
     let proof = own_proof::<F, H, Chunks<'_>, E>(alloc, &tree, low, high)?;
     Ok(proof)
+}
+
+/// A snapshot's own proof of the operations from `low` to before `high`, and of their activity. Fails only where memory runs
+/// out.
+pub fn own_current<F: Digits, H: Hasher, E: AsSlice<u8>>(
+    alloc: Global,
+    of: &Snapshot<'_, E>,
+    low: u64,
+    high: u64,
+) -> Result<RangeProof<F, H::Digest>, AllocError>
+    requires few { length of.now.operations.now ≤ 2 ^ 62 }
+    requires size { IsChunkSize of.now.chunk_size }
+    ensures { IfOk result (λ p. current_of H.Digest.text p ≡ own_current_proof H.hash_of (grafting F.shape of.now.chunk_size) (snapshot (map E.items of.now.operations.now) of.now.bits.now of.now.floor) low high) }
+{
+    let leaves = of.operations.len() as u64;
+    let height = height(of.chunk_size);
+    let complete = leaves / power(height);
+    let next_bit = leaves % power(height);
+    let graftable = graftable::<F>(leaves, height);
+    let proof = own_range::<F, H, E>(alloc, of, low, high)?;
+    let pending = pending::<H>(alloc, of.chunk_size, of.bits, graftable, complete)?;
+    let partial = partial::<H>(alloc, of.chunk_size, of.bits, complete, next_bit)?;
+    Ok(RangeProof {
+        proof,
+        pending_chunk_digest: pending,
+        partial_chunk_digest: partial,
+        ops_root: ops_root::<F, H, E>(alloc, of)?,
+    })
 }
 
 /// The digest of the complete chunk that is not graftable; none where all are. Fails only where memory runs out.
