@@ -17,10 +17,9 @@ pub fn height(chunk_size: usize) -> u32
     highest_place(63, 8 * chunk_size as u64)
 }
 
-/// How many chunks of `2^height` of at most `2^62` leaves lie inside one peak.
+/// How many chunks of `2^height` leaves lie inside one peak.
 pub fn graftable<F: Digits>(leaves: u64, height: u32) -> u64
-    requires few { leaves ≤ 2 ^ 62 }
-    requires small { height ≤ 62 }
+    requires { height ≤ 62 }
     ensures { result ≡ graftable_at F.shape height leaves }
 {
     let birth = F::leaves_at_birth(0, height);

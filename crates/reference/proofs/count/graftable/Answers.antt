@@ -3,4 +3,4 @@ use Rattle.storage_merkle.specs.Multiples.{pow_le}
 use Rattle.reference.proofs.count.graftable.Goals as goal
 
 pub leaves_at_birth-birth-requires : goal.leaves_at_birth-birth-requires
-leaves_at_birth-birth-requires g c = omega (arith, pow_le c.args.height 62 c.requires.small)
+leaves_at_birth-birth-requires g c = omega (arith, pow_le c.args.height 62 c.requires)
