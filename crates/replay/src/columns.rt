@@ -12,6 +12,9 @@ pub enum Fault {
     /// The columns are not those of the list.
     #[error("malformed")]
     Malformed,
+    /// The plain program of the definitions answers otherwise.
+    #[error("differs")]
+    Differs,
     #[error("out of memory")]
     Memory,
 }

@@ -2,6 +2,7 @@
 
 mod codecs;
 mod operations;
+mod plain;
 mod program;
 mod proofs;
 mod refusals;

@@ -1,5 +1,7 @@
 //! Answers each line of the lists on standard input: a list's name and the columns of one case. The lists were made by
-//! an independent program that computes the definitions over whole lists; `stdout` has the answers that it gave.
+//! an independent program that computes the definitions over whole lists; `stdout` has the answers that it gave. Shapes,
+//! roots and built proofs are also computed by the plain program of the definitions, and `differs` stands where it answers
+//! otherwise.
 #![tactic(auto)]
 
 mod columns;
@@ -15,6 +17,7 @@ fn reply(alloc: Global, line: &str) -> Result<String, AllocError> {
     match lists::answer(alloc, line) {
         Ok(answer) => Ok(answer),
         Err(Fault::Malformed) => String::from_str(alloc, "malformed"),
+        Err(Fault::Differs) => String::from_str(alloc, "differs"),
         Err(Fault::Memory) => Err(AllocError),
     }
 }

@@ -4,6 +4,7 @@ ghost use Rattle.std.specs.Prelude.{◌^◌, ◌<◌};
 ghost use Rattle.storage_bitmap.specs.Chunks.{IsChunkSize};
 
 use crate::columns::{Fault, bytes, digest, number, strings};
+use crate::lists::plain::{self, Own};
 use commonware_storage::bitmap::{Prunable, Readable};
 use commonware_storage::codec::{Decode, Encode, Error, FixedBytes};
 use commonware_storage::digest::Sha256;
@@ -13,6 +14,7 @@ use commonware_storage::merkle::{
 use commonware_storage::qmdb::current::Snapshot;
 use commonware_storage::qmdb::current::proof::RangeProof;
 use commonware_storage::qmdb::current::proof::constant::OperationProof;
+use reference::shape::Digits;
 use std::alloc::Global;
 
 /// The answer of a list whose first columns are the family and the size of a chunk.
@@ -27,7 +29,7 @@ pub fn answer(alloc: Global, list: &str, columns: &[&str]) -> Result<String, Fau
     }
 }
 
-fn over<F: Graftable>(
+fn over<F: Graftable + Digits>(
     alloc: Global,
     list: &str,
     chunk_size: &str,
@@ -47,8 +49,9 @@ fn over<F: Graftable>(
 
 /// `floor bits operations start count`: for `golden` the canonical root, the operations root, the proof of the range and,
 /// where it has one location, of the operation there; for `ranges` the proof of the range, the root, and whether the proof
-/// is accepted.
-fn over_snapshot<F: Graftable, const N: usize>(
+/// is accepted. Roots, the digests, leaves and inactive peaks of each proof, and the chunk and location of an operation's are
+/// compared with the plain program's.
+fn over_snapshot<F: Graftable + Digits, const N: usize>(
     alloc: Global,
     list: &str,
     columns: &[&str],
@@ -59,13 +62,15 @@ fn over_snapshot<F: Graftable, const N: usize>(
         return Err(Fault::Malformed);
     };
     let operations = strings(alloc, *operations)?;
-    let served = Served::<F, N>::new(alloc, &operations, *bits, number(*floor)?)?;
+    let floor = number(*floor)?;
     let start = number(*start)?;
     let count = number(*count)?;
+    let end = start.checked_add(count).ok_or(Fault::Malformed)?;
+    let own = plain::own_answers::<F, N>(alloc, &operations, *bits, floor, start, end)?;
+    let served = Served::<F, N>::new(alloc, &operations, *bits, floor, own)?;
     if list == "golden" {
         return served.golden(alloc, start, count);
     }
-    let end = start.checked_add(count).ok_or(Fault::Malformed)?;
     let chunks = chunks_of::<N>(alloc, *bits)?;
     let claim = Claim {
         operations: places(&operations, start, end)?,
@@ -129,22 +134,48 @@ fn set(chunk: &mut [u8], place: usize) {
     }
 }
 
-/// A snapshot with its floor.
+/// A snapshot with its floor, and what the definitions say of it.
 #[derive(Drop)]
 struct Served<F: Graftable, const N: usize> {
     snapshot: Snapshot<F, Sha256, N>,
     floor: Location<F>,
+    own: Own<F>,
 }
 
 impl<F: Graftable, const N: usize> Served<F, N> {
-    fn new(alloc: Global, operations: &[Vec<u8>], bits: &str, floor: u64) -> Result<Self, Fault>
+    /// A snapshot whose roots are its own.
+    fn new(
+        alloc: Global,
+        operations: &[Vec<u8>],
+        bits: &str,
+        floor: u64,
+        own: Own<F>,
+    ) -> Result<Self, Fault>
         requires { IsChunkSize N }
     {
         let bits = bits_of(alloc, bits)?;
         let floor = Location::new(floor);
         match Snapshot::new(alloc, operations, bits, floor) {
-            Ok(snapshot) => Ok(Served { snapshot, floor }),
+            Ok(snapshot) => {
+                if snapshot.root() != own.root || snapshot.ops_root() != own.ops_root {
+                    return Err(Fault::Differs);
+                }
+                Ok(Served {
+                    snapshot,
+                    floor,
+                    own,
+                })
+            }
             Err(_) => Err(Fault::Malformed),
+        }
+    }
+
+    /// Whether a proof has the leaves, the inactive peaks and the digests of the own one.
+    fn compare(&self, proof: &RangeProof<F, FixedBytes<32>>) -> Result<(), Fault> {
+        if proof.proof == self.own.range && proof.ops_root == self.own.ops_root {
+            Ok(())
+        } else {
+            Err(Fault::Differs)
         }
     }
 
@@ -210,7 +241,10 @@ impl<F: Graftable, const N: usize> Served<F, N> {
             self.floor,
             self.snapshot.ops_root(),
         ) {
-            Ok(proof) => Ok(proof),
+            Ok(proof) => {
+                self.compare(&proof)?;
+                Ok(proof)
+            }
             Err(_) => Err(Fault::Malformed),
         }
     }
@@ -234,7 +268,15 @@ impl<F: Graftable, const N: usize> Served<F, N> {
             self.floor,
             self.snapshot.ops_root(),
         ) {
-            Ok(proof) => Ok(proof),
+            Ok(proof) => {
+                self.compare(&proof.range_proof)?;
+                if proof.loc.as_u64() != location
+                    || proof.chunk.as_slice() != self.own.chunk.as_slice()
+                {
+                    return Err(Fault::Differs);
+                }
+                Ok(proof)
+            }
             Err(_) => Err(Fault::Malformed),
         }
     }

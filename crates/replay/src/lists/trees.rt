@@ -5,7 +5,8 @@ ghost use Rattle.storage_merkle.specs.Nodes.{IsNode, CoversSame};
 ghost use Rattle.storage_merkle.specs.Shape.{size};
 
 use crate::columns::{Fault, Series, number};
-use crate::lists::proofs;
+use crate::lists::{plain, proofs};
+use reference::shape::Digits;
 use std::alloc::Global;
 use storage_merkle::merkle::family::{
     graftable_chunks, grafted_to_ops_pos, leaves_within, node_at, ops_to_grafted_pos,
@@ -24,7 +25,11 @@ pub fn answer(alloc: Global, list: &str, columns: &[&str]) -> Result<String, Fau
     }
 }
 
-fn over<F: Graftable>(alloc: Global, list: &str, columns: &[&str]) -> Result<String, Fault> {
+fn over<F: Graftable + Digits>(
+    alloc: Global,
+    list: &str,
+    columns: &[&str],
+) -> Result<String, Fault> {
     match list {
         "families" => families::<F>(alloc, columns),
         "sizes" => sizes::<F>(alloc, columns),
@@ -54,7 +59,7 @@ fn power(exponent: u32) -> u64
 }
 
 /// `leaves`: the number of nodes, the peaks' heights and positions, and the positions to pin.
-fn families<F: Graftable>(alloc: Global, columns: &[&str]) -> Result<String, Fault> {
+fn families<F: Graftable + Digits>(alloc: Global, columns: &[&str]) -> Result<String, Fault> {
     let [leaves] = columns else {
         return Err(Fault::Malformed);
     };
@@ -76,11 +81,12 @@ fn families<F: Graftable>(alloc: Global, columns: &[&str]) -> Result<String, Fau
     let heights = heights.finish()?;
     let positions = positions.finish()?;
     let pins = pins.finish()?;
-    Ok(format!(in alloc; "{nodes} {heights} {positions} {pins}")?)
+    let fast = format!(in alloc; "{nodes} {heights} {positions} {pins}")?;
+    plain::agreed(fast, plain::families::<F>(alloc, leaves)?.as_str())
 }
 
 /// `nodes`: of how many leaves this is the number of nodes.
-fn sizes<F: Graftable>(alloc: Global, columns: &[&str]) -> Result<String, Fault> {
+fn sizes<F: Graftable + Digits>(alloc: Global, columns: &[&str]) -> Result<String, Fault> {
     let [nodes] = columns else {
         return Err(Fault::Malformed);
     };
@@ -89,15 +95,16 @@ fn sizes<F: Graftable>(alloc: Global, columns: &[&str]) -> Result<String, Fault>
         return Err(Fault::Malformed);
     }
     let leaves = leaves_within::<F>(nodes);
-    if F::nodes_over(leaves) == nodes {
-        Ok(format!(in alloc; "{leaves}")?)
+    let fast = if F::nodes_over(leaves) == nodes {
+        format!(in alloc; "{leaves}")?
     } else {
-        Ok(String::from_str(alloc, "-")?)
-    }
+        String::from_str(alloc, "-")?
+    };
+    plain::agreed(fast, plain::sizes::<F>(alloc, nodes, leaves)?.as_str())
 }
 
 /// `first_leaf height`: the position of this node, at how many leaves it comes, and its children.
-fn nodes<F: Graftable>(alloc: Global, columns: &[&str]) -> Result<String, Fault> {
+fn nodes<F: Graftable + Digits>(alloc: Global, columns: &[&str]) -> Result<String, Fault> {
     let [first, height] = columns else {
         return Err(Fault::Malformed);
     };
@@ -106,7 +113,11 @@ fn nodes<F: Graftable>(alloc: Global, columns: &[&str]) -> Result<String, Fault>
     if height > 61 || first > MAX_LEAVES || !first.is_multiple_of(1 << height) {
         return Err(Fault::Malformed);
     }
-    node::<F>(alloc, first, height as u32)
+    let fast = node::<F>(alloc, first, height as u32)?;
+    plain::agreed(
+        fast,
+        plain::nodes::<F>(alloc, first, height as u32)?.as_str(),
+    )
 }
 
 fn node<F: Graftable>(alloc: Global, first: u64, height: u32) -> Result<String, Fault>
@@ -132,7 +143,7 @@ fn node<F: Graftable>(alloc: Global, first: u64, height: u32) -> Result<String, 
 }
 
 /// `leaves height`: how many chunks are graftable.
-fn graftable<F: Graftable>(alloc: Global, columns: &[&str]) -> Result<String, Fault> {
+fn graftable<F: Graftable + Digits>(alloc: Global, columns: &[&str]) -> Result<String, Fault> {
     let [leaves, height] = columns else {
         return Err(Fault::Malformed);
     };
@@ -142,7 +153,9 @@ fn graftable<F: Graftable>(alloc: Global, columns: &[&str]) -> Result<String, Fa
         return Err(Fault::Malformed);
     }
     let chunks = graftable_chunks::<F>(leaves, height as u32);
-    Ok(format!(in alloc; "{chunks}")?)
+    let fast = format!(in alloc; "{chunks}")?;
+    let plain = plain::graftable_chunks::<F>(alloc, leaves, height as u32)?;
+    plain::agreed(fast, plain.as_str())
 }
 
 /// `height position`: the operations position of a grafted one, and what that is mapped back to.
