@@ -1,19 +1,23 @@
 //! The same answers from the plain program of the definitions: of every line of `families`, `sizes`, `nodes` and
-//! `graftable`, whatever its number of leaves, and for `golden` and `ranges` the roots and the proofs.
+//! `graftable`, whatever its number of leaves, and of `plain_checks`, and for `golden` and `ranges` the roots and the proofs.
 
 ghost use Rattle.std.specs.Prelude.{◌+◌, ◌^◌, ◌≤◌};
 ghost use Rattle.storage_bitmap.specs.Chunks.{IsChunkSize};
 
 use crate::columns::{Fault, Series};
+use crate::lists::refusals::merkle_refusal;
+use commonware_storage::qmdb::current::proof::RangeProof;
+use reference::check::{is_accepted, recomputed_root};
 use reference::chunk::chunk;
 use reference::count::graftable;
+use reference::node::Ungrafted;
 use reference::shape::{Digits, node_count};
-use reference::snapshot::{Snapshot, canonical_root, ops_root, own_range};
+use reference::snapshot::{Snapshot, canonical_root, own_current};
 use reference::tree::peaks;
 use std::alloc::{AllocError, Global};
 use storage_codec::codec::FixedBytes;
 use storage_codec::digest::Sha256;
-use storage_merkle::merkle::{MAX_LEAVES, Proof};
+use storage_merkle::merkle::{Bagging, Error, MAX_LEAVES, Proof};
 
 /// An answer where both programs give it.
 pub fn agreed(fast: String, plain: &str) -> Result<String, Fault> {
@@ -81,15 +85,37 @@ pub fn graftable_chunks<F: Digits>(alloc: Global, leaves: u64, height: u32) -> R
     Ok(format!(in alloc; "{chunks}")?)
 }
 
+/// Whether the check of a plain range proof accepts it, and the root that it recomputes, or its refusal where a count does not
+/// fit.
+pub fn plain_check<F: Digits>(
+    alloc: Global,
+    bagging: Bagging,
+    proof: &Proof<F, FixedBytes<32>>,
+    start: u64,
+    elements: &[Vec<u8>],
+    root: &FixedBytes<32>,
+) -> Result<String, Fault> {
+    let yes = is_accepted::<F, Sha256, _, _>(
+        alloc, &Ungrafted, bagging, proof, start, elements, root,
+    )?;
+    let verdict = if yes { "yes" } else { "no" };
+    let root = recomputed_root::<F, Sha256, _, _>(
+        alloc, &Ungrafted, bagging, proof, start, elements,
+    )?;
+    let answer = match root {
+        Some(root) => hex::encode(alloc, root.bytes)?,
+        None => merkle_refusal(alloc, &Error::<F>::InvalidProof)?,
+    };
+    Ok(format!(in alloc; "{verdict} {answer}")?)
+}
+
 /// What the definitions say of a snapshot and a range of its operations.
 #[derive(Drop)]
 pub struct Own<F> {
     /// The canonical root.
     pub root: FixedBytes<32>,
-    /// The operations root.
-    pub ops_root: FixedBytes<32>,
-    /// The range proof of the grafted view.
-    pub range: Proof<F, FixedBytes<32>>,
+    /// The range's proof, with the operations root.
+    pub range: RangeProof<F, FixedBytes<32>>,
     /// The chunk with the range's first bit.
     pub chunk: Vec<u8>,
 }
@@ -118,8 +144,7 @@ pub fn own_answers<F: Digits, const N: usize>(
     };
     Ok(Own {
         root: canonical_root::<F, Sha256, _>(alloc, &snapshot)?,
-        ops_root: ops_root::<F, Sha256, _>(alloc, &snapshot)?,
-        range: own_range::<F, Sha256, _>(alloc, &snapshot, start, end)?,
+        range: own_current::<F, Sha256, _>(alloc, &snapshot, start, end)?,
         chunk: chunk(alloc, N, &bits, start / (8 * N as u64))?,
     })
 }

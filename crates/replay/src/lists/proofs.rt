@@ -1,8 +1,11 @@
 //! Lists on plans and plain range proofs.
 
 use crate::columns::{Fault, Series, digest, digests, number, strings};
+use crate::lists::plain;
 use crate::lists::refusals::merkle_refusal;
+use reference::shape::Digits;
 use std::alloc::Global;
+use storage_codec::codec::FixedBytes;
 use storage_codec::digest::{Digest, Sha256};
 use storage_merkle::merkle::hasher::Standard;
 use storage_merkle::merkle::{Bagging, ElementPlan, Family, Location, Proof, RangePlan};
@@ -53,22 +56,37 @@ fn bagging(word: &str) -> Result<Bagging, Fault> {
 
 /// `bagging leaves inactive digests start elements root label`: whether the proof is accepted, and the root that it
 /// gives. The label says how the case was made.
-pub fn plain_checks<F: Family>(alloc: Global, columns: &[&str]) -> Result<String, Fault> {
+pub fn plain_checks<F: Digits>(alloc: Global, columns: &[&str]) -> Result<String, Fault> {
     let [direction, leaves, inactive, nodes, start, items, root, _] = columns else {
         return Err(Fault::Malformed);
     };
-    let hasher = Standard::<Sha256>::new(bagging(*direction)?);
+    let bagging = bagging(*direction)?;
     let proof = Proof::<F, _> {
         leaves: Location::new(number(*leaves)?),
         inactive_peaks: number(*inactive)? as usize,
         digests: digests(alloc, *nodes)?,
     };
-    let start = Location::new(number(*start)?);
+    let start = number(*start)?;
     let items = strings(alloc, *items)?;
     let root = digest(*root)?;
-    let verdict = proof.verify_range_inclusion(alloc, &hasher, items.as_slice(), start, &root)?;
+    let fast = plain_check(alloc, bagging, &proof, start, &items, &root)?;
+    let plain = plain::plain_check(alloc, bagging, &proof, start, &items, &root)?;
+    plain::agreed(fast, plain.as_str())
+}
+
+fn plain_check<F: Family>(
+    alloc: Global,
+    bagging: Bagging,
+    proof: &Proof<F, FixedBytes<32>>,
+    start: u64,
+    items: &[Vec<u8>],
+    root: &FixedBytes<32>,
+) -> Result<String, Fault> {
+    let hasher = Standard::<Sha256>::new(bagging);
+    let start = Location::new(start);
+    let verdict = proof.verify_range_inclusion(alloc, &hasher, items, start, root)?;
     let verdict = if verdict { "yes" } else { "no" };
-    match proof.reconstruct_root(alloc, &hasher, items.as_slice(), start) {
+    match proof.reconstruct_root(alloc, &hasher, items, start) {
         Ok(root) => {
             let root = hex::encode(alloc, root.bytes())?;
             Ok(format!(in alloc; "{verdict} {root}")?)

@@ -49,8 +49,7 @@ fn over<F: Graftable + Digits>(
 
 /// `floor bits operations start count`: for `golden` the canonical root, the operations root, the proof of the range and,
 /// where it has one location, of the operation there; for `ranges` the proof of the range, the root, and whether the proof
-/// is accepted. Roots, the digests, leaves and inactive peaks of each proof, and the chunk and location of an operation's are
-/// compared with the plain program's.
+/// is accepted. Roots and proofs are compared with the plain program's.
 fn over_snapshot<F: Graftable + Digits, const N: usize>(
     alloc: Global,
     list: &str,
@@ -157,7 +156,7 @@ impl<F: Graftable, const N: usize> Served<F, N> {
         let floor = Location::new(floor);
         match Snapshot::new(alloc, operations, bits, floor) {
             Ok(snapshot) => {
-                if snapshot.root() != own.root || snapshot.ops_root() != own.ops_root {
+                if snapshot.root() != own.root || snapshot.ops_root() != own.range.ops_root {
                     return Err(Fault::Differs);
                 }
                 Ok(Served {
@@ -170,9 +169,9 @@ impl<F: Graftable, const N: usize> Served<F, N> {
         }
     }
 
-    /// Whether a proof has the leaves, the inactive peaks and the digests of the own one.
+    /// Whether a proof is the own one.
     fn compare(&self, proof: &RangeProof<F, FixedBytes<32>>) -> Result<(), Fault> {
-        if proof.proof == self.own.range && proof.ops_root == self.own.ops_root {
+        if *proof == self.own.range {
             Ok(())
         } else {
             Err(Fault::Differs)
