@@ -33,3 +33,5 @@ pub mod Meaning
 pub mod Built
 pub mod KeptRoots
 pub mod Served
+pub mod MultiSound
+pub mod MultiOwn

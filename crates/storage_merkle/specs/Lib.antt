@@ -36,3 +36,4 @@ pub mod Siblings
 pub mod Rests
 pub mod Checks
 pub mod CheckSteps
+pub mod Multi

@@ -1,0 +1,5 @@
+use Rattle.storage_merkle.proofs.MultiSound.{multi_sound}
+use Rattle.storage_merkle.proofs.laws.multi.multi_proofs_are_sound.Goals as goal
+
+pub returns : goal.returns
+returns c = multi_sound
