@@ -1,1 +1,4 @@
 pub mod Bits
+pub mod BitStrings
+pub mod BitSound
+pub mod BitOwn

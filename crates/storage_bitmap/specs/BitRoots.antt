@@ -15,19 +15,19 @@ partial_string root len last = root ++ (be8 len ++ last)
 abbrev pub is_aligned : ℕ → ℕ → Bool
 is_aligned n len = eqb (len % (8 * n)) 0
 
+-- the chunk of n bytes after the complete ones, filled up with zeros
+abbrev pub partial_chunk : ℕ → List Bool → List ℕ
+partial_chunk n bits = chunk n bits (length bits / (8 * n))
+
 -- chunks of n bytes
 module _ (h : HashFunction) (b : Bagging) (n : ℕ) (bits : List Bool) where
   -- the root of the tree over the complete chunks
   abbrev pub chunks_root : List ℕ
   chunks_root = tree_root h (ungrafted mmr) b (listed (complete n bits)) 0
 
-  -- the chunk after the complete ones, filled up with zeros
-  abbrev pub partial_chunk : List ℕ
-  partial_chunk = chunk n bits (length bits / (8 * n))
-
   -- the string of the root of these bits where they do not fill their chunks
   abbrev pub unaligned_string : List ℕ
-  unaligned_string = partial_string chunks_root (length bits) (h partial_chunk)
+  unaligned_string = partial_string chunks_root (length bits) (h (partial_chunk n bits))
 
   abbrev pub bit_root : List ℕ
   bit_root = if is_aligned n (length bits) then chunks_root else h unaligned_string
@@ -36,4 +36,4 @@ module _ (h : HashFunction) (b : Bagging) (n : ℕ) (bits : List Bool) where
   abbrev pub bit_strings : List (List ℕ)
   bit_strings =
       if is_aligned n (length bits) then tree_strings h (ungrafted mmr) b (listed (complete n bits)) 0
-      else unaligned_string ∷ (partial_chunk ∷ tree_strings h (ungrafted mmr) b (listed (complete n bits)) 0)
+      else unaligned_string ∷ (partial_chunk n bits ∷ tree_strings h (ungrafted mmr) b (listed (complete n bits)) 0)

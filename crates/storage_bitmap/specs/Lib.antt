@@ -1,3 +1,4 @@
 pub mod Chunks
 pub mod Packed
 pub mod BitRoots
+pub mod BitProofs
