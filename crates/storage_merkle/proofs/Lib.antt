@@ -3,6 +3,7 @@ pub mod Agreeing
 pub mod Distinct
 pub mod RangeSound
 pub mod RangeOwn
+pub mod Extracted
 pub mod Examples
 pub mod Keeping
 pub mod Topmost

@@ -101,7 +101,7 @@ module _ (T : Layout) (L : Laws T.shape) where
           let none : count m (positions T ss) ≡ 0 = ap (λ p. count p (positions T ss)) (sym (eqb-true (position_of T s) m e)) ∙ none_there s ss a.0 a.1 gone in
           omega arith
 
-strictly : (xs : List ℕ) → Rising xs → ((m : ℕ) → count m xs ≤ 1) → (k : ℕ) → k + 1 < length xs → get_or xs k 0 < get_or xs (k + 1) 0
+pub strictly : (xs : List ℕ) → Rising xs → ((m : ℕ) → count m xs ≤ 1) → (k : ℕ) → k + 1 < length xs → get_or xs k 0 < get_or xs (k + 1) 0
 strictly [] r o k l = absurd (omega arith)
 strictly (x ∷ []) r o k l = absurd (omega arith)
 strictly (x ∷ (y ∷ zs)) r o zero l = go (eqb y x) refl

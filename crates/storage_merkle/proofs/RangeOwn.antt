@@ -1,14 +1,14 @@
 -- The own proof of a tree is accepted.
-use Rattle.std.proofs.Common.{◌≡◌, ◌≢◌, ℕ, zero, suc, ◌+◌, ◌-◌, ◌*◌, ◌%◌, ◌<◌, ◌≤◌, ◌^◌, List, [], ◌∷◌, ◌++◌, length, map, take, drop, get_or, Bool, true, false, if◌then◌else◌, ◌⊎◌, inl, inr, refl, sym, ap, ap₂, ◌∙◌, arith, subst, Option, Some, None, leb, leb-false, eqb, eqb-true, ◌&&◌, ◌||◌, pow_pos}
-use Rattle.std.proofs.lemmas.List.{length-map, map-append}
+use Rattle.std.proofs.Common.{◌≡◌, ℕ, zero, suc, ◌+◌, ◌-◌, ◌%◌, ◌<◌, ◌≤◌, ◌^◌, List, [], ◌∷◌, ◌++◌, length, map, get_or, Bool, true, false, if◌then◌else◌, inl, inr, refl, sym, ap, ap₂, ◌∙◌, arith, subst, Option, Some, None, leb, leb-false, eqb, eqb-true, ◌&&◌, pow_pos}
+use Rattle.std.proofs.lemmas.List.{length-map}
 use Rattle.storage_codec.specs.Digests.{HashFunction}
-use Rattle.storage_merkle.specs.Shape.{Laws, Inside, AreAligned, leaves_of}
+use Rattle.storage_merkle.specs.Shape.{Laws, Inside, AreAligned}
 use Rattle.storage_merkle.specs.Multiples.{pow_two, multiple_down, multiple_add, power_multiple}
 use Rattle.storage_merkle.specs.Calc.{Site, front, back, node, Calc, given, leaf, pair, graft, be8, grafted_digest, Values, eval, Agree}
 use Rattle.storage_merkle.specs.declared.merkle.bagging.Bagging.{Bagging}
 use Rattle.storage_merkle.specs.declared.merkle.bagging.Bagging.TheVariants.{ForwardFold, BackwardFold}
-use Rattle.storage_merkle.specs.Trees.{Layout, Content, Peak, places, peaks_of, folded, unfolded, bag, eval_bag, part, tree_bag, plain, tree_root, root_head, node_calc, join_calc, fold_forward, fold_backward}
-use Rattle.storage_merkle.specs.RangeProofs.{RangeProof, apart, leading, not_leading, up_to, trailing, front_given, back_given, check_bag, own_proof, IsAccepted, IsOwn, check_values, check_string, range_sites, look_up, same_site, sites_of, sites_over, sites_in, front_sites, back_sites, by_position}
+use Rattle.storage_merkle.specs.Trees.{Layout, Content, Peak, places, peaks_of, folded, unfolded, bag, eval_bag, part, tree_root, root_head, node_calc, join_calc, fold_forward, fold_backward}
+use Rattle.storage_merkle.specs.RangeProofs.{RangeProof, apart, leading, not_leading, up_to, trailing, front_given, back_given, check_bag, own_proof, IsAccepted, IsOwn, check_values, look_up, same_site, sites_of, sites_over, sites_in, front_sites, back_sites, by_position}
 use Rattle.storage_merkle.proofs.Prune.{up_to-all}
 use Rattle.storage_merkle.proofs.Agreeing.{AllPeaks, AgreeAll, AgreeBag, up_to-leading}
 use Rattle.storage_merkle.proofs.Distinct.{times, one_if, times-append, times-join, times-by_position, times-in, same_itself}
@@ -50,12 +50,12 @@ found none w (t ∷ ts) s l = go (same_site s t) refl (found none w ts s)
     go false e rest = rest (let f : one_if (same_site t s) ≡ 0 = ap one_if (other_way s t e) in omega arith)
 
 -- sublists of peaks
-all_not_leading : (low : ℕ) (Q : Peak → Type 0) (ps : List Peak) → AllPeaks Q ps → AllPeaks Q (not_leading low ps)
+pub all_not_leading : (low : ℕ) (Q : Peak → Type 0) (ps : List Peak) → AllPeaks Q ps → AllPeaks Q (not_leading low ps)
 all_not_leading low Q [] a = tt
 all_not_leading low Q (p ∷ ps) a =
     elim (leb (p.first + 2 ^ p.height) low) as (λ b. AllPeaks Q (if b then not_leading low ps else p ∷ ps)) [ true ↦ all_not_leading low Q ps a.1 | false ↦ a ]
 
-all_up_to : (high : ℕ) (Q : Peak → Type 0) (ps : List Peak) → AllPeaks Q ps → AllPeaks Q (up_to high ps)
+pub all_up_to : (high : ℕ) (Q : Peak → Type 0) (ps : List Peak) → AllPeaks Q ps → AllPeaks Q (up_to high ps)
 all_up_to high Q [] a = tt
 all_up_to high Q (p ∷ ps) a =
     elim (leb high p.first) as (λ b. AllPeaks Q (if b then [] else p ∷ up_to high ps)) [ true ↦ tt | false ↦ (a.0, all_up_to high Q ps a.1) ]

@@ -23,6 +23,7 @@ pub mod RangeProofs
 pub mod Hashing
 pub mod HashingLaws
 pub mod Soundness
+pub mod Extracted
 pub mod Kept
 pub mod KeptLaws
 pub mod Rewriting

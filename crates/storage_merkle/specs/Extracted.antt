@@ -1,0 +1,78 @@
+-- The digests that an accepted check of a range proof hands out.
+use Rattle.std.specs.Prelude.{◌≡◌, ◌≢◌, ℕ, zero, suc, ◌+◌, ◌≤◌, ◌^◌, ◌⊎◌, List, [], ◌∷◌, ◌++◌, length, map, Bool, if◌then◌else◌}
+use Rattle.std.specs.List.Sorted.{IsStrictlyIncreasing}
+use Rattle.storage_codec.specs.Digests.{HashFunction, IsSized, Cross}
+use Rattle.storage_merkle.specs.Shape.{Laws}
+use Rattle.storage_merkle.specs.Calc.{Site, front, back, node, Values, eval}
+use Rattle.storage_merkle.specs.declared.merkle.bagging.Bagging.{Bagging}
+use Rattle.storage_merkle.specs.Trees.{Layout, Content, Peak, node_calc, peaks_of, tree_root, tree_strings}
+use Rattle.storage_merkle.specs.RangeProofs.{RangeProof, apart, not_leading, up_to, position_of, by_position, check_values, check_strings, CountsFit, IsEmptyProof, IsAccepted, AreDigests}
+use Rattle.storage_merkle.specs.Multi.{tree_digest}
+
+-- the nodes whose digests the calculation of a node reads or computes, children first
+abbrev pub nodes_under : (ℕ → ℕ → Bool) → ℕ → ℕ → List Site
+nodes_under cut zero a = node a zero ∷ []
+nodes_under cut (suc k) a = (if cut a (suc k) then [] else nodes_under cut k a ++ nodes_under cut k (a + 2 ^ k)) ++ (node a (suc k) ∷ [])
+
+abbrev pub nodes_in : (ℕ → ℕ → Bool) → List Peak → List Site
+nodes_in cut [] = []
+nodes_in cut (p ∷ ps) = nodes_under cut p.height p.first ++ nodes_in cut ps
+
+-- each node of the peaks that share a leaf with a range that the check reads or computes, by position
+abbrev pub extracted_sites : Layout → ℕ → ℕ → ℕ → List Site
+extracted_sites T n low high = by_position T (nodes_in (apart low high) (up_to high (not_leading low (peaks_of T n))))
+
+-- digests with their positions
+abbrev pub entries : Layout → (Site → List ℕ) → List Site → List (ℕ × List ℕ)
+entries T digest ss = map (λ s. (position_of T s, digest s)) ss
+
+-- the digest that a calculation has at a node
+abbrev pub digest_at : HashFunction → Values → Layout → (ℕ → ℕ → Bool) → Site → List ℕ
+digest_at h v T cut front = h []
+digest_at h v T cut back = h []
+digest_at h v T cut (node a k) = eval h v (node_calc T cut k a)
+
+-- what an accepted check hands out
+abbrev pub extracted : HashFunction → Layout → Bagging → RangeProof → ℕ → Content → List (ℕ × List ℕ)
+extracted h T b proof start claim =
+    entries T (digest_at h (check_values h T b proof start claim) T (apart start (start + length claim.elements))) (extracted_sites T proof.leaves start (start + length claim.elements))
+
+-- what the tree over some content has there
+abbrev pub tree_entries : HashFunction → Layout → Content → ℕ → ℕ → List (ℕ × List ℕ)
+tree_entries h T content low high = entries T (tree_digest h T content) (extracted_sites T (length content.elements) low high)
+
+-- the counts fit to a range of some elements, or it is the proof of none
+abbrev pub Fits : HashFunction → Layout → Bagging → RangeProof → ℕ → Content → Type 0
+Fits h T b proof start claim = CountsFit h T b proof start claim ⊎ IsEmptyProof h T b proof start claim
+
+-- Of each tree with that root some property holds, or one of the strings and a different one of the tree have one digest. Digests
+-- have d bytes and chunks N; which nodes have a chunk grafted may depend on the number of leaves.
+abbrev pub HoldsOfEach : ℕ → HashFunction → Layout → Bagging → ℕ → Content → List (List ℕ) → List ℕ → (Layout → Content → ℕ → Type 0) → Type 0
+HoldsOfEach d h T b leaves claim strings root P =
+    (N : ℕ) (grafted : ℕ → ℕ → ℕ → Bool) →
+    let over : ℕ → Layout = λ n. record { shape = T.shape; grafted = grafted n } in
+    T ≡ over leaves → N ≢ 8 + d → ((a : ℕ) → length (claim.chunk a) ≡ N) →
+    (content : Content) (inactive : ℕ) → ((a : ℕ) → length (content.chunk a) ≡ N) →
+    length content.elements ≤ 2 ^ 62 → inactive ≤ length (T.shape.peaks (length content.elements)) →
+    tree_root h (over (length content.elements)) b content inactive ≡ root →
+    P (over (length content.elements)) content inactive ⊎ Cross h strings (tree_strings h (over (length content.elements)) b content inactive)
+
+-- what a check hands out is what each tree with that root has there, digest by digest
+abbrev pub AreExtracted : ℕ → HashFunction → Layout → Bagging → RangeProof → ℕ → Content → List ℕ → Type 0
+AreExtracted d h T b proof start claim root =
+    HoldsOfEach d h T b proof.leaves claim (check_strings h T b proof start claim) root
+    (λ U content inactive. extracted h T b proof start claim ≡ tree_entries h U content start (start + length claim.elements))
+
+-- Each digest that an accepted check hands out is the tree's at its position, or a string of the check and a different one of the
+-- tree have one digest.
+abbrev pub ExtractedDigestsAreTrue : Type 0
+ExtractedDigestsAreTrue =
+    (d : ℕ) (h : HashFunction) (T : Layout) (b : Bagging) (proof : RangeProof) (start : ℕ) (claim : Content) (root : List ℕ) →
+    IsSized d h → Laws T.shape → AreDigests d proof.digests → IsAccepted h T b proof start claim root →
+    AreExtracted d h T b proof start claim root
+
+-- What a check hands out ascends by position, each position once.
+abbrev pub ExtractedPositionsAscend : Type 0
+ExtractedPositionsAscend =
+    (h : HashFunction) (T : Layout) (b : Bagging) (proof : RangeProof) (start : ℕ) (claim : Content) →
+    Laws T.shape → IsStrictlyIncreasing (map (λ e. e.0) (extracted h T b proof start claim))

@@ -1,0 +1,14 @@
+//! The digests that a check hands out.
+
+ghost use Rattle.storage_merkle.specs.Extracted.{ExtractedDigestsAreTrue, ExtractedPositionsAscend};
+
+/// Each digest that an accepted check hands out is the tree's at its position, for a tree with grafted chunks too, or two
+/// different strings have one digest, one hashed by the check and one by the tree.
+pub fn extracted_digests_are_true()
+    ensures { ExtractedDigestsAreTrue }
+{}
+
+/// What a check hands out ascends by position, each position once.
+pub fn extracted_positions_ascend()
+    ensures { ExtractedPositionsAscend }
+{}
