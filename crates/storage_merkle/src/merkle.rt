@@ -23,7 +23,7 @@ pub use order::peaks_ascending;
 pub use peaks::{NodesToPin, Peaks};
 pub use plan::{ElementPlan, RangePlan};
 pub use position::Position;
-pub use proof::Proof;
+pub use proof::{LentProof, Proof};
 pub use storage::{Readable, Storage};
 
 /// The most leaves that a tree may have.

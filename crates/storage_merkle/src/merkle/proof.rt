@@ -14,6 +14,9 @@ use storage_codec::digest::Digest;
 
 mod check;
 mod codec;
+mod lent;
+
+pub use lent::LentProof;
 
 /// A proof that elements stand at a range of leaves.
 #[derive(Drop)]
@@ -105,7 +108,7 @@ impl<F: Family, D: Digest> Proof<F, D> {
         requires { TakesTree (H.takes hasher.now) F.shape self.now.leaves }
         ensures { (H.layout hasher.now).shape ≡ F.shape → IfOk result (λ root. IsRecomputed H.hash_of (H.layout hasher.now) (H.bagging hasher.now) (record { leaves = self.now.leaves; inactive = self.now.inactive_peaks; digests = map D.text self.now.digests.items }) start (record { elements = map E.items elements.now; chunk = H.chunk hasher.now }) (option_map D.text root)) }
     {
-        check::recompute(self, alloc, hasher, elements, start)
+        self.lent().recompute_root(alloc, hasher, elements, start)
     }
 
     /// The root of the tree in which the elements stand at the leaves from `start` on.
@@ -127,6 +130,19 @@ impl<F: Family, D: Digest> Proof<F, D> {
         match self.recompute_root(alloc, hasher, elements, start)? {
             Some(root) => Ok(root),
             None => Err(Error::InvalidProof),
+        }
+    }
+
+    /// The same proof, with its digests lent.
+    fn lent(&self) -> LentProof<F, D>
+        ensures leaves { result.leaves ≡ self.now.leaves }
+        ensures inactive { result.inactive_peaks ≡ self.now.inactive_peaks }
+        ensures digests { result.digests.now ≡ self.now.digests.items }
+    {
+        LentProof {
+            leaves: self.leaves,
+            inactive_peaks: self.inactive_peaks,
+            digests: &self.digests,
         }
     }
 

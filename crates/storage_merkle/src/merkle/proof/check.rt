@@ -13,7 +13,8 @@ ghost use Rattle.storage_merkle.specs.Trees.{part, node_calc, ungrafted};
 use crate::merkle::family::power;
 use crate::merkle::hasher::{Hasher, append, bagged_root, join};
 use crate::merkle::plan::{Rest, is_apart, node_position, peak_count, siblings};
-use crate::merkle::{Family, Location, MAX_LEAVES, Position, Proof};
+use crate::merkle::proof::LentProof;
+use crate::merkle::{Family, Location, MAX_LEAVES, Position};
 use std::alloc::Global;
 use std::convert::AsSlice;
 use storage_codec::NoMemory;
@@ -21,14 +22,14 @@ use storage_codec::digest::Digest;
 
 /// The root; none where a count does not fit or there are no elements.
 pub(crate) fn recompute<F: Family, H: Hasher<F>, E: AsSlice<u8>>(
-    proof: &Proof<F, H::Digest>,
+    proof: &LentProof<F, H::Digest>,
     alloc: Global,
     hasher: &H,
     elements: &[E],
     start: Location<F>,
 ) -> Result<Option<H::Digest>, NoMemory>
     requires { TakesTree (H.takes hasher.now) F.shape proof.now.leaves }
-    ensures { (H.layout hasher.now).shape ≡ F.shape → IfOk result (λ root. IsRecomputed H.hash_of (H.layout hasher.now) (H.bagging hasher.now) (record { leaves = proof.now.leaves; inactive = proof.now.inactive_peaks; digests = map H.Digest.text proof.now.digests.items }) start (record { elements = map E.items elements.now; chunk = H.chunk hasher.now }) (option_map H.Digest.text root)) }
+    ensures { (H.layout hasher.now).shape ≡ F.shape → IfOk result (λ root. IsRecomputed H.hash_of (H.layout hasher.now) (H.bagging hasher.now) (record { leaves = proof.now.leaves; inactive = proof.now.inactive_peaks; digests = map H.Digest.text proof.now.digests.now }) start (record { elements = map E.items elements.now; chunk = H.chunk hasher.now }) (option_map H.Digest.text root)) }
 {
     let leaves = proof.leaves.as_u64();
     let start = start.as_u64();
