@@ -18,3 +18,4 @@ mod Written
 pub mod OwnSites
 pub mod OwnWritten
 mod Built
+mod Required

@@ -11,3 +11,4 @@ pub mod CurrentWire
 pub mod CurrentWireLaws
 pub mod BuiltProofs
 pub mod OwnWire
+pub mod Required

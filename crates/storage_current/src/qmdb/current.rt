@@ -4,7 +4,9 @@ mod chunks;
 pub mod grafting;
 mod nodes;
 pub mod proof;
+mod required;
 mod root;
 mod snapshot;
 
+pub use required::{RequiredChunks, required_chunks};
 pub use snapshot::Snapshot;

@@ -1,0 +1,108 @@
+//! Which chunks are read for a proof.
+
+ghost use Rattle.std.specs.Prelude.{◌≡◌, ◌↔◌, ℕ, ◌+◌, ◌-◌, ◌*◌, ◌/◌, ◌%◌, ◌^◌, ◌<◌, ◌≤◌, ◌++◌, List, length, option_to_list, if◌then◌else◌, None, Some, IfOk, IfErr, OnOk, MatchOption};
+ghost use Rattle.std.specs.Iterator.{YieldsFirst, item_count};
+ghost use Rattle.std.specs.List.{Contains};
+ghost use Rattle.std.specs.List.Sorted.{IsStrictlyIncreasing};
+ghost use Rattle.storage_bitmap.specs.Chunks.{IsChunkSize};
+ghost use Rattle.storage_current.specs.Required.{AreConsistent, IsRequired, IsThere, IsUntold};
+ghost use Rattle.storage_current.specs.Snapshots.{Grafting};
+
+use crate::qmdb::current::grafting;
+use std::iter::FusedIterator;
+use std::marker::Model;
+use storage_merkle::merkle::{self, Graftable, Location};
+use storage_ops::qmdb::Error;
+
+/// The indices of chunks that are read for a proof, increasing and each once: at most three. It ends, and takes no memory.
+#[derive(Drop)]
+pub struct RequiredChunks {
+    queried: Option<u64>,
+    pending: Option<u64>,
+    partial: Option<u64>,
+}
+
+impl Model for RequiredChunks {
+    ghost use Rattle.std.specs.Prelude.{ℕ, List, ◌++◌, option_to_list};
+
+    ghost Value = { List ℕ };
+
+    ghost view = { λ s. option_to_list s.queried ++ (option_to_list s.pending ++ option_to_list s.partial) };
+}
+
+impl Iterator for RequiredChunks {
+    type Item = u64;
+
+    ghost next_gives = { YieldsFirst (λ rest. rest) };
+
+    ghost remaining = { item_count (λ rest. rest) };
+
+    fn next(&mut self) -> Option<u64> {
+        if let Some(chunk) = self.queried.take() {
+            return Some(chunk);
+        }
+        if let Some(chunk) = self.pending.take() {
+            return Some(chunk);
+        }
+        self.partial.take()
+    }
+}
+
+impl FusedIterator for RequiredChunks {}
+
+/// The chunks that a proof reads over so many operations and as many bits, of which so many chunks are pruned: the
+/// partial chunk, the pending chunk, and for the proof of one operation the chunk of its location. Takes no memory.
+///
+/// # Errors
+///
+/// The first of: `DataCorrupted` where more than one complete chunk is not graftable, or one that is not graftable is
+/// pruned; `RangeOutOfBounds` of the location where it is at or past the number of operations or of bits;
+/// `OperationPruned` of it where its chunk is pruned.
+pub fn required_chunks<F: Graftable, const N: usize>(
+    ops_leaves: Location<F>,
+    bitmap_len: u64,
+    pruned_chunks: u64,
+    location: Option<Location<F>>,
+) -> Result<RequiredChunks, Error<F>>
+    requires { IsChunkSize N }
+    ensures chunks { let g : Grafting = record { shape = F.shape; bytes = N } in IfOk result (λ chunks. (j : ℕ) → (Contains chunks j ↔ IsRequired g ops_leaves bitmap_len location j)) }
+    ensures rising { IfOk result (λ chunks. IsStrictlyIncreasing chunks) }
+    ensures few { IfOk result (λ chunks. length chunks ≤ 3) }
+    ensures consistent { let g : Grafting = record { shape = F.shape; bytes = N } in OnOk result (AreConsistent g ops_leaves bitmap_len pruned_chunks) }
+    ensures there { let g : Grafting = record { shape = F.shape; bytes = N } in OnOk result (MatchOption location (Unit {0}) (IsThere g ops_leaves bitmap_len pruned_chunks)) }
+    ensures why { let g : Grafting = record { shape = F.shape; bytes = N } in IfErr result (IsUntold g ops_leaves bitmap_len pruned_chunks location) }
+{
+    let height = grafting::height::<N>();
+    let leaves = ops_leaves.as_u64();
+    let complete = bitmap_len >> height;
+    let graftable = grafting::graftable_chunks::<F>(leaves, height).min(complete);
+    if complete - graftable > 1 || pruned_chunks > graftable {
+        return Err(Error::DataCorrupted("more than one pending chunk, or pruned too far"));
+    }
+    let queried = match location {
+        None => None,
+        Some(loc) => {
+            let index = loc.as_u64();
+            if index >= leaves || index >= bitmap_len {
+                return Err(Error::Merkle(merkle::Error::RangeOutOfBounds(loc)));
+            }
+            let chunk = index >> height;
+            if chunk < pruned_chunks {
+                return Err(Error::OperationPruned(loc));
+            }
+            present(chunk < graftable, chunk)
+        }
+    };
+    Ok(RequiredChunks {
+        queried,
+        pending: present(graftable < complete, graftable),
+        partial: present(bitmap_len % grafting::power(height) != 0, complete),
+    })
+}
+
+/// The chunk, where it is there.
+fn present(is_there: bool, chunk: u64) -> Option<u64>
+    ensures { result ≡ (if is_there then Some chunk else None) }
+{
+    if is_there { Some(chunk) } else { None }
+}
