@@ -9,6 +9,7 @@ pub mod Witnesses
 pub mod Families
 pub mod Examples
 mod Grafts
+mod Raised
 pub mod Windows
 mod Checks
 mod NodeSteps

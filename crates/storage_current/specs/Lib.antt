@@ -3,6 +3,7 @@ pub mod CurrentProofs
 pub mod GraftingLaws
 pub mod CurrentSoundness
 pub mod Grafted
+pub mod Combined
 pub mod Windows
 pub mod Held
 pub mod NodeLists

@@ -4,8 +4,10 @@ ghost use Rattle.std.specs.Prelude.{◌≡◌, ℕ, ◌*◌, ◌^◌, ◌<◌, �
 ghost use Rattle.storage_merkle.specs.Calc.{grafted_digest, is_zero as all_zero};
 ghost use Rattle.storage_bitmap.specs.Chunks.{IsChunkSize};
 
+mod hasher;
 mod verifier;
 
+pub use hasher::GraftedHasher;
 use storage_codec::digest::{Digest, Hasher};
 pub use storage_merkle::merkle::family::{
     aligned_inactive, exact_inactive, graftable_chunks, grafted_to_ops_pos, ops_to_grafted_pos,
