@@ -95,7 +95,7 @@ lone ds e =
     let z : length ds - 1 ≡ 0 = omega arith in
     split_at_last 0 ds e ∙ ap (λ k. get_or ds k [] ∷ []) (sym z)
 
-front_length : (ds : List (List ℕ)) (x : List ℕ) → length (ds ++ x ∷ []) - 1 ≡ length ds
+pub front_length : (ds : List (List ℕ)) (x : List ℕ) → length (ds ++ x ∷ []) - 1 ≡ length ds
 front_length ds x = let e = length-append ds (x ∷ []) in omega arith
 
 pub take_front : (ds : List (List ℕ)) (x : List ℕ) → take (length (ds ++ x ∷ []) - 1) (ds ++ x ∷ []) ≡ ds

@@ -2,3 +2,4 @@ pub mod Chunks
 pub mod Packed
 pub mod BitRoots
 pub mod BitProofs
+pub mod BitSteps

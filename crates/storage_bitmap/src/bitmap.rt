@@ -1,5 +1,6 @@
 //! Lists of bits in chunks of bytes, of which those in front may be forgotten.
 
+pub mod authenticated;
 mod prunable;
 mod readable;
 
