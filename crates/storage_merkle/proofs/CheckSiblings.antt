@@ -23,22 +23,22 @@ contains_count m (x ∷ xs) l = go (eqb x m) refl l (contains_count m xs)
     go false e h f = let r = f (omega arith) in (suc r.0, omega (arith, r.1), r.2)
 
 -- ascending, at any default
-rising_list : (xs : List ℕ) → Rising xs → IsNonDecreasing xs
+pub rising_list : (xs : List ℕ) → Rising xs → IsNonDecreasing xs
 rising_list xs r = λ i j d u l.
     let at = rising_at xs r i j u l in
     omega (arith, at, get_or_default xs i d 0 (omega arith), get_or_default xs j d 0 l)
 
 -- sites that are nodes
-abbrev IsPlace : Site → Type 0
+abbrev pub IsPlace : Site → Type 0
 IsPlace front = ⊥
 IsPlace back = ⊥
 IsPlace (node a k) = a % 2 ^ k ≡ 0
 
-abbrev ArePlaces : List Site → Type 0
+abbrev pub ArePlaces : List Site → Type 0
 ArePlaces [] = Unit {0}
 ArePlaces (s ∷ ss) = IsPlace s × ArePlaces ss
 
-places_append : (ss ts : List Site) → ArePlaces ss → ArePlaces ts → ArePlaces (ss ++ ts)
+pub places_append : (ss ts : List Site) → ArePlaces ss → ArePlaces ts → ArePlaces (ss ++ ts)
 places_append [] ts p q = q
 places_append (s ∷ ss) ts p q = (p.0, places_append ss ts p.1 q)
 
@@ -51,12 +51,12 @@ module _ (T : Layout) where
         | false ↦ (q.0, places_in_place s ts p q.1)
       ]
 
-  places_sorted : (ss : List Site) → ArePlaces ss → ArePlaces (by_position T ss)
+  pub places_sorted : (ss : List Site) → ArePlaces ss → ArePlaces (by_position T ss)
   places_sorted [] p = tt
   places_sorted (s ∷ ss) p = places_in_place s (by_position T ss) p.0 (places_sorted ss p.1)
 
   module _ (cut : ℕ → ℕ → Bool) where
-    node_places : (k a : ℕ) → a % 2 ^ k ≡ 0 → ArePlaces (sites_of (node_calc T cut k a))
+    pub node_places : (k a : ℕ) → a % 2 ^ k ≡ 0 → ArePlaces (sites_of (node_calc T cut k a))
     node_places zero a h =
         elim (cut a zero) as (λ b. ArePlaces (sites_of (if b then given (node a zero) else leaf (be8 (T.shape.position a zero)) a))) [ true ↦ (h, tt) | false ↦ tt ]
     node_places (suc k) a h =
@@ -82,7 +82,7 @@ module _ (T : Layout) where
 
 -- digests at positions
 module _ (S : Shape) (L : Laws S) (digest : Site → List ℕ) where
-  serve_each : (ss : List Site) → ArePlaces ss → (a k i : ℕ) → a % 2 ^ k ≡ 0 → i < length (positions (ungrafted S) ss) → get_or (positions (ungrafted S) ss) i 0 ≡ S.position a k → get_or (map digest ss) i [] ≡ digest (node a k)
+  pub serve_each : (ss : List Site) → ArePlaces ss → (a k i : ℕ) → a % 2 ^ k ≡ 0 → i < length (positions (ungrafted S) ss) → get_or (positions (ungrafted S) ss) i 0 ≡ S.position a k → get_or (map digest ss) i [] ≡ digest (node a k)
   serve_each [] p a k i h l e = absurd (omega arith)
   serve_each (front ∷ ss) p a k i h l e = absurd p.0
   serve_each (back ∷ ss) p a k i h l e = absurd p.0
@@ -101,7 +101,7 @@ module _ (S : Shape) (L : Laws S) (digest : Site → List ℕ) where
 
 -- positions that are there
 module _ (S : Shape) where
-  present_all : (ss : List Site) (ps : List ℕ) → ((m : ℕ) → count m (positions (ungrafted S) ss) ≤ count m ps) → Present S ps ss
+  pub present_all : (ss : List Site) (ps : List ℕ) → ((m : ℕ) → count m (positions (ungrafted S) ss) ≤ count m ps) → Present S ps ss
   present_all [] ps f = tt
   present_all (s ∷ ss) ps f =
       let p : ℕ = position_of (ungrafted S) s in

@@ -34,7 +34,7 @@ module _ (T : Layout) where
         | false ↦ sites-join T a (suc k) l r ∙ ap₂ (λ ss ts. ss ++ ts) (plain_node cut k a) (plain_node cut k (a + 2 ^ k))
       ]
 
-  plain_in : (cut : ℕ → ℕ → Bool) (ps : List Peak) → sites_in T cut ps ≡ sites_in (ungrafted T.shape) cut ps
+  pub plain_in : (cut : ℕ → ℕ → Bool) (ps : List Peak) → sites_in T cut ps ≡ sites_in (ungrafted T.shape) cut ps
   plain_in cut [] = refl
   plain_in cut (p ∷ ps) = ap₂ (λ ss ts. ss ++ ts) (plain_node cut p.height p.first) (plain_in cut ps)
 
@@ -49,7 +49,7 @@ module _ (T : Layout) where
       ap₂ (λ x y. if leb x y then s ∷ t ∷ ts else t ∷ place_in T s ts) (plain_position s) (plain_position t)
       ∙ ap (λ us. if leb (position_of (ungrafted T.shape) s) (position_of (ungrafted T.shape) t) then s ∷ t ∷ ts else t ∷ us) (plain_place s ts)
 
-  plain_sorted : (ss : List Site) → by_position T ss ≡ by_position (ungrafted T.shape) ss
+  pub plain_sorted : (ss : List Site) → by_position T ss ≡ by_position (ungrafted T.shape) ss
   plain_sorted [] = refl
   plain_sorted (s ∷ ss) = plain_place s (by_position T ss) ∙ ap (place_in (ungrafted T.shape) s) (plain_sorted ss)
 
@@ -58,7 +58,7 @@ module _ (T : Layout) where
       let ps = up_to high (not_leading low (peaks_of T n)) in
       plain_sorted (sites_in T (apart low high) ps) ∙ ap (by_position (ungrafted T.shape)) (plain_in (apart low high) ps)
 
-agree_itself : (v : Values) (ss : List Site) → AgreeAt v v ss
+pub agree_itself : (v : Values) (ss : List Site) → AgreeAt v v ss
 agree_itself v [] = tt
 agree_itself v (s ∷ ss) = (refl, agree_itself v ss)
 

@@ -36,3 +36,8 @@ pub mod KeptRoots
 pub mod Served
 pub mod MultiSound
 pub mod MultiOwn
+pub mod MultiClaims
+pub mod MultiNeeded
+pub mod MultiNodes
+pub mod MultiChecks
+pub mod MultiMeaning

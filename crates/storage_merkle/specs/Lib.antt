@@ -38,3 +38,4 @@ pub mod Rests
 pub mod Checks
 pub mod CheckSteps
 pub mod Multi
+pub mod MultiSteps

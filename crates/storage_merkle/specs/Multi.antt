@@ -15,6 +15,10 @@ pub record Claim : Type 0 where
 abbrev pub locations : List Claim → List ℕ
 locations cs = map (λ c. c.location) cs
 
+-- elements with their locations, as claims
+abbrev pub claims_of : {E : Type 0} → (E → List ℕ) → List (E × ℕ) → List Claim
+claims_of items cs = map (λ c. record { location = c.1; element = items c.0 }) cs
+
 -- whether one of some locations is a leaf of the node of height k with first leaf a
 abbrev pub touched : List ℕ → ℕ → ℕ → Bool
 touched [] a k = false

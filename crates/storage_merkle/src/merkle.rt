@@ -8,6 +8,7 @@ mod location;
 pub mod mem;
 pub mod mmb;
 pub mod mmr;
+mod multi;
 mod order;
 mod peaks;
 mod plan;

@@ -2,11 +2,12 @@
 ghost use Rattle.std.specs.Prelude.{◌≡◌, ◌≢◌, ℕ, ◌+◌, ◌-◌, ◌*◌, ◌%◌, ◌^◌, ◌<◌, ◌≤◌, ◌↔◌, ◌⊎◌, List, [], ◌∷◌, length, map, option_map, Some, None, IsTrue, IsOk, IfOk, IfErr};
 ghost use Rattle.storage_merkle.specs.Checks.{IsRecomputed, IsProved};
 ghost use Rattle.storage_merkle.specs.Hashers.{TakesTree};
+ghost use Rattle.storage_merkle.specs.Multi.{IsMultiAccepted, IsMultiProved, claims_of};
 ghost use Rattle.storage_merkle.specs.RangeProofs.{IsAccepted, IsEmptyProof};
 ghost use Rattle.storage_merkle.specs.Trees.{Content, empty_root};
 
 use crate::merkle::hasher::Hasher;
-use crate::merkle::{Error, Family, Location};
+use crate::merkle::{Error, Family, Location, multi};
 use std::alloc::Global;
 use std::convert::AsSlice;
 use storage_codec::NoMemory;
@@ -94,6 +95,27 @@ impl<F: Family, D: Digest> Proof<F, D> {
         }
         let computed = self.recompute_root(alloc, hasher, elements, start)?;
         Ok(computed == Some(*root))
+    }
+
+    /// Whether elements stand at locations, which must ascend, of the tree with that root. The answer for no elements takes
+    /// no memory.
+    pub fn verify_multi_inclusion<H: Hasher<F, Digest = D>, E: AsSlice<u8>>(
+        &self,
+        alloc: Global,
+        hasher: &H,
+        elements: &[(E, Location<F>)],
+        root: &D,
+    ) -> Result<bool, NoMemory>
+        requires { TakesTree (H.takes hasher.now) F.shape self.now.leaves }
+        ensures exact { (H.layout hasher.now).shape ≡ F.shape → IfOk result (λ yes. IsTrue yes ↔ IsMultiAccepted H.hash_of (H.layout hasher.now) (H.bagging hasher.now) (record { leaves = self.now.leaves; inactive = self.now.inactive_peaks; digests = map D.text self.now.digests.items }) (claims_of E.items elements.now) (H.chunk hasher.now) (D.text root.now)) }
+        ensures means { (H.layout hasher.now).shape ≡ F.shape → IfOk result (λ yes. IsTrue yes → IsMultiProved D.size H.hash_of (H.layout hasher.now) (H.bagging hasher.now) (record { leaves = self.now.leaves; inactive = self.now.inactive_peaks; digests = map D.text self.now.digests.items }) (claims_of E.items elements.now) (H.chunk hasher.now) (D.text root.now)) }
+        ensures none { elements.now ≡ [] → IsOk result }
+    {
+        if elements.is_empty() {
+            return Ok(self.verify_nothing(hasher, Location::new(0), root));
+        }
+        let recomputed = multi::recompute(self, alloc, hasher, elements)?;
+        Ok(recomputed == Some(*root))
     }
 
     /// The root of the tree in which the elements stand at the leaves from `start` on; none where a count does not fit or

@@ -2,6 +2,7 @@
 
 mod greatest;
 mod mems;
+mod multi;
 mod proofs;
 mod shapes;
 mod wire;

@@ -1,0 +1,125 @@
+//! The nodes that a proof of some locations needs.
+ghost use Rattle.std.specs.Prelude.{◌≡◌, ℕ, ◌+◌, ◌-◌, ◌%◌, ◌^◌, ◌<◌, ◌≤◌, ◌↔◌, ◌++◌, map, IsTrue, IfOk, OnOk};
+ghost use Rattle.storage_merkle.specs.Multi.{Ascend, needed_sites, untouched};
+ghost use Rattle.storage_merkle.specs.RangeProofs.{position_of, sites_in, sites_of};
+ghost use Rattle.storage_merkle.specs.Rests.{peaks_from};
+ghost use Rattle.storage_merkle.specs.Shape.{AreAligned};
+ghost use Rattle.storage_merkle.specs.Trees.{node_calc, ungrafted};
+
+use crate::merkle::family::power;
+use crate::merkle::plan::node_position;
+use crate::merkle::{Family, Location, Position};
+use std::alloc::{AllocError, Global};
+
+/// What stands at a leaf.
+pub(crate) trait Located {
+    /// Its location.
+    ghost place: { Self → ℕ };
+
+    /// Its location.
+    fn location(&self) -> u64
+        ensures { result ≡ place self.now };
+}
+
+impl<F: Family> Located for Location<F> {
+    ghost place = { λ l. l };
+
+    fn location(&self) -> u64 {
+        self.as_u64()
+    }
+}
+
+impl<E, F: Family> Located for (E, Location<F>) {
+    ghost place = { λ c. c.1 };
+
+    fn location(&self) -> u64 {
+        self.1.as_u64()
+    }
+}
+
+/// Whether the locations ascend, each once, and are below the number of leaves.
+pub(crate) fn ascend<L: Located>(items: &[L], leaves: u64) -> bool
+    ensures { IsTrue result ↔ Ascend 0 leaves (map L.place items.now) }
+{
+    let mut first = 0;
+    for item in items {
+        let location = item.location();
+        if location < first || location >= leaves {
+            return false;
+        }
+        first = location + 1;
+    }
+    true
+}
+
+/// Of items whose locations ascend, those below a location and the others.
+pub(crate) fn split<L: Located>(items: &[L], middle: u64) -> (&[L], &[L])
+    ensures whole { items.now ≡ result.0.now ++ result.1.now }
+    ensures parts { (first end : ℕ) → Ascend first end (map L.place items.now) → middle ≤ end → Ascend first middle (map L.place result.0.now) × Ascend middle end (map L.place result.1.now) }
+{
+    items.split_at(items.partition_point(|item| item.location() < middle))
+}
+
+/// The positions of the greatest nodes that hold none of some locations, which ascend, in ascending order.
+pub(crate) fn needed<F: Family, L: Located>(
+    alloc: Global,
+    leaves: u64,
+    items: &[L],
+) -> Result<Vec<Position<F>>, AllocError>
+    requires few { leaves ≤ 2 ^ 62 }
+    requires rising { Ascend 0 leaves (map L.place items.now) }
+    ensures { IfOk result (λ v. v.items ≡ map (position_of (ungrafted F.shape)) (needed_sites (ungrafted F.shape) (map L.place items.now) leaves)) }
+{
+    let mut positions = Vec::new(alloc);
+    add_in_peaks(0, leaves, items, &mut positions)?;
+    positions.sort_unstable();
+    Ok(positions)
+}
+
+/// Adds the positions of those in the peaks over `left` leaves from the leaf `first` on.
+fn add_in_peaks<F: Family, L: Located>(
+    first: u64,
+    left: u64,
+    items: &[L],
+    positions: &mut Vec<Position<F>>,
+) -> Result<(), AllocError>
+    requires few { first + left ≤ 2 ^ 62 }
+    requires aligned { AreAligned (F.shape.peaks left) first }
+    requires rising { Ascend first (first + left) (map L.place items.now) }
+    ensures { OnOk result (positions.new.items ≡ positions.old.items ++ map (position_of (ungrafted F.shape)) (sites_in (ungrafted F.shape) (untouched (map L.place items.now)) (peaks_from F.shape first left))) }
+{
+    if left == 0 {
+        return Ok(());
+    }
+    let height = F::first_peak(left);
+    let next = first + power(height);
+    let (here, later) = split(items, next);
+    add_under(first, height, here, positions)?;
+    add_in_peaks(next, left - power(height), later, positions)
+}
+
+/// Adds the positions of those at or under a node.
+fn add_under<F: Family, L: Located>(
+    first: u64,
+    height: u32,
+    items: &[L],
+    positions: &mut Vec<Position<F>>,
+) -> Result<(), AllocError>
+    requires aligned { first % 2 ^ height ≡ 0 }
+    requires small { height ≤ 62 }
+    requires within { first + 2 ^ height ≤ 2 ^ 62 }
+    requires rising { Ascend first (first + 2 ^ height) (map L.place items.now) }
+    ensures { OnOk result (positions.new.items ≡ positions.old.items ++ map (position_of (ungrafted F.shape)) (sites_of (node_calc (ungrafted F.shape) (untouched (map L.place items.now)) height first))) }
+{
+    if items.is_empty() {
+        positions.push(node_position(first, height))?;
+        return Ok(());
+    }
+    if height == 0 {
+        return Ok(());
+    }
+    let middle = first + power(height - 1);
+    let (before, after) = split(items, middle);
+    add_under(first, height - 1, before, positions)?;
+    add_under(middle, height - 1, after, positions)
+}
