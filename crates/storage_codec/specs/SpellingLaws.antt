@@ -40,6 +40,11 @@ groups_same (suc left) m n xs ys e =
       ]
     ]
 
+-- A varint in front of other bytes is of one number, and what follows it is settled.
+pub varint_one : (m n : ℕ) (xs ys : List ℕ) → varint_text m ++ xs ≡ varint_text n ++ ys → (m ≡ n) × (xs ≡ ys)
+unfolding varint_text
+varint_one m n xs ys e = groups_same 9 m n xs ys e
+
 -- Byte vectors are equal exactly where their encodings are.
 pub vector_same : (xs ys : List ℕ) → (bytes_eq xs ys ≡ true → vector_text xs ≡ vector_text ys) × (vector_text xs ≡ vector_text ys → bytes_eq xs ys ≡ true)
 unfolding varint_text

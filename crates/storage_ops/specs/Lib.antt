@@ -1,5 +1,8 @@
+pub mod PrefixFree
+pub mod PrefixFreeLaws
 pub mod Operations
 pub mod OperationsLaws
+pub mod OperationPartsLaws
 pub mod Reading
 pub mod Updates
 pub mod UpdatesLaws

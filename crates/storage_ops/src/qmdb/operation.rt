@@ -2,6 +2,8 @@
 
 ghost use Rattle.std.specs.Prelude.{◌≡◌, ℕ, List, ◌↔◌, true, Bool, Option, option_map};
 ghost use Rattle.std.proofs.Common.{ap};
+ghost use Rattle.storage_ops.specs.PrefixFree.{IsPrefixFree};
+ghost use Rattle.storage_ops.specs.PrefixFreeLaws.{sized_prefix_free, vector_prefix_free};
 ghost use Rattle.storage_ops.specs.Vectors.{vector_clones};
 ghost use Rattle.std.proofs.lemmas.Slice.Eq.{bytes_eq-Decides};
 ghost use Rattle.storage_codec.specs.SpellingLaws.{vector_same};
@@ -28,6 +30,9 @@ pub trait Key: Codec + EncodeSize + Clone + Ord + Hash + Debug {
 
     /// A clone is seen and written as the key.
     ghost clones: { (x y : Self) → Self.is_clone x y → (Self.view y ≡ Self.view x) × (Self.text y ≡ Self.text x) };
+
+    /// No key's encoding begins another's, and keys that are seen alike are written alike.
+    ghost prefix_free: { IsPrefixFree Self.text Self.view };
 }
 
 /// An operation that may carry an inactivity floor.
@@ -93,6 +98,8 @@ impl<const N: usize> Key for FixedBytes<N> {
     ghost same = { λ x y. bytes_eq-Decides x.bytes y.bytes };
 
     ghost clones = { λ x y e. (ap (λ k. k.bytes) e, ap (λ k. k.bytes) e) };
+
+    ghost prefix_free = { sized_prefix_free (λ k. k.bytes) (λ k. k.bytes) N (λ k. k.full) (λ x y e. e) };
 }
 
 impl Key for U64 {
@@ -105,6 +112,8 @@ impl Key for U64 {
     ghost same = { λ x y. bytes_eq-Decides x.0.bytes y.0.bytes };
 
     ghost clones = { λ x y e. (ap (λ k. k.0.bytes) e, ap (λ k. k.0.bytes) e) };
+
+    ghost prefix_free = { sized_prefix_free (λ k. k.0.bytes) (λ k. k.0.bytes) 8 (λ k. k.0.full) (λ x y e. e) };
 }
 
 impl Key for Vec<u8> {
@@ -117,4 +126,6 @@ impl Key for Vec<u8> {
     ghost same = { λ x y. vector_same x.items y.items };
 
     ghost clones = { λ x y e. vector_clones x.items y.items e.0 };
+
+    ghost prefix_free = { vector_prefix_free (λ k. k.items) };
 }

@@ -1,6 +1,6 @@
 //! Operations: updates, deletions and commits.
 
-ghost use Rattle.std.specs.Prelude.{◌≡◌, ℕ, List, Ok, ◌++◌, IfOk, OnOk, OnErr};
+ghost use Rattle.std.specs.Prelude.{◌≡◌, ◌<◌, ◌^◌, ℕ, List, Ok, ◌++◌, IfOk, IfSome, OnOk, OnErr};
 ghost use Rattle.storage_codec.specs.Codec.{Answer, Gives};
 ghost use Rattle.storage_codec.specs.Parts.{AppendsStart, IsEnding};
 ghost use Rattle.storage_ops.specs.Operations.{OperationView, operation_map, parts, operation_key, operation_floor, is_update, is_delete, is_commit};
@@ -89,6 +89,11 @@ pub trait OperationCodec<F: Family, S: Update>: ValueEncoding {
     ghost operation_one: { (cfg : Self.ReadCfg) (x y : OperationView S.Key S S.Value) → Self.operation_fits cfg x → Self.operation_fits cfg y
         → Self.operation_text (operation_map S.Key.text S.text S.Value.text x) ≡ Self.operation_text (operation_map S.Key.text S.text S.Value.text y)
         → operation_map S.Key.view S.seen S.Value.view x ≡ operation_map S.Key.view S.seen S.Value.view y };
+
+    /// Equal encodings have equal parts, where a commit's floor is a `u64`.
+    ghost operation_parts: { (x y : OperationView S.Key S S.Value) → IfSome (operation_floor x) (λ n. n < 2 ^ 64) → IfSome (operation_floor y) (λ n. n < 2 ^ 64)
+        → Self.operation_text (operation_map S.Key.text S.text S.Value.text x) ≡ Self.operation_text (operation_map S.Key.text S.text S.Value.text y)
+        → operation_map S.Key.text S.text S.Value.text x ≡ operation_map S.Key.text S.text S.Value.text y };
 
     /// Operations that are seen as equal have parts that are seen as equal.
     ghost operation_same: { (x y : OperationView S.Key S S.Value) → Self.operation_view x ≡ Self.operation_view y

@@ -3,6 +3,8 @@
 ghost use Rattle.std.specs.Prelude.{◌≡◌, ℕ, List};
 ghost use Rattle.std.specs.Int.{w64, to_be_bytes};
 ghost use Rattle.std.proofs.Common.{ap};
+ghost use Rattle.storage_ops.specs.PrefixFree.{IsPrefixFree};
+ghost use Rattle.storage_ops.specs.PrefixFreeLaws.{number_prefix_free, sized_prefix_free, vector_prefix_free};
 ghost use Rattle.storage_ops.specs.Vectors.{vector_clones};
 
 use std::marker::PhantomData;
@@ -16,12 +18,18 @@ mod sealed {
 pub trait FixedValue: Codec + EncodeSize + Small + Read<Cfg = ()> + Clone {
     /// A clone is seen and written as the value.
     ghost clones: { (x y : Self) → Self.is_clone x y → (Self.view y ≡ Self.view x) × (Self.text y ≡ Self.text x) };
+
+    /// No value's encoding begins another's, and values that are seen alike are written alike.
+    ghost prefix_free: { IsPrefixFree Self.text Self.view };
 }
 
 /// A value of any size.
 pub trait VariableValue: Codec + EncodeSize + Clone {
     /// A clone is seen and written as the value.
     ghost clones: { (x y : Self) → Self.is_clone x y → (Self.view y ≡ Self.view x) × (Self.text y ≡ Self.text x) };
+
+    /// No value's encoding begins another's, and values that are seen alike are written alike.
+    ghost prefix_free: { IsPrefixFree Self.text Self.view };
 }
 
 /// How values are encoded: with one size, or with any.
@@ -31,6 +39,9 @@ pub trait ValueEncoding: sealed::Sealed {
 
     /// A clone is seen and written as the value.
     ghost clones: { (x y : Self.Value) → Self.Value.is_clone x y → (Self.Value.view y ≡ Self.Value.view x) × (Self.Value.text y ≡ Self.Value.text x) };
+
+    /// No value's encoding begins another's, and values that are seen alike are written alike.
+    ghost prefix_free: { IsPrefixFree Self.Value.text Self.Value.view };
 }
 
 /// Values of one size.
@@ -44,6 +55,8 @@ impl<V: FixedValue> ValueEncoding for FixedEncoding<V> {
     type Value = V;
 
     ghost clones = { V.clones };
+
+    ghost prefix_free = { V.prefix_free };
 }
 
 /// Values of any size.
@@ -57,32 +70,48 @@ impl<V: VariableValue> ValueEncoding for VariableEncoding<V> {
     type Value = V;
 
     ghost clones = { V.clones };
+
+    ghost prefix_free = { V.prefix_free };
 }
 
 impl<const N: usize> FixedValue for FixedBytes<N> {
     ghost clones = { λ x y e. (ap (λ k. k.bytes) e, ap (λ k. k.bytes) e) };
+
+    ghost prefix_free = { sized_prefix_free (λ v. v.bytes) (λ v. v.bytes) N (λ v. v.full) (λ x y e. e) };
 }
 
 impl FixedValue for u64 {
     ghost clones = { λ x y e. (e, ap (to_be_bytes w64) e) };
+
+    ghost prefix_free = { number_prefix_free };
 }
 
 impl VariableValue for u64 {
     ghost clones = { λ x y e. (e, ap (to_be_bytes w64) e) };
+
+    ghost prefix_free = { number_prefix_free };
 }
 
 impl<const N: usize> VariableValue for FixedBytes<N> {
     ghost clones = { λ x y e. (ap (λ k. k.bytes) e, ap (λ k. k.bytes) e) };
+
+    ghost prefix_free = { sized_prefix_free (λ v. v.bytes) (λ v. v.bytes) N (λ v. v.full) (λ x y e. e) };
 }
 
 impl FixedValue for U64 {
     ghost clones = { λ x y e. (ap (λ k. k.0.bytes) e, ap (λ k. k.0.bytes) e) };
+
+    ghost prefix_free = { sized_prefix_free (λ v. v.0.bytes) (λ v. v.0.bytes) 8 (λ v. v.0.full) (λ x y e. e) };
 }
 
 impl VariableValue for U64 {
     ghost clones = { λ x y e. (ap (λ k. k.0.bytes) e, ap (λ k. k.0.bytes) e) };
+
+    ghost prefix_free = { sized_prefix_free (λ v. v.0.bytes) (λ v. v.0.bytes) 8 (λ v. v.0.full) (λ x y e. e) };
 }
 
 impl VariableValue for Vec<u8> {
     ghost clones = { λ x y e. vector_clones x.items y.items e.0 };
+
+    ghost prefix_free = { vector_prefix_free (λ v. v.items) };
 }

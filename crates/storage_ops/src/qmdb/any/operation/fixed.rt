@@ -8,6 +8,7 @@ ghost use Rattle.storage_ops.specs.Operations.{OperationView, operation_map, par
 ghost use Rattle.storage_ops.specs.UpdatesLaws.{ordered_sized, ordered_back, unordered_sized, unordered_back};
 ghost use Rattle.storage_ops.specs.Updates.{ordered_at, unordered_at};
 ghost use Rattle.storage_ops.specs.OperationsLaws.{operation_same};
+ghost use Rattle.storage_ops.specs.OperationPartsLaws.{fixed_parts};
 ghost use Rattle.storage_ops.specs.FixedLaws.{fixed_again, fixed_sized};
 ghost use Rattle.storage_ops.specs.FixedBackLaws.{fixed_back, fixed_one};
 ghost use Rattle.storage_ops.specs.Fixed.{fixed_size, presence_text, fixed_operation_text, commit_payload_at, fixed_payload_at, fixed_operation_at};
@@ -198,6 +199,8 @@ where
     ghost operation_one = { λ _ x y p q e. operation_same S.Key.view S.view V.view S.seen S.same_seen x y
         (fixed_one S.Key.text S.text V.text S.Key.view S.view V.view (S.Key.parse tt) (S.parse tt) (V.parse tt) (S.Key.admits tt) (S.admits tt) (V.admits tt)
         S.Key.size S.size V.size (record { again = S.Key.again tt }) (record { again = S.again tt }) (record { again = V.again tt }) x y p q e) };
+
+    ghost operation_parts = { λ x y p q e. fixed_parts S.Key.text S.text V.text S.Key.size S.size V.size V.sized x y p q e };
 
     ghost operation_same = { operation_same S.Key.view S.view V.view S.seen S.same_seen };
 }

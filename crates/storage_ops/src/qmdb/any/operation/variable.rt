@@ -5,6 +5,7 @@ ghost use Rattle.storage_codec.specs.Codec.{Gives};
 ghost use Rattle.storage_codec.specs.Parts.{AppendsStart, IsEnding, size_of};
 ghost use Rattle.storage_ops.specs.Operations.{OperationView, operation_map, parts, is_admitted};
 ghost use Rattle.storage_ops.specs.OperationsLaws.{operation_same};
+ghost use Rattle.storage_ops.specs.OperationPartsLaws.{variable_parts};
 ghost use Rattle.storage_ops.specs.Updates.{ordered_at, unordered_at};
 ghost use Rattle.storage_ops.specs.UpdatesLaws.{ordered_back, unordered_back};
 ghost use Rattle.storage_ops.specs.Variable.{variable_operation_text, variable_commit_at, variable_operation_at};
@@ -116,6 +117,8 @@ impl<
         (variable_one S.Key.text S.text V.text S.Key.view S.view V.view (S.Key.parse cfg.0) (S.parse cfg) (V.parse cfg.1)
         (S.Key.admits cfg.0) (S.admits cfg) (V.admits cfg.1)
         (record { again = S.Key.again cfg.0 }) (record { again = S.again cfg }) (record { again = V.again cfg.1 }) x y p q e) };
+
+    ghost operation_parts = { λ x y p q e. variable_parts S.Key.text S.text V.text V.view V.prefix_free x y e };
 
     ghost operation_same = { operation_same S.Key.view S.view V.view S.seen S.same_seen };
 }
