@@ -4,6 +4,8 @@ mod Places
 pub mod Canonical
 pub mod Bits
 pub mod Operations
+pub mod Keys
+pub mod KeyAnswers
 pub mod Served
 pub mod Witnesses
 pub mod Families

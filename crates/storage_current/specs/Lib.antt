@@ -1,4 +1,7 @@
 pub mod Snapshots
+pub mod Keys
+pub mod KeyProofs
+pub mod HeldKeys
 pub mod CurrentProofs
 pub mod GraftingLaws
 pub mod CurrentSoundness

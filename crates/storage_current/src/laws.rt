@@ -8,6 +8,8 @@ ghost use Rattle.storage_current.specs.Combined.{IsRaised};
 ghost use Rattle.storage_current.specs.CurrentSoundness.{CurrentProofsAreSound, FamiliesAreLawful, OperationProofsAreSound, OwnCurrentProofsAreAccepted, OwnOperationProofsAreAccepted, OwnWitnessesAreAccepted, WitnessesAreSound};
 ghost use Rattle.storage_current.specs.OwnWire.{OwnCurrentProofsAreReadAgain, OwnOperationProofsAreReadAgain};
 
+pub mod keys;
+
 use storage_merkle::laws::{own_range_proofs_are_accepted, range_proofs_are_sound};
 use storage_merkle::merkle::Graftable;
 use storage_merkle::merkle::hasher::Hasher;

@@ -3,6 +3,7 @@
 mod chunks;
 pub mod grafting;
 mod nodes;
+pub mod ordered;
 pub mod proof;
 mod required;
 mod root;

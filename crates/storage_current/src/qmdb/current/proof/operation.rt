@@ -129,7 +129,7 @@ impl<F: Graftable, D: Digest, C: Chunk> Proof<F, D, C> {
     }
 
     /// Whether the chunk has a size that chunks may have, and the bit of the location is set.
-    fn is_active(&self) -> bool
+    pub(crate) fn is_active(&self) -> bool
         ensures { IsTrue result ↔ (IsChunkSize (length (C.text self.now.chunk)) × (bit_in (C.text self.now.chunk) (self.now.loc % 2 ^ height (record { shape = F.shape; bytes = length (C.text self.now.chunk) })) ≡ true)) }
     {
         let chunk = self.chunk.bytes();

@@ -1,0 +1,26 @@
+//! Second keys and values that are written as the first ones.
+
+ghost use Rattle.std.specs.Prelude.{◌≡◌, IfOk, option_map};
+
+use storage_codec::NoMemory;
+use storage_ops::qmdb::any::value::ValueEncoding;
+use storage_ops::qmdb::operation::Key;
+
+/// A second key that is written as this one.
+pub(crate) fn key_as<K: Key>(key: &K) -> Result<K, NoMemory>
+    ensures { IfOk result (λ copy. K.text copy ≡ K.text key.now) }
+{
+    Ok(key.clone()?)
+}
+
+/// A second value, or none, that is written as this one.
+pub(crate) fn value_as<V: ValueEncoding>(
+    value: &Option<V::Value>,
+) -> Result<Option<V::Value>, NoMemory>
+    ensures { IfOk result (λ copy. option_map V.Value.text copy ≡ option_map V.Value.text value.now) }
+{
+    match value {
+        Some(value) => Ok(Some(value.clone()?)),
+        None => Ok(None),
+    }
+}

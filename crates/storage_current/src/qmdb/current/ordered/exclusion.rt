@@ -1,0 +1,62 @@
+//! Proofs that a key has no value.
+
+ghost use Rattle.std.specs.Prelude.{◌≡◌, ◌↔◌, ◌⊎◌, IfOk, IsTrue, Ok, true, false, ℕ, ◌+◌, ◌%◌, ◌^◌, length};
+ghost use Rattle.storage_bitmap.specs.Chunks.{IsChunkSize};
+ghost use Rattle.storage_bitmap.specs.Packed.{bit_in};
+ghost use Rattle.storage_current.specs.HeldKeys.{exclusion_of};
+ghost use Rattle.storage_current.specs.KeyProofs.{Allows, Exclusion, IsExcluded, MeansAbsent, proof_of};
+ghost use Rattle.storage_current.specs.Keys.{Keyed};
+ghost use Rattle.storage_current.specs.Snapshots.{height};
+
+use crate::qmdb::current::ordered::check::{verify_commit, verify_span};
+use crate::qmdb::current::proof::Chunk;
+use crate::qmdb::current::proof::operation::Proof;
+use std::alloc::Global;
+use storage_codec::NoMemory;
+use storage_codec::digest::{Digest, Hasher};
+use storage_merkle::merkle::Graftable;
+use storage_ops::qmdb::any::operation::OperationCodec;
+use storage_ops::qmdb::any::operation::update::Ordered;
+use storage_ops::qmdb::any::value::ValueEncoding;
+use storage_ops::qmdb::operation::Key;
+
+/// A proof that a key has no value. `C` is the chunk with the operation's activity bit.
+#[derive(Drop)]
+#[derive_where(Debug, PartialEq, Eq; D, C, V::Value)]
+pub enum ExclusionProof<F, K: Key, V: ValueEncoding, D, C> {
+    /// The proof of an update, and the update, whose span from its key to the next holds the key.
+    KeyValue(Proof<F, D, C>, Ordered<K, V>),
+    /// The proof of a commit that stands at its own floor, and the commit's value.
+    Commit(Proof<F, D, C>, Option<V::Value>),
+}
+
+impl<F: Graftable, K: Key, V: OperationCodec<F, Ordered<K, V>>, D: Digest, C: Chunk> ExclusionProof<
+    F,
+    K,
+    V,
+    D,
+    C,
+> {
+    /// Whether the operation is active in the snapshot with that root, and excludes the key: an update excludes the other
+    /// keys of its span, a commit at its own floor excludes each. The no of a key that the span does not hold, of a chunk
+    /// size that is no power of two up to `2^59`, and of a clear bit, takes no memory and hashes nothing.
+    pub fn verify<H: Hasher<Digest = D>>(
+        &self,
+        alloc: Global,
+        key: &K,
+        root: &D,
+    ) -> Result<bool, NoMemory>
+        ensures exact { let e : Keyed K V.Value = record { key = K.text; value = V.Value.text; operation = V.operation_text; cmp = K.cmp } in let x : Exclusion (K × V.Value × K) V.Value = exclusion_of D.text C.text self.now in IfOk result (λ yes. IsTrue yes ↔ IsExcluded e H.hash_of (record { shape = F.shape; bytes = length (proof_of x).chunk }) x key.now (D.text root.now)) }
+        ensures meaning { let e : Keyed K V.Value = record { key = K.text; value = V.Value.text; operation = V.operation_text; cmp = K.cmp } in let x : Exclusion (K × V.Value × K) V.Value = exclusion_of D.text C.text self.now in (D.size ≡ 32) ⊎ (D.size ≡ 64) → IfOk result (λ yes. IsTrue yes → MeansAbsent e H.hash_of (record { shape = F.shape; bytes = length (proof_of x).chunk }) x key.now (D.text root.now)) }
+        ensures at_once { let e : Keyed K V.Value = record { key = K.text; value = V.Value.text; operation = V.operation_text; cmp = K.cmp } in let x : Exclusion (K × V.Value × K) V.Value = exclusion_of D.text C.text self.now in (Allows e x key.now → IsChunkSize (length (proof_of x).chunk) → bit_in (proof_of x).chunk ((proof_of x).location % 2 ^ height (record { shape = F.shape; bytes = length (proof_of x).chunk })) ≡ true → ⊥) → result ≡ Ok false }
+    {
+        match self {
+            ExclusionProof::KeyValue(proof, update) => {
+                verify_span::<F, K, V, D, C, H>(alloc, proof, update, key, root)
+            }
+            ExclusionProof::Commit(proof, value) => {
+                verify_commit::<F, K, V, D, C, H>(alloc, proof, value, key, root)
+            }
+        }
+    }
+}

@@ -1,0 +1,61 @@
+//! Proofs of the value of a key.
+
+ghost use Rattle.std.specs.Prelude.{◌≡◌, ◌↔◌, ◌⊎◌, IfOk, IsTrue, Ok, true, false, ℕ, ◌%◌, ◌^◌, length};
+ghost use Rattle.storage_bitmap.specs.Chunks.{IsChunkSize};
+ghost use Rattle.storage_bitmap.specs.Packed.{bit_in};
+ghost use Rattle.storage_current.specs.CurrentProofs.{IsActiveCurrent};
+ghost use Rattle.storage_current.specs.Held.{operation_of};
+ghost use Rattle.storage_current.specs.KeyProofs.{MeansValue};
+ghost use Rattle.storage_current.specs.Keys.{Keyed, update_text};
+ghost use Rattle.storage_current.specs.Snapshots.{height};
+
+use crate::laws::keys::active_update_is_value;
+use crate::qmdb::current::ordered::copies::key_as;
+use crate::qmdb::current::proof::Chunk;
+use crate::qmdb::current::proof::operation::Proof;
+use std::alloc::Global;
+use storage_codec::NoMemory;
+use storage_codec::digest::{Digest, Hasher};
+use storage_merkle::merkle::Graftable;
+use storage_ops::qmdb::any::operation::update::Ordered;
+use storage_ops::qmdb::any::operation::{Operation, OperationCodec};
+use storage_ops::qmdb::operation::Key;
+
+/// A proof that a key has a value: that its update is active. `C` is the chunk with the update's activity bit.
+#[derive(Drop)]
+#[derive_where(Debug, PartialEq, Eq; K, D, C)]
+pub struct KeyValueProof<F, K, D, C> {
+    /// The proof of the update.
+    pub proof: Proof<F, D, C>,
+    /// The next key, which the update names.
+    pub next_key: K,
+}
+
+impl<F: Graftable, K: Key, D: Digest, C: Chunk> KeyValueProof<F, K, D, C> {
+    /// Whether the update of the key to the value, which names this next key, is active in the snapshot with that root. The
+    /// no of a chunk size that is no power of two up to `2^59`, and of a clear bit, takes no memory and hashes nothing.
+    pub fn verify<H: Hasher<Digest = D>, V: OperationCodec<F, Ordered<K, V>>>(
+        &self,
+        alloc: Global,
+        key: K,
+        value: V::Value,
+        root: &D,
+    ) -> Result<bool, NoMemory>
+        ensures exact { let e : Keyed K V.Value = record { key = K.text; value = V.Value.text; operation = V.operation_text; cmp = K.cmp } in IfOk result (λ yes. IsTrue yes ↔ IsActiveCurrent H.hash_of (record { shape = F.shape; bytes = length (C.text self.now.proof.chunk) }) (operation_of D.text C.text self.now.proof) (update_text e key value self.now.next_key) (D.text root.now)) }
+        ensures meaning { let e : Keyed K V.Value = record { key = K.text; value = V.Value.text; operation = V.operation_text; cmp = K.cmp } in (D.size ≡ 32) ⊎ (D.size ≡ 64) → IfOk result (λ yes. IsTrue yes → MeansValue e H.hash_of (record { shape = F.shape; bytes = length (C.text self.now.proof.chunk) }) (operation_of D.text C.text self.now.proof) key value self.now.next_key (D.text root.now)) }
+        ensures at_once { (IsChunkSize (length (C.text self.now.proof.chunk)) → bit_in (C.text self.now.proof.chunk) (self.now.proof.loc % 2 ^ height (record { shape = F.shape; bytes = length (C.text self.now.proof.chunk) })) ≡ true → ⊥) → result ≡ Ok false }
+    {
+        if !self.proof.is_active() {
+            return Ok(false);
+        }
+        active_update_is_value::<F, K, V>();
+        let next_key = key_as(&self.next_key)?;
+        let update = Operation::<F, Ordered<K, V>>::Update(Ordered {
+            key,
+            value,
+            next_key,
+        });
+        self.proof
+            .verify::<H, Operation<F, Ordered<K, V>>>(alloc, update, root)
+    }
+}

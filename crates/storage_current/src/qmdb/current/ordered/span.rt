@@ -1,0 +1,35 @@
+//! Spans from one key to the next greater, and from the greatest around to the least.
+
+ghost use Rattle.std.specs.Prelude.{◌≡◌, ◌↔◌, IsTrue};
+ghost use Rattle.storage_current.specs.Keys.{Excludes, Keyed, in_span};
+
+use storage_merkle::merkle::Family;
+use storage_ops::qmdb::any::operation::OperationCodec;
+use storage_ops::qmdb::any::operation::update::Ordered;
+use storage_ops::qmdb::operation::Key;
+
+/// Whether a key lies from `start` on and before `end`, around past the greatest key where `start` is not before `end`.
+fn contains_cyclic<F: Family, K: Key, V: OperationCodec<F, Ordered<K, V>>>(
+    start: &K,
+    end: &K,
+    key: &K,
+) -> bool
+    ensures { let e : Keyed K V.Value = record { key = K.text; value = V.Value.text; operation = V.operation_text; cmp = K.cmp } in result ≡ in_span e start.now end.now key.now }
+{
+    if start < end {
+        start <= key && key < end
+    } else {
+        start <= key || key < end
+    }
+}
+
+/// Whether an active update of `start` that names `next` excludes a key.
+pub(crate) fn excludes<F: Family, K: Key, V: OperationCodec<F, Ordered<K, V>>>(
+    start: &K,
+    next: &K,
+    key: &K,
+) -> bool
+    ensures { let e : Keyed K V.Value = record { key = K.text; value = V.Value.text; operation = V.operation_text; cmp = K.cmp } in IsTrue result ↔ Excludes e start.now next.now key.now }
+{
+    key != start && contains_cyclic::<F, K, V>(start, next, key)
+}
