@@ -6,6 +6,7 @@ use Rattle.std.proofs.lemmas.List.{drop-drop, get_or_past, length_push, get_or_p
 use Rattle.std.proofs.lemmas.List.FromFn.{length-map-range_with_len, get_or-map-range_with_len}
 use Rattle.std.proofs.lemmas.Bool.{cases_lt, cases_eq}
 use Rattle.std.proofs.lemmas.Nat.{div-add-mod'}
+use Rattle.std.proofs.Math.Nat.{mod-lt}
 use Rattle.storage_bitmap.specs.Chunks.{digit, number_of, bytes_of, chunk, IsChunkSize, Retained, pruned_to}
 use Rattle.storage_bitmap.specs.Packed.{bit_in, bits_in, IsPacked, IsWritten, HasRoom}
 
@@ -58,6 +59,10 @@ bit_of bytes count clear i =
       | inr h ↦ get_or_past (bits_in bytes count) i false (rw length-bits_in h) ∙ sym (clear i h)
     ]
 
+eqb-digit : (b : Bool) → eqb (digit b) 1 ≡ b
+eqb-digit true = refl
+eqb-digit false = refl
+
 digit-eqb : (x : ℕ) → x < 2 → digit (eqb x 1) ≡ x
 digit-eqb zero h = refl
 digit-eqb (suc zero) h = refl
@@ -85,10 +90,10 @@ bits_same bytes bits h =
     (λ i below. let b : i < length bits = rw length-bits_in at below in get_or-bits_in bytes (length bits) i b ∙ h i b)
 
 -- ---- the steps of a bitmap
-pub none_packed : (n : ℕ) → IsChunkSize n → IsPacked n 0 0 []
+pub none_packed : (n pruned : ℕ) → IsChunkSize n → pruned * (8 * n) ≤ 2 ^ 62 → IsPacked n pruned 0 []
 unfolding bit_in
-none_packed n size =
-    record { size = size; few = omega arith; room = refl; narrow = λ i. omega arith; clear = λ i h. rw (bit_at-zero (i % 8)) refl }
+none_packed n pruned size few =
+    record { size = size; few = omega (arith, few); room = refl; narrow = λ i. omega arith; clear = λ i h. rw (bit_at-zero (i % 8)) refl }
 
 pub none_bits : bits_in [] 0 ≡ []
 unfolding bits_in
@@ -251,10 +256,7 @@ written bytes place byte bit inside small there others = record {
     | inl e ↦ rw (e, get_or-set_same bytes (place / 8) byte 0 inside, others (i % 8) (omega arith) (λ same. d (omega arith))) refl
     | inr e ↦ rw (get_or-set_other bytes (place / 8) (i / 8) byte 0 e) refl
   ];
-} where
-  eqb-digit : (b : Bool) → eqb (digit b) 1 ≡ b
-  eqb-digit true = refl
-  eqb-digit false = refl
+}
 
 pub roomy : (bytes : List ℕ) (kept : ℕ) → length bytes ≡ (kept + 7) / 8 → kept % 8 ≡ 0 → HasRoom bytes (bytes ++ 0 ∷ []) kept
 roomy bytes kept len whole =
@@ -266,3 +268,19 @@ pub gone_within : (n pruned kept chunks bit : ℕ) (bytes : List ℕ) → bit �
 gone_within n pruned kept chunks bit bytes h e size less =
     let w = prune_within n pruned kept chunks bit bytes h e (chunk_positive n size) in
     (omega (arith, w, chunks_split n pruned chunks (omega arith)), w)
+
+-- a bit of a chunk
+pub bit_in-chunk : (n bit : ℕ) (bits : List Bool) → 0 < n → bit_in (chunk n bits (bit / (8 * n))) (bit % (8 * n)) ≡ get_or bits bit false
+unfolding bit_in
+bit_in-chunk n bit bits some =
+    let place : ℕ = bit % (8 * n) in
+    let inner : place < 8 * n = mod-lt bit (omega arith) in
+    let byte : place / 8 < n = omega arith in
+    let whole : 8 * (bit / (8 * n) * n + place / 8) + place % 8 ≡ bit = at n (bit / (8 * n)) place bit (div-add-mod' bit (8 * n)) in
+    ap (λ (x : ℕ). eqb (bit_at x (place % 8)) 1) (get_or-chunk n (bit / (8 * n)) (place / 8) bits byte)
+    ∙ ap (λ (x : ℕ). eqb x 1) (bit_at-number_of 8 (place % 8) (drop (8 * (bit / (8 * n) * n + place / 8)) bits) (omega arith))
+    ∙ eqb-digit (get_or (drop (8 * (bit / (8 * n) * n + place / 8)) bits) (place % 8) false)
+    ∙ get_or-drop (8 * (bit / (8 * n) * n + place / 8)) bits (place % 8) false
+    ∙ ap (λ (x : ℕ). get_or bits x false) whole where
+      at : (n q place bit : ℕ) → q * (8 * n) + place ≡ bit → 8 * (q * n + place / 8) + place % 8 ≡ bit
+      at n q place bit e = let m : q * (8 * n) ≡ 8 * (q * n) = grind arith in omega arith

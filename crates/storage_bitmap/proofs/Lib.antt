@@ -4,3 +4,6 @@ pub mod BitSound
 pub mod BitOwn
 pub mod BitPlain
 pub mod BitChecks
+pub mod Dirty
+pub mod Rehashing
+pub mod Standing

@@ -3,3 +3,4 @@ pub mod Packed
 pub mod BitRoots
 pub mod BitProofs
 pub mod BitSteps
+pub mod StandsForBits

@@ -1,5 +1,133 @@
-//! A list of bits with a root.
+//! A list of bits with a root: that of a Merkle mountain range whose leaves are the complete chunks of the bits, together with
+//! the number of bits and the last chunk where they do not fill it.
+
+ghost use Rattle.std.specs.Prelude.{◌≡◌, ℕ, ◌+◌, ◌-◌, ◌*◌, ◌/◌, ◌%◌, ◌<◌, ◌≤◌, ◌↔◌, List, Bool, length, false, slice_index_or, IsTrue};
+ghost use Rattle.storage_merkle.specs.Mmr.{mmr};
+ghost use Rattle.storage_merkle.specs.Shape.{size};
+ghost use Rattle.storage_bitmap.specs.Chunks.{IsChunkSize, bit_count, chunk as chunk_of};
+ghost use Rattle.storage_bitmap.specs.Packed.{bit_in};
 
 mod inclusion;
+mod merkleized;
+mod rehashed;
+mod state;
+mod unmerkleized;
 
+use crate::bitmap::prunable::read;
+use crate::bitmap::{Prunable, Readable};
 pub use inclusion::verify_bit_inclusion;
+pub use merkleized::PrunedState;
+pub use state::{Merkleized, State, Unmerkleized};
+use std::alloc::Global;
+use std::marker::Model;
+use storage_codec::digest::Digest;
+use storage_merkle::merkle::mem::Mem;
+use storage_merkle::merkle::{Position, mmr};
+
+/// A bitmap whose root is known.
+pub type MerkleizedBitMap<D, const N: usize> = BitMap<D, N, Merkleized<D>>;
+
+/// A bitmap whose bits may have changed since its root was known.
+pub type UnmerkleizedBitMap<D, const N: usize> = BitMap<D, N, Unmerkleized>;
+
+/// A list of bits in chunks of `N` bytes, and the tree over the complete ones. Those in front may be forgotten, with all of
+/// the tree that the others do not need. Its state tells whether the tree is that of the bits: only then it has a root.
+#[derive(Drop)]
+pub struct BitMap<D: Digest, const N: usize, M: State<D>> {
+    bits: Prunable<N>,
+    tree: Mem<mmr::Family, D>,
+    state: M,
+    alloc: Global,
+}
+
+impl<D: Digest, const N: usize, M: State<D>> Model for BitMap<D, N, M> {
+    ghost use Rattle.storage_bitmap.specs.StandsForBits.{Authenticated, IsWholeMap};
+
+    ghost Value = { Authenticated D M };
+
+    ghost view = { λ b. record { retained = b.bits; tree = b.tree; state = b.state } };
+
+    ghost invariant = { λ b. IsWholeMap N b.bits b.tree (M.fits b.state) };
+}
+
+impl<D: Digest, const N: usize, M: State<D>> BitMap<D, N, M> {
+    /// How many bits a chunk has.
+    pub fn chunk_size_bits() -> u64
+        requires { IsChunkSize N }
+        ensures { result ≡ 8 * N }
+    {
+        8 * N as u64
+    }
+
+    /// How many nodes the tree has, which is over the chunks that were complete when the root was last calculated.
+    pub fn size(&self) -> Position<mmr::Family>
+        ensures { result ≡ size mmr self.now.tree.leaves }
+    {
+        self.tree.size()
+    }
+
+    /// How many bits there are, the pruned ones among them.
+    pub fn len(&self) -> u64
+        ensures value { result ≡ bit_count N self.now.retained }
+        ensures size { IsChunkSize N }
+    {
+        self.bits.len()
+    }
+
+    /// Whether there are no bits.
+    pub fn is_empty(&self) -> bool
+        ensures { IsTrue result ↔ (bit_count N self.now.retained ≡ 0) }
+    {
+        self.len() == 0
+    }
+
+    /// How many bits are pruned.
+    pub fn pruned_bits(&self) -> u64
+        ensures { result ≡ self.now.retained.pruned * (8 * N) }
+    {
+        self.bits.pruned_chunks() as u64 * (8 * N as u64)
+    }
+
+    /// The chunk of a bit, which is there and not pruned. What is past the bits is 0.
+    pub fn get_chunk_containing(&self, bit: u64) -> [u8; N]
+        requires kept { self.now.retained.pruned * (8 * N) ≤ bit }
+        requires within { bit < bit_count N self.now.retained }
+        ensures { result ≡ chunk_of N self.now.retained.bits (bit / (8 * N) - self.now.retained.pruned) }
+    {
+        self.bits.get_chunk((bit / (8 * N as u64)) as usize)
+    }
+
+    /// A bit, which is there and not pruned.
+    pub fn get_bit(&self, bit: u64) -> bool
+        requires kept { self.now.retained.pruned * (8 * N) ≤ bit }
+        requires within { bit < bit_count N self.now.retained }
+        ensures { result ≡ slice_index_or self.now.retained.bits (bit - self.now.retained.pruned * (8 * N)) false }
+    {
+        self.bits.get_bit(bit)
+    }
+
+    /// A bit, by its place among all bits, from its chunk.
+    pub fn get_bit_from_chunk(chunk: &[u8; N], bit: u64) -> bool
+        requires { IsChunkSize N }
+        ensures value { result ≡ bit_in chunk.now (bit % (8 * N)) }
+        ensures means { (bits : List Bool) → chunk.now ≡ chunk_of N bits (bit / (8 * N)) → result ≡ slice_index_or bits bit false }
+    {
+        read(chunk, bit % (8 * N as u64))
+    }
+}
+
+impl<D: Digest, const N: usize, M: State<D>> Readable<N> for BitMap<D, N, M> {
+    ghost retained = { λ b. b.retained };
+
+    fn len(&self) -> u64 {
+        self.len()
+    }
+
+    fn pruned_chunks(&self) -> usize {
+        self.bits.pruned_chunks()
+    }
+
+    fn get_chunk(&self, index: usize) -> [u8; N] {
+        self.bits.get_chunk(index)
+    }
+}

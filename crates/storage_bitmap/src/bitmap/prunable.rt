@@ -40,6 +40,19 @@ impl<const N: usize> Prunable<N> {
         }
     }
 
+    /// No bits but so many pruned chunks. It takes no memory.
+    pub(crate) fn pruned(alloc: Global, chunks: usize) -> Self
+        requires size { IsChunkSize N }
+        requires few { chunks * (8 * N) ≤ 2 ^ 62 }
+        ensures { result ≡ record { pruned = chunks; bits = [] } }
+    {
+        Prunable {
+            pruned: chunks,
+            kept: 0,
+            bytes: Vec::new(alloc),
+        }
+    }
+
     /// Appends a bit. After want of memory nothing is changed.
     pub fn push(&mut self, bit: bool) -> Result<(), NoMemory>
         requires { bit_count N self.old < 2 ^ 62 }
@@ -140,7 +153,7 @@ fn make_room(bytes: &mut Vec<u8>, kept: u64) -> Result<(), NoMemory>
 }
 
 /// The bit at a place in packed bytes.
-fn read(bytes: &[u8], place: u64) -> bool
+pub(crate) fn read(bytes: &[u8], place: u64) -> bool
     requires { place / 8 < length bytes.now }
     ensures { result ≡ bit_in bytes.now place }
 {

@@ -99,6 +99,13 @@ impl<F: Family, D: Digest> Mem<F, D> {
         Position::new(F::nodes_over(self.leaves))
     }
 
+    /// The digests of the peaks over the forgotten leaves, in leaf order. Takes no memory.
+    pub fn pinned_nodes(&self) -> &[D]
+        ensures { result.now ≡ self.now.pinned }
+    {
+        self.pinned.as_slice()
+    }
+
     /// The digest at a position; `None` where it is not kept. Takes no memory.
     pub fn get_node(&self, position: Position<F>) -> Option<D>
         ensures { result ≡ kept_at F.shape self.now.boundary self.now.pinned self.now.nodes position }

@@ -102,7 +102,7 @@ fn chunks_root<H: Hasher<mmr::Family>>(
 
 /// The root of bits that do not fill their chunks, from that of the tree, the number of bits, and the digest of the last chunk.
 #[tactic(auto, unfolding(storage_merkle::specs::Calc::be8))]
-fn partial_root<H: Hasher<mmr::Family>>(
+pub(super) fn partial_root<H: Hasher<mmr::Family>>(
     hasher: &H,
     root: &H::Digest,
     length: u64,

@@ -1,9 +1,9 @@
-use Rattle.std.proofs.Common.{refl}
+use Rattle.std.proofs.Common.{arith, refl}
 use Rattle.storage_bitmap.proofs.Bits.{none_packed, none_bits}
 use Rattle.storage_bitmap.proofs.bitmap.prunable.Prunable.new.Goals as goal
 
 pub invariant_of-result : goal.invariant_of-result
-invariant_of-result g c = rw c.new.ensures.items (none_packed g.row.N c.requires)
+invariant_of-result g c = rw c.new.ensures.items (none_packed g.row.N 0 c.requires (omega arith))
 
 pub returns : goal.returns
 returns g c = rw (c.new.ensures.items, none_bits) refl
