@@ -41,3 +41,7 @@ pub mod MultiNeeded
 pub mod MultiNodes
 pub mod MultiChecks
 pub mod MultiMeaning
+pub mod StoreEntries
+pub mod StoreOwn
+pub mod StoreMulti
+pub mod StoreMade

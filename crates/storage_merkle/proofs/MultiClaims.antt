@@ -1,11 +1,11 @@
 -- Locations that ascend, and those of the halves of a node.
-use Rattle.std.proofs.Common.{◌≡◌, ◌≢◌, ℕ, zero, suc, ◌+◌, ◌-◌, ◌<◌, ◌≤◌, ◌^◌, ◌↔◌, List, [], ◌∷◌, ◌++◌, length, map, get_or, take, drop, Bool, true, false, if◌then◌else◌, ◌||◌, ◌&&◌, not, inl, inr, refl, sym, ap, ap₂, ◌∙◌, arith, subst, leb, ltb, eqb, le-leb, ne_eqb, pow_pos}
+use Rattle.std.proofs.Common.{◌≡◌, ◌≢◌, ℕ, zero, suc, ◌+◌, ◌<◌, ◌≤◌, ◌^◌, ◌↔◌, List, [], ◌∷◌, ◌++◌, length, map, get_or, take, drop, Bool, true, false, if◌then◌else◌, ◌||◌, ◌&&◌, not, refl, sym, ap, ap₂, ◌∙◌, arith, subst, leb, ltb, eqb, le-leb, ne_eqb}
 use Rattle.std.specs.List.Sorted.{IsPartitionPoint, IsNonDecreasingBy}
-use Rattle.std.proofs.lemmas.Bool.{lt-ltb, lt-leb, cases_lt, ltb-true, ltb-false}
+use Rattle.std.proofs.lemmas.Bool.{lt-ltb, lt-leb, ltb-true, ltb-false}
 use Rattle.std.proofs.lemmas.List.{map-append, drop_more, drop_all}
 use Rattle.storage_codec.specs.Digests.{HashFunction}
 use Rattle.storage_merkle.specs.Multiples.{pow_two}
-use Rattle.storage_merkle.specs.Calc.{Site, node, Calc, given, leaf, be8, Values, eval}
+use Rattle.storage_merkle.specs.Calc.{Site, node, given, leaf, be8, Values, eval}
 use Rattle.storage_merkle.specs.Trees.{Layout, node_calc, join_calc}
 use Rattle.storage_merkle.specs.Hashing.{join_digest}
 use Rattle.storage_merkle.specs.HashingLaws.{eval-join}

@@ -1,9 +1,9 @@
 -- The positions that a proof of some locations needs, step by step.
-use Rattle.std.proofs.Common.{◌≡◌, ◌≢◌, ℕ, zero, suc, ◌+◌, ◌-◌, ◌<◌, ◌≤◌, ◌^◌, List, [], ◌∷◌, ◌++◌, length, map, ◌==◌, eqb-true, refl, sym, ap, ap₂, ◌∙◌, arith, subst, true, false, not, append-nil, append_assoc, pow_pos}
+use Rattle.std.proofs.Common.{◌≡◌, ◌≢◌, ℕ, zero, suc, ◌+◌, ◌-◌, ◌≤◌, ◌^◌, List, [], ◌∷◌, ◌++◌, length, map, ◌==◌, eqb-true, refl, sym, ap, ap₂, ◌∙◌, arith, subst, true, false, not, append-nil, append_assoc}
 use Rattle.std.specs.List.Sorted.{IsPermutation, IsNonDecreasing}
 use Rattle.std.proofs.lemmas.List.{map-append}
 use Rattle.storage_merkle.specs.Multiples.{pow_two}
-use Rattle.storage_merkle.specs.Trees.{Layout, places, peaks_of, part, node_calc}
+use Rattle.storage_merkle.specs.Trees.{Layout, places, peaks_of, node_calc}
 use Rattle.storage_merkle.specs.RangeProofs.{sites_of, sites_in, position_of}
 use Rattle.storage_merkle.specs.Multi.{untouched, Ascend, needed_sites}
 use Rattle.storage_merkle.proofs.Siblings.{positions, sites-cut, sites-leaf, sites-halves, positions_sorted}

@@ -1,11 +1,11 @@
 -- The nodes of a check of a multi proof: their digests from the claimed elements and the digests that are given.
-use Rattle.std.proofs.Common.{◌≡◌, ◌≢◌, ℕ, zero, suc, ◌+◌, ◌-◌, ◌<◌, ◌≤◌, ◌^◌, List, [], ◌∷◌, ◌++◌, length, map, get_or, Contains, true, false, ◌==◌, refl, sym, ap, ap₂, ◌∙◌, arith, subst, eqb, eq-eqb, append-nil, append_assoc}
-use Rattle.std.proofs.lemmas.List.{map-append, length-map, length-append}
+use Rattle.std.proofs.Common.{◌≡◌, ◌≢◌, ℕ, zero, suc, ◌+◌, ◌-◌, ◌≤◌, ◌^◌, List, [], ◌∷◌, ◌++◌, length, map, get_or, Contains, true, false, ◌==◌, refl, sym, ap, ap₂, ◌∙◌, arith, subst, eq-eqb, append-nil, append_assoc}
+use Rattle.std.proofs.lemmas.List.{map-append}
 use Rattle.storage_codec.specs.Digests.{HashFunction}
 use Rattle.storage_merkle.specs.Multiples.{pow_two}
 use Rattle.storage_merkle.specs.Shape.{Shape}
 use Rattle.storage_merkle.specs.Calc.{Site, node, be8, eval}
-use Rattle.storage_merkle.specs.Trees.{Layout, Peak, places, node_calc, part, ungrafted}
+use Rattle.storage_merkle.specs.Trees.{Layout, places, node_calc, part, ungrafted}
 use Rattle.storage_merkle.specs.RangeProofs.{sites_of, sites_in}
 use Rattle.storage_merkle.specs.Hashing.{join_digest}
 use Rattle.storage_merkle.specs.HashingLaws.{eval-join}

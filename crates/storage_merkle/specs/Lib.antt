@@ -39,3 +39,4 @@ pub mod Checks
 pub mod CheckSteps
 pub mod Multi
 pub mod MultiSteps
+pub mod Stores

@@ -12,6 +12,7 @@ use crate::merkle::{Family, Position};
 pub mod extracted;
 pub mod families;
 pub mod multi;
+pub mod stores;
 
 /// A range proof that is accepted against a tree's root is the tree's own proof, field for field, and its elements and chunks
 /// stand in the tree, or two different strings have one digest, one hashed by the check and one by the tree.

@@ -1,0 +1,5 @@
+use Rattle.storage_merkle.proofs.StoreMade.{stores_true}
+use Rattle.storage_merkle.proofs.laws.stores.stores_of_accepted_proofs_are_true.Goals as goal
+
+pub returns : goal.returns
+returns c = stores_true
