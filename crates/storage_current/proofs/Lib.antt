@@ -12,6 +12,8 @@ pub mod Families
 pub mod Examples
 mod Grafts
 mod Raised
+mod Joined
+mod Splitting
 pub mod Windows
 mod Checks
 mod NodeSteps

@@ -1,8 +1,9 @@
--- Trees over chunks, whose leaves are the chunks' nodes of the tree over the operations.
-use Rattle.std.specs.Prelude.{ℕ, ◌+◌, ◌*◌, ◌^◌, ◌≤◌}
+-- Trees over chunks, whose leaves are the chunks' nodes of the tree over the operations; and both trees read as one.
+use Rattle.std.specs.Prelude.{ℕ, ◌+◌, ◌-◌, ◌*◌, ◌/◌, ◌%◌, ◌^◌, ◌≤◌, ◌&&◌, eqb, ltb, leb, if◌then◌else◌, Bool, Option, None}
 use Rattle.storage_merkle.specs.Shape.{Shape, size}
 use Rattle.storage_merkle.specs.Nodes.{CoversSame}
 use Rattle.storage_merkle.specs.Trees.{Layout}
+use Rattle.storage_current.specs.Snapshots.{greatest}
 
 -- the layout of a tree over chunks of 2 ^ g leaves: a node is that of the tree over the leaves which covers the same leaves
 abbrev pub over_chunks : ℕ → Layout → Layout
@@ -22,3 +23,25 @@ pub record IsRaised (S : Shape) (takes : ℕ → Type 0) (g p : ℕ) : Type 0 wh
   pub valid : p ≤ size S (2 ^ 62)
   pub fits : (q : ℕ) → CoversSame S g p q → q ≤ size S (2 ^ 62)
   pub taken : (q : ℕ) → CoversSame S g p q → takes q
+
+-- ---- both trees as one
+
+-- the height of the node at a position, and the first leaf of a node of that height
+unfoldable pub first_at : Shape → ℕ → ℕ → ℕ
+first_at S k p = greatest (λ a. eqb (a % 2 ^ k) 0 && eqb (S.position a k) p) p
+
+unfoldable pub height_at : Shape → ℕ → ℕ
+height_at S p = greatest (λ k. eqb (S.position (first_at S k p) k) p) p
+
+-- the position, in a tree over chunks of 2 ^ g leaves, of the node that covers the leaves of the node at p
+unfoldable pub lowered : Shape → ℕ → ℕ → ℕ
+lowered S g p = S.position (first_at S (height_at S p) p / 2 ^ g) (height_at S p - g)
+
+-- the position is valid, and one of so many
+abbrev pub is_within : Shape → ℕ → ℕ → Bool
+is_within S nodes p = ltb p nodes && leb p (size S (2 ^ 62))
+
+-- the digest at a position: below the height g what is kept of the operations' nodes, else what is kept over chunks
+abbrev pub joined : {D : Type 0} → Shape → ℕ → ℕ → (ℕ → Option D) → (ℕ → Option D) → ℕ → Option D
+joined S g nodes chunks operations p =
+    if is_within S nodes p then (if ltb (height_at S p) g then operations p else chunks (lowered S g p)) else None

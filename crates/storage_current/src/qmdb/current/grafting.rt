@@ -5,9 +5,11 @@ ghost use Rattle.storage_merkle.specs.Calc.{grafted_digest, is_zero as all_zero}
 ghost use Rattle.storage_bitmap.specs.Chunks.{IsChunkSize};
 
 mod hasher;
+mod storage;
 mod verifier;
 
 pub use hasher::GraftedHasher;
+pub use storage::Storage;
 use storage_codec::digest::{Digest, Hasher};
 pub use storage_merkle::merkle::family::{
     aligned_inactive, exact_inactive, graftable_chunks, grafted_to_ops_pos, ops_to_grafted_pos,

@@ -1,0 +1,239 @@
+//! A tree over chunks and a tree over the operations, read as one.
+
+ghost use Rattle.std.specs.Prelude.{◌≡◌, ℕ, ◌+◌, ◌^◌, ◌<◌, ◌≤◌, ◌∷◌, ◌⊎◌, ◌↔◌, [], List, length, map, IfOk, MatchOption, MatchResult, Err, Some, None, Option};
+ghost use Rattle.storage_merkle.specs.Plans.{IsFirstAbsent};
+ghost use Rattle.storage_current.specs.Combined.{joined};
+ghost use Rattle.storage_current.specs.Splits.{IsLook, IsSplit, filled, gaps};
+
+use crate::qmdb::current::grafting::ops_to_grafted_pos;
+use std::alloc::{AllocError, Global};
+use std::marker::PhantomData;
+use storage_codec::digest::Digest;
+use storage_merkle::merkle::{self, Error, Graftable, Position, Readable};
+
+/// The nodes of a tree over operations and of a tree over its chunks as one tree: below the height of a chunk's node those
+/// of the operations, at and above it those over chunks.
+#[derive(Drop)]
+pub struct Storage<'a, F, R, S> {
+    grafted_tree: &'a R,
+    height: u32,
+    ops_tree: &'a mut S,
+    family: PhantomData<F>,
+    ghost low: { 1 ≤ height },
+}
+
+impl<'a, F: Graftable, S: merkle::Storage<F>, R: Readable<Family = F, Digest = S::Digest>> Storage<
+    'a,
+    F,
+    R,
+    S,
+> {
+    /// The tree over chunks whose nodes in the tree over the operations have this height, with that tree.
+    pub fn new(grafted_tree: &'a R, height: u32, ops_tree: &'a mut S) -> Self
+        requires { 1 ≤ height }
+        ensures grafted { result.grafted_tree.now ≡ grafted_tree.now }
+        ensures height { result.height ≡ height }
+        ensures operations { result.ops_tree.now ≡ ops_tree.old }
+        ensures same_reference { result.ops_tree.ghost_name ≡ ops_tree.entry.ghost_name }
+    {
+        Storage {
+            grafted_tree,
+            height,
+            ops_tree,
+            family: PhantomData,
+        }
+    }
+}
+
+impl<
+    F: Graftable,
+    S: merkle::Storage<F>,
+    R: Readable<Family = F, Digest = S::Digest>,
+> merkle::Storage<F> for Storage<'_, F, R, S> {
+    type Digest = S::Digest;
+
+    ghost nodes = { λ s. S.nodes s.ops_tree.now };
+
+    ghost node = { λ s. joined F.shape s.height (S.nodes s.ops_tree.now) (R.node s.grafted_tree.now) (S.node s.ops_tree.now) };
+
+    ghost failed = { λ s. S.failed s.ops_tree.now };
+
+    fn size(&self) -> Position<F> {
+        self.ops_tree.size()
+    }
+
+    fn failures(&self) -> u64 {
+        self.ops_tree.failures()
+    }
+
+    fn get_node(&mut self, position: Position<F>) -> Result<Option<S::Digest>, Error<F>>
+        requires { S.failed self.old.ops_tree.now + 1 < 2 ^ 64 }
+        ensures answer { MatchResult result (λ d. d ≡ joined F.shape self.old.height (S.nodes self.old.ops_tree.now) (R.node self.old.grafted_tree.now) (S.node self.old.ops_tree.now) position) (λ e. ((code : ℕ) × (e ≡ Error.Source code)) ⊎ (e ≡ Error.Memory)) }
+        ensures failure { ((code : ℕ) × (result ≡ Err (Error.Source code))) ↔ (S.failed self.new.ops_tree.now ≡ S.failed self.old.ops_tree.now + 1) }
+        ensures count { (S.failed self.new.ops_tree.now ≡ S.failed self.old.ops_tree.now) ⊎ (S.failed self.new.ops_tree.now ≡ S.failed self.old.ops_tree.now + 1) }
+        ensures same_size { S.nodes self.new.ops_tree.now ≡ S.nodes self.old.ops_tree.now }
+        ensures same { (p : ℕ) → joined F.shape self.new.height (S.nodes self.new.ops_tree.now) (R.node self.new.grafted_tree.now) (S.node self.new.ops_tree.now) p ≡ joined F.shape self.old.height (S.nodes self.old.ops_tree.now) (R.node self.old.grafted_tree.now) (S.node self.old.ops_tree.now) p }
+        ensures same_reference { self.new.ops_tree.ghost_name ≡ self.old.ops_tree.ghost_name }
+    {
+        match look_up::<F, R>(
+            self.grafted_tree,
+            self.height,
+            self.ops_tree.size(),
+            position,
+        ) {
+            Look::Absent => Ok(None),
+            Look::Below => self.ops_tree.get_node(position),
+            Look::Found(digest) => Ok(Some(digest)),
+        }
+    }
+
+    fn get_nodes(
+        &mut self,
+        alloc: Global,
+        positions: &[Position<F>],
+    ) -> Result<Vec<S::Digest>, Error<F>>
+        requires { S.failed self.old.ops_tree.now + 1 < 2 ^ 64 }
+        ensures answers { let node = joined F.shape self.old.height (S.nodes self.old.ops_tree.now) (R.node self.old.grafted_tree.now) (S.node self.old.ops_tree.now) in MatchResult result (λ v. map Some v.items ≡ map node positions.now) (λ e. ((p : ℕ) × (e ≡ Error.ElementPruned p) × IsFirstAbsent (λ q a. a ≡ node q) positions.now p) ⊎ (((code : ℕ) × (e ≡ Error.Source code)) ⊎ (e ≡ Error.Memory))) }
+        ensures failure { ((code : ℕ) × (result ≡ Err (Error.Source code))) ↔ (S.failed self.new.ops_tree.now ≡ S.failed self.old.ops_tree.now + 1) }
+        ensures count { (S.failed self.new.ops_tree.now ≡ S.failed self.old.ops_tree.now) ⊎ (S.failed self.new.ops_tree.now ≡ S.failed self.old.ops_tree.now + 1) }
+        ensures same_size { S.nodes self.new.ops_tree.now ≡ S.nodes self.old.ops_tree.now }
+        ensures same { (p : ℕ) → joined F.shape self.new.height (S.nodes self.new.ops_tree.now) (R.node self.new.grafted_tree.now) (S.node self.new.ops_tree.now) p ≡ joined F.shape self.old.height (S.nodes self.old.ops_tree.now) (R.node self.old.grafted_tree.now) (S.node self.old.ops_tree.now) p }
+        ensures same_reference { self.new.ops_tree.ghost_name ≡ self.old.ops_tree.ghost_name }
+    {
+        let size = self.ops_tree.size();
+        let found = find_all::<F, R>(alloc, self.grafted_tree, self.height, size, positions)?;
+        let read = match read_all::<F, S>(alloc, self.ops_tree, &found.below) {
+            Ok(read) => read,
+            Err(error) => return Err(error),
+        };
+        if let Some(position) = found.missing {
+            return Err(Error::ElementPruned(position));
+        }
+        Ok(fill(alloc, &found.nodes, &read)?)
+    }
+}
+
+/// What there is at a position without a look at the operations' nodes.
+#[derive(Clone, Copy, Drop)]
+enum Look<D> {
+    /// No node.
+    Absent,
+    /// A node of the tree over the operations.
+    Below,
+    /// A node of the tree over chunks, with this digest.
+    Found(D),
+}
+
+/// What there is at a position of so many.
+fn look_up<F: Graftable, R: Readable<Family = F>>(
+    grafted_tree: &R,
+    height: u32,
+    nodes: Position<F>,
+    position: Position<F>,
+) -> Look<R::Digest>
+    requires { 1 ≤ height }
+    ensures { (operations : ℕ → Option R.Digest) → IsLook (joined F.shape height nodes (R.node grafted_tree.now) operations) operations position result }
+{
+    if position.as_u64() >= nodes.as_u64() || !position.is_valid() {
+        return Look::Absent;
+    }
+    if F::pos_to_height(position) < height {
+        return Look::Below;
+    }
+    let lowered = Position::new(ops_to_grafted_pos::<F>(position.as_u64(), height));
+    match grafted_tree.get_node(lowered) {
+        None => Look::Absent,
+        Some(digest) => Look::Found(digest),
+    }
+}
+
+/// What is found of a list of positions in a tree over chunks: the digests, with none in the places of the positions below,
+/// which stand apart; and the first position that has no node, where the list ends.
+#[derive(Drop)]
+struct Finds<F, D> {
+    nodes: Vec<Option<D>>,
+    below: Vec<Position<F>>,
+    missing: Option<Position<F>>,
+}
+
+/// What is found of positions of so many, up to the first one that is missing.
+fn find_all<F: Graftable, R: Readable<Family = F>>(
+    alloc: Global,
+    grafted_tree: &R,
+    height: u32,
+    size: Position<F>,
+    positions: &[Position<F>],
+) -> Result<Finds<F, R::Digest>, AllocError>
+    requires { 1 ≤ height }
+    ensures { IfOk result (λ finds. (operations : ℕ → Option R.Digest) → let node = joined F.shape height size (R.node grafted_tree.now) operations in (rest : List ℕ) × IsSplit node operations rest finds.nodes.items positions.now finds.below.items × MatchOption finds.missing (rest ≡ []) (λ p. (more : List ℕ) × (rest ≡ p ∷ more) × (node p ≡ None))) }
+{
+    let mut nodes = Vec::with_capacity(alloc, positions.len())?;
+    let mut below = Vec::new(alloc);
+    let mut missing = None;
+    let mut left = positions;
+    while let Some((position, rest)) = left.split_first() {
+        match look_up::<F, R>(grafted_tree, height, size, *position) {
+            Look::Absent => {
+                missing = Some(*position);
+                break;
+            }
+            Look::Below => {
+                below.push(*position)?;
+                nodes.push(None)?;
+            }
+            Look::Found(digest) => nodes.push(Some(digest))?,
+        }
+        left = rest;
+    }
+    Ok(Finds {
+        nodes,
+        below,
+        missing,
+    })
+}
+
+/// The digests at positions, in their order. A store is not asked for none.
+///
+/// # Errors
+///
+/// Those of the store; `Memory`.
+fn read_all<F: Graftable, S: merkle::Storage<F>>(
+    alloc: Global,
+    store: &mut S,
+    positions: &[Position<F>],
+) -> Result<Vec<S::Digest>, Error<F>>
+    requires { S.failed store.old + 1 < 2 ^ 64 }
+    ensures answers { MatchResult result (λ v. map Some v.items ≡ map (S.node store.old) positions.now) (λ e. ((p : ℕ) × (e ≡ Error.ElementPruned p) × IsFirstAbsent (λ q a. a ≡ S.node store.old q) positions.now p) ⊎ (((code : ℕ) × (e ≡ Error.Source code)) ⊎ (e ≡ Error.Memory))) }
+    ensures failure { ((code : ℕ) × (result ≡ Err (Error.Source code))) ↔ (S.failed store.new ≡ S.failed store.old + 1) }
+    ensures count { (S.failed store.new ≡ S.failed store.old) ⊎ (S.failed store.new ≡ S.failed store.old + 1) }
+    ensures same_size { S.nodes store.new ≡ S.nodes store.old }
+    ensures same { (p : ℕ) → S.node store.new p ≡ S.node store.old p }
+{
+    if positions.is_empty() {
+        return Ok(Vec::new(alloc));
+    }
+    store.get_nodes(alloc, positions)
+}
+
+/// Digests with those that were read in the places of none.
+fn fill<D: Digest>(alloc: Global, nodes: &[Option<D>], read: &[D]) -> Result<Vec<D>, AllocError>
+    requires { gaps nodes.now ≤ length read.now }
+    ensures { IfOk result (λ v. v.items ≡ filled nodes.now read.now) }
+{
+    let mut digests = Vec::with_capacity(alloc, nodes.len())?;
+    let mut left = nodes;
+    let mut unused = read;
+    while let Some((node, rest)) = left.split_first() {
+        let digest = match node {
+            Some(digest) => *digest,
+            None => {
+                let (first, more) = unused.split_first().unwrap();
+                unused = more;
+                *first
+            }
+        };
+        digests.push(digest)?;
+        left = rest;
+    }
+    Ok(digests)
+}
