@@ -9,10 +9,11 @@ use Rattle.storage_merkle.specs.Trees.{Layout, Peak, places, peaks_of, part, nod
 use Rattle.storage_merkle.specs.RangeProofs.{apart, leading, not_leading, up_to, sites_of, sites_in, position_of, place_in, by_position}
 use Rattle.storage_merkle.specs.Rests.{peaks_from, AreAfterLeading}
 use Rattle.storage_merkle.specs.Siblings.{sibling_sites}
+use Rattle.storage_merkle.specs.Extracted.{overlapped}
 use Rattle.storage_merkle.specs.CheckSteps.{Serves, Present, PresentIn}
 use Rattle.storage_merkle.proofs.Distinct.{one_if}
 use Rattle.storage_merkle.proofs.Rising.{Rising, count, rising_at}
-use Rattle.storage_merkle.proofs.Siblings.{overlapped, overlapped-is, positions, sites-join, sort-count, sort_rises, not_both}
+use Rattle.storage_merkle.proofs.Siblings.{overlapped-is, positions, sites-join, sort-count, sort_rises, not_both}
 
 contains_count : (m : ℕ) (xs : List ℕ) → 1 ≤ count m xs → Contains xs m
 contains_count m [] l = absurd (omega arith)

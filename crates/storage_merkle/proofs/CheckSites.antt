@@ -8,9 +8,10 @@ use Rattle.storage_merkle.specs.declared.merkle.bagging.Bagging.{Bagging}
 use Rattle.storage_merkle.specs.RangeProofs.{apart, leading, not_leading, up_to, trailing, sites_of, sites_in, front_sites, back_sites, by_position, sites_over, sites}
 use Rattle.storage_merkle.specs.Rests.{peaks_from, IsPast, AreFolded, AreAfterLeading}
 use Rattle.storage_merkle.specs.Siblings.{sibling_sites}
+use Rattle.storage_merkle.specs.Extracted.{overlapped}
 use Rattle.storage_merkle.specs.CheckSteps.{front_before, top_sites}
 use Rattle.storage_merkle.proofs.RangeSound.{places-take, places-drop}
-use Rattle.storage_merkle.proofs.Siblings.{overlapped, overlapped-is, sites-cut}
+use Rattle.storage_merkle.proofs.Siblings.{overlapped-is, sites-cut}
 
 -- of peaks that are folded from the left, those apart from the range
 abbrev pub left_tops : ℕ → ℕ → List Peak → List Site

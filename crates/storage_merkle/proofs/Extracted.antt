@@ -13,14 +13,14 @@ use Rattle.storage_merkle.specs.declared.merkle.bagging.Bagging.{Bagging}
 use Rattle.storage_merkle.specs.Trees.{Layout, Content, Peak, node_calc, join_calc, never, places, peaks_of, folded, unfolded, part, plain, tree_root, tree_strings}
 use Rattle.storage_merkle.specs.RangeProofs.{RangeProof, apart, leading, not_leading, up_to, trailing, front_given, check_bag, position_of, by_position, same_site, check_values, check_strings, IsAccepted}
 use Rattle.storage_merkle.specs.Multi.{tree_digest}
-use Rattle.storage_merkle.specs.Extracted.{nodes_under, nodes_in, extracted_sites, entries, digest_at, extracted, tree_entries, ExtractedDigestsAreTrue, ExtractedPositionsAscend}
+use Rattle.storage_merkle.specs.Extracted.{nodes_under, nodes_in, overlapped, checked_sites, extracted_sites, entries, digest_at, extracted, tree_entries, ExtractedDigestsAreTrue, ExtractedPositionsAscend}
 use Rattle.storage_merkle.proofs.Prune.{prunes_node, leading-all, up_to-all}
 use Rattle.storage_merkle.proofs.Agreeing.{AllPeaks, AgreeAll, AgreeAt, AgreeBag, agree_bag, agree_append, agree_join, agree_at_append, agree_by_position, up_to-leading}
 use Rattle.storage_merkle.proofs.Distinct.{times, one_if, one_if-le, other_first, times-append}
 use Rattle.storage_merkle.proofs.RangeSound.{own_values, folded-all, range_agrees, range_sound}
 use Rattle.storage_merkle.proofs.RangeOwn.{and-true, eval_agree, all_not_leading, all_up_to, peaks_under}
 use Rattle.storage_merkle.proofs.Rising.{count, count-permutation}
-use Rattle.storage_merkle.proofs.Siblings.{positions, sort_rises}
+use Rattle.storage_merkle.proofs.Siblings.{positions, sort_rises, overlapped-is}
 use Rattle.storage_merkle.proofs.Ascending.{sorted}
 use Rattle.storage_merkle.proofs.PlanSites.{AllSites, all_both, IsAlignedNode, each_place_once, strictly}
 
@@ -60,14 +60,14 @@ module _ (v w : Values) (T : Layout) (low high : ℕ) where
         | false ↦ λ f. up_to_both (x ∷ xs) ys f b
       ]) a
 
-  pub overlapped_agree : low < high → (b : Bagging) (n i : ℕ) → AgreeBag v w (check_bag T low high b n i) → AgreeIn (up_to high (not_leading low (peaks_of T n)))
+  pub overlapped_agree : low < high → (b : Bagging) (n i : ℕ) → AgreeBag v w (check_bag T low high b n i) → AgreeIn (overlapped low high (peaks_of T n))
   overlapped_agree some b n i a =
       let xs = folded b i (peaks_of T n) in
       let ys = unfolded b i (peaks_of T n) in
       let halves = agree_bag v w _ _ a in
       let fore = agree_append v w (front_given (leading low xs)) _ halves.0 in
       let aft = agree_append v w (map (part T (apart low high)) (up_to high ys)) _ halves.1 in
-      subst (λ ps. AgreeIn (up_to high (not_leading low ps))) (folded-all b i (peaks_of T n)) (overlapped_both some xs ys fore.1 aft.0)
+      subst AgreeIn (sym (overlapped-is low high 0 (T.shape.peaks n))) (subst (λ ps. AgreeIn (up_to high (not_leading low ps))) (folded-all b i (peaks_of T n)) (overlapped_both some xs ys fore.1 aft.0))
 
 -- at each node of a calculation that agrees with the own one
 module _ (h : HashFunction) (v w : Values) (T : Layout) (cut : ℕ → ℕ → Bool) (content : Content) (chunks : (a : ℕ) → w.chunk a ≡ content.chunk a) (elements : (j : ℕ) → w.element j ≡ (plain h content).element j) (nodes : (a k : ℕ) → w.digest (node a k) ≡ eval h (plain h content) (node_calc T never k a)) where
@@ -105,7 +105,7 @@ extracted_same h T b proof start claim content some en a =
     let n = proof.leaves in
     let v = check_values h T b proof start claim in
     let w = own_values h T b content n proof.inactive start high in
-    let ps = up_to high (not_leading start (peaks_of T n)) in
+    let ps = overlapped start high (peaks_of T n) in
     let nonempty : start < high = omega arith in
     let each = same_in h v w T (apart start high) content (λ c. refl) (λ j. refl) (λ c k. refl) ps (overlapped_agree v w T start high nonempty b n proof.inactive a) in
     let f = tree_digest h T content in
@@ -113,8 +113,8 @@ extracted_same h T b proof start claim content some en a =
     ∙ ap (λ m. entries T f (extracted_sites T m start high)) en
 
 -- no leaves, no digests
-no_entries : (T : Layout) (f : Site → List ℕ) (n low high : ℕ) → T.shape.peaks 0 ≡ [] → n ≡ 0 → entries T f (extracted_sites T n low high) ≡ []
-no_entries T f n low high none e = ap (λ m. entries T f (extracted_sites T m low high)) e ∙ ap (λ ks. entries T f (by_position T (nodes_in (apart low high) (up_to high (not_leading low (places 0 ks)))))) none
+pub no_entries : (T : Layout) (f : Site → List ℕ) (n low high : ℕ) → T.shape.peaks 0 ≡ [] → n ≡ 0 → entries T f (extracted_sites T n low high) ≡ []
+no_entries T f n low high none e = ap (λ m. entries T f (extracted_sites T m low high)) e ∙ ap (λ ks. entries T f (by_position T (nodes_in (apart low high) (overlapped low high (places 0 ks))))) none
 
 pub extracted_true : ExtractedDigestsAreTrue
 extracted_true d h T b proof start claim root sized L wide accepted N grafted same other chunked content inactive chunks few peaks at =
@@ -220,11 +220,11 @@ module _ (cut : ℕ → ℕ → Bool) where
   times-nodes s [] qs = omega arith
   times-nodes s (p ∷ ps) qs = omega (arith, times-append s (nodes_under cut p.height p.first) (nodes_in cut (ps ++ qs)), times-append s (nodes_under cut p.height p.first) (nodes_in cut ps), times-nodes s ps qs)
 
-  pub overlapped_once : (low high : ℕ) (ks : List ℕ) (s : Site) → times s (nodes_in cut (up_to high (not_leading low (places 0 ks)))) ≤ 1
+  pub overlapped_once : (low high : ℕ) (ks : List ℕ) (s : Site) → times s (nodes_in cut (overlapped low high (places 0 ks))) ≤ 1
   overlapped_once low high ks s =
       let ps = places 0 ks in
       let ns = not_leading low ps in
-      omega (arith, nodes_each_once ks s, times-nodes s (leading low ps) ns, times-nodes s (up_to high ns) (trailing high ns), ap (λ qs. times s (nodes_in cut qs)) (leading-all low ps), ap (λ qs. times s (nodes_in cut qs)) (up_to-all high ns))
+      omega (arith, nodes_each_once ks s, times-nodes s (leading low ps) ns, times-nodes s (up_to high ns) (trailing high ns), ap (λ qs. times s (nodes_in cut qs)) (leading-all low ps), ap (λ qs. times s (nodes_in cut qs)) (up_to-all high ns), ap (λ qs. times s (nodes_in cut qs)) (overlapped-is low high 0 ks))
 
   aligned_nodes : (k a : ℕ) → a % 2 ^ k ≡ 0 → AllSites IsAlignedNode (nodes_under cut k a)
   aligned_nodes zero a h = (h, tt)
@@ -243,16 +243,12 @@ all_weaker : (P Q : Peak → Type 0) → ((p : Peak) → P p → Q p) → (ps : 
 all_weaker P Q f [] a = tt
 all_weaker P Q f (p ∷ ps) a = (f p a.0, all_weaker P Q f ps a.1)
 
--- the nodes that a check of a range takes
-abbrev pub unsorted : Layout → ℕ → ℕ → ℕ → List Site
-unsorted T n low high = nodes_in (apart low high) (up_to high (not_leading low (peaks_of T n)))
-
-pub aligned_unsorted : (T : Layout) → Laws T.shape → (n low high : ℕ) → AllSites IsAlignedNode (unsorted T n low high)
-aligned_unsorted T L n low high =
+pub aligned_checked : (T : Layout) → Laws T.shape → (n low high : ℕ) → AllSites IsAlignedNode (checked_sites T n low high)
+aligned_checked T L n low high =
     let ks = T.shape.peaks n in
     let Q : Peak → Type 0 = λ p. p.first % 2 ^ p.height ≡ 0 in
     let all = all_weaker _ Q (λ p u. u.0) (peaks_of T n) (peaks_under ks ks 0 (L.aligned n) (λ a k i. i)) in
-    aligned_over (apart low high) (up_to high (not_leading low (peaks_of T n))) (all_up_to high Q _ (all_not_leading low Q (peaks_of T n) all))
+    aligned_over (apart low high) (overlapped low high (peaks_of T n)) (subst (AllPeaks Q) (sym (overlapped-is low high 0 ks)) (all_up_to high Q _ (all_not_leading low Q (peaks_of T n) all)))
 
 entries-positions : (T : Layout) (f : Site → List ℕ) (ss : List Site) → map (λ e. e.0) (entries T f ss) ≡ positions T ss
 entries-positions T f [] = refl
@@ -260,9 +256,9 @@ entries-positions T f (s ∷ ss) = ap (λ ps. position_of T s ∷ ps) (entries-p
 
 pub entries_ascend : (T : Layout) → Laws T.shape → (f : Site → List ℕ) (n low high : ℕ) → IsStrictlyIncreasing (map (λ e. e.0) (entries T f (extracted_sites T n low high)))
 entries_ascend T L f n low high =
-    let ss = unsorted T n low high in
+    let ss = checked_sites T n low high in
     let moved : IsPermutation (positions T ss) (positions T (by_position T ss)) = IsPermutation-map (position_of T) ss (by_position T ss) (sorted T ss) in
-    let once : (m : ℕ) → count m (positions T ss) ≤ 1 = each_place_once T L ss (aligned_unsorted T L n low high) (overlapped_once (apart low high) low high (T.shape.peaks n)) in
+    let once : (m : ℕ) → count m (positions T ss) ≤ 1 = each_place_once T L ss (aligned_checked T L n low high) (overlapped_once (apart low high) low high (T.shape.peaks n)) in
     subst IsStrictlyIncreasing (sym (entries-positions T f (by_position T ss)))
     (strictly (positions T (by_position T ss)) (sort_rises T ss) (λ m. omega (arith, once m, count-permutation m (positions T ss) (positions T (by_position T ss)) moved)))
 

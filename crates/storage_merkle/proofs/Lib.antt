@@ -34,6 +34,9 @@ pub mod Meaning
 pub mod Built
 pub mod KeptRoots
 pub mod Served
+pub mod Found
+pub mod Handed
+pub mod HandedOut
 pub mod MultiSound
 pub mod MultiOwn
 pub mod MultiClaims

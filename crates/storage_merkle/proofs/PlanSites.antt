@@ -71,7 +71,7 @@ module _ (T : Layout) (cut : ℕ → ℕ → Bool) where
   aligned_in s (k ∷ ks) al = all_both IsAlignedNode _ _ (aligned_under k s al.0) (aligned_in (s + 2 ^ k) ks al.1)
 
 module _ (T : Layout) (L : Laws T.shape) where
-  one_place : (s t : Site) → IsAlignedNode s → IsAlignedNode t → position_of T s ≡ position_of T t → s ≡ t
+  pub one_place : (s t : Site) → IsAlignedNode s → IsAlignedNode t → position_of T s ≡ position_of T t → s ≡ t
   one_place front t a b e = absurd a
   one_place back t a b e = absurd a
   one_place (node a k) front p q e = absurd q

@@ -5,19 +5,15 @@ use Rattle.std.proofs.lemmas.Bool.{lt-leb, cases_lt}
 use Rattle.std.proofs.lemmas.List.{map-append}
 use Rattle.storage_merkle.specs.Multiples.{pow_two}
 use Rattle.storage_merkle.specs.Calc.{Site, node, Calc, pair, graft, be8}
-use Rattle.storage_merkle.specs.Trees.{Layout, Peak, places, peaks_of, node_calc, join_calc}
+use Rattle.storage_merkle.specs.Trees.{Layout, places, peaks_of, node_calc, join_calc}
 use Rattle.storage_merkle.specs.RangeProofs.{apart, not_leading, up_to, sites_of, sites_in, position_of, place_in, by_position}
 use Rattle.storage_merkle.specs.Siblings.{sibling_sites}
+use Rattle.storage_merkle.specs.Extracted.{overlapped}
 use Rattle.storage_merkle.proofs.Distinct.{one_if}
 use Rattle.storage_merkle.proofs.Rising.{AtLeast, Rising, count, at_least_less, sorted_is}
 
--- the peaks that share a leaf with a range
-abbrev pub overlapped : ℕ → ℕ → List Peak → List Peak
-overlapped low high [] = []
-overlapped low high (p ∷ ps) = if apart low high p.first p.height then overlapped low high ps else p ∷ overlapped low high ps
-
 module _ (low high : ℕ) where
-  overlapped-past : (s : ℕ) (ks : List ℕ) → high ≤ s → overlapped low high (places s ks) ≡ []
+  pub overlapped-past : (s : ℕ) (ks : List ℕ) → high ≤ s → overlapped low high (places s ks) ≡ []
   overlapped-past s [] h = refl
   overlapped-past s (k ∷ ks) h =
       let rest = overlapped-past (s + 2 ^ k) ks (omega arith) in

@@ -6,7 +6,7 @@ use Rattle.storage_merkle.specs.Shape.{Laws}
 use Rattle.storage_merkle.specs.Calc.{Site, front, back, node, Values, eval}
 use Rattle.storage_merkle.specs.declared.merkle.bagging.Bagging.{Bagging}
 use Rattle.storage_merkle.specs.Trees.{Layout, Content, Peak, node_calc, peaks_of, tree_root, tree_strings}
-use Rattle.storage_merkle.specs.RangeProofs.{RangeProof, apart, not_leading, up_to, position_of, by_position, check_values, check_strings, CountsFit, IsEmptyProof, IsAccepted, AreDigests}
+use Rattle.storage_merkle.specs.RangeProofs.{RangeProof, apart, position_of, by_position, check_values, check_strings, CountsFit, IsEmptyProof, IsAccepted, AreDigests}
 use Rattle.storage_merkle.specs.Multi.{tree_digest}
 
 -- the nodes whose digests the calculation of a node reads or computes, children first
@@ -18,13 +18,25 @@ abbrev pub nodes_in : (ℕ → ℕ → Bool) → List Peak → List Site
 nodes_in cut [] = []
 nodes_in cut (p ∷ ps) = nodes_under cut p.height p.first ++ nodes_in cut ps
 
--- each node of the peaks that share a leaf with a range that the check reads or computes, by position
+-- the peaks that share a leaf with a range
+abbrev pub overlapped : ℕ → ℕ → List Peak → List Peak
+overlapped low high [] = []
+overlapped low high (p ∷ ps) = if apart low high p.first p.height then overlapped low high ps else p ∷ overlapped low high ps
+
+-- each node of those peaks that the check of the range reads or computes, and the same by position
+abbrev pub checked_sites : Layout → ℕ → ℕ → ℕ → List Site
+checked_sites T n low high = nodes_in (apart low high) (overlapped low high (peaks_of T n))
+
 abbrev pub extracted_sites : Layout → ℕ → ℕ → ℕ → List Site
-extracted_sites T n low high = by_position T (nodes_in (apart low high) (up_to high (not_leading low (peaks_of T n))))
+extracted_sites T n low high = by_position T (checked_sites T n low high)
 
 -- digests with their positions
 abbrev pub entries : Layout → (Site → List ℕ) → List Site → List (ℕ × List ℕ)
 entries T digest ss = map (λ s. (position_of T s, digest s)) ss
+
+-- handed out digests, by their bytes
+abbrev pub texts : {D : Type 0} → (D → List ℕ) → List (ℕ × D) → List (ℕ × List ℕ)
+texts text es = map (λ e. (e.0, text e.1)) es
 
 -- the digest that a calculation has at a node
 abbrev pub digest_at : HashFunction → Values → Layout → (ℕ → ℕ → Bool) → Site → List ℕ
@@ -32,10 +44,13 @@ digest_at h v T cut front = h []
 digest_at h v T cut back = h []
 digest_at h v T cut (node a k) = eval h v (node_calc T cut k a)
 
+-- the digests of a check at some nodes
+abbrev pub checked : HashFunction → Layout → Bagging → RangeProof → ℕ → Content → List Site → List (ℕ × List ℕ)
+checked h T b proof start claim ss = entries T (digest_at h (check_values h T b proof start claim) T (apart start (start + length claim.elements))) ss
+
 -- what an accepted check hands out
 abbrev pub extracted : HashFunction → Layout → Bagging → RangeProof → ℕ → Content → List (ℕ × List ℕ)
-extracted h T b proof start claim =
-    entries T (digest_at h (check_values h T b proof start claim) T (apart start (start + length claim.elements))) (extracted_sites T proof.leaves start (start + length claim.elements))
+extracted h T b proof start claim = checked h T b proof start claim (extracted_sites T proof.leaves start (start + length claim.elements))
 
 -- what the tree over some content has there
 abbrev pub tree_entries : HashFunction → Layout → Content → ℕ → ℕ → List (ℕ × List ℕ)
@@ -62,6 +77,13 @@ abbrev pub AreExtracted : ℕ → HashFunction → Layout → Bagging → RangeP
 AreExtracted d h T b proof start claim root =
     HoldsOfEach d h T b proof.leaves claim (check_strings h T b proof start claim) root
     (λ U content inactive. extracted h T b proof start claim ≡ tree_entries h U content start (start + length claim.elements))
+
+-- what an accepted check hands out, whole and ascending, each position once
+pub record AreHandedOut (d : ℕ) (h : HashFunction) (T : Layout) (b : Bagging) (proof : RangeProof) (start : ℕ) (claim : Content) (root : List ℕ) (digests : List (ℕ × List ℕ)) : Type 0 where
+  pub accepted : IsAccepted h T b proof start claim root
+  pub all : digests ≡ extracted h T b proof start claim
+  pub are_true : AreExtracted d h T b proof start claim root
+  pub ascending : IsStrictlyIncreasing (map (λ e. e.0) digests)
 
 -- Each digest that an accepted check hands out is the tree's at its position, or a string of the check and a different one of the
 -- tree have one digest.

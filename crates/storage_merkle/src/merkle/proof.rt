@@ -15,6 +15,8 @@ use storage_codec::digest::Digest;
 
 mod check;
 mod codec;
+mod extract;
+mod found;
 mod lent;
 
 pub use lent::LentProof;

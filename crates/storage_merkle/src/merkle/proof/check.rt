@@ -1,8 +1,9 @@
 //! The root that a range proof and its elements give.
-ghost use Rattle.std.specs.Prelude.{◌≡◌, ℕ, ◌+◌, ◌-◌, ◌*◌, ◌%◌, ◌^◌, ◌<◌, ◌≤◌, ◌∷◌, ◌++◌, List, length, map, drop, option_map, true, false, if◌then◌else◌, Some, None, IfOk, Contains};
+ghost use Rattle.std.specs.Prelude.{◌≡◌, ℕ, ◌+◌, ◌-◌, ◌*◌, ◌%◌, ◌^◌, ◌<◌, ◌≤◌, ◌∷◌, ◌++◌, List, [], length, map, drop, option_map, true, false, if◌then◌else◌, Some, None, IfOk, MatchOption, Contains};
 ghost use Rattle.storage_merkle.specs.Calc.{Site, front, back, node, eval};
 ghost use Rattle.storage_merkle.specs.Checks.{IsRecomputed};
 ghost use Rattle.storage_merkle.specs.CheckSteps.{front_before, top_sites, given_values, IsGiven, Serves, Present, PresentIn, right_of, bag_onto, folded_before};
+ghost use Rattle.storage_merkle.specs.Extracted.{checked, checked_sites, digest_at, entries, nodes_in, nodes_under, overlapped, texts};
 ghost use Rattle.storage_merkle.specs.Hashers.{TakesTree};
 ghost use Rattle.storage_merkle.specs.Nodes.{IsNode};
 ghost use Rattle.storage_merkle.specs.Plans.{InTree, ArePeaks};
@@ -14,8 +15,9 @@ use crate::merkle::family::power;
 use crate::merkle::hasher::{Hasher, append, bagged_root, join};
 use crate::merkle::plan::{Rest, is_apart, node_position, peak_count, siblings};
 use crate::merkle::proof::LentProof;
+use crate::merkle::proof::found::{Found, keep};
 use crate::merkle::{Family, Location, MAX_LEAVES, Position};
-use std::alloc::Global;
+use std::alloc::{AllocError, Global};
 use std::convert::AsSlice;
 use storage_codec::NoMemory;
 use storage_codec::digest::Digest;
@@ -27,9 +29,11 @@ pub(crate) fn recompute<F: Family, H: Hasher<F>, E: AsSlice<u8>>(
     hasher: &H,
     elements: &[E],
     start: Location<F>,
+    found: &mut Found<F, H::Digest>,
 ) -> Result<Option<H::Digest>, NoMemory>
     requires { TakesTree (H.takes hasher.now) F.shape proof.now.leaves }
-    ensures { (H.layout hasher.now).shape ≡ F.shape → IfOk result (λ root. IsRecomputed H.hash_of (H.layout hasher.now) (H.bagging hasher.now) (record { leaves = proof.now.leaves; inactive = proof.now.inactive_peaks; digests = map H.Digest.text proof.now.digests.now }) start (record { elements = map E.items elements.now; chunk = H.chunk hasher.now }) (option_map H.Digest.text root)) }
+    ensures root { (H.layout hasher.now).shape ≡ F.shape → IfOk result (λ root. IsRecomputed H.hash_of (H.layout hasher.now) (H.bagging hasher.now) (record { leaves = proof.now.leaves; inactive = proof.now.inactive_peaks; digests = map H.Digest.text proof.now.digests.now }) start (record { elements = map E.items elements.now; chunk = H.chunk hasher.now }) (option_map H.Digest.text root)) }
+    ensures found { (H.layout hasher.now).shape ≡ F.shape → IfOk result (λ root. MatchOption root (Unit {0}) (λ _. option_map (λ v. texts H.Digest.text v.items) found.new ≡ option_map (λ v. texts H.Digest.text v.items ++ checked H.hash_of (H.layout hasher.now) (H.bagging hasher.now) (record { leaves = proof.now.leaves; inactive = proof.now.inactive_peaks; digests = map H.Digest.text proof.now.digests.now }) start (record { elements = map E.items elements.now; chunk = H.chunk hasher.now }) (checked_sites (H.layout hasher.now) proof.now.leaves start (start + length (map E.items elements.now)))) found.old)) }
 {
     let leaves = proof.leaves.as_u64();
     let start = start.as_u64();
@@ -62,7 +66,7 @@ pub(crate) fn recompute<F: Family, H: Hasher<F>, E: AsSlice<u8>>(
         siblings: &siblings,
         digests,
     };
-    let bag = given.bag(hasher, rest, tops);
+    let bag = given.bag(hasher, rest, tops, found)?;
     Ok(Some(bagged_root(hasher, leaves, proof.inactive_peaks, bag)))
 }
 
@@ -102,13 +106,19 @@ struct Given<'a, F, D, E> {
 impl<F: Family, D: Digest, E: AsSlice<u8>> Given<'_, F, D, E> {
     /// What the peaks are folded into, from those after the leading ones that are folded from the left and end before
     /// the range, and the digests of the peaks and folds apart from it; none for no peaks.
-    fn bag<H: Hasher<F, Digest = D>>(&self, hasher: &H, rest: Rest, tops: &[D]) -> Option<D>
+    fn bag<H: Hasher<F, Digest = D>>(
+        &self,
+        hasher: &H,
+        rest: Rest,
+        tops: &[D],
+        found: &mut Found<F, D>,
+    ) -> Result<Option<D>, AllocError>
         requires given { IsGiven self.now.leaves self.now.start self.now.end self.now.elements.now self.now.siblings.now self.now.digests.now }
         requires peaks { ArePeaks F.shape self.now.leaves rest.first rest.left }
         requires takes { TakesTree (H.takes hasher.now) F.shape self.now.leaves }
         requires present { PresentIn F.shape self.now.start self.now.end self.now.siblings.now (peaks_from F.shape rest.first rest.left) }
         requires tops { length tops.now ≡ length (front_before rest.first ++ top_sites self.now.start self.now.end (peaks_from F.shape rest.first rest.left) rest.folded) }
-        ensures { (digest : Site → List ℕ) → (H.layout hasher.now).shape ≡ F.shape → Serves F.shape digest self.now.siblings.now (map D.text self.now.digests.now) → map D.text tops.now ≡ map digest (front_before rest.first ++ top_sites self.now.start self.now.end (peaks_from F.shape rest.first rest.left) rest.folded) → option_map D.text result ≡ bag_onto H.hash_of (λ p. eval H.hash_of (given_values digest self.now.start (map E.items self.now.elements.now) (H.chunk hasher.now)) (part (H.layout hasher.now) (apart self.now.start self.now.end) p)) (digest back) self.now.end (folded_before (digest front) rest.first) (peaks_from F.shape rest.first rest.left) rest.folded }
+        ensures { (digest : Site → List ℕ) → (H.layout hasher.now).shape ≡ F.shape → Serves F.shape digest self.now.siblings.now (map D.text self.now.digests.now) → map D.text tops.now ≡ map digest (front_before rest.first ++ top_sites self.now.start self.now.end (peaks_from F.shape rest.first rest.left) rest.folded) → IfOk result (λ r. (option_map D.text r ≡ bag_onto H.hash_of (λ p. eval H.hash_of (given_values digest self.now.start (map E.items self.now.elements.now) (H.chunk hasher.now)) (part (H.layout hasher.now) (apart self.now.start self.now.end) p)) (digest back) self.now.end (folded_before (digest front) rest.first) (peaks_from F.shape rest.first rest.left) rest.folded) × (option_map (λ v. texts D.text v.items) found.new ≡ option_map (λ v. texts D.text v.items ++ entries (H.layout hasher.now) (digest_at H.hash_of (given_values digest self.now.start (map E.items self.now.elements.now) (H.chunk hasher.now)) (H.layout hasher.now) (apart self.now.start self.now.end)) (nodes_in (apart self.now.start self.now.end) (overlapped self.now.start self.now.end (peaks_from F.shape rest.first rest.left)))) found.old)) }
     {
         let mut rest = rest;
         let mut tops = tops;
@@ -119,37 +129,43 @@ impl<F: Family, D: Digest, E: AsSlice<u8>> Given<'_, F, D, E> {
         }
         while rest.left > 0 && rest.folded > 0 {
             let height = F::first_peak(rest.left);
-            let (item, after) = self.item(hasher, rest.first, height, tops);
+            let (item, after) = self.item(hasher, rest.first, height, tops, found)?;
             folded = Some(append(hasher, folded, &item));
             tops = after;
             rest = rest.next(height);
         }
-        let onto = self.unfolded(hasher, rest, tops);
+        let onto = self.unfolded(hasher, rest, tops, found)?;
         match folded {
-            None => onto,
-            Some(folded) => Some(join(hasher, &folded, onto)),
+            None => Ok(onto),
+            Some(folded) => Ok(Some(join(hasher, &folded, onto))),
         }
     }
 
     /// What peaks are folded into from the right; none for no peaks.
-    fn unfolded<H: Hasher<F, Digest = D>>(&self, hasher: &H, rest: Rest, tops: &[D]) -> Option<D>
+    fn unfolded<H: Hasher<F, Digest = D>>(
+        &self,
+        hasher: &H,
+        rest: Rest,
+        tops: &[D],
+        found: &mut Found<F, D>,
+    ) -> Result<Option<D>, AllocError>
         requires given { IsGiven self.now.leaves self.now.start self.now.end self.now.elements.now self.now.siblings.now self.now.digests.now }
         requires peaks { ArePeaks F.shape self.now.leaves rest.first rest.left }
         requires takes { TakesTree (H.takes hasher.now) F.shape self.now.leaves }
         requires present { PresentIn F.shape self.now.start self.now.end self.now.siblings.now (peaks_from F.shape rest.first rest.left) }
         requires tops { length tops.now ≡ length (top_sites self.now.start self.now.end (peaks_from F.shape rest.first rest.left) 0) }
-        ensures { (digest : Site → List ℕ) → (H.layout hasher.now).shape ≡ F.shape → Serves F.shape digest self.now.siblings.now (map D.text self.now.digests.now) → map D.text tops.now ≡ map digest (top_sites self.now.start self.now.end (peaks_from F.shape rest.first rest.left) 0) → option_map D.text result ≡ right_of H.hash_of (λ p. eval H.hash_of (given_values digest self.now.start (map E.items self.now.elements.now) (H.chunk hasher.now)) (part (H.layout hasher.now) (apart self.now.start self.now.end) p)) (digest back) self.now.end (peaks_from F.shape rest.first rest.left) }
+        ensures { (digest : Site → List ℕ) → (H.layout hasher.now).shape ≡ F.shape → Serves F.shape digest self.now.siblings.now (map D.text self.now.digests.now) → map D.text tops.now ≡ map digest (top_sites self.now.start self.now.end (peaks_from F.shape rest.first rest.left) 0) → IfOk result (λ r. (option_map D.text r ≡ right_of H.hash_of (λ p. eval H.hash_of (given_values digest self.now.start (map E.items self.now.elements.now) (H.chunk hasher.now)) (part (H.layout hasher.now) (apart self.now.start self.now.end) p)) (digest back) self.now.end (peaks_from F.shape rest.first rest.left)) × (option_map (λ v. texts D.text v.items) found.new ≡ option_map (λ v. texts D.text v.items ++ entries (H.layout hasher.now) (digest_at H.hash_of (given_values digest self.now.start (map E.items self.now.elements.now) (H.chunk hasher.now)) (H.layout hasher.now) (apart self.now.start self.now.end)) (nodes_in (apart self.now.start self.now.end) (overlapped self.now.start self.now.end (peaks_from F.shape rest.first rest.left)))) found.old)) }
     {
         if rest.left == 0 {
-            return None;
+            return Ok(None);
         }
         if self.end <= rest.first {
-            return Some(tops[0]);
+            return Ok(Some(tops[0]));
         }
         let height = F::first_peak(rest.left);
-        let (item, tops) = self.item(hasher, rest.first, height, tops);
-        let onto = self.unfolded(hasher, rest.next(height), tops);
-        Some(join(hasher, &item, onto))
+        let (item, tops) = self.item(hasher, rest.first, height, tops, found)?;
+        let onto = self.unfolded(hasher, rest.next(height), tops, found)?;
+        Ok(Some(join(hasher, &item, onto)))
     }
 
     /// The digest of a peak, the first of these where it is apart from the range, and those that are left of them.
@@ -159,43 +175,51 @@ impl<F: Family, D: Digest, E: AsSlice<u8>> Given<'_, F, D, E> {
         first: u64,
         height: u32,
         tops: &'t [D],
-    ) -> (D, &'t [D])
+        found: &mut Found<F, D>,
+    ) -> Result<(D, &'t [D]), AllocError>
         requires given { IsGiven self.now.leaves self.now.start self.now.end self.now.elements.now self.now.siblings.now self.now.digests.now }
         requires small { height ≤ 62 }
         requires within { InTree F.shape self.now.leaves first height }
         requires takes { TakesTree (H.takes hasher.now) F.shape self.now.leaves }
         requires present { apart self.now.start self.now.end first height ≡ false → Present F.shape self.now.siblings.now (sites_of (node_calc (ungrafted F.shape) (apart self.now.start self.now.end) height first)) }
         requires tops { apart self.now.start self.now.end first height ≡ true → 0 < length tops.now }
-        ensures left { result.1.now ≡ (if apart self.now.start self.now.end first height then drop 1 tops.now else tops.now) }
-        ensures exact { (digest : Site → List ℕ) (later : List Site) → (H.layout hasher.now).shape ≡ F.shape → Serves F.shape digest self.now.siblings.now (map D.text self.now.digests.now) → (apart self.now.start self.now.end first height ≡ true → map D.text tops.now ≡ map digest (node first height ∷ later)) → D.text result.0 ≡ eval H.hash_of (given_values digest self.now.start (map E.items self.now.elements.now) (H.chunk hasher.now)) (node_calc (H.layout hasher.now) (apart self.now.start self.now.end) height first) }
+        ensures left { IfOk result (λ r. r.1.now ≡ (if apart self.now.start self.now.end first height then drop 1 tops.now else tops.now)) }
+        ensures exact { (digest : Site → List ℕ) (later : List Site) → (H.layout hasher.now).shape ≡ F.shape → Serves F.shape digest self.now.siblings.now (map D.text self.now.digests.now) → (apart self.now.start self.now.end first height ≡ true → map D.text tops.now ≡ map digest (node first height ∷ later)) → IfOk result (λ r. (D.text r.0 ≡ eval H.hash_of (given_values digest self.now.start (map E.items self.now.elements.now) (H.chunk hasher.now)) (node_calc (H.layout hasher.now) (apart self.now.start self.now.end) height first)) × (option_map (λ v. texts D.text v.items) found.new ≡ option_map (λ v. texts D.text v.items ++ entries (H.layout hasher.now) (digest_at H.hash_of (given_values digest self.now.start (map E.items self.now.elements.now) (H.chunk hasher.now)) (H.layout hasher.now) (apart self.now.start self.now.end)) (if apart self.now.start self.now.end first height then [] else nodes_under (apart self.now.start self.now.end) height first)) found.old)) }
     {
         if is_apart(self.start, self.end, first, height) {
-            (tops[0], &tops[1..])
+            Ok((tops[0], &tops[1..]))
         } else {
-            (self.node(hasher, first, height), tops)
+            Ok((self.node(hasher, first, height, found)?, tops))
         }
     }
 
     /// The digest of a node, from the elements and the digests of the nodes beside the range.
-    fn node<H: Hasher<F, Digest = D>>(&self, hasher: &H, first: u64, height: u32) -> D
+    fn node<H: Hasher<F, Digest = D>>(
+        &self,
+        hasher: &H,
+        first: u64,
+        height: u32,
+        found: &mut Found<F, D>,
+    ) -> Result<D, AllocError>
         requires given { IsGiven self.now.leaves self.now.start self.now.end self.now.elements.now self.now.siblings.now self.now.digests.now }
         requires small { height ≤ 62 }
         requires within { InTree F.shape self.now.leaves first height }
         requires takes { TakesTree (H.takes hasher.now) F.shape self.now.leaves }
         requires present { Present F.shape self.now.siblings.now (sites_of (node_calc (ungrafted F.shape) (apart self.now.start self.now.end) height first)) }
-        ensures { (digest : Site → List ℕ) → (H.layout hasher.now).shape ≡ F.shape → Serves F.shape digest self.now.siblings.now (map D.text self.now.digests.now) → D.text result ≡ eval H.hash_of (given_values digest self.now.start (map E.items self.now.elements.now) (H.chunk hasher.now)) (node_calc (H.layout hasher.now) (apart self.now.start self.now.end) height first) }
+        ensures { (digest : Site → List ℕ) → (H.layout hasher.now).shape ≡ F.shape → Serves F.shape digest self.now.siblings.now (map D.text self.now.digests.now) → IfOk result (λ d. (D.text d ≡ eval H.hash_of (given_values digest self.now.start (map E.items self.now.elements.now) (H.chunk hasher.now)) (node_calc (H.layout hasher.now) (apart self.now.start self.now.end) height first)) × (option_map (λ v. texts D.text v.items) found.new ≡ option_map (λ v. texts D.text v.items ++ entries (H.layout hasher.now) (digest_at H.hash_of (given_values digest self.now.start (map E.items self.now.elements.now) (H.chunk hasher.now)) (H.layout hasher.now) (apart self.now.start self.now.end)) (nodes_under (apart self.now.start self.now.end) height first)) found.old)) }
     {
         let position = node_position(first, height);
         if is_apart(self.start, self.end, first, height) {
-            return self.sibling(position);
+            return keep(found, position, self.sibling(position));
         }
         if height == 0 {
             let element = &self.elements[(first - self.start) as usize];
-            return hasher.leaf_digest(position, element.as_slice());
+            let digest = hasher.leaf_digest(position, element.as_slice());
+            return keep(found, position, digest);
         }
-        let left = self.node(hasher, first, height - 1);
-        let right = self.node(hasher, first + power(height - 1), height - 1);
-        hasher.node_digest(position, &left, &right)
+        let left = self.node(hasher, first, height - 1, found)?;
+        let right = self.node(hasher, first + power(height - 1), height - 1, found)?;
+        keep(found, position, hasher.node_digest(position, &left, &right))
     }
 
     /// The digest of the sibling at a position.

@@ -36,6 +36,6 @@ impl<F: Family, D: Digest> LentProof<'_, F, D> {
         requires { TakesTree (H.takes hasher.now) F.shape self.now.leaves }
         ensures { (H.layout hasher.now).shape ≡ F.shape → IfOk result (λ root. IsRecomputed H.hash_of (H.layout hasher.now) (H.bagging hasher.now) (record { leaves = self.now.leaves; inactive = self.now.inactive_peaks; digests = map D.text self.now.digests.now }) start (record { elements = map E.items elements.now; chunk = H.chunk hasher.now }) (option_map D.text root)) }
     {
-        check::recompute(self, alloc, hasher, elements, start)
+        check::recompute(self, alloc, hasher, elements, start, &mut None)
     }
 }

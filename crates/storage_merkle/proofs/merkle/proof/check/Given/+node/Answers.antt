@@ -1,7 +1,8 @@
-use Rattle.std.proofs.Common.{arith, rules, map, sym, ◌∙◌}
+use Rattle.std.proofs.Common.{arith, rules, map, refl, sym, [], ◌∙◌}
 use Rattle.storage_merkle.specs.CheckSteps.{given_values}
 use Rattle.storage_merkle.proofs.Walks.{in_tree_leaves, in_tree_left, in_tree_right, halves}
 use Rattle.storage_merkle.proofs.CheckNodes.{present_itself, present_halves, node_sibling, node_leaf, node_halves, element_at}
+use Rattle.storage_merkle.proofs.Found.{adds_nothing, adds_then, keeps_last, found_itself, found_leaf, found_halves}
 use Rattle.storage_merkle.proofs.merkle.proof.check.Given.+node.Goals as goal
 
 pub node_position-position-requires-clause-within : goal.node_position-position-requires-clause-within
@@ -15,19 +16,23 @@ sibling-requires-clause-present g t c = present_itself g.F.Family.shape c.args.s
 
 pub returns-then-is_apart : goal.returns-then-is_apart
 returns-then-is_apart g t c = λ digest same serves.
-    node_sibling g.H.Hasher.hash_of (g.H.Hasher.layout c.args.hasher.now) c.args.self.now.start c.args.self.now.end
-    (given_values digest c.args.self.now.start (map g.E.AsSlice.items c.args.self.now.elements.now) (g.H.Hasher.chunk c.args.hasher.now))
-    c.args.height c.args.first _ c.if-is_apart.ensures (c.sibling.ensures digest c.args.first c.args.height serves (record { aligned = c.requires.within.aligned; at = sym c.node_position-position.ensures }))
+    let v = given_values digest c.args.self.now.start (map g.E.AsSlice.items c.args.self.now.elements.now) (g.H.Hasher.chunk c.args.hasher.now) in
+    let is = node_sibling g.H.Hasher.hash_of (g.H.Hasher.layout c.args.hasher.now) c.args.self.now.start c.args.self.now.end v c.args.height c.args.first _ c.if-is_apart.ensures (c.sibling.ensures digest c.args.first c.args.height serves (record { aligned = c.requires.within.aligned; at = sym c.node_position-position.ensures })) in
+    keeps_last g.D.Write.text _ c.keep.result c.sibling.result _ c.node_position-position.result c.args.found.now c.args.found.now c.keep.new.found [] _ is
+    (found_itself g.H.Hasher.hash_of (g.H.Hasher.layout c.args.hasher.now) c.args.self.now.start c.args.self.now.end v g.F.Family.shape c.args.height c.args.first c.node_position-position.result same c.if-is_apart.ensures c.node_position-position.ensures)
+    (adds_nothing _ c.args.found.now [] refl) c.keep.ensures.same c.keep.ensures.kept
 
 pub returns-then-height-eq0 : goal.returns-then-height-eq0
 returns-then-height-eq0 g t c = λ digest same serves.
-    node_leaf g.H.Hasher.hash_of (g.H.Hasher.layout c.args.hasher.now) c.args.self.now.start c.args.self.now.end
-    (given_values digest c.args.self.now.start (map g.E.AsSlice.items c.args.self.now.elements.now) (g.H.Hasher.chunk c.args.hasher.now))
-    g.F.Family.shape c.args.height c.args.first _ _ _ same c.if-is_apart.ensures c.if-height-eq0.true c.node_position-position.ensures c.leaf_digest.ensures
-    (c.as_slice.ensures ∙ element_at g.E.AsSlice.items c.args.self.now.elements.now c.args.self.now.start c.args.self.now.end c.args.first c.args.height c.index-self-first.result c.if-is_apart.ensures c.if-height-eq0.true c.requires.given.range)
+    let v = given_values digest c.args.self.now.start (map g.E.AsSlice.items c.args.self.now.elements.now) (g.H.Hasher.chunk c.args.hasher.now) in
+    let is = node_leaf g.H.Hasher.hash_of (g.H.Hasher.layout c.args.hasher.now) c.args.self.now.start c.args.self.now.end v g.F.Family.shape c.args.height c.args.first _ _ _ same c.if-is_apart.ensures c.if-height-eq0.true c.node_position-position.ensures c.leaf_digest-digest.ensures
+    (c.as_slice.ensures ∙ element_at g.E.AsSlice.items c.args.self.now.elements.now c.args.self.now.start c.args.self.now.end c.args.first c.args.height c.index-self-first.result c.if-is_apart.ensures c.if-height-eq0.true c.requires.given.range) in
+    keeps_last g.D.Write.text _ c.keep-then-height-eq0.result c.leaf_digest-digest.result _ c.node_position-position.result c.args.found.now c.args.found.now c.keep-then-height-eq0.new.found [] _ is
+    (found_leaf g.H.Hasher.hash_of (g.H.Hasher.layout c.args.hasher.now) c.args.self.now.start c.args.self.now.end v g.F.Family.shape c.args.height c.args.first c.node_position-position.result same c.if-height-eq0.true c.node_position-position.ensures)
+    (adds_nothing _ c.args.found.now [] refl) c.keep-then-height-eq0.ensures.same c.keep-then-height-eq0.ensures.kept
 
-pub node-left-requires : goal.node-left-requires
-node-left-requires g t c κs within =
+pub node-requires : goal.node-requires
+node-requires g t c κs within =
     let l = in_tree_left g.F.Family.shape g.met.F.Family.laws c.args.self.now.leaves c.args.first c.args.height c.requires.within c.if-height-eq0.false in
     let p = (present_halves g.F.Family.shape c.args.self.now.siblings.now c.args.self.now.start c.args.self.now.end c.args.height c.args.first c.if-is_apart.ensures c.if-height-eq0.false c.requires.present).0 in
     search rules
@@ -37,15 +42,19 @@ overflow_add-first g t c =
     let h = halves c.args.first c.args.height c.requires.within.aligned c.if-height-eq0.false in
     omega (arith, in_tree_leaves g.F.Family.shape g.met.F.Family.laws c.args.self.now.leaves c.args.first c.args.height c.requires.within, c.requires.given.few, c.power.ensures, h.length)
 
-pub node-right-requires : goal.node-right-requires
-node-right-requires g t c κs within =
+pub node-requires-2 : goal.node-requires-2
+node-requires-2 g t c κs within =
     let l = in_tree_right g.F.Family.shape g.met.F.Family.laws c.args.self.now.leaves c.args.first c.args.height c.requires.within c.if-height-eq0.false in
     let p = (present_halves g.F.Family.shape c.args.self.now.siblings.now c.args.self.now.start c.args.self.now.end c.args.height c.args.first c.if-is_apart.ensures c.if-height-eq0.false c.requires.present).1 in
     rw c.power.ensures (search rules)
 
 pub returns : goal.returns
 returns g t c = λ digest same serves.
-    node_halves g.H.Hasher.hash_of (g.H.Hasher.layout c.args.hasher.now) c.args.self.now.start c.args.self.now.end
-    (given_values digest c.args.self.now.start (map g.E.AsSlice.items c.args.self.now.elements.now) (g.H.Hasher.chunk c.args.hasher.now))
-    c.args.height c.args.first _ _ _ c.if-is_apart.ensures c.if-height-eq0.false (c.node-left.ensures digest same serves) (rw c.power.ensures at c.node-right.ensures digest same serves)
-    (c.node_digest.ensures c.args.first c.args.height (record { aligned = c.requires.within.aligned; at = sym c.node_position-position.ensures }))
+    let v = given_values digest c.args.self.now.start (map g.E.AsSlice.items c.args.self.now.elements.now) (g.H.Hasher.chunk c.args.hasher.now) in
+    let left = c.in_ok-left.ensures digest same serves in
+    let right = rw c.power.ensures at c.in_ok-right.ensures digest same serves in
+    let is = node_halves g.H.Hasher.hash_of (g.H.Hasher.layout c.args.hasher.now) c.args.self.now.start c.args.self.now.end v c.args.height c.args.first _ _ _ c.if-is_apart.ensures c.if-height-eq0.false left.0 right.0
+    (c.node_digest.ensures c.args.first c.args.height (record { aligned = c.requires.within.aligned; at = sym c.node_position-position.ensures })) in
+    keeps_last g.D.Write.text _ c.keep-2.result c.node_digest.result _ c.node_position-position.result c.args.found.now c.node-2.new.found c.keep-2.new.found _ _ is
+    (found_halves g.H.Hasher.hash_of (g.H.Hasher.layout c.args.hasher.now) c.args.self.now.start c.args.self.now.end v g.F.Family.shape c.args.height c.args.first c.node_position-position.result same c.if-is_apart.ensures c.if-height-eq0.false c.node_position-position.ensures)
+    (adds_then _ c.args.found.now c.node.new.found c.node-2.new.found _ _ _ refl left.1 right.1) c.keep-2.ensures.same c.keep-2.ensures.kept

@@ -1,0 +1,97 @@
+//! The digests that an accepted check hands out.
+ghost use Rattle.std.specs.Prelude.{◌≡◌, ◌≢◌, ◌+◌, ◌⊎◌, [], MatchResult, map, option_map, IfErr, IfOk, MatchOption};
+ghost use Rattle.storage_merkle.specs.Checks.{IsRecomputed};
+ghost use Rattle.storage_merkle.specs.Extracted.{AreHandedOut, Fits, extracted, texts};
+ghost use Rattle.storage_merkle.specs.Hashers.{TakesTree};
+ghost use Rattle.storage_merkle.specs.RangeProofs.{IsAccepted, IsEmptyProof};
+ghost use Rattle.storage_merkle.specs.Trees.{Content, empty_root};
+
+use crate::merkle::hasher::Hasher;
+use crate::merkle::proof::check;
+use crate::merkle::{Error, Family, Location, Position, Proof};
+use std::alloc::Global;
+use std::convert::AsSlice;
+use storage_codec::NoMemory;
+use storage_codec::digest::Digest;
+
+impl<F: Family, D: Digest> Proof<F, D> {
+    /// Each digest that the check of elements at the leaves from `start` on reads or computes in a peak over one of them,
+    /// with its position: of the nodes beside the range, of its leaves, of the nodes above them and of the peaks. They
+    /// ascend by position, each once. None are handed out for no elements.
+    ///
+    /// # Errors
+    ///
+    /// `InvalidProof` where a count does not fit; `RootMismatch` where another root comes out; `Memory`.
+    pub fn verify_range_inclusion_and_extract_digests<H: Hasher<F, Digest = D>, E: AsSlice<u8>>(
+        &self,
+        alloc: Global,
+        hasher: &H,
+        elements: &[E],
+        start: Location<F>,
+        root: &D,
+    ) -> Result<Vec<(Position<F>, D)>, Error<F>>
+        requires { TakesTree (H.takes hasher.now) F.shape self.now.leaves }
+        ensures handed { (H.layout hasher.now).shape ≡ F.shape → IfOk result (λ v. AreHandedOut D.size H.hash_of (H.layout hasher.now) (H.bagging hasher.now) (record { leaves = self.now.leaves; inactive = self.now.inactive_peaks; digests = map D.text self.now.digests.items }) start (record { elements = map E.items elements.now; chunk = H.chunk hasher.now }) (D.text root.now) (texts D.text v.items)) }
+        ensures why { IfErr result (λ e. (e ≡ Error.Memory) ⊎ (((e ≡ Error.InvalidProof) × ((H.layout hasher.now).shape ≡ F.shape → Fits H.hash_of (H.layout hasher.now) (H.bagging hasher.now) (record { leaves = self.now.leaves; inactive = self.now.inactive_peaks; digests = map D.text self.now.digests.items }) start (record { elements = map E.items elements.now; chunk = H.chunk hasher.now }) → ⊥)) ⊎ ((e ≡ Error.RootMismatch) × ((H.layout hasher.now).shape ≡ F.shape → Fits H.hash_of (H.layout hasher.now) (H.bagging hasher.now) (record { leaves = self.now.leaves; inactive = self.now.inactive_peaks; digests = map D.text self.now.digests.items }) start (record { elements = map E.items elements.now; chunk = H.chunk hasher.now }) × (IsAccepted H.hash_of (H.layout hasher.now) (H.bagging hasher.now) (record { leaves = self.now.leaves; inactive = self.now.inactive_peaks; digests = map D.text self.now.digests.items }) start (record { elements = map E.items elements.now; chunk = H.chunk hasher.now }) (D.text root.now) → ⊥))))) }
+    {
+        if elements.is_empty() {
+            return match self.extract_nothing(hasher, start, root) {
+                Ok(()) => Ok(Vec::new(alloc)),
+                Err(error) => Err(error),
+            };
+        }
+        let Some(given) = self.recompute_digests(alloc, hasher, elements, start)? else {
+            return Err(Error::InvalidProof);
+        };
+        let (computed, digests) = given;
+        if computed != *root {
+            return Err(Error::RootMismatch);
+        }
+        Ok(digests)
+    }
+
+    /// The root of the tree in which the elements stand at the leaves from `start` on, and each digest that is read or
+    /// computed on the way to the peaks over one of them, ascending by position; none where a count does not fit or
+    /// there are no elements.
+    fn recompute_digests<H: Hasher<F, Digest = D>, E: AsSlice<u8>>(
+        &self,
+        alloc: Global,
+        hasher: &H,
+        elements: &[E],
+        start: Location<F>,
+    ) -> Result<Option<(D, Vec<(Position<F>, D)>)>, NoMemory>
+        requires { TakesTree (H.takes hasher.now) F.shape self.now.leaves }
+        ensures root { (H.layout hasher.now).shape ≡ F.shape → IfOk result (λ r. IsRecomputed H.hash_of (H.layout hasher.now) (H.bagging hasher.now) (record { leaves = self.now.leaves; inactive = self.now.inactive_peaks; digests = map D.text self.now.digests.items }) start (record { elements = map E.items elements.now; chunk = H.chunk hasher.now }) (option_map (λ p. D.text p.0) r)) }
+        ensures digests { (H.layout hasher.now).shape ≡ F.shape → IfOk result (λ r. MatchOption r (Unit {0}) (λ p. texts D.text p.1.items ≡ extracted H.hash_of (H.layout hasher.now) (H.bagging hasher.now) (record { leaves = self.now.leaves; inactive = self.now.inactive_peaks; digests = map D.text self.now.digests.items }) start (record { elements = map E.items elements.now; chunk = H.chunk hasher.now }))) }
+    {
+        let mut found = Some(Vec::new(alloc));
+        let root = check::recompute(&self.lent(), alloc, hasher, elements, start, &mut found)?;
+        let (Some(root), Some(mut digests)) = (root, found) else {
+            return Ok(None);
+        };
+        digests.sort_unstable_by_key(|entry| entry.0);
+        Ok(Some((root, digests)))
+    }
+
+    /// Whether it is the proof of no elements of the tree without leaves, which has that root. Takes no memory.
+    ///
+    /// # Errors
+    ///
+    /// `InvalidProof` where it is not the proof of no elements; `RootMismatch` where that tree has another root.
+    fn extract_nothing<H: Hasher<F, Digest = D>>(
+        &self,
+        hasher: &H,
+        start: Location<F>,
+        root: &D,
+    ) -> Result<(), Error<F>>
+        ensures { (claim : Content) → claim.elements ≡ [] → MatchResult result (λ _. IsEmptyProof H.hash_of (H.layout hasher.now) (H.bagging hasher.now) (record { leaves = self.now.leaves; inactive = self.now.inactive_peaks; digests = map D.text self.now.digests.items }) start claim × (empty_root H.hash_of (H.layout hasher.now) (H.bagging hasher.now) ≡ D.text root.now)) (λ e. ((e ≡ Error.InvalidProof) × (IsEmptyProof H.hash_of (H.layout hasher.now) (H.bagging hasher.now) (record { leaves = self.now.leaves; inactive = self.now.inactive_peaks; digests = map D.text self.now.digests.items }) start claim → ⊥)) ⊎ ((e ≡ Error.RootMismatch) × IsEmptyProof H.hash_of (H.layout hasher.now) (H.bagging hasher.now) (record { leaves = self.now.leaves; inactive = self.now.inactive_peaks; digests = map D.text self.now.digests.items }) start claim × (empty_root H.hash_of (H.layout hasher.now) (H.bagging hasher.now) ≢ D.text root.now))) }
+    {
+        if start.as_u64() != 0 || !self.is_default() {
+            return Err(Error::InvalidProof);
+        }
+        if hasher.root(start, 0, &[]) != *root {
+            return Err(Error::RootMismatch);
+        }
+        Ok(())
+    }
+}

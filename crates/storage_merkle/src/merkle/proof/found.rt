@@ -1,0 +1,25 @@
+//! The digests that a check comes upon.
+ghost use Rattle.std.specs.Prelude.{◌≡◌, ◌∷◌, ◌++◌, [], IfOk, option_map};
+ghost use Rattle.storage_merkle.specs.Extracted.{texts};
+
+use crate::merkle::{Family, Position};
+use std::alloc::AllocError;
+use storage_codec::digest::Digest;
+
+/// The digests that a check has come upon, each with its position; none where they are not kept.
+pub(crate) type Found<F, D> = Option<Vec<(Position<F>, D)>>;
+
+/// The digest, which is kept with its position if digests are kept.
+pub(crate) fn keep<F: Family, D: Digest>(
+    found: &mut Found<F, D>,
+    position: Position<F>,
+    digest: D,
+) -> Result<D, AllocError>
+    ensures same { IfOk result (λ d. d ≡ digest) }
+    ensures kept { IfOk result (λ d. option_map (λ v. texts D.text v.items) found.new ≡ option_map (λ v. texts D.text v.items ++ (position, D.text digest) ∷ []) found.old) }
+{
+    if let Some(kept) = found {
+        kept.push((position, digest))?;
+    }
+    Ok(digest)
+}
