@@ -7,6 +7,7 @@ pub mod Extracted
 pub mod Examples
 pub mod Keeping
 pub mod Topmost
+pub mod MemProofs
 pub mod Rewriting
 pub mod Alike
 pub mod Ascending

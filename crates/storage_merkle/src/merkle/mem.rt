@@ -7,6 +7,7 @@ ghost use Rattle.storage_merkle.specs.Kept.{NodesOver, StandsBut, StandsFor, IsF
 ghost use Rattle.storage_merkle.specs.Shape.{size};
 
 mod kept;
+mod proofs;
 mod stored;
 
 use crate::merkle::hasher::Hasher;
