@@ -24,3 +24,4 @@ pub mod OwnSites
 pub mod OwnWritten
 mod Built
 mod Required
+mod WitnessWritten

@@ -37,7 +37,7 @@ slot_there f false None s = refl
 slot_there f false (Some x) s = absurd cc
 slot_there f true slot s = tt
 
-same_slot : (slot : Option (List ℕ)) → option_map as_is slot ≡ slot
+pub same_slot : (slot : Option (List ℕ)) → option_map as_is slot ≡ slot
 same_slot None = refl
 same_slot (Some x) = refl
 
@@ -51,7 +51,7 @@ sized_slot d (Some x) s = s
 digest_again : (d : ℕ) (x rest : List ℕ) → Sized d x → front_at d (as_is x ++ rest) ≡ Ok (as_is x, rest)
 digest_again d x rest s = front_again d x rest s
 
-pending_again : (there : Bool) (d : ℕ) (slot : Option (List ℕ)) (rest : List ℕ) → IsSlot there slot → check.IsSlot d slot
+pub pending_again : (there : Bool) (d : ℕ) (slot : Option (List ℕ)) (rest : List ℕ) → IsSlot there slot → check.IsSlot d slot
     → slot_at there (front_at d) (slot_text there as_is slot ++ rest) ≡ Ok (slot, rest)
 pending_again there d slot rest s z =
     let e = slot_again as_is as_is (front_at d) (Sized d) (digest_again d) there slot rest s (sized_slot d slot z) in
@@ -63,7 +63,7 @@ partial_again d slot rest z =
     let e = option_again as_is as_is (front_at d) (Sized d) (digest_again d) slot rest (sized_slot d slot z) in
     e ∙ ap (λ (x : Option (List ℕ)). Ok (x, rest)) (same_slot slot)
 
-held_slot : {D : Type 0} (text : D → List ℕ) (d : ℕ) → ((x : D) → length (text x) ≡ d) → (slot : Option D) → check.IsSlot d (option_map text slot)
+pub held_slot : {D : Type 0} (text : D → List ℕ) (d : ℕ) → ((x : D) → length (text x) ≡ d) → (slot : Option D) → check.IsSlot d (option_map text slot)
 held_slot text d sized None = tt
 held_slot text d sized (Some x) = sized x
 
@@ -161,7 +161,7 @@ proof_back d most bytes p rest fits e =
     let parts : proof_text (range_of a.0.0 b.0.0 m.0) ++ rest ≡ varint_text a.0.0 ++ (varint_text b.0.0 ++ (varint_text (length m.0) ++ (joined_text m.0 ++ rest))) = simp append_assoc in
     subst (λ (q : RangeProof). bytes ≡ proof_text q ++ rest) m.2 (x2 ∙ sym parts)
 
-digest_back : (d : ℕ) (bytes x rest : List ℕ) → IsBytes bytes → front_at d bytes ≡ Ok (as_is x, rest) → bytes ≡ as_is x ++ rest
+pub digest_back : (d : ℕ) (bytes x rest : List ℕ) → IsBytes bytes → front_at d bytes ≡ Ok (as_is x, rest) → bytes ≡ as_is x ++ rest
 digest_back d bytes x rest fits e = front_back d bytes x rest e
 
 abbrev with_root : RangeProof → Option (List ℕ) → Option (List ℕ) → List ℕ → CurrentProof

@@ -7,14 +7,15 @@ use Rattle.storage_bitmap.specs.Chunks.{Retained, bit_count}
 use Rattle.storage_ops.specs.declared.qmdb.error.Error.{Error}
 use Rattle.storage_ops.specs.declared.qmdb.error.Error.TheVariants.{DataCorrupted, Merkle, Memory}
 use Rattle.storage_current.specs.NodeLists.{AreNodes}
-use Rattle.storage_current.specs.Snapshots.{Grafting, Snapshot, view_node, ops_root_of, canonical_root}
+use Rattle.storage_current.specs.Snapshots.{Grafting, Snapshot, view_node, ops_root_of, canonical_root, Witness, own_witness}
 
--- the digests of the grafted view's nodes by position, the bits, and the roots
+-- the digests of the grafted view's nodes by position, the bits, the roots, and the witness of the operations root
 pub record KeptSnapshot : Type 0 where
   pub nodes : List (List ℕ)
   pub status : Retained
   pub ops_root : List ℕ
   pub root : List ℕ
+  pub witness : Witness
 
 -- these are the snapshot's
 pub record StandsFor (h : HashFunction) (g : Grafting) (kept : KeptSnapshot) (s : Snapshot) : Type 0 where
@@ -23,6 +24,7 @@ pub record StandsFor (h : HashFunction) (g : Grafting) (kept : KeptSnapshot) (s 
   pub status : kept.status ≡ record { pruned = 0; bits = s.bits }
   pub ops_root : kept.ops_root ≡ ops_root_of h g s
   pub root : kept.root ≡ canonical_root h g s
+  pub witness : kept.witness ≡ own_witness h g s
 
 -- none of so many operations lacks its bit, and no bit is forgotten
 pub record HasEachBit (n count : ℕ) (bits : Retained) : Type 0 where

@@ -17,3 +17,5 @@ pub mod CurrentWireLaws
 pub mod BuiltProofs
 pub mod OwnWire
 pub mod Required
+pub mod WitnessWire
+pub mod WitnessWireLaws

@@ -49,3 +49,4 @@ pub mod StoreEntries
 pub mod StoreOwn
 pub mod StoreMulti
 pub mod StoreMade
+mod Countable

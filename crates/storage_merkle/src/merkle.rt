@@ -1,6 +1,7 @@
 //! Tree families: locations, positions and the arithmetic between them.
 
 mod bagging;
+mod countable;
 mod error;
 pub mod family;
 pub mod hasher;
@@ -17,6 +18,7 @@ mod proof;
 mod storage;
 
 pub use bagging::Bagging;
+pub use countable::{Countable, leaves_of};
 pub use error::Error;
 pub use family::{Family, Graftable};
 pub use location::Location;

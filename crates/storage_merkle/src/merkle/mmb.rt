@@ -70,3 +70,9 @@ impl crate::merkle::Graftable for Family {
 
     ghost prompt = { λ absent. absurd (true≢false absent) };
 }
+
+impl crate::merkle::Countable for Family {
+    fn most_leaves() -> u64 {
+        9_223_372_036_854_775_839
+    }
+}

@@ -52,3 +52,9 @@ impl crate::merkle::Graftable for Family {
 
     ghost prompt = { λ _ first height. refl };
 }
+
+impl crate::merkle::Countable for Family {
+    fn most_leaves() -> u64 {
+        9_223_372_036_854_775_808
+    }
+}

@@ -14,6 +14,7 @@ mod codec;
 pub mod operation;
 mod slots;
 mod window;
+mod witness;
 
 use crate::laws::current_proofs_are_sound;
 use crate::qmdb::current::chunks::{ChunkCounts, chunk_digest};
@@ -29,6 +30,7 @@ use storage_codec::codec::Write;
 use storage_codec::digest::{Digest, Hasher};
 use storage_merkle::merkle::{self, Graftable, Location, Position, Proof, RangePlan};
 use storage_ops::qmdb::{self, Error};
+pub use witness::OpsRootWitness;
 
 /// A proof that operations stand at a range of locations, and of their activity bits.
 #[derive(Drop)]

@@ -8,15 +8,17 @@ ghost use Rattle.storage_merkle.specs.declared.merkle.bagging.Bagging.TheVariant
 ghost use Rattle.storage_bitmap.specs.Chunks.{IsChunkSize};
 ghost use Rattle.storage_current.specs.KeptSnapshots.{IsRefused, StandsFor};
 ghost use Rattle.storage_current.specs.NodeLists.{AreNodes};
-ghost use Rattle.storage_current.specs.Snapshots.{Grafting, IsServed, IsSnapshot, Snapshot as SnapshotOf, canonical_root, ops_root_of};
+ghost use Rattle.storage_current.specs.Snapshots.{Grafting, IsServed, IsSnapshot, Snapshot as SnapshotOf, canonical_root, ops_root_of, own_witness};
+ghost use Rattle.storage_current.specs.WitnessWire.{witness_of};
 
 use crate::qmdb::current::chunks::{ChunkCounts, chunk_digest};
 use crate::qmdb::current::grafting::{self, aligned_inactive, exact_inactive};
 use crate::qmdb::current::nodes::{Nodes, hash_nodes, peak_digests};
+use crate::qmdb::current::proof::OpsRootWitness;
 use crate::qmdb::current::root::canonical_root;
 use std::alloc::{AllocError, Global};
 use std::convert::AsSlice;
-use std::marker::{Model, PhantomData};
+use std::marker::Model;
 use storage_bitmap::bitmap::{Prunable, Readable};
 use storage_codec::digest::Hasher;
 use storage_merkle::merkle::hasher::Hasher as _;
@@ -31,16 +33,17 @@ pub struct Snapshot<F, H: Hasher, const N: usize> {
     status: Prunable<N>,
     ops_root: H::Digest,
     root: H::Digest,
-    family: PhantomData<F>,
+    witness: OpsRootWitness<F, H::Digest>,
 }
 
 impl<F, H: Hasher, const N: usize> Model for Snapshot<F, H, N> {
     ghost use Rattle.std.specs.Prelude.{map};
     ghost use Rattle.storage_current.specs.KeptSnapshots.{KeptSnapshot};
+    ghost use Rattle.storage_current.specs.WitnessWire.{witness_of};
 
     ghost Value = { KeptSnapshot };
 
-    ghost view = { λ s. record { nodes = map H.Digest.text s.nodes.items; status = s.status; ops_root = H.Digest.text s.ops_root; root = H.Digest.text s.root } };
+    ghost view = { λ s. record { nodes = map H.Digest.text s.nodes.items; status = s.status; ops_root = H.Digest.text s.ops_root; root = H.Digest.text s.root; witness = witness_of H.Digest.text s.witness } };
 }
 
 impl<F: Graftable, H: Hasher, const N: usize> Snapshot<F, H, N> {
@@ -94,7 +97,7 @@ impl<F: Graftable, H: Hasher, const N: usize> Snapshot<F, H, N> {
             status: bits,
             ops_root,
             root,
-            family: PhantomData,
+            witness: OpsRootWitness::of(grafted_root, pending, counts.next_bit, partial),
         })
     }
 
@@ -112,6 +115,14 @@ impl<F: Graftable, H: Hasher, const N: usize> Snapshot<F, H, N> {
         ensures stands { (s : SnapshotOf) → StandsFor H.hash_of (record { shape = F.shape; bytes = N }) self.now s → H.Digest.text result ≡ ops_root_of H.hash_of (record { shape = F.shape; bytes = N }) s }
     {
         self.ops_root
+    }
+
+    /// The witness that the operations root is that of the snapshot with this canonical root. Takes no memory.
+    pub fn witness(&self) -> OpsRootWitness<F, H::Digest>
+        ensures value { witness_of H.Digest.text result ≡ self.now.witness }
+        ensures stands { (s : SnapshotOf) → StandsFor H.hash_of (record { shape = F.shape; bytes = N }) self.now s → witness_of H.Digest.text result ≡ own_witness H.hash_of (record { shape = F.shape; bytes = N }) s }
+    {
+        self.witness.copied()
     }
 
     /// The digest that the grafted view has at a position; none past its nodes. Takes no memory.

@@ -11,6 +11,7 @@ use Rattle.storage_current.specs.NodeLists.{AreNodes}
 use Rattle.storage_current.specs.Snapshots.{Grafting, Snapshot, height, graftable, view, content, view_node, exact_of, aligned_of, ops_root_of, grafted_root_of, pending_of, partial_of}
 use Rattle.storage_current.proofs.Heights.{whole_within, rest_within}
 use Rattle.storage_current.proofs.Roots.{AreCounts, counts_at, unpruned_rest, exact_count, aligned_count, pending_kept, partial_kept, canonical_from}
+use Rattle.storage_current.proofs.WitnessWritten.{witness_from}
 use Rattle.storage_current.proofs.qmdb.current.snapshot.Snapshot.new.Goals as goal
 
 pub pending-requires : goal.pending-requires
@@ -68,5 +69,6 @@ returns-clause-stands g c =
         status = ap (λ p. record { pruned = p; bits = c.args.bits.bits }) unpruned;
         ops_root = ops_root;
         root = canonical_from h G s _ _ _ _ _ _ ops_root grafted_root pending counts.next_is partial c.canonical_root-root.ensures;
+        witness = witness_from h G s _ _ _ _ _ c.of.ensures grafted_root pending counts.next_is partial;
       },
     )

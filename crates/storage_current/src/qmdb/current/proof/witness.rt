@@ -1,0 +1,109 @@
+//! Witnesses of the operations root.
+
+ghost use Rattle.std.specs.Prelude.{◌≡◌, ◌↔◌, ℕ, ◌<◌, ◌^◌, IsTrue, IfOk, IfSome, option_map};
+ghost use Rattle.storage_current.specs.CurrentProofs.{witness_string};
+ghost use Rattle.storage_current.specs.WitnessWire.{MeansWitness, witness_of, witness_with};
+
+mod codec;
+
+use crate::laws::witnesses_are_sound;
+use crate::qmdb::current::root::canonical_root;
+use std::marker::PhantomData;
+use storage_codec::NoMemory;
+use storage_codec::digest::{Digest, Hasher};
+
+/// What a canonical root holds beside an operations root: with these parts the operations root gives the canonical root.
+#[derive(Drop)]
+#[derive_where(Debug, PartialEq, Eq; D)]
+pub struct OpsRootWitness<F, D> {
+    /// The root of the grafted view.
+    pub grafted_root: D,
+    /// The digest of the complete chunk that is not graftable, if there is one.
+    pub pending_chunk_digest: Option<D>,
+    /// How many bits the chunk after the complete ones has, and its digest, if it has a bit.
+    pub partial_chunk: Option<(u64, D)>,
+    /// The family of the trees, which no part of the witness tells.
+    #[derive_where(skip)]
+    pub family: PhantomData<F>,
+}
+
+impl<F, D: Digest> OpsRootWitness<F, D> {
+    /// That of these parts. With the digest of the partial chunk goes how many bits it has.
+    pub(crate) fn of(
+        grafted_root: D,
+        pending_chunk_digest: Option<D>,
+        next_bit: u64,
+        partial: Option<D>,
+    ) -> Self
+        ensures { witness_of D.text result ≡ witness_with (D.text grafted_root) (option_map D.text pending_chunk_digest) next_bit (option_map D.text partial) }
+    {
+        let partial_chunk = match partial {
+            None => None,
+            Some(digest) => Some((next_bit, digest)),
+        };
+        OpsRootWitness {
+            grafted_root,
+            pending_chunk_digest,
+            partial_chunk,
+            family: PhantomData,
+        }
+    }
+
+    /// The same witness. It takes no memory.
+    pub fn clone(&self) -> Result<Self, NoMemory>
+        ensures { IfOk result (λ w. w ≡ self.now) }
+    {
+        Ok(self.copied())
+    }
+
+    /// A copy.
+    pub(crate) fn copied(&self) -> Self
+        ensures { result ≡ self.now }
+    {
+        OpsRootWitness {
+            grafted_root: self.grafted_root,
+            pending_chunk_digest: self.pending_chunk_digest,
+            partial_chunk: self.partial_chunk,
+            family: PhantomData,
+        }
+    }
+
+    /// The canonical root of an operations root with this witness. Takes no memory.
+    pub fn root<H: Hasher<Digest = D>>(&self, ops_root: &D) -> D
+        ensures { D.text result ≡ H.hash_of (witness_string (witness_of D.text self.now) (D.text ops_root.now)) }
+    {
+        self.combined::<H>(ops_root)
+    }
+
+    /// The canonical root.
+    fn combined<H: Hasher<Digest = D>>(&self, ops_root: &D) -> D
+        ensures root { D.text result ≡ H.hash_of (witness_string (witness_of D.text self.now) (D.text ops_root.now)) }
+        ensures bits { IfSome self.now.partial_chunk (λ p. p.0 < 2 ^ 64) }
+    {
+        match self.partial_chunk {
+            None => canonical_root::<H>(
+                ops_root,
+                &self.grafted_root,
+                &self.pending_chunk_digest,
+                0,
+                &None,
+            ),
+            Some((next_bit, digest)) => canonical_root::<H>(
+                ops_root,
+                &self.grafted_root,
+                &self.pending_chunk_digest,
+                next_bit,
+                &Some(digest),
+            ),
+        }
+    }
+
+    /// Whether the operations root is that of the snapshot with that canonical root. Takes no memory.
+    pub fn verify<H: Hasher<Digest = D>>(&self, ops_root: &D, root: &D) -> bool
+        ensures exact { IsTrue result ↔ (H.hash_of (witness_string (witness_of D.text self.now) (D.text ops_root.now)) ≡ D.text root.now) }
+        ensures meaning { 0 < D.size → IsTrue result → MeansWitness H.hash_of (witness_of D.text self.now) (D.text ops_root.now) (D.text root.now) }
+    {
+        witnesses_are_sound();
+        self.combined::<H>(ops_root) == *root
+    }
+}
