@@ -13,6 +13,7 @@ pub mod Examples
 mod Grafts
 mod Raised
 mod Joined
+mod CombinedViews
 mod Splitting
 pub mod Windows
 mod Checks

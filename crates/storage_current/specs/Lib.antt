@@ -7,6 +7,7 @@ pub mod GraftingLaws
 pub mod CurrentSoundness
 pub mod Grafted
 pub mod Combined
+pub mod CombinedViews
 pub mod Splits
 pub mod Windows
 pub mod Held

@@ -1,18 +1,13 @@
 //! What holds of every snapshot and every check against its canonical root: laws over the definitions, each the contract of a
 //! function that does nothing.
 
-ghost use Rattle.std.specs.Prelude.{ℕ, ◌*◌, ◌^◌, ◌<◌, ◌≤◌};
-ghost use Rattle.storage_merkle.specs.Nodes.{CoversSame};
-ghost use Rattle.storage_merkle.specs.Shape.{size};
-ghost use Rattle.storage_current.specs.Combined.{IsRaised};
 ghost use Rattle.storage_current.specs.CurrentSoundness.{CurrentProofsAreSound, FamiliesAreLawful, OperationProofsAreSound, OwnCurrentProofsAreAccepted, OwnOperationProofsAreAccepted, OwnWitnessesAreAccepted, WitnessesAreSound};
 ghost use Rattle.storage_current.specs.OwnWire.{OwnCurrentProofsAreReadAgain, OwnOperationProofsAreReadAgain};
 
+pub mod combined;
 pub mod keys;
 
 use storage_merkle::laws::{own_range_proofs_are_accepted, range_proofs_are_sound};
-use storage_merkle::merkle::Graftable;
-use storage_merkle::merkle::hasher::Hasher;
 
 /// A range proof that is accepted against a snapshot's canonical root is the snapshot's own, field for field, and its
 /// operations and chunks are the snapshot's, or two different strings have one digest, one hashed by the check and one by the
@@ -67,10 +62,4 @@ pub fn own_witnesses_are_accepted()
 /// Both families of trees can be grafted at each height from 1 on.
 pub fn families_are_lawful()
     ensures { FamiliesAreLawful }
-{}
-
-/// Each node of a tree over chunks has a position among the operations' nodes, where the chunks have at most half of the
-/// operations that a tree may have: a hasher of a tree over chunks takes it where the hasher below takes that position.
-pub fn nodes_over_chunks_are_taken<F: Graftable, H: Hasher<F>>()
-    ensures { (hasher : H) (chunks height position : ℕ) → 1 ≤ height → chunks * (2 * 2 ^ height) ≤ 2 ^ 62 → position < size F.shape chunks → ((p : ℕ) → CoversSame F.shape height position p → H.takes hasher p) → IsRaised F.shape (H.takes hasher) height position }
 {}

@@ -6,6 +6,7 @@ pub mod RangeOwn
 pub mod Extracted
 pub mod Examples
 pub mod Keeping
+mod Retained
 pub mod Topmost
 pub mod MemProofs
 pub mod Rewriting

@@ -11,6 +11,7 @@ use crate::merkle::{Family, Position};
 
 pub mod extracted;
 pub mod families;
+pub mod kept;
 pub mod multi;
 pub mod stores;
 

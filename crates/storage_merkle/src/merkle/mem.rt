@@ -3,7 +3,7 @@
 ghost use Rattle.std.specs.Prelude.{◌≡◌, ℕ, ◌+◌, ◌^◌, ◌<◌, ◌≤◌, ◌∷◌, ◌++◌, [], ◌⊎◌, List, map, max, take, length, slice_index, All, IfOk, OnOk, OnErr, IfErr, MatchOption};
 ghost use Rattle.storage_merkle.specs.Calc.{be8};
 ghost use Rattle.storage_merkle.specs.Hashing.{node_over, peak_digests, root_of};
-ghost use Rattle.storage_merkle.specs.Kept.{NodesOver, StandsBut, StandsFor, IsFirstAway, at_peaks, kept_at, pins, updated};
+ghost use Rattle.storage_merkle.specs.Kept.{NodesOver, StandsBut, StandsFor, IsFirstAway, IsWhole, at_peaks, kept_at, pins, updated};
 ghost use Rattle.storage_merkle.specs.Shape.{size};
 
 mod kept;
@@ -112,6 +112,13 @@ impl<F: Family, D: Digest> Mem<F, D> {
         ensures { result ≡ kept_at F.shape self.now.boundary self.now.pinned self.now.nodes position }
     {
         look_up::<F, D>(self.boundary, &self.pinned, &self.nodes, position.as_u64())
+    }
+
+    /// As many digests are kept as there are peaks over the boundary and nodes from it on. Does nothing.
+    pub(crate) fn is_whole(&self)
+        ensures { IsWhole F.shape self.now.leaves self.now.boundary (length self.now.pinned) (length self.now.nodes) }
+    {
+        let _ = &self.leaves;
     }
 
     /// The root under a hasher, with so many leading peaks inactive. Takes no memory.
