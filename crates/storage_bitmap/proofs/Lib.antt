@@ -2,6 +2,7 @@ pub mod Bits
 pub mod BitStrings
 pub mod BitSound
 pub mod BitOwn
+pub mod BitProving
 pub mod BitPlain
 pub mod BitChecks
 pub mod Dirty

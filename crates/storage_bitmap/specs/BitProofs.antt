@@ -54,17 +54,16 @@ module _ (h : HashFunction) (b : Bagging) (n : ℕ) (proof : RangeProof) (bytes 
     pub counts : in_partial ≡ false → CountsFit h (ungrafted mmr) b chunk_proof (bit / (8 * n)) (listed (bytes ∷ []))
     pub root_is : computed_bit_root ≡ root
 
+-- the digests that a list of bits itself has for the bits of a chunk
+abbrev pub own_bit_digests : HashFunction → Bagging → ℕ → List Bool → ℕ → List (List ℕ)
+own_bit_digests h b n bits place =
+    let inner = (own_proof h (ungrafted mmr) b (listed (complete n bits)) 0 place (place + 1)).digests in
+    if eqb place (length bits / (8 * n)) then chunks_root h b n bits ∷ []
+    else (if is_aligned n (length bits) then inner else inner ++ h (partial_chunk n bits) ∷ [])
+
 -- the proof that a list of bits itself has of a bit
 abbrev pub own_bit_proof : HashFunction → Bagging → ℕ → List Bool → ℕ → RangeProof
-own_bit_proof h b n bits bit =
-    let inner = (own_proof h (ungrafted mmr) b (listed (complete n bits)) 0 (bit / (8 * n)) (bit / (8 * n) + 1)).digests in
-    record {
-      leaves = length bits;
-      inactive = 0;
-      digests =
-          if eqb (bit / (8 * n)) (length bits / (8 * n)) then chunks_root h b n bits ∷ []
-          else (if is_aligned n (length bits) then inner else inner ++ h (partial_chunk n bits) ∷ []);
-    }
+own_bit_proof h b n bits bit = record { leaves = length bits; inactive = 0; digests = own_bit_digests h b n bits (bit / (8 * n)) }
 
 -- the proof is the list's own, field for field, of a bit that it has, and the chunk is the list's
 pub record IsOwnBit (h : HashFunction) (b : Bagging) (n : ℕ) (proof : RangeProof) (bytes : List ℕ) (bit : ℕ) (bits : List Bool) : Type 0 where

@@ -9,13 +9,13 @@ ghost use Rattle.storage_bitmap.specs.Packed.{bit_in};
 
 mod inclusion;
 mod merkleized;
+mod proof;
 mod rehashed;
 mod state;
 mod unmerkleized;
 
 use crate::bitmap::prunable::read;
 use crate::bitmap::{Prunable, Readable};
-pub use inclusion::verify_bit_inclusion;
 pub use merkleized::PrunedState;
 pub use state::{Merkleized, State, Unmerkleized};
 use std::alloc::Global;

@@ -10,6 +10,7 @@ ghost use Rattle.storage_merkle.specs.Hashers.{TakesTree};
 ghost use Rattle.storage_merkle.specs.Mmr.{mmr};
 ghost use Rattle.storage_merkle.specs.Trees.{listed, ungrafted};
 
+use crate::bitmap::authenticated::{BitMap, State};
 use crate::laws::bit_proofs_are_sound;
 use std::alloc::Global;
 use storage_codec::NoMemory;
@@ -17,30 +18,32 @@ use storage_codec::digest::Digest;
 use storage_merkle::merkle::hasher::Hasher;
 use storage_merkle::merkle::{LentProof, Location, Proof, mmr};
 
-/// Whether `chunk` is the chunk of a bit in the bitmap with that root, whose number of bits is the proof's `leaves`. The no
-/// of a bit at or past the end, of inactive peaks, and of no digest where the bits do not fill their chunks takes no memory.
-pub fn verify_bit_inclusion<D: Digest, H: Hasher<mmr::Family, Digest = D>, const N: usize>(
-    alloc: Global,
-    hasher: &H,
-    proof: &Proof<mmr::Family, D>,
-    chunk: &[u8; N],
-    bit: u64,
-    root: &D,
-) -> Result<bool, NoMemory>
-    requires size { IsChunkSize N }
-    requires takes { TakesTree (H.takes hasher.now) mmr (proof.now.leaves / (8 * N)) }
-    ensures exact { H.layout hasher.now ≡ ungrafted mmr → IfOk result (λ yes. IsTrue yes ↔ IsBitAccepted H.hash_of (H.bagging hasher.now) N (record { leaves = proof.now.leaves; inactive = proof.now.inactive_peaks; digests = map D.text proof.now.digests.items }) chunk.now bit (D.text root.now)) }
-    ensures means { H.layout hasher.now ≡ ungrafted mmr → IfOk result (λ yes. IsTrue yes → IsBitProved D.size H.hash_of (H.bagging hasher.now) N (record { leaves = proof.now.leaves; inactive = proof.now.inactive_peaks; digests = map D.text proof.now.digests.items }) chunk.now bit (D.text root.now)) }
-    ensures past_the_end { proof.now.leaves ≤ bit → result ≡ Ok false }
-    ensures inactive { proof.now.inactive_peaks ≢ 0 → result ≡ Ok false }
-    ensures no_digest { proof.now.leaves % (8 * N) ≢ 0 → proof.now.digests.items ≡ [] → result ≡ Ok false }
-{
-    bit_proofs_are_sound();
-    if bit >= proof.leaves.as_u64() || proof.inactive_peaks != 0 {
-        return Ok(false);
+impl<D: Digest, const N: usize, M: State<D>> BitMap<D, N, M> {
+    /// Whether `chunk` is the chunk of a bit in the bitmap with that root, whose number of bits is the proof's `leaves`. The no
+    /// of a bit at or past the end, of inactive peaks, and of no digest where the bits do not fill their chunks takes no memory.
+    pub fn verify_bit_inclusion<H: Hasher<mmr::Family, Digest = D>>(
+        alloc: Global,
+        hasher: &H,
+        proof: &Proof<mmr::Family, D>,
+        chunk: &[u8; N],
+        bit: u64,
+        root: &D,
+    ) -> Result<bool, NoMemory>
+        requires size { IsChunkSize N }
+        requires takes { TakesTree (H.takes hasher.now) mmr (proof.now.leaves / (8 * N)) }
+        ensures exact { H.layout hasher.now ≡ ungrafted mmr → IfOk result (λ yes. IsTrue yes ↔ IsBitAccepted H.hash_of (H.bagging hasher.now) N (record { leaves = proof.now.leaves; inactive = proof.now.inactive_peaks; digests = map D.text proof.now.digests.items }) chunk.now bit (D.text root.now)) }
+        ensures means { H.layout hasher.now ≡ ungrafted mmr → IfOk result (λ yes. IsTrue yes → IsBitProved D.size H.hash_of (H.bagging hasher.now) N (record { leaves = proof.now.leaves; inactive = proof.now.inactive_peaks; digests = map D.text proof.now.digests.items }) chunk.now bit (D.text root.now)) }
+        ensures past_the_end { proof.now.leaves ≤ bit → result ≡ Ok false }
+        ensures inactive { proof.now.inactive_peaks ≢ 0 → result ≡ Ok false }
+        ensures no_digest { proof.now.leaves % (8 * N) ≢ 0 → proof.now.digests.items ≡ [] → result ≡ Ok false }
+    {
+        bit_proofs_are_sound();
+        if bit >= proof.leaves.as_u64() || proof.inactive_peaks != 0 {
+            return Ok(false);
+        }
+        let computed = computed_root(alloc, hasher, proof, chunk, bit)?;
+        Ok(computed == Some(*root))
     }
-    let computed = computed_root(alloc, hasher, proof, chunk, bit)?;
-    Ok(computed == Some(*root))
 }
 
 /// The root of the bitmap in which a bit has that chunk; none where a count of the proof does not fit.

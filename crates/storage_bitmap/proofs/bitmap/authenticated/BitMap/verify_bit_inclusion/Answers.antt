@@ -2,7 +2,7 @@ use Rattle.std.proofs.Common.{map, option_map, arith}
 use Rattle.storage_merkle.specs.ProofWireLaws.{all_digests}
 use Rattle.storage_bitmap.proofs.Bits.{chunk_positive}
 use Rattle.storage_bitmap.proofs.BitChecks.{accepted_computed, chained, same_option}
-use Rattle.storage_bitmap.proofs.bitmap.authenticated.inclusion.verify_bit_inclusion.Goals as goal
+use Rattle.storage_bitmap.proofs.bitmap.authenticated.BitMap.verify_bit_inclusion.Goals as goal
 
 pub returns-clause-exact : goal.returns-clause-exact
 returns-clause-exact g c = λ same.
