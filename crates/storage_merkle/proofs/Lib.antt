@@ -51,3 +51,4 @@ pub mod StoreOwn
 pub mod StoreMulti
 pub mod StoreMade
 mod Countable
+pub mod StoreSteps

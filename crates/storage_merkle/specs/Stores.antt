@@ -1,5 +1,6 @@
 -- Proof stores: what is kept of an accepted range proof, and the proofs that it gives.
-use Rattle.std.specs.Prelude.{◌≡◌, ℕ, ◌+◌, ◌<◌, List, [], ◌∷◌, ◌++◌, length, map, Bool, false, ◌&&◌, ◌||◌, if◌then◌else◌, leb, ltb, eqb, Option, Some, None}
+use Rattle.std.specs.Prelude.{◌≡◌, ℕ, ◌+◌, ◌<◌, List, [], ◌∷◌, ◌++◌, length, map, Bool, ◌&&◌, if◌then◌else◌, leb, ltb, eqb, Option, Some, None}
+use Rattle.std.specs.List.{list_any}
 use Rattle.storage_codec.specs.Digests.{HashFunction, IsSized}
 use Rattle.storage_merkle.specs.declared.merkle.error.Error.{Error}
 use Rattle.storage_merkle.specs.declared.merkle.error.Error.TheVariants.{Empty, RangeOutOfBounds, ElementPruned, DuplicateLocation, UnsortedLocation, CompressedDigest}
@@ -97,8 +98,7 @@ abbrev pub suffix_positions : Shape → Store → List ℕ
 suffix_positions S store = map (position_of (ungrafted S)) (by_position (ungrafted S) (map (λ p. node p.first p.height) (trailing store.past (unfolded store.bagging store.inactive (peaks_of (ungrafted S) store.leaves)))))
 
 abbrev pub is_among : ℕ → List ℕ → Bool
-is_among p [] = false
-is_among p (q ∷ qs) = eqb q p || is_among p qs
+is_among p qs = list_any (λ q. eqb q p) qs
 
 abbrev pub needed_positions : Shape → List ℕ → ℕ → List ℕ
 needed_positions S ls n = map (position_of (ungrafted S)) (needed_sites (ungrafted S) ls n)

@@ -15,6 +15,7 @@ mod peaks;
 mod plan;
 mod position;
 mod proof;
+mod proof_store;
 mod storage;
 
 pub use bagging::Bagging;
@@ -27,6 +28,7 @@ pub use peaks::{NodesToPin, Peaks};
 pub use plan::{ElementPlan, RangePlan};
 pub use position::Position;
 pub use proof::{LentProof, Proof};
+pub use proof_store::ProofStore;
 pub use storage::{Readable, Storage};
 
 /// The most leaves that a tree may have.

@@ -1,0 +1,7 @@
+use Rattle.std.proofs.Common.{◌≡◌, drop}
+use Rattle.storage_merkle.specs.Extracted.{texts}
+use Rattle.storage_merkle.specs.Stores.{entry_at}
+use Rattle.storage_merkle.proofs.merkle.proof_store.first_at.Given as goal
+
+abbrev pub invariant-loop-at : goal.invariant-loop-at
+invariant-loop-at g l = entry_at l.position (texts g.D.Write.text l.entries) ≡ entry_at l.position (texts g.D.Write.text (drop l.at-index l.entries))
