@@ -5,6 +5,7 @@ ghost use Rattle.storage_merkle.specs.declared.merkle.bagging.Bagging.TheVariant
 pub mod any;
 mod error;
 pub mod operation;
+pub mod verify;
 
 pub use error::Error;
 use storage_merkle::merkle::Bagging;

@@ -1,0 +1,68 @@
+//! Checks of proofs over lists of operations. Each operation stands in the tree by its encoding, under the hasher of database
+//! trees.
+ghost use Rattle.std.specs.Prelude.{◌≡◌, ◌↔◌, ◌⊎◌, [], map, IfErr, IfOk, IsOk, IsTrue};
+ghost use Rattle.storage_merkle.specs.declared.merkle.bagging.Bagging.TheVariants.{BackwardFold};
+ghost use Rattle.storage_merkle.specs.Checks.{IsProved};
+ghost use Rattle.storage_merkle.specs.Extracted.{AreHandedOut, Fits, texts};
+ghost use Rattle.storage_merkle.specs.RangeProofs.{IsAccepted};
+ghost use Rattle.storage_merkle.specs.Trees.{listed, ungrafted};
+
+use crate::qmdb;
+use std::alloc::Global;
+use storage_codec::NoMemory;
+use storage_codec::codec::Encode;
+use storage_codec::digest::{DigestOf, Hasher};
+use storage_merkle::merkle::{Error, Family, Location, Position, Proof};
+
+/// Digests that an accepted check hands out, each with its position.
+pub type ExtractedDigests<F, H> = Vec<(Position<F>, DigestOf<H>)>;
+
+/// Whether operations stand at the locations from `start` on of the list with that root. The answer for no operations
+/// takes no memory.
+pub fn verify_proof<H: Hasher, F: Family, Op: Encode>(
+    alloc: Global,
+    proof: &Proof<F, DigestOf<H>>,
+    start: Location<F>,
+    operations: &[Op],
+    root: &DigestOf<H>,
+) -> Result<bool, NoMemory>
+    ensures exact { IfOk result (λ yes. IsTrue yes ↔ IsAccepted H.hash_of (ungrafted F.shape) BackwardFold (record { leaves = proof.now.leaves; inactive = proof.now.inactive_peaks; digests = map H.Digest.text proof.now.digests.items }) start (listed (map Op.text operations.now)) (H.Digest.text root.now)) }
+    ensures means { IfOk result (λ yes. IsTrue yes → IsProved H.Digest.size H.hash_of (ungrafted F.shape) BackwardFold (record { leaves = proof.now.leaves; inactive = proof.now.inactive_peaks; digests = map H.Digest.text proof.now.digests.items }) start (listed (map Op.text operations.now)) (H.Digest.text root.now)) }
+    ensures none { operations.now ≡ [] → IsOk result }
+{
+    let elements = encode_all(alloc, operations)?;
+    proof.verify_range_inclusion(alloc, &qmdb::hasher::<H>(), &elements, start, root)
+}
+
+/// Each digest that the check of operations at the locations from `start` on reads or computes in a peak over one of them,
+/// with its position, ascending by position, each once. None are handed out for no operations.
+///
+/// # Errors
+///
+/// `InvalidProof` where a count does not fit; `RootMismatch` where another root comes out; `Memory`.
+pub fn verify_proof_and_extract_digests<H: Hasher, F: Family, Op: Encode>(
+    alloc: Global,
+    proof: &Proof<F, DigestOf<H>>,
+    start: Location<F>,
+    operations: &[Op],
+    root: &DigestOf<H>,
+) -> Result<ExtractedDigests<F, H>, Error<F>>
+    ensures handed { IfOk result (λ v. AreHandedOut H.Digest.size H.hash_of (ungrafted F.shape) BackwardFold (record { leaves = proof.now.leaves; inactive = proof.now.inactive_peaks; digests = map H.Digest.text proof.now.digests.items }) start (listed (map Op.text operations.now)) (H.Digest.text root.now) (texts H.Digest.text v.items)) }
+    ensures why { IfErr result (λ e. (e ≡ Error.Memory) ⊎ (((e ≡ Error.InvalidProof) × (Fits H.hash_of (ungrafted F.shape) BackwardFold (record { leaves = proof.now.leaves; inactive = proof.now.inactive_peaks; digests = map H.Digest.text proof.now.digests.items }) start (listed (map Op.text operations.now)) → ⊥)) ⊎ ((e ≡ Error.RootMismatch) × (Fits H.hash_of (ungrafted F.shape) BackwardFold (record { leaves = proof.now.leaves; inactive = proof.now.inactive_peaks; digests = map H.Digest.text proof.now.digests.items }) start (listed (map Op.text operations.now)) × (IsAccepted H.hash_of (ungrafted F.shape) BackwardFold (record { leaves = proof.now.leaves; inactive = proof.now.inactive_peaks; digests = map H.Digest.text proof.now.digests.items }) start (listed (map Op.text operations.now)) (H.Digest.text root.now) → ⊥))))) }
+{
+    let elements = encode_all(alloc, operations)?;
+    let hasher = qmdb::hasher::<H>();
+    proof.verify_range_inclusion_and_extract_digests(alloc, &hasher, &elements, start, root)
+}
+
+/// The encodings of operations. For none it takes no memory.
+fn encode_all<Op: Encode>(alloc: Global, operations: &[Op]) -> Result<Vec<Vec<u8>>, NoMemory>
+    ensures all { IfOk result (λ v. map (λ bytes. bytes.items) v.items ≡ map Op.text operations.now) }
+    ensures none { operations.now ≡ [] → IsOk result }
+{
+    let mut encoded = Vec::new(alloc);
+    for operation in operations {
+        encoded.push(operation.encode(alloc)?)?;
+    }
+    Ok(encoded)
+}
