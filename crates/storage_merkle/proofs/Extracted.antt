@@ -239,7 +239,7 @@ module _ (cut : ℕ → ℕ → Bool) where
   aligned_over [] a = tt
   aligned_over (p ∷ ps) a = all_both IsAlignedNode _ _ (aligned_nodes p.height p.first a.0) (aligned_over ps a.1)
 
-all_weaker : (P Q : Peak → Type 0) → ((p : Peak) → P p → Q p) → (ps : List Peak) → AllPeaks P ps → AllPeaks Q ps
+pub all_weaker : (P Q : Peak → Type 0) → ((p : Peak) → P p → Q p) → (ps : List Peak) → AllPeaks P ps → AllPeaks Q ps
 all_weaker P Q f [] a = tt
 all_weaker P Q f (p ∷ ps) a = (f p a.0, all_weaker P Q f ps a.1)
 

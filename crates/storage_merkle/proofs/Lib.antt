@@ -4,6 +4,9 @@ pub mod Distinct
 pub mod RangeSound
 pub mod RangeOwn
 pub mod Extracted
+pub mod Expand
+pub mod PinnedExpand
+pub mod PinnedSound
 pub mod Examples
 pub mod Keeping
 mod Retained

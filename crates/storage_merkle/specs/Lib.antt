@@ -24,6 +24,7 @@ pub mod Hashing
 pub mod HashingLaws
 pub mod Soundness
 pub mod Extracted
+pub mod Pinned
 pub mod Kept
 pub mod KeptLaws
 pub mod Rewriting

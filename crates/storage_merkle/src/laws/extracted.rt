@@ -1,6 +1,7 @@
-//! The digests that a check hands out.
+//! The digests that a check hands out, and those that it is given.
 
 ghost use Rattle.storage_merkle.specs.Extracted.{ExtractedDigestsAreTrue, ExtractedPositionsAscend};
+ghost use Rattle.storage_merkle.specs.Pinned.{PinnedDigestsAreSound};
 
 /// Each digest that an accepted check hands out is the tree's at its position, for a tree with grafted chunks too, or two
 /// different strings have one digest, one hashed by the check and one by the tree.
@@ -11,4 +12,10 @@ pub fn extracted_digests_are_true()
 /// What a check hands out ascends by position, each position once.
 pub fn extracted_positions_ascend()
     ensures { ExtractedPositionsAscend }
+{}
+
+/// Pinned digests that are accepted with a range proof are those of the list's peaks over its start, and the proof is the
+/// list's own, or two different strings have one digest, one hashed by the check and one by the list's tree.
+pub fn pinned_digests_are_sound()
+    ensures { PinnedDigestsAreSound }
 {}

@@ -1,0 +1,5 @@
+use Rattle.storage_merkle.proofs.PinnedSound.{pinned_digests_sound}
+use Rattle.storage_merkle.proofs.laws.extracted.pinned_digests_are_sound.Goals as goal
+
+pub returns : goal.returns
+returns c = pinned_digests_sound
