@@ -12,8 +12,6 @@ use storage_codec::codec::{
 };
 use storage_merkle::merkle::{Family, Location, mmb, mmr};
 
-mod plain_proofs;
-
 type Fixed<const N: usize> = Ordered<mmr::Family, FixedBytes<N>, FixedEncoding<u64>>;
 
 type Variable = Ordered<mmr::Family, FixedBytes<4>, VariableEncoding<Vec<u8>>>;
