@@ -12,6 +12,7 @@ mod merkleized;
 mod proof;
 mod rehashed;
 mod state;
+mod stored;
 mod unmerkleized;
 
 use crate::bitmap::prunable::read;
