@@ -1,12 +1,16 @@
 -- Packed bits and the bytes of chunks.
-use Rattle.std.proofs.Common.{◌≡◌, ◌≢◌, ℕ, zero, suc, ◌+◌, ◌-◌, ◌*◌, ◌/◌, ◌%◌, ◌^◌, ◌<◌, ◌≤◌, List, [], ◌∷◌, ◌++◌, length, drop, set, get_or, refl, sym, ap, ◌∙◌, arith, Bool, true, false, eqb, inl, inr, add-zero, zero-mul, get_or-drop, ext_get_or, get_or-set_same, get_or-set_other, length-set, length-drop}
+use Rattle.std.proofs.Common.{◌≡◌, ◌≢◌, ℕ, zero, suc, ◌+◌, ◌-◌, ◌*◌, ◌/◌, ◌%◌, ◌^◌, ◌<◌, ◌≤◌, List, [], ◌∷◌, ◌++◌, length, drop, set, get_or, refl, sym, ap, ◌∙◌, arith, Bool, true, false, eqb, inl, inr, add-zero, zero-mul, get_or-drop, ext_get_or, get_or-set_same, get_or-set_other, length-set, length-drop, length-append, mul_comm, ap₂, replicate, take, Option, Some, None, MatchOption, Bor}
 use Rattle.std.specs.Int.{bit_at}
 use Rattle.std.proofs.lemmas.Nat.Bits.{bit_at-suc, bit_at_lowest, bit_at-zero, same_from_bits_below, bit_at-lt}
 use Rattle.std.proofs.lemmas.List.{drop-drop, get_or_past, length_push, get_or_push, get_or_append_left}
 use Rattle.std.proofs.lemmas.List.FromFn.{length-map-range_with_len, get_or-map-range_with_len}
 use Rattle.std.proofs.lemmas.Bool.{cases_lt, cases_eq}
 use Rattle.std.proofs.lemmas.Nat.{div-add-mod'}
-use Rattle.std.proofs.Math.Nat.{mod-lt}
+use Rattle.std.proofs.Math.Nat.{mod-lt, mul-sub}
+use Rattle.std.proofs.lemmas.Nat.{div-mul-add}
+use Rattle.std.proofs.Math.Seq.{drop-nil}
+use Rattle.std.proofs.lemmas.List.{length-replicate, nil_from_length, take_all}
+use Rattle.std.specs.Array.{IsWholeChunk}
 use Rattle.storage_bitmap.specs.Chunks.{digit, number_of, bytes_of, chunk, IsChunkSize, Retained, pruned_to}
 use Rattle.storage_bitmap.specs.Packed.{bit_in, bits_in, IsPacked, IsWritten, HasRoom}
 
@@ -90,45 +94,78 @@ bits_same bytes bits h =
     (λ i below. let b : i < length bits = rw length-bits_in at below in get_or-bits_in bytes (length bits) i b ∙ h i b)
 
 -- ---- the steps of a bitmap
+pub chunk_positive : (n : ℕ) → IsChunkSize n → 0 < n
+chunk_positive zero p = let e : false ≡ true = p.0 in absurd (cc)
+chunk_positive (suc n) p = omega arith
+
 pub none_packed : (n pruned : ℕ) → IsChunkSize n → pruned * (8 * n) ≤ 2 ^ 62 → IsPacked n pruned 0 []
 unfolding bit_in
 none_packed n pruned size few =
-    record { size = size; few = omega (arith, few); room = refl; narrow = λ i. omega arith; clear = λ i h. rw (bit_at-zero (i % 8)) refl }
+    record { size = size; few = omega (arith, few); chunks = 0; room = sym (zero-mul n); enough = omega arith; tight = omega (arith, zero-mul (8 * n), chunk_positive n size); narrow = λ i. omega arith; clear = λ i h. rw (bit_at-zero (i % 8)) refl }
 
 pub none_bits : bits_in [] 0 ≡ []
 unfolding bits_in
 none_bits = refl
 
--- a clear byte at the end changes no bit
-pub bit_in_grown : (bytes : List ℕ) (i : ℕ) → bit_in (bytes ++ 0 ∷ []) i ≡ bit_in bytes i
-unfolding bit_in
-bit_in_grown bytes i = rw (grown bytes (i / 8)) refl where
-  grown : (bytes : List ℕ) (p : ℕ) → get_or (bytes ++ 0 ∷ []) p 0 ≡ get_or bytes p 0
-  grown [] zero = refl
-  grown [] (suc p) = refl
-  grown (x ∷ bytes) zero = refl
-  grown (x ∷ bytes) (suc p) = grown bytes p
+abbrev clear_bytes : ℕ → List ℕ
+clear_bytes n = replicate n 0
 
-pub narrow_grown : (bytes : List ℕ) → ((i : ℕ) → get_or bytes i 0 < 256) → (i : ℕ) → get_or (bytes ++ 0 ∷ []) i 0 < 256
-narrow_grown [] h zero = omega arith
-narrow_grown [] h (suc i) = omega arith
-narrow_grown (x ∷ bytes) h zero = h 0
-narrow_grown (x ∷ bytes) h (suc i) = narrow_grown bytes (λ j. h (suc j)) i
+clear : (n p : ℕ) → get_or (replicate n 0) p 0 ≡ get_or (clear_bytes 0) p 0
+clear zero p = refl
+clear (suc n) zero = refl
+clear (suc n) (suc p) = clear n p
+
+-- clear bytes at the end change no byte
+grown : (bytes : List ℕ) (n p : ℕ) → get_or (bytes ++ replicate n 0) p 0 ≡ get_or bytes p 0
+grown [] n p = clear n p
+grown (x ∷ bytes) n zero = refl
+grown (x ∷ bytes) n (suc p) = grown bytes n p
+
+-- so many chunks have so many bits
+eights : (n chunks : ℕ) → chunks * (8 * n) ≡ 8 * (chunks * n)
+eights n chunks = grind arith
+
+pub packed_place : (n pruned kept place : ℕ) (bytes : List ℕ) → IsPacked n pruned kept bytes → place < kept → place / 8 < length bytes
+packed_place n pruned kept place bytes p h = omega (arith, p.room, p.enough, eights n p.chunks)
+
+pub packed_room : (n pruned kept : ℕ) (bytes : List ℕ) → IsPacked n pruned kept bytes → (kept ≤ 8 * length bytes) × (8 * length bytes < kept + 8 * n)
+packed_room n pruned kept bytes p = (omega (arith, p.room, p.enough, eights n p.chunks), omega (arith, p.room, p.tight, eights n p.chunks))
+
+pub pushed_place : (n pruned kept : ℕ) (old mid : List ℕ) → IsPacked n pruned kept old → HasRoom n old mid kept → kept / 8 < length mid
+pushed_place n pruned kept old mid p r =
+    let some = chunk_positive n p.size in
+    let room = packed_room n pruned kept old p in
+    elim (cases_eq kept (8 * length old)) [
+      | inl e ↦ omega (arith, r.more e, some)
+      | inr d ↦ omega (arith, r.enough d, room.0, d)
+    ]
 
 pub packed_push : (n pruned kept : ℕ) (old mid new : List ℕ) (bit : Bool) → IsPacked n pruned kept old → pruned * (8 * n) + kept < 2 ^ 62
-    → HasRoom old mid kept → IsWritten mid new kept bit → IsPacked n pruned (kept + 1) new
+    → HasRoom n old mid kept → IsWritten mid new kept bit → IsPacked n pruned (kept + 1) new
 packed_push n pruned kept old mid new bit p few r w =
-    record {
-      size = p.size;
-      few = omega arith;
-      room = w.len ∙ (r.len ∙ (let e : (kept + 8) / 8 ≡ (kept + 1 + 7) / 8 = omega arith in e));
-      narrow = w.narrow (r.narrow p.narrow);
-      clear = λ i h. w.others i (λ e. absurd (omega arith)) ∙ (r.same i ∙ p.clear i (omega arith));
-    }
+    elim (cases_eq kept (8 * length old)) [
+      | inl e ↦ packed (p.chunks + 1) (w.len ∙ (r.more e ∙ (ap (λ (x : ℕ). x + n) p.room ∙ again n p.chunks))) (omega (arith, e, p.room, eights n p.chunks, eights n (p.chunks + 1), again n p.chunks, chunk_positive n p.size)) (omega (arith, e, p.room, eights n p.chunks, eights n (p.chunks + 1), again n p.chunks))
+      | inr d ↦ packed p.chunks (w.len ∙ (r.enough d ∙ p.room)) (omega (arith, d, p.room, p.enough, eights n p.chunks)) (omega (arith, p.tight))
+    ] where
+      again : (n chunks : ℕ) → chunks * n + n ≡ (chunks + 1) * n
+      again n chunks = grind arith
 
-pub bits_push : (kept : ℕ) (old mid new : List ℕ) (bit : Bool) → HasRoom old mid kept → IsWritten mid new kept bit
+      packed : (chunks : ℕ) → length new ≡ chunks * n → kept + 1 ≤ chunks * (8 * n) → chunks * (8 * n) < kept + 1 + 8 * n → IsPacked n pruned (kept + 1) new
+      packed chunks room enough tight =
+          record {
+            size = p.size;
+            few = omega arith;
+            chunks = chunks;
+            room = room;
+            enough = enough;
+            tight = tight;
+            narrow = w.narrow (r.narrow p.narrow);
+            clear = λ i h. w.others i (λ e. absurd (omega arith)) ∙ (r.same i ∙ p.clear i (omega arith));
+          }
+
+pub bits_push : (kept : ℕ) (old mid new : List ℕ) (bit : Bool) (n : ℕ) → HasRoom n old mid kept → IsWritten mid new kept bit
     → bits_in new (kept + 1) ≡ bits_in old kept ++ bit ∷ []
-bits_push kept old mid new bit r w =
+bits_push kept old mid new bit n r w =
     ext_get_or false (bits_in new (kept + 1)) (bits_in old kept ++ bit ∷ [])
     (length-bits_in new (kept + 1) ∙ sym (length_push (bits_in old kept) bit ∙ ap (λ (x : ℕ). x + 1) (length-bits_in old kept)))
     (λ i h. let below : i < kept + 1 = rw length-bits_in at h in
@@ -143,7 +180,10 @@ packed_set n pruned kept place old new bit p h w =
     record {
       size = p.size;
       few = p.few;
+      chunks = p.chunks;
       room = w.len ∙ p.room;
+      enough = p.enough;
+      tight = p.tight;
       narrow = w.narrow p.narrow;
       clear = λ i far. w.others i (λ e. absurd (omega arith)) ∙ p.clear i far;
     }
@@ -166,17 +206,6 @@ bit_in-drop bytes g i =
     let r : (8 * g + i) % 8 ≡ i % 8 = omega arith in
     rw (q, r, get_or-drop g bytes (i / 8) 0) refl
 
-dropped : (n pruned kept chunks g : ℕ) (old : List ℕ) → IsPacked n pruned kept old → chunks * (8 * n) ≡ pruned * (8 * n) + 8 * g → 8 * g ≤ kept
-    → IsPacked n chunks (kept - 8 * g) (drop g old)
-dropped n pruned kept chunks g old p e h =
-    record {
-      size = p.size;
-      few = omega arith;
-      room = length-drop g old ∙ (rw p.room (let e : (kept + 7) / 8 - g ≡ (kept - 8 * g + 7) / 8 = omega arith in e));
-      narrow = λ i. rw (get_or-drop g old i 0) (p.narrow (g + i));
-      clear = λ i far. bit_in-drop old g i ∙ p.clear (8 * g + i) (omega arith);
-    }
-
 pub bits_drop : (kept g : ℕ) (old : List ℕ) → 8 * g ≤ kept → bits_in (drop g old) (kept - 8 * g) ≡ drop (8 * g) (bits_in old kept)
 bits_drop kept g old h =
     ext_get_or false (bits_in (drop g old) (kept - 8 * g)) (drop (8 * g) (bits_in old kept))
@@ -194,12 +223,23 @@ chunks_split n pruned chunks h = along n pruned (chunks - pruned) chunks (omega 
 pub packed_drop : (n pruned kept chunks : ℕ) (old : List ℕ) → IsPacked n pruned kept old → pruned ≤ chunks → chunks * (8 * n) ≤ pruned * (8 * n) + kept
     → IsPacked n chunks (kept - 8 * ((chunks - pruned) * n)) (drop ((chunks - pruned) * n) old)
 packed_drop n pruned kept chunks old p h w =
-    let e : chunks * (8 * n) ≡ pruned * (8 * n) + 8 * ((chunks - pruned) * n) = chunks_split n pruned chunks h in
-    dropped n pruned kept chunks ((chunks - pruned) * n) old p e (omega arith)
-
-pub chunk_positive : (n : ℕ) → IsChunkSize n → 0 < n
-chunk_positive zero p = let e : false ≡ true = p.0 in absurd (cc)
-chunk_positive (suc n) p = omega arith
+    let gone : ℕ = chunks - pruned in
+    let e : chunks * (8 * n) ≡ pruned * (8 * n) + 8 * (gone * n) = chunks_split n pruned chunks h in
+    let less : (p.chunks - gone) * n ≡ p.chunks * n - gone * n = sub-mul n p.chunks gone in
+    let bits : (p.chunks - gone) * (8 * n) ≡ p.chunks * (8 * n) - gone * (8 * n) = sub-mul (8 * n) p.chunks gone in
+    let each : gone * (8 * n) ≡ 8 * (gone * n) = eights n gone in
+    record {
+      size = p.size;
+      few = omega (arith, p.few, e);
+      chunks = p.chunks - gone;
+      room = length-drop (gone * n) old ∙ (ap (λ (x : ℕ). x - gone * n) p.room ∙ sym less);
+      enough = omega (arith, p.enough, bits, each);
+      tight = omega (arith, p.tight, bits, each, w, e, chunk_positive n p.size);
+      narrow = λ i. rw (get_or-drop (gone * n) old i 0) (p.narrow (gone * n + i));
+      clear = λ i far. bit_in-drop old (gone * n) i ∙ p.clear (8 * (gone * n) + i) (omega arith);
+    } where
+      sub-mul : (m a b : ℕ) → (a - b) * m ≡ a * m - b * m
+      sub-mul m a b = mul_comm (a - b) m ∙ (mul-sub m a b ∙ ap₂ (λ (x y : ℕ). x - y) (mul_comm m a) (mul_comm m b))
 
 pub get_or-chunk : (n j m : ℕ) (bits : List Bool) → m < n → get_or (chunk n bits j) m 0 ≡ number_of 8 (drop (8 * (j * n + m)) bits)
 unfolding chunk
@@ -258,9 +298,18 @@ written bytes place byte bit inside small there others = record {
   ];
 }
 
-pub roomy : (bytes : List ℕ) (kept : ℕ) → length bytes ≡ (kept + 7) / 8 → kept % 8 ≡ 0 → HasRoom bytes (bytes ++ 0 ∷ []) kept
-roomy bytes kept len whole =
-    record { len = length_push bytes 0 ∙ omega arith; narrow = narrow_grown bytes; same = bit_in_grown bytes }
+pub roomy : (n : ℕ) (bytes : List ℕ) (kept : ℕ) → kept ≡ 8 * length bytes → HasRoom n bytes (bytes ++ replicate n 0) kept
+unfolding bit_in
+roomy n bytes kept full =
+    record {
+      more = λ e. length-append bytes (replicate n 0) ∙ ap (λ (x : ℕ). length bytes + x) (length-replicate n 0);
+      enough = λ d. absurd (d full);
+      narrow = λ h i. rw (grown bytes n i) (h i);
+      same = λ i. rw (grown bytes n (i / 8)) refl;
+    }
+
+pub room_enough : (n : ℕ) (bytes : List ℕ) (kept : ℕ) → kept ≢ 8 * length bytes → HasRoom n bytes bytes kept
+room_enough n bytes kept d = record { more = λ e. absurd (d e); enough = λ x. refl; narrow = λ h. h; same = λ i. refl }
 
 -- what pruning takes is kept
 pub gone_within : (n pruned kept chunks bit : ℕ) (bytes : List ℕ) → bit ≤ pruned * (8 * n) + length (bits_in bytes kept) → chunks ≡ bit / (8 * n) → IsChunkSize n
@@ -284,3 +333,60 @@ bit_in-chunk n bit bits some =
     ∙ ap (λ (x : ℕ). get_or bits x false) whole where
       at : (n q place bit : ℕ) → q * (8 * n) + place ≡ bit → 8 * (q * n + place / 8) + place % 8 ≡ bit
       at n q place bit e = let m : q * (8 * n) ≡ 8 * (q * n) = grind arith in omega arith
+
+-- ---- the last chunk
+
+-- its index, where so many chunks are kept
+pub last_place : (n pruned kept : ℕ) (bytes : List ℕ) → IsPacked n pruned kept bytes → n ≤ length bytes
+    → (c : ℕ) × (length bytes ≡ c * n + n) × ((kept - 1) / (8 * n) ≡ c) × (c * (8 * n) < kept) × (kept ≤ c * (8 * n) + 8 * n)
+last_place n pruned kept bytes p some = at p.chunks p.room p.enough p.tight where
+  at : (chunks : ℕ) → length bytes ≡ chunks * n → kept ≤ chunks * (8 * n) → chunks * (8 * n) < kept + 8 * n
+      → (c : ℕ) × (length bytes ≡ c * n + n) × ((kept - 1) / (8 * n) ≡ c) × (c * (8 * n) < kept) × (kept ≤ c * (8 * n) + 8 * n)
+  at zero room enough tight = absurd (omega (arith, room, chunk_positive n p.size))
+  at (suc c) room enough tight =
+      let one : suc c * n ≡ c * n + n = grind arith in
+      let eight : suc c * (8 * n) ≡ c * (8 * n) + 8 * n = grind arith in
+      let in_last : kept - 1 ≡ c * (8 * n) + (kept - 1 - c * (8 * n)) = omega (arith, tight, eight) in
+      (c, omega (arith, room, one), ap (λ (x : ℕ). x / (8 * n)) in_last ∙ div-mul-add c (8 * n) (kept - 1 - c * (8 * n)) (omega (arith, enough, tight, eight, chunk_positive n p.size)), omega (arith, tight, eight), omega (arith, enough, eight))
+
+pub last_is : (n pruned kept : ℕ) (bytes r : List ℕ) → IsPacked n pruned kept bytes → n ≤ length bytes → length r ≡ n → ((m : ℕ) → m < n → get_or r m 0 ≡ get_or bytes (length bytes - n + m) 0)
+    → r ≡ chunk n (bits_in bytes kept) ((length (bits_in bytes kept) - 1) / (8 * n))
+last_is n pruned kept bytes r p some len each =
+    let at = last_place n pruned kept bytes p some in
+    let index : (length (bits_in bytes kept) - 1) / (8 * n) ≡ at.0 = ap (λ (x : ℕ). (x - 1) / (8 * n)) (length-bits_in bytes kept) ∙ at.2 in
+    chunk_is n at.0 kept bytes r p.narrow p.clear len (λ m h. each m h ∙ ap (λ (x : ℕ). get_or bytes x 0) (let e : length bytes - n + m ≡ at.0 * n + m = omega (arith, at.1) in e))
+    ∙ ap (chunk n (bits_in bytes kept)) (sym index)
+
+-- nothing is left
+pub none_kept : (n pruned kept : ℕ) (bytes : List ℕ) → IsPacked n pruned kept bytes → length bytes < n → (kept ≡ 0) × (length bytes ≡ 0)
+none_kept n pruned kept bytes p none = at p.chunks p.room p.enough where
+  at : (chunks : ℕ) → length bytes ≡ chunks * n → kept ≤ chunks * (8 * n) → (kept ≡ 0) × (length bytes ≡ 0)
+  at zero room enough = (omega (arith, enough), omega (arith, room))
+  at (suc c) room enough = absurd (let one : suc c * n ≡ c * n + n = grind arith in omega (arith, room, one))
+
+-- the last chunk that is left, or that nothing is left
+pub last_of : (n pruned kept : ℕ) (bytes : List ℕ) (last : Option (Bor (List ℕ))) → IsPacked n pruned kept bytes
+    → MatchOption last (length bytes < n) (λ y. (n ≤ length bytes) × IsWholeChunk (drop (length bytes - n) bytes) y.now n)
+    → MatchOption last (bits_in bytes kept ≡ []) (λ y. (bits_in bytes kept ≢ []) × (y.now ≡ chunk n (bits_in bytes kept) ((length (bits_in bytes kept) - 1) / (8 * n))))
+last_of n pruned kept bytes None p none = nil_from_length (bits_in bytes kept) (length-bits_in bytes kept ∙ (none_kept n pruned kept bytes p none).0)
+last_of n pruned kept bytes (Some y) p (some, whole) =
+    let at = last_place n pruned kept bytes p some in (
+      (λ e. let z : length (bits_in bytes kept) ≡ 0 = ap length e in omega (arith, z, length-bits_in bytes kept, at.3)),
+      last_is n pruned kept bytes y.now p some (ap length whole.same ∙ whole.long)
+          (λ m h. ap (λ (xs : List ℕ). get_or xs m 0) whole.same ∙ get_or-drop (length bytes - n) bytes m 0),
+    )
+
+pub resized : (n count len : ℕ) (old new : List ℕ) → count ≡ length old → len ≡ length old → new ≡ take (count + n) old ++ replicate (count + n - len) 0 → new ≡ old ++ replicate n 0
+resized n count len old new e l is =
+    is ∙ ap₂ (λ (xs ys : List ℕ). xs ++ ys) (take_all (count + n) old (omega arith)) (ap (λ (m : ℕ). replicate m 0) (let f : count + n - len ≡ n = omega arith in f))
+
+clear_bytes_of : (n : ℕ) → bytes_of n [] ≡ replicate n 0
+unfolding bytes_of number_of
+clear_bytes_of zero = refl
+clear_bytes_of (suc n) = ap (λ (xs : List ℕ). 0 ∷ xs) (clear_bytes_of n)
+
+-- a chunk past the bits is clear
+pub clear_chunk : (n : ℕ) (r : List ℕ) (bits : List Bool) → bits ≡ [] → r ≡ replicate n 0 → r ≡ chunk n bits ((length bits - 1) / (8 * n))
+unfolding chunk
+clear_chunk n r bits e is =
+    is ∙ (sym (clear_bytes_of n) ∙ sym (ap (λ (xs : List Bool). bytes_of n (drop ((length bits - 1) / (8 * n) * (8 * n)) xs)) e ∙ ap (bytes_of n) (drop-nil ((length bits - 1) / (8 * n) * (8 * n)))))

@@ -17,7 +17,7 @@ use Rattle.storage_merkle.specs.HashingLaws.{length-leaf_digests, get-leaf_diges
 use Rattle.storage_merkle.specs.Kept.{Kept, NodesOver, IsClean, Holds, StandsBut, StandsFor, at_peaks, pins}
 use Rattle.storage_merkle.specs.KeptLaws.{node_same, peaks_same, length_at_peaks}
 use Rattle.storage_merkle.specs.declared.merkle.bagging.Bagging.{Bagging}
-use Rattle.storage_bitmap.specs.Chunks.{digit, number_of, bytes_of, chunk, chunks_from, IsRest, Retained, bit_count, pruned_to}
+use Rattle.storage_bitmap.specs.Chunks.{IsChunkSize, digit, number_of, bytes_of, chunk, chunks_from, IsRest, Retained, bit_count, pruned_to}
 use Rattle.storage_merkle.specs.declared.merkle.error.Error.{Error}
 use Rattle.storage_merkle.specs.declared.merkle.error.Error.TheVariants.{LocationOverflow, MissingNode, Memory}
 use Rattle.storage_bitmap.specs.BitRoots.{bit_root}
@@ -342,3 +342,18 @@ pub refused : {F : Type 0} (n count boundary given : ℕ) (error : Error F) → 
 refused n count boundary given error at within (inl over) = absurd (omega (arith, at, within, div-le_self (2 ^ 62) (8 * n), over.0))
 refused n count boundary given error at within (inr (few, inl missing)) = inr (inl (in_limit n count (2 ^ 62) within, rw (← at) missing.0, rw (← at) missing.1))
 refused n count boundary given error at within (inr (few, inr memory)) = inr (inr (in_limit n count (2 ^ 62) within, rw (← at) memory.0, memory.1))
+
+-- a bitmap whose bits all are pruned is whole
+pub whole_restored : {D : Type 0} (n count boundary : ℕ) (pinned : List D) (r : Retained) (tree : Kept D) → IsChunkSize n → 0 < n → count ≤ 2 ^ 62 / (8 * n) → boundary ≡ count → r ≡ record { pruned = count; bits = [] }
+    → tree ≡ record { leaves = boundary; boundary = boundary; pinned = pinned; nodes = [] } → IsWholeMap n r tree (λ x leaves complete. leaves ≡ complete)
+whole_restored n count boundary pinned r tree size some within at are is =
+    let whole : (count * (8 * n) + 0) / (8 * n) ≡ count = div-mul-add count (8 * n) 0 (omega arith) in
+    let few : count * (8 * n) ≤ 2 ^ 62 = in_limit n count (2 ^ 62) within in
+    rw (are, is) (record {
+      size = size;
+      few = omega (arith, few);
+      boundary = at;
+      order = omega arith;
+      leaves = rw whole (omega (arith, at));
+      state = rw whole at;
+    })

@@ -12,11 +12,14 @@ bit_in bytes i = eqb (bit_at (slice_index bytes (i / 8)) (i % 8)) 1
 unfoldable pub bits_in : List ℕ → ℕ → List Bool
 bits_in bytes count = map (bit_in bytes) (range_with_len 0 count)
 
--- so many bits are kept in as few bytes as have room for them, and the rest of the last byte is clear
+-- so many bits are kept in as few chunks of n bytes as have room for them, and the rest of the last chunk is clear
 pub record IsPacked (n pruned kept : ℕ) (bytes : List ℕ) : Type 0 where
   pub size : IsChunkSize n
   pub few : pruned * (8 * n) + kept ≤ 2 ^ 62
-  pub room : length bytes ≡ (kept + 7) / 8
+  pub chunks : ℕ
+  pub room : length bytes ≡ chunks * n
+  pub enough : kept ≤ chunks * (8 * n)
+  pub tight : chunks * (8 * n) < kept + 8 * n
   pub narrow : (i : ℕ) → slice_index bytes i < 256
   pub clear : (i : ℕ) → kept ≤ i → bit_in bytes i ≡ false
 
@@ -27,8 +30,9 @@ pub record IsWritten (old new : List ℕ) (place : ℕ) (bit : Bool) : Type 0 wh
   pub there : bit_in new place ≡ bit
   pub others : (i : ℕ) → i ≢ place → bit_in new i ≡ bit_in old i
 
--- new has the bits of old, and room for one bit more than so many
-pub record HasRoom (old new : List ℕ) (kept : ℕ) : Type 0 where
-  pub len : length new ≡ (kept + 8) / 8
+-- new has the bits of old, and one clear chunk of n bytes more where so many bits fill it
+pub record HasRoom (n : ℕ) (old new : List ℕ) (kept : ℕ) : Type 0 where
+  pub more : kept ≡ 8 * length old → length new ≡ length old + n
+  pub enough : kept ≢ 8 * length old → length new ≡ length old
   pub narrow : ((i : ℕ) → slice_index old i < 256) → (i : ℕ) → slice_index new i < 256
   pub same : (i : ℕ) → bit_in new i ≡ bit_in old i

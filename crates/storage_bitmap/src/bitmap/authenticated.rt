@@ -1,7 +1,7 @@
 //! A list of bits with a root: that of a Merkle mountain range whose leaves are the complete chunks of the bits, together with
 //! the number of bits and the last chunk where they do not fill it.
 
-ghost use Rattle.std.specs.Prelude.{◌≡◌, ℕ, ◌+◌, ◌-◌, ◌*◌, ◌/◌, ◌%◌, ◌<◌, ◌≤◌, ◌↔◌, List, Bool, length, false, slice_index_or, IsTrue};
+ghost use Rattle.std.specs.Prelude.{◌≡◌, ℕ, ◌+◌, ◌-◌, ◌*◌, ◌/◌, ◌%◌, ◌<◌, ◌≤◌, ◌↔◌, List, Bool, length, replicate, false, slice_index_or, IsTrue};
 ghost use Rattle.storage_merkle.specs.Mmr.{mmr};
 ghost use Rattle.storage_merkle.specs.Shape.{size};
 ghost use Rattle.storage_bitmap.specs.Chunks.{IsChunkSize, bit_count, chunk as chunk_of};
@@ -38,7 +38,21 @@ pub struct BitMap<D: Digest, const N: usize, M: State<D>> {
     bits: Prunable<N>,
     tree: Mem<mmr::Family, D>,
     state: M,
+    clear: Clear<N>,
     alloc: Global,
+}
+
+/// A chunk without a set bit, which is lent where no chunk is left.
+#[derive(Drop)]
+struct Clear<const N: usize> {
+    bytes: [u8; N],
+    ghost clear: { bytes ≡ replicate N 0 },
+}
+
+impl<const N: usize> Clear<N> {
+    fn new() -> Self {
+        Clear { bytes: [0; N] }
+    }
 }
 
 impl<D: Digest, const N: usize, M: State<D>> Model for BitMap<D, N, M> {
@@ -87,6 +101,19 @@ impl<D: Digest, const N: usize, M: State<D>> BitMap<D, N, M> {
         ensures { result ≡ self.now.retained.pruned * (8 * N) }
     {
         self.bits.pruned_chunks() as u64 * (8 * N as u64)
+    }
+
+    /// The last chunk that is not pruned, and how many bits it has, from 1 on; a clear chunk and 0 where none is left.
+    pub fn last_chunk(&self) -> (&[u8; N], u64)
+        ensures chunk { result.0.now ≡ chunk_of N self.now.retained.bits ((length self.now.retained.bits - 1) / (8 * N)) }
+        ensures count { result.1 ≡ length self.now.retained.bits - (length self.now.retained.bits - 1) / (8 * N) * (8 * N) }
+    {
+        let Some(last) = self.bits.last_chunk() else {
+            return (&self.clear.bytes, 0);
+        };
+        let chunk_size = 8 * N as u64;
+        let left = self.bits.len() - self.bits.pruned_chunks() as u64 * chunk_size;
+        (last, (left - 1) % chunk_size + 1)
     }
 
     /// The chunk of a bit, which is there and not pruned. What is past the bits is 0.

@@ -1,6 +1,6 @@
 //! A list of bits whose front may be forgotten.
 
-ghost use Rattle.std.specs.Prelude.{◌≡◌, ◌≢◌, ℕ, ◌+◌, ◌-◌, ◌*◌, ◌/◌, ◌%◌, ◌^◌, ◌<◌, ◌≤◌, [], ◌∷◌, ◌++◌, length, drop, slice_set, slice_index, slice_index_or, false, OnOk, OnErr};
+ghost use Rattle.std.specs.Prelude.{◌≡◌, ◌≢◌, ℕ, ◌+◌, ◌-◌, ◌*◌, ◌/◌, ◌%◌, ◌^◌, ◌<◌, ◌≤◌, [], ◌∷◌, ◌++◌, length, drop, slice_set, slice_index, slice_index_or, false, MatchOption, OnOk, OnErr};
 ghost use Rattle.std.specs.Int.{bit_at};
 ghost use Rattle.storage_bitmap.specs.Chunks.{IsChunkSize, Retained, bit_count, chunk, digit, pruned_to};
 ghost use Rattle.storage_bitmap.specs.Packed.{HasRoom, IsPacked, IsWritten, bit_in, bits_in};
@@ -10,7 +10,7 @@ use std::alloc::Global;
 use std::marker::Model;
 use storage_codec::NoMemory;
 
-/// A list of bits in chunks of `N` bytes, of which those in front may be forgotten. It is kept in as few bytes as its
+/// A list of bits in chunks of `N` bytes, of which those in front may be forgotten. It is kept in as few chunks as its
 /// bits need.
 #[derive(Drop)]
 pub struct Prunable<const N: usize> {
@@ -59,7 +59,7 @@ impl<const N: usize> Prunable<N> {
         ensures ok { OnOk result (self.new ≡ record self.old { bits = self.old.bits ++ bit ∷ [] }) }
         ensures err { OnErr result (self.new ≡ self.old) }
     {
-        make_room(&mut self.bytes, self.kept)?;
+        make_room::<N>(&mut self.bytes, self.kept)?;
         write(&mut self.bytes, self.kept, bit);
         self.kept += 1;
         Ok(())
@@ -83,6 +83,13 @@ impl<const N: usize> Prunable<N> {
     {
         let place = bit - pruned_bits::<N>(self.pruned);
         read(&self.bytes, place)
+    }
+
+    /// The last chunk that is left; `None` where there is none. What is past the bits is 0.
+    pub fn last_chunk(&self) -> Option<&[u8; N]>
+        ensures { MatchOption result (self.now.bits ≡ []) (λ last. (self.now.bits ≢ []) × (last.now ≡ chunk N self.now.bits ((length self.now.bits - 1) / (8 * N)))) }
+    {
+        self.bytes.last_chunk()
     }
 
     /// Forgets the chunks below that of a bit, which may be one past the last. It takes no memory.
@@ -140,14 +147,15 @@ fn pruned_bits<const N: usize>(chunks: usize) -> u64
     chunks as u64 * (8 * N as u64)
 }
 
-/// Makes room for one bit more than so many.
-fn make_room(bytes: &mut Vec<u8>, kept: u64) -> Result<(), NoMemory>
-    requires { length bytes.old.items ≡ (kept + 7) / 8 }
-    ensures ok { OnOk result (HasRoom bytes.old.items bytes.new.items kept) }
+/// Makes room for one bit more than so many: a clear chunk, where there is none.
+fn make_room<const N: usize>(bytes: &mut Vec<u8>, kept: u64) -> Result<(), NoMemory>
+    requires { 8 * (length bytes.old.items + N) < 2 ^ 64 }
+    ensures ok { OnOk result (HasRoom N bytes.old.items bytes.new.items kept) }
     ensures err { OnErr result (bytes.new.items ≡ bytes.old.items) }
 {
-    if kept.is_multiple_of(8) {
-        bytes.push(0)?;
+    let count = bytes.len();
+    if kept == 8 * count as u64 {
+        bytes.resize(count + N, 0)?;
     }
     Ok(())
 }
@@ -211,6 +219,7 @@ mod tests {
         assert_eq!(rt; bits.len(), 11);
         assert!(rt; bits.pruned_chunks() == 1);
         assert_eq!(rt; bits.get_chunk(1), [6]);
+        assert_eq!(rt; bits.last_chunk(), Some(&[6]));
         Ok(())
     }
 

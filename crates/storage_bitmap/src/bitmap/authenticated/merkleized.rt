@@ -14,7 +14,7 @@ ghost use Rattle.storage_bitmap.specs.StandsForBits.{IsPrunedState, IsRefused, S
 
 use crate::bitmap::authenticated::rehashed::root_of_bits;
 use crate::bitmap::authenticated::{
-    BitMap, Merkleized, MerkleizedBitMap, Unmerkleized, UnmerkleizedBitMap,
+    BitMap, Clear, Merkleized, MerkleizedBitMap, Unmerkleized, UnmerkleizedBitMap,
 };
 use crate::bitmap::{Prunable, Readable};
 use std::alloc::Global;
@@ -66,6 +66,7 @@ impl<D: Digest, const N: usize> BitMap<D, N, Merkleized<D>> {
             bits,
             tree,
             state: Merkleized { root },
+            clear: Clear::new(),
             alloc,
         })
     }
@@ -136,6 +137,7 @@ impl<D: Digest, const N: usize> BitMap<D, N, Merkleized<D>> {
             bits,
             tree,
             state: _,
+            clear,
             alloc,
         } = self;
         BitMap {
@@ -144,6 +146,7 @@ impl<D: Digest, const N: usize> BitMap<D, N, Merkleized<D>> {
             state: Unmerkleized {
                 dirty: BTreeSet::new(alloc),
             },
+            clear,
             alloc,
         }
     }

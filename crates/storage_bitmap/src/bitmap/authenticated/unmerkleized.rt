@@ -78,6 +78,7 @@ impl<D: Digest, const N: usize> BitMap<D, N, Unmerkleized> {
             bits,
             mut tree,
             state,
+            clear,
             alloc,
         } = self;
         if let Err(_) = rehash(alloc, &mut tree, hasher, &bits, &state.dirty) {
@@ -91,6 +92,7 @@ impl<D: Digest, const N: usize> BitMap<D, N, Unmerkleized> {
             bits,
             tree,
             state: Merkleized { root },
+            clear,
             alloc,
         })
     }

@@ -1,5 +1,5 @@
 use Rattle.std.proofs.Common.{arith, sym, ◌∙◌, ◌*◌, ◌-◌}
-use Rattle.storage_bitmap.proofs.Bits.{place_within, get_or-bits_in}
+use Rattle.storage_bitmap.proofs.Bits.{place_within, packed_place, get_or-bits_in}
 use Rattle.storage_bitmap.proofs.bitmap.prunable.Prunable.get_bit.Goals as goal
 
 pub read-requires : goal.read-requires
@@ -7,7 +7,7 @@ read-requires g c =
     let within = rw (← c.self.view_is) at c.requires.within in
     let kept = rw (← c.self.view_is) at c.requires.kept in
     let place = place_within g.row.N c.self.inside.pruned c.self.inside.kept c.args.bit c.self.inside.bytes.items within kept in
-    rw (c.deref.ensures.value, c.pruned_bits.ensures) (omega (arith, place, c.self.invariant.room))
+    rw (c.deref.ensures.value, c.pruned_bits.ensures) (packed_place g.row.N c.self.inside.pruned c.self.inside.kept (c.args.bit - c.self.inside.pruned * (8 * g.row.N)) c.self.inside.bytes.items c.self.invariant place)
 
 pub returns : goal.returns
 returns g c =

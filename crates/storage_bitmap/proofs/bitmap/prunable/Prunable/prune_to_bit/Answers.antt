@@ -1,5 +1,5 @@
 use Rattle.std.proofs.Common.{arith, refl, ◌*◌, ◌/◌}
-use Rattle.storage_bitmap.proofs.Bits.{chunk_positive, packed_drop, pruned_some, gone_within}
+use Rattle.storage_bitmap.proofs.Bits.{chunk_positive, packed_room, packed_drop, pruned_some, gone_within}
 use Rattle.storage_bitmap.proofs.bitmap.prunable.Prunable.prune_to_bit.Goals as goal
 
 pub overflow_mul-chunks : goal.overflow_mul-chunks
@@ -18,7 +18,7 @@ pub remove_front-requires : goal.remove_front-requires
 remove_front-requires g c =
     let at = gone_within g.row.N c.self.inside.pruned c.self.inside.kept (c.args.bit / (8 * g.row.N)) c.args.bit c.self.inside.bytes.items
     (rw (← c.self.view_is) at c.requires) refl c.self.invariant.size c.if-chunks-pruned.false in
-    omega (arith, at.0, c.self.invariant.room)
+    omega (arith, at.0, (packed_room g.row.N c.self.inside.pruned c.self.inside.kept c.self.inside.bytes.items c.self.invariant).0)
 
 pub invariant_of-self : goal.invariant_of-self
 invariant_of-self g c =

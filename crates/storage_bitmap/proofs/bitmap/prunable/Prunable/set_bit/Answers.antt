@@ -1,5 +1,5 @@
-use Rattle.std.proofs.Common.{arith, refl, ◌-◌}
-use Rattle.storage_bitmap.proofs.Bits.{place_within, packed_set, bits_set}
+use Rattle.std.proofs.Common.{arith, refl, ◌-◌, ◌*◌}
+use Rattle.storage_bitmap.proofs.Bits.{place_within, packed_place, packed_set, bits_set}
 use Rattle.storage_bitmap.proofs.bitmap.prunable.Prunable.set_bit.Goals as goal
 
 pub write-requires : goal.write-requires
@@ -7,7 +7,7 @@ write-requires g c =
     let within = rw (← c.self.view_is) at c.requires.within in
     let kept = rw (← c.self.view_is) at c.requires.kept in
     let place = place_within g.row.N c.self.inside.pruned c.self.inside.kept c.args.bit c.self.inside.bytes.items within kept in
-    rw c.pruned_bits.ensures (omega (arith, place, c.self.invariant.room))
+    rw c.pruned_bits.ensures (packed_place g.row.N c.self.inside.pruned c.self.inside.kept (c.args.bit - c.self.inside.pruned * (8 * g.row.N)) c.self.inside.bytes.items c.self.invariant place)
 
 pub invariant_of-self : goal.invariant_of-self
 invariant_of-self g c =

@@ -1,5 +1,5 @@
 use Rattle.std.proofs.Common.{arith, refl, ◌∙◌, ◌-◌}
-use Rattle.storage_bitmap.proofs.Bits.{chunk_within, chunk_is}
+use Rattle.storage_bitmap.proofs.Bits.{chunk_within, packed_room, chunk_is}
 use Rattle.storage_bitmap.proofs.bitmap.prunable.PrunableReadable.get_chunk.Goals as goal
 
 pub overflow_mul-index : goal.overflow_mul-index
@@ -13,7 +13,7 @@ chunk_from-requires g c =
     let within = rw (← c.self.view_is) at c.requires.within in
     let kept = rw (← c.self.view_is) at c.requires.kept in
     let at = chunk_within g.row.N c.self.inside.pruned c.self.inside.kept c.args.index c.self.inside.bytes.items within kept in
-    (omega (arith, c.self.invariant.size.1), (rw c.deref.ensures.value (omega (arith, at, c.self.invariant.room)), omega (arith, at, c.self.invariant.few, c.self.invariant.size.1)))
+    (omega (arith, c.self.invariant.size.1), (rw c.deref.ensures.value (omega (arith, at, (packed_room g.row.N c.self.inside.pruned c.self.inside.kept c.self.inside.bytes.items c.self.invariant).0)), omega (arith, at, c.self.invariant.few, c.self.invariant.size.1)))
 
 pub returns : goal.returns
 returns g c =
