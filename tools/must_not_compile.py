@@ -1,0 +1,49 @@
+#!/usr/bin/env python3
+"""Applies each edit of crates/*/must-not-compile to a copy of the repository, and sees that the compiler refuses it with the
+error that the edit names. The last line is 'N refused, M not'."""
+import pathlib
+import shutil
+import subprocess
+import sys
+import tempfile
+
+ROOT = pathlib.Path(__file__).resolve().parent.parent
+
+
+def copy_to(folder):
+    """A copy of the files that are kept by git, with no proofs from earlier runs."""
+    names = subprocess.run(["git", "ls-files", "-z", "-co", "--exclude-standard"], cwd=ROOT, capture_output=True, check=True)
+    for name in filter(None, names.stdout.decode().split("\0")):
+        if (ROOT / name).is_file():
+            (folder / name).parent.mkdir(parents=True, exist_ok=True)
+            shutil.copy(ROOT / name, folder / name)
+
+
+def compiles(crate):
+    """What the compiler says of a crate and its tests, which it does not prove."""
+    run = subprocess.run(["rt", "try", "--test"], cwd=crate, capture_output=True, text=True)
+    return run.returncode == 0, run.stdout + run.stderr
+
+
+def main():
+    refused = missed = 0
+    with tempfile.TemporaryDirectory() as name:
+        copy = pathlib.Path(name)
+        copy_to(copy)
+        for edit in sorted(copy.glob("crates/*/must-not-compile/*.edit")):
+            lines = dict(line.split(": ", 1) for line in edit.read_text().splitlines())
+            crate = edit.parent.parent
+            path = crate / lines["file"]
+            text = path.read_text()
+            before, _ = compiles(crate)
+            path.write_text(text.replace(lines["old"], lines["new"]))
+            after, said = compiles(crate)
+            path.write_text(text)
+            fits = before and not after and text.count(lines["old"]) == 1 and f"error[{lines['error']}]" in said
+            print(f"{edit.relative_to(copy)}: {'refused' if fits else 'NOT refused as named'}")
+            refused, missed = refused + fits, missed + (not fits)
+    print(f"{refused} refused, {missed} not")
+    return 1 if missed else 0
+
+
+sys.exit(main())
