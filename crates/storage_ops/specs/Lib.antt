@@ -15,3 +15,4 @@ pub mod VariableLaws
 pub mod Vectors
 pub mod Shown
 pub mod Equality
+pub mod Located

@@ -12,6 +12,8 @@ use storage_codec::codec::{
 };
 use storage_merkle::merkle::{Family, Location, mmb, mmr};
 
+mod multi;
+
 type Fixed<const N: usize> = Ordered<mmr::Family, FixedBytes<N>, FixedEncoding<u64>>;
 
 type Variable = Ordered<mmr::Family, FixedBytes<4>, VariableEncoding<Vec<u8>>>;

@@ -7,7 +7,10 @@ ghost use Rattle.storage_merkle.specs.Extracted.{AreHandedOut, Fits, texts};
 ghost use Rattle.storage_merkle.specs.RangeProofs.{IsAccepted};
 ghost use Rattle.storage_merkle.specs.Trees.{listed, ungrafted};
 
+mod multi;
+
 use crate::qmdb;
+pub use multi::{create_multi_proof, verify_multi_proof};
 use std::alloc::Global;
 use storage_codec::NoMemory;
 use storage_codec::codec::Encode;

@@ -1,0 +1,67 @@
+//! Multi proofs over operations at any locations.
+ghost use Rattle.std.specs.Prelude.{◌≡◌, ◌↔◌, ◌⊎◌, None, Some, [], map, IfErr, IfOk, IsOk, IsTrue};
+ghost use Rattle.storage_merkle.specs.declared.merkle.bagging.Bagging.TheVariants.{BackwardFold};
+ghost use Rattle.storage_merkle.specs.Extracted.{texts};
+ghost use Rattle.storage_merkle.specs.Multi.{IsMultiAccepted, IsMultiProved, claims_of};
+ghost use Rattle.storage_merkle.specs.Stores.{multi_refusal, store_multi_proof};
+ghost use Rattle.storage_merkle.specs.Trees.{ungrafted};
+ghost use Rattle.storage_ops.specs.Located.{claims_at};
+
+use crate::qmdb;
+use std::alloc::Global;
+use storage_codec::NoMemory;
+use storage_codec::codec::Encode;
+use storage_codec::digest::{Digest, DigestOf, Hasher};
+use storage_merkle::merkle::{Error, Family, Location, Position, Proof, ProofStore};
+
+/// Whether operations stand at their locations, which must ascend, of the list with that root. The answer for no operations
+/// takes no memory.
+pub fn verify_multi_proof<H: Hasher, F: Family, Op: Encode>(
+    alloc: Global,
+    proof: &Proof<F, DigestOf<H>>,
+    operations: &[(Location<F>, Op)],
+    root: &DigestOf<H>,
+) -> Result<bool, NoMemory>
+    ensures exact { IfOk result (λ yes. IsTrue yes ↔ IsMultiAccepted H.hash_of (ungrafted F.shape) BackwardFold (record { leaves = proof.now.leaves; inactive = proof.now.inactive_peaks; digests = map H.Digest.text proof.now.digests.items }) (claims_at Op.text operations.now) (λ a. []) (H.Digest.text root.now)) }
+    ensures means { IfOk result (λ yes. IsTrue yes → IsMultiProved H.Digest.size H.hash_of (ungrafted F.shape) BackwardFold (record { leaves = proof.now.leaves; inactive = proof.now.inactive_peaks; digests = map H.Digest.text proof.now.digests.items }) (claims_at Op.text operations.now) (λ a. []) (H.Digest.text root.now)) }
+    ensures none { operations.now ≡ [] → IsOk result }
+{
+    let elements = encode_located(alloc, operations)?;
+    proof.verify_multi_inclusion(alloc, &qmdb::hasher::<H>(), &elements, root)
+}
+
+/// A proof of the operations at some locations, which must ascend, from what a store keeps and, where it lacks a digest, from
+/// the first of the given peaks at its position, which are not checked.
+///
+/// # Errors
+///
+/// `Empty` for no locations; of the first location for which it holds, in the order of the list, `UnsortedLocation` where it is
+/// below the one before it, `DuplicateLocation` where it equals it, and `RangeOutOfBounds` where it is not in the tree; of the
+/// first needed position without a digest, in ascending order, `CompressedDigest` where it is one of the store's suffix peaks,
+/// else `ElementPruned`; `Memory`.
+pub fn create_multi_proof<F: Family, D: Digest>(
+    alloc: Global,
+    store: &ProofStore<F, D>,
+    locations: &[Location<F>],
+    peaks: &[(Position<F>, D)],
+) -> Result<Proof<F, D>, Error<F>>
+    ensures given { IfOk result (λ proof. (multi_refusal F F.shape store.now (texts D.text peaks.now) locations.now ≡ None) × (record { leaves = proof.leaves; inactive = proof.inactive_peaks; digests = map D.text proof.digests.items } ≡ store_multi_proof F.shape store.now (texts D.text peaks.now) locations.now)) }
+    ensures why { IfErr result (λ e. (multi_refusal F F.shape store.now (texts D.text peaks.now) locations.now ≡ Some e) ⊎ (e ≡ Error.Memory)) }
+{
+    store.multi_proof(alloc, locations, peaks)
+}
+
+/// The encodings of operations, each with its location. For none it takes no memory.
+fn encode_located<F: Family, Op: Encode>(
+    alloc: Global,
+    operations: &[(Location<F>, Op)],
+) -> Result<Vec<(Vec<u8>, Location<F>)>, NoMemory>
+    ensures all { IfOk result (λ v. claims_of (λ bytes. bytes.items) v.items ≡ claims_at Op.text operations.now) }
+    ensures none { operations.now ≡ [] → IsOk result }
+{
+    let mut encoded = Vec::new(alloc);
+    for (location, operation) in operations {
+        encoded.push((operation.encode(alloc)?, *location))?;
+    }
+    Ok(encoded)
+}
