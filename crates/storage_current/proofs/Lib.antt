@@ -26,3 +26,5 @@ pub mod OwnWritten
 mod Built
 mod Required
 mod WitnessWritten
+mod Fetching
+mod Making

@@ -16,6 +16,7 @@ pub mod KeptSnapshots
 pub mod CurrentWire
 pub mod CurrentWireLaws
 pub mod BuiltProofs
+pub mod Served
 pub mod OwnWire
 pub mod Required
 pub mod WitnessWire

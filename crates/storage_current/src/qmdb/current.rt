@@ -2,6 +2,7 @@
 
 mod chunks;
 pub mod grafting;
+mod log;
 mod nodes;
 pub mod ordered;
 pub mod proof;
@@ -9,5 +10,6 @@ mod required;
 mod root;
 mod snapshot;
 
+pub use log::{Contiguous, LogError};
 pub use required::{RequiredChunks, required_chunks};
 pub use snapshot::Snapshot;

@@ -11,7 +11,9 @@ ghost use Rattle.storage_current.specs.Windows.{IsWindow, IsWindowOf};
 
 mod chunk;
 mod codec;
+mod fetched;
 pub mod operation;
+mod served;
 mod slots;
 mod window;
 mod witness;

@@ -1,0 +1,67 @@
+-- Proofs from stores and logs that may fail.
+use Rattle.std.specs.Prelude.{◌≡◌, ℕ, ◌+◌, ◌⊎◌, ◌↔◌, List, length, Option, Some, None, Result, Err}
+use Rattle.storage_codec.specs.Digests.{HashFunction}
+use Rattle.storage_merkle.specs.declared.merkle.error.Error.{Error as Refusal}
+use Rattle.storage_merkle.specs.declared.merkle.error.Error.TheVariants as tree
+use Rattle.storage_merkle.specs.Shape.{size}
+use Rattle.storage_merkle.specs.Plans.{PlanOf, refusal, IsFirstAbsent}
+use Rattle.storage_bitmap.specs.Chunks.{Retained}
+use Rattle.storage_ops.specs.declared.qmdb.error.Error.{Error}
+use Rattle.storage_ops.specs.declared.qmdb.error.Error.TheVariants.{Merkle, Memory}
+use Rattle.storage_current.specs.BuiltProofs.{ArePartsOf, AreAnswered, AreBitsOf, IsNotBuilt}
+use Rattle.storage_current.specs.Snapshots.{Grafting, Snapshot}
+
+-- the answer is a fault of the store
+abbrev pub IsStoreFault : {X F : Type 0} → Result X (Error F) → Type 0
+IsStoreFault result = (code : ℕ) × (result ≡ Err (Merkle (tree.Source code)))
+
+-- a count of failures grew just where the answer is a fault, and then by one
+pub record Counts (fault : Type 0) (before after : ℕ) : Type 0 where
+  pub told : fault ↔ (after ≡ before + 1)
+  pub once : (after ≡ before) ⊎ (after ≡ before + 1)
+
+-- that of no tree
+abbrev pub IsNoTree : {F : Type 0} → Error F → Type 0
+IsNoTree (Merkle (tree.DataCorrupted text)) = Unit {0}
+IsNoTree _ = ⊥
+
+-- the plan of the leaves from low to before high of a tree of n leaves
+abbrev pub plan_over : ℕ → ℕ → ℕ → PlanOf
+plan_over n low high = record { leaves = n; start = low; end = high }
+
+-- what a store has at a position
+abbrev pub held_at : {D : Type 0} → (ℕ → Option D) → ℕ → Option D → Type 0
+held_at node p answer = answer ≡ node p
+
+-- why the digests at positions are not read: a fault, the first position without one, or want of memory
+abbrev pub IsUnread : {F D : Type 0} → (ℕ → Option D → Type 0) → List ℕ → Error F → Type 0
+IsUnread held positions error =
+    ((code : ℕ) × (error ≡ Merkle (tree.Source code)))
+    ⊎ ((p : ℕ) × IsFirstAbsent held positions p × (error ≡ Merkle (tree.ElementPruned p)))
+    ⊎ (error ≡ Memory)
+
+-- why no proof of a planned range is read from a store: the first reason that holds, else want of memory
+abbrev pub IsNotRead : {F D : Type 0} → (ℕ → Option D) → Grafting → PlanOf → Retained → Error F → Type 0
+IsNotRead node g plan status error = ((code : ℕ) × (error ≡ Merkle (tree.Source code))) ⊎ IsNotBuilt (held_at node) g plan status error
+
+module _ {D : Type 0} (nodes : ℕ) (node : ℕ → Option D) (g : Grafting) (low high : ℕ) (status : Retained) where
+  -- a store with so many nodes has what a proof of the leaves from low to before high is made from
+  pub record IsServable (F : Type 0) : Type 0 where
+    pub leaves : ℕ
+    pub tree : size g.shape leaves ≡ nodes
+    pub planned : refusal F leaves low high ≡ None
+    pub answered : AreAnswered (held_at node) g.shape (plan_over leaves low high)
+    pub bits : AreBitsOf g leaves status
+
+  -- why no proof is made: the first reason that holds, else want of memory
+  abbrev pub IsNotMade : {F : Type 0} → Error F → Type 0
+  IsNotMade {F} error =
+      (((n : ℕ) → size g.shape n ≡ nodes → ⊥) × IsNoTree error)
+      ⊎ ((n : ℕ) × (size g.shape n ≡ nodes) × (((e : Refusal F) × (refusal F n low high ≡ Some e) × (error ≡ Merkle e))
+      ⊎ (refusal F n low high ≡ None) × IsNotRead node g (plan_over n low high) status error))
+      ⊎ (error ≡ Memory)
+
+  -- the store is a snapshot's, and the other parts are its own
+  pub record AreServedOf (text : D → List ℕ) (h : HashFunction) (floor : ℕ) (ops_root : List ℕ) (s : Snapshot) : Type 0 where
+    pub tree : size g.shape (length s.operations) ≡ nodes
+    pub parts : ArePartsOf text (held_at node) h g (plan_over (length s.operations) low high) status floor ops_root s

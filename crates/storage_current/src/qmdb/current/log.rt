@@ -1,0 +1,63 @@
+//! Logs of operations.
+
+ghost use Rattle.std.specs.Prelude.{◌≡◌, ℕ, ◌+◌, ◌<◌, ◌≤◌, ◌^◌, ◌⊎◌, ◌↔◌, List, map, IfOk, Err};
+ghost use Rattle.std.specs.List.{All};
+
+use std::alloc::Global;
+use std::ops::Range;
+
+/// Why a log did not answer.
+#[derive(Clone, Copy, Debug, PartialEq, Eq, Drop, thiserror::Error)]
+pub enum LogError {
+    /// A fault, by its number.
+    #[error("log fault {0}")]
+    Fault(u32),
+    /// A growth was refused.
+    #[error("out of memory")]
+    Memory,
+}
+
+/// Items by location, of which a range is held. Reading may fail.
+pub trait Contiguous {
+    /// What stands at a location.
+    type Item;
+
+    /// What an item is written as.
+    ghost text: { Self.Item → List ℕ };
+
+    /// What the item at each location is written as.
+    ghost item: { Self → ℕ → List ℕ };
+
+    /// The first location that is held.
+    ghost first: { Self → ℕ };
+
+    /// The location past the last one that is held.
+    ghost past: { Self → ℕ };
+
+    /// How often the log has failed.
+    ghost failed: { Self → ℕ };
+
+    /// How often it has failed.
+    fn failures(&self) -> u64
+        ensures { result ≡ failed self.now };
+
+    /// The locations that are held.
+    fn bounds(&self) -> Range<u64>
+        ensures start { result.start ≡ first self.now }
+        ensures end { result.end ≡ past self.now };
+
+    /// The items at locations that are held, in their order.
+    ///
+    /// # Errors
+    ///
+    /// `Fault` where the log failed, just where its count of failures grew, by one; `Memory`.
+    fn read_many(&mut self, alloc: Global, locations: &[u64]) -> Result<Vec<Self::Item>, LogError>
+        requires count { failed self.old + 1 < 2 ^ 64 }
+        requires within { All (λ l. (first self.old ≤ l) × (l < past self.old)) locations.now }
+        ensures items { IfOk result (λ v. map text v.items ≡ map (item self.old) locations.now) }
+        ensures told { ((code : ℕ) × (result ≡ Err (LogError.Fault code))) ↔ (failed self.new ≡ failed self.old + 1) }
+        ensures once { (failed self.new ≡ failed self.old) ⊎ (failed self.new ≡ failed self.old + 1) }
+        ensures same_first { first self.new ≡ first self.old }
+        ensures same_past { past self.new ≡ past self.old }
+        ensures same { (l : ℕ) → item self.new l ≡ item self.old l };
+}
