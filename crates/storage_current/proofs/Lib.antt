@@ -19,6 +19,7 @@ pub mod Windows
 mod Checks
 mod NodeSteps
 mod NodeLists
+mod Turning
 mod Roots
 mod Written
 pub mod OwnSites

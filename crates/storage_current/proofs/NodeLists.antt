@@ -50,42 +50,12 @@ push_node text S L digest_of ds d a k all node is = record {
       ];
 }
 
--- both lists have so many digests, plain and as the view has them
-pub record AreHashed {D : Type 0} (h : HashFunction) (text : D → List ℕ) (g : Grafting) (s : Snapshot) (reach : ℕ) (plain seen : List D) : Type 0 where
-  pub plain_count : length plain ≡ reach
-  pub view_count : length seen ≡ reach
-  pub plain_are : AreNodes g.shape (tree_node h (ungrafted g.shape) (listed s.operations)) (map text plain)
-  pub view_are : AreNodes g.shape (view_node h g s) (map text seen)
-
-pub push_hashed : {D : Type 0} (h : HashFunction) (text : D → List ℕ) (g : Grafting) → Laws g.shape → (s : Snapshot) (reach : ℕ) (plain seen : List D) (x y : D) (a k : ℕ)
-    → AreHashed h text g s reach plain seen → IsNode g.shape reach a k
-    → text x ≡ tree_node h (ungrafted g.shape) (listed s.operations) a k → text y ≡ view_node h g s a k
-    → AreHashed h text g s (reach + 1) (plain ++ x ∷ []) (seen ++ y ∷ [])
-push_hashed h text g L s reach plain seen x y a k all node ex ey = record {
-  plain_count = length-append plain (x ∷ []) ∙ rw all.plain_count refl;
-  view_count = length-append seen (y ∷ []) ∙ rw all.view_count refl;
-  plain_are = push_node text g.shape L (tree_node h (ungrafted g.shape) (listed s.operations)) plain x a k all.plain_are (rw all.plain_count node) ex;
-  view_are = push_node text g.shape L (view_node h g s) seen y a k all.view_are (rw all.view_count node) ey;
-}
-
 -- the leaf that comes behind so many leaves is that leaf
 pub leaf_next : (S : Shape) → Laws S → (n o a k : ℕ) → IsNode S (size S n + o) a k → size S n + o < size S (n + 1) → k ≡ 0 → a ≡ n
 leaf_next S L n o a k node within bottom =
     let b = brought S L n (size S n + o) a k node (omega arith) within in
     let c : S.birth a 0 ≡ n + 1 = subst (λ (i : ℕ). S.birth a i ≡ n + 1) bottom b in
     omega (arith, (L.leaf a).1)
-
--- an element of a list of lists
-pub element_at : {X : Type 0} (items : X → List ℕ) (xs : List X) (i : ℕ) (x : X) (bytes : List ℕ) → i < length xs → x ≡ get_or xs i x → bytes ≡ items x → get_or (map items xs) i [] ≡ bytes
-element_at items xs i x bytes within is e = get_or-map items xs i x [] within ∙ ap items (sym is) ∙ sym e
-
-pub none_hashed : {D : Type 0} (h : HashFunction) (text : D → List ℕ) (g : Grafting) → Laws g.shape → (s : Snapshot) (plain seen : List D) → plain ≡ [] → seen ≡ [] → AreHashed h text g s (size g.shape 0) plain seen
-none_hashed h text g L s plain seen ep es =
-    let none : size g.shape 0 ≡ 0 = omega (arith, ap length (no_peaks g.shape L)) in
-    rw (ep, es, none) (record { plain_count = refl; view_count = refl; plain_are = record { are = λ p a k node l. absurd (omega arith) }; view_are = record { are = λ p a k node l. absurd (omega arith) } })
-
-pub reach_is : {D : Type 0} (h : HashFunction) (text : D → List ℕ) (g : Grafting) (s : Snapshot) (m n : ℕ) (plain seen : List D) → AreHashed h text g s m plain seen → m ≡ n → AreHashed h text g s n plain seen
-reach_is h text g s m n plain seen all e = record { plain_count = all.plain_count ∙ e; view_count = all.view_count ∙ e; plain_are = all.plain_are; view_are = all.view_are }
 
 -- ---- peaks
 

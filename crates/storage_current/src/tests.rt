@@ -1,7 +1,7 @@
 //! A proof of one operation: built, written, read and checked.
 
-use crate::qmdb::current::Snapshot;
 use crate::qmdb::current::proof::{constant, dynamic};
+use crate::qmdb::current::{OperationTree, Snapshot};
 use std::alloc::Global;
 use std::process::Abort;
 use std::test::Fail;
@@ -60,5 +60,28 @@ fn one_operation(rt: HostRuntime) -> Result<(), Fail> {
         .ok_or("not read")?;
     assert!(rt; shared.verify_encoded::<Sha256>(alloc, &[0xab], &root)?);
     assert!(rt; !shared.verify_encoded::<Sha256>(alloc, &[0xac], &root)?);
+    Ok(())
+}
+
+/// The same snapshot, from a tree.
+fn snapshot_of_a_tree(alloc: Global) -> Result<Snapshot<mmr::Family, Sha256, 1>, Fail> {
+    let mut tree = OperationTree::new(alloc);
+    if tree.add(&[0xab]).is_err() {
+        return Err("not added".into());
+    }
+    let mut bits = Prunable::new(alloc);
+    bits.push(true)?;
+    Ok(
+        Snapshot::of_tree(alloc, tree, bits, Location::new(0))
+            .ok()
+            .ok_or("no snapshot")?,
+    )
+}
+
+#[test]
+fn one_operation_of_a_tree(rt: HostRuntime) -> Result<(), Fail> {
+    let alloc = rt.alloc();
+    let snapshot = snapshot_of_a_tree(alloc)?;
+    assert!(rt; snapshot.root() == snapshot_of_one(alloc)?.root());
     Ok(())
 }

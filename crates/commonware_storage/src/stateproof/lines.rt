@@ -11,7 +11,7 @@ use std::alloc::Global;
 use storage_bitmap::bitmap::{Prunable, Readable};
 use storage_codec::codec::{Read, UInt, Write};
 use storage_codec::digest::Sha256;
-use storage_current::qmdb::current::Snapshot;
+use storage_current::qmdb::current::{OperationTree, Snapshot};
 use storage_merkle::merkle::{ElementPlan, Graftable, Location, MAX_LEAVES};
 
 /// A line of operations: the operation's bit, and its bytes.
@@ -96,34 +96,44 @@ impl<const N: usize> Operations<N> {
         }
     }
 
-    /// The snapshot of the operations, with a floor.
+    /// The snapshot of the operations, with a floor. Nothing is hashed where the floor is past them.
     pub fn snapshot<F: Graftable>(
         self,
         alloc: Global,
         floor: u64,
     ) -> Result<Snapshot<F, Sha256, N>, Fault> {
         let Operations { written, bits } = self;
-        let operations = parted(alloc, &written, bits.len())?;
-        match Snapshot::new(alloc, &operations, bits, Location::new(floor)) {
+        if floor > bits.len() {
+            return Err(Fault::Range);
+        }
+        let tree = tree_over::<F>(alloc, &written, bits.len())?;
+        drop(written);
+        match Snapshot::of_tree(alloc, tree, bits, Location::new(floor)) {
             Ok(snapshot) => Ok(snapshot),
             Err(error) => Err(Fault::of_snapshot(&error)),
         }
     }
 }
 
-/// So many byte strings that are written one behind the other, each with its length in front. They are lent, and not
-/// copied.
-fn parted<'a>(alloc: Global, written: &'a [u8], count: u64) -> Result<Vec<&'a [u8]>, Fault> {
-    let mut strings = Vec::with_capacity(alloc, count as usize)?;
+/// The tree over so many byte strings that are written one behind the other, each with its length in front. They are lent
+/// one by one, and not copied.
+fn tree_over<F: Graftable>(
+    alloc: Global,
+    written: &[u8],
+    count: u64,
+) -> Result<OperationTree<F, Sha256>, Fault> {
+    let mut tree = OperationTree::new(alloc);
     let mut rest = written;
     for _ in 0..count {
         let Some((string, after)) = first(alloc, rest) else {
             break;
         };
-        strings.push(string)?;
+        if tree.add(string).is_err() {
+            return Err(Fault::Memory);
+        }
         rest = after;
     }
-    Ok(strings)
+    Ok(tree)
 }
 
 /// The first of such byte strings, and what follows it; none where none is whole.

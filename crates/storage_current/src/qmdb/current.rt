@@ -9,7 +9,9 @@ pub mod proof;
 mod required;
 mod root;
 mod snapshot;
+mod tree;
 
 pub use log::{Contiguous, LogError};
 pub use required::{RequiredChunks, required_chunks};
 pub use snapshot::Snapshot;
+pub use tree::OperationTree;

@@ -1,59 +1,69 @@
 //! The digests of a tree over operations, and of its grafted view.
 
-ghost use Rattle.std.specs.Prelude.{◌≡◌, ℕ, ◌+◌, ◌-◌, ◌*◌, ◌/◌, ◌%◌, ◌^◌, ◌<◌, ◌≤◌, List, [], length, map, get_or, IfOk};
+ghost use Rattle.std.specs.Prelude.{◌≡◌, ℕ, ◌+◌, ◌-◌, ◌*◌, ◌/◌, ◌%◌, ◌^◌, ◌<◌, ◌≤◌, ◌∷◌, ◌++◌, List, [], length, map, get_or, IfOk, OnOk, OnErr, MatchOption};
 ghost use Rattle.storage_merkle.specs.Shape.{size};
 ghost use Rattle.storage_merkle.specs.Trees.{places};
 ghost use Rattle.storage_bitmap.specs.Chunks.{IsChunkSize, bit_count};
-ghost use Rattle.storage_current.specs.NodeLists.{AreNodes, plain_node, seen_node};
+ghost use Rattle.storage_current.specs.NodeLists.{AreNodes, AreTurned, plain_node, seen_node};
 ghost use Rattle.storage_current.specs.Snapshots.{Grafting};
 
-use crate::qmdb::current::grafting::{self, graft, power};
+use crate::qmdb::current::grafting::{self, graft, is_zero, power};
 use std::alloc::{AllocError, Global};
-use std::convert::AsSlice;
 use storage_bitmap::bitmap::Readable;
 use storage_codec::digest::{Digest, Hasher};
 use storage_merkle::merkle::hasher::Hasher as _;
 use storage_merkle::merkle::{Family, Graftable, Position};
 use storage_ops::qmdb;
 
-/// The digests of the nodes of a tree by position, plain and as the grafted view has them.
-#[derive(Drop)]
-pub(crate) struct Nodes<D> {
-    pub plain: Vec<D>,
-    pub view: Vec<D>,
+/// Appends to the digests of the nodes of a tree, by position, those that come with its next operation. Nothing is changed
+/// where there is no memory.
+pub(crate) fn grow<F: Graftable, H: Hasher>(
+    nodes: &mut Vec<H::Digest>,
+    leaf: u64,
+    operation: &[u8],
+) -> Result<(), AllocError>
+    requires few { leaf < 2 ^ 62 }
+    requires whole { length nodes.old.items ≡ size F.shape leaf }
+    ensures count { OnOk result (length nodes.new.items ≡ size F.shape (leaf + 1)) }
+    ensures grown { OnOk result ((list : List (List ℕ)) → AreNodes F.shape (plain_node H.hash_of F.shape list) (map H.Digest.text nodes.old.items) → get_or list leaf [] ≡ operation.now → AreNodes F.shape (plain_node H.hash_of F.shape list) (map H.Digest.text nodes.new.items)) }
+    ensures kept { OnErr result (nodes.new.items ≡ nodes.old.items) }
+{
+    let more = F::nodes_over(leaf + 1) - F::nodes_over(leaf);
+    nodes.reserve(more as usize)?;
+    for offset in 0..more {
+        let (first, height) = F::node_after(leaf, offset);
+        let digest = plain_digest::<F, H>(nodes, operation, first, height);
+        nodes.push(digest).unwrap();
+    }
+    Ok(())
 }
 
-/// The nodes over operations and the chunks of their bits. Each node is hashed once, and once more where the view has
-/// another digest.
-pub(crate) fn hash_nodes<F: Graftable, H: Hasher, E: AsSlice<u8>, R: Readable<N>, const N: usize>(
+/// Turns the digests of the nodes of a tree over operations, by position, into those that the grafted view has. A node is
+/// hashed again only where the view has another digest.
+pub(crate) fn graft_nodes<F: Graftable, H: Hasher, R: Readable<N>, const N: usize>(
     alloc: Global,
-    operations: &[E],
+    nodes: &mut [H::Digest],
+    leaves: u64,
     status: &R,
-) -> Result<Nodes<H::Digest>, AllocError>
-    requires few { length operations.now ≤ 2 ^ 62 }
+) -> Result<(), AllocError>
+    requires few { leaves ≤ 2 ^ 62 }
     requires chunks { IsChunkSize N }
     requires unpruned { (R.retained status.now).pruned ≡ 0 }
-    requires bits { bit_count N (R.retained status.now) ≡ length operations.now }
-    ensures plain_count { IfOk result (λ nodes. length nodes.plain.items ≡ size F.shape (length operations.now)) }
-    ensures view_count { IfOk result (λ nodes. length nodes.view.items ≡ size F.shape (length operations.now)) }
-    ensures plain { IfOk result (λ nodes. AreNodes F.shape (plain_node H.hash_of F.shape (map E.items operations.now)) (map H.Digest.text nodes.plain.items)) }
-    ensures view { let g : Grafting = record { shape = F.shape; bytes = N } in IfOk result (λ nodes. AreNodes F.shape (seen_node H.hash_of g (map E.items operations.now) (R.retained status.now).bits) (map H.Digest.text nodes.view.items)) }
+    requires bits { bit_count N (R.retained status.now) ≡ leaves }
+    requires whole { length nodes.old ≡ size F.shape leaves }
+    ensures count { length nodes.new ≡ length nodes.old }
+    ensures seen { let g : Grafting = record { shape = F.shape; bytes = N } in OnOk result ((list : List (List ℕ)) → length list ≡ leaves → AreNodes F.shape (plain_node H.hash_of F.shape list) (map H.Digest.text nodes.old) → AreNodes F.shape (seen_node H.hash_of g list (R.retained status.now).bits) (map H.Digest.text nodes.new)) }
 {
-    let capacity = F::nodes_over(operations.len() as u64) as usize;
-    let mut plain = Vec::with_capacity(alloc, capacity)?;
-    let mut view = Vec::with_capacity(alloc, capacity)?;
-    for (index, operation) in operations.iter().enumerate() {
-        let leaf = index as u64;
+    let mut changed = Vec::with_capacity(alloc, nodes.len())?;
+    for leaf in 0..leaves {
         let count = F::nodes_over(leaf + 1) - F::nodes_over(leaf);
         for offset in 0..count {
             let (first, height) = F::node_after(leaf, offset);
-            let digest = plain_digest::<F, H>(&plain, operation.as_slice(), first, height);
-            let seen = view_digest::<F, H, R, N>(&plain, &view, status, first, height, digest);
-            plain.push(digest)?;
-            view.push(seen)?;
+            let is_changed = graft_node::<F, H, R, N>(nodes, &changed, status, first, height);
+            changed.push(is_changed)?;
         }
     }
-    Ok(Nodes { plain, view })
+    Ok(())
 }
 
 /// The plain digest of the node that stands next.
@@ -77,38 +87,69 @@ fn plain_digest<F: Graftable, H: Hasher>(
     hasher.node_digest(position, &plain[left], &plain[right])
 }
 
-/// The digest of the node that stands next as the view has it, whose plain digest is given.
-fn view_digest<F: Graftable, H: Hasher, R: Readable<N>, const N: usize>(
-    plain: &[H::Digest],
-    view: &[H::Digest],
+/// Turns the digest of the next node into the view's, and answers whether it is another one.
+fn graft_node<F: Graftable, H: Hasher, R: Readable<N>, const N: usize>(
+    nodes: &mut [H::Digest],
+    changed: &[bool],
     status: &R,
     first: u64,
     height: u32,
-    digest: H::Digest,
-) -> H::Digest
+) -> bool
     requires chunks { IsChunkSize N }
     requires aligned { first % 2 ^ height ≡ 0 }
-    requires next { F.shape.position first height ≡ length plain.now }
-    requires same { length view.now ≡ length plain.now }
-    requires few { length plain.now ≤ size F.shape (2 ^ 62) }
+    requires next { F.shape.position first height ≡ length changed.now }
+    requires within { length changed.now < length nodes.old }
+    requires few { length nodes.old ≤ size F.shape (2 ^ 62) }
     requires unpruned { (R.retained status.now).pruned ≡ 0 }
     requires born { F.shape.birth first height ≤ bit_count N (R.retained status.now) }
-    ensures { let g : Grafting = record { shape = F.shape; bytes = N } in let bits = (R.retained status.now).bits in (list : List (List ℕ)) → length list ≡ bit_count N (R.retained status.now) → AreNodes F.shape (plain_node H.hash_of F.shape list) (map H.Digest.text plain.now) → AreNodes F.shape (seen_node H.hash_of g list bits) (map H.Digest.text view.now) → H.Digest.text digest ≡ plain_node H.hash_of F.shape list first height → H.Digest.text result ≡ seen_node H.hash_of g list bits first height }
+    ensures count { length nodes.new ≡ length nodes.old }
+    ensures turned { let g : Grafting = record { shape = F.shape; bytes = N } in let bits = (R.retained status.now).bits in (list : List (List ℕ)) → length list ≡ bit_count N (R.retained status.now) → AreTurned H.hash_of g list bits (map H.Digest.text nodes.old) changed.now → AreTurned H.hash_of g list bits (map H.Digest.text nodes.new) (changed.now ++ result ∷ []) }
+{
+    match view_digest::<F, H, R, N>(nodes, changed, status, first, height) {
+        None => false,
+        Some(digest) => {
+            nodes[changed.len()] = digest;
+            true
+        }
+    }
+}
+
+/// The digest that the view has of the next node, where it is not the plain one. The digests of the nodes before it are the
+/// view's, and for each it is known whether it was changed.
+fn view_digest<F: Graftable, H: Hasher, R: Readable<N>, const N: usize>(
+    nodes: &[H::Digest],
+    changed: &[bool],
+    status: &R,
+    first: u64,
+    height: u32,
+) -> Option<H::Digest>
+    requires chunks { IsChunkSize N }
+    requires aligned { first % 2 ^ height ≡ 0 }
+    requires next { F.shape.position first height ≡ length changed.now }
+    requires within { length changed.now < length nodes.now }
+    requires few { length nodes.now ≤ size F.shape (2 ^ 62) }
+    requires unpruned { (R.retained status.now).pruned ≡ 0 }
+    requires born { F.shape.birth first height ≤ bit_count N (R.retained status.now) }
+    ensures { let g : Grafting = record { shape = F.shape; bytes = N } in let bits = (R.retained status.now).bits in (list : List (List ℕ)) → length list ≡ bit_count N (R.retained status.now) → AreTurned H.hash_of g list bits (map H.Digest.text nodes.now) changed.now → MatchOption result (seen_node H.hash_of g list bits first height ≡ plain_node H.hash_of F.shape list first height) (λ d. H.Digest.text d ≡ seen_node H.hash_of g list bits first height) }
 {
     let grafted = grafting::height::<N>();
     if height < grafted {
-        return digest;
+        return None;
     }
     if height == grafted {
         let chunk = status.get_chunk((first >> height) as usize);
-        return graft::<H>(&chunk, digest);
+        if is_zero(&chunk) {
+            return None;
+        }
+        return Some(graft::<H>(&chunk, nodes[changed.len()]));
     }
     let (left, right) = children::<F>(first, height);
-    if view[left] == plain[left] && view[right] == plain[right] {
-        return digest;
+    if !changed[left] && !changed[right] {
+        return None;
     }
     let position = Position::<F>::new(F::position(first, height));
-    qmdb::hasher::<H>().node_digest(position, &view[left], &view[right])
+    let digest = qmdb::hasher::<H>().node_digest(position, &nodes[left], &nodes[right]);
+    Some(digest)
 }
 
 /// The places of the children of a node.

@@ -1,21 +1,22 @@
 //! Snapshots.
 
-ghost use Rattle.std.specs.Prelude.{◌≡◌, ℕ, ◌<◌, ◌≤◌, ◌^◌, List, length, map, option_map, None, Bool, IfOk, IfErr};
+ghost use Rattle.std.specs.Prelude.{◌≡◌, ℕ, ◌<◌, ◌≤◌, ◌^◌, List, length, map, option_map, None, Bool, IfOk, IfErr, MatchOption};
 ghost use Rattle.std.specs.List.{slice_get};
 ghost use Rattle.storage_merkle.specs.Shape.{size};
 ghost use Rattle.storage_merkle.specs.Trees.{Content, Layout, tree_node, tree_root};
 ghost use Rattle.storage_merkle.specs.declared.merkle.bagging.Bagging.TheVariants.{BackwardFold};
-ghost use Rattle.storage_bitmap.specs.Chunks.{IsChunkSize};
-ghost use Rattle.storage_current.specs.KeptSnapshots.{IsRefused, StandsFor};
-ghost use Rattle.storage_current.specs.NodeLists.{AreNodes};
+ghost use Rattle.storage_bitmap.specs.Chunks.{IsChunkSize, bit_count};
+ghost use Rattle.storage_current.specs.KeptSnapshots.{HasEachBit, IsRefused, StandsFor};
+ghost use Rattle.storage_current.specs.NodeLists.{AreNodes, IsTreeOver, plain_node};
 ghost use Rattle.storage_current.specs.Snapshots.{Grafting, IsServed, IsSnapshot, Snapshot as SnapshotOf, canonical_root, ops_root_of, own_witness};
 ghost use Rattle.storage_current.specs.WitnessWire.{witness_of};
 
 use crate::qmdb::current::chunks::{ChunkCounts, chunk_digest};
 use crate::qmdb::current::grafting::{self, aligned_inactive, exact_inactive};
-use crate::qmdb::current::nodes::{Nodes, hash_nodes, peak_digests};
+use crate::qmdb::current::nodes::{graft_nodes, grow, peak_digests};
 use crate::qmdb::current::proof::OpsRootWitness;
 use crate::qmdb::current::root::canonical_root;
+use crate::qmdb::current::tree::OperationTree;
 use std::alloc::{AllocError, Global};
 use std::convert::AsSlice;
 use std::marker::Model;
@@ -66,22 +67,67 @@ impl<F: Graftable, H: Hasher, const N: usize> Snapshot<F, H, N> {
         ensures why { IfErr result (IsRefused N (length operations.now) bits.entry floor) }
     {
         let leaves = operations.len() as u64;
-        if bits.len() != leaves || bits.pruned_chunks() > 0 {
-            return Err(Error::DataCorrupted("not one bit for each operation"));
+        if let Some(error) = refusal::<F, N>(leaves, &bits, floor) {
+            return Err(error);
         }
-        if floor.as_u64() > leaves {
-            return Err(Error::Merkle(merkle::Error::RangeOutOfBounds(floor)));
+        let mut nodes = Vec::with_capacity(alloc, F::nodes_over(leaves) as usize)?;
+        for (leaf, operation) in operations.iter().enumerate() {
+            grow::<F, H>(&mut nodes, leaf as u64, operation.as_slice())?;
         }
-        if leaves > MAX_LEAVES {
-            let leaves = Location::new(leaves);
-            return Err(Error::Merkle(merkle::Error::LocationOverflow(leaves)));
+        match Snapshot::over(alloc, nodes, bits, floor) {
+            Ok(snapshot) => Ok(snapshot),
+            Err(_) => Err(Error::Memory),
         }
-        let nodes = hash_nodes::<F, H, E, Prunable<N>, N>(alloc, operations, &bits)?;
+    }
+
+    /// The snapshot of the operations that a tree is over, with a bit for each.
+    ///
+    /// # Errors
+    ///
+    /// As those of `new`.
+    pub fn of_tree(
+        alloc: Global,
+        tree: OperationTree<F, H>,
+        bits: Prunable<N>,
+        floor: Location<F>,
+    ) -> Result<Self, Error<F>>
+        ensures size { IfOk result (λ _. IsChunkSize N) }
+        ensures status { IfOk result (λ kept. kept.status ≡ bits.entry) }
+        ensures stands { let g : Grafting = record { shape = F.shape; bytes = N } in IfOk result (λ kept. (operations : List (List ℕ)) → IsTreeOver H.hash_of F.shape tree operations → let s : SnapshotOf = record { operations = operations; bits = bits.entry.bits; floor = floor } in IsSnapshot s × StandsFor H.hash_of g kept s) }
+        ensures why { IfErr result (IsRefused N tree.leaves bits.entry floor) }
+    {
+        let (count, nodes) = tree.into_nodes();
+        if let Some(error) = refusal::<F, N>(count, &bits, floor) {
+            return Err(error);
+        }
+        match Snapshot::over(alloc, nodes, bits, floor) {
+            Ok(snapshot) => Ok(snapshot),
+            Err(_) => Err(Error::Memory),
+        }
+    }
+
+    /// The snapshot of the operations of a tree with these nodes.
+    fn over(
+        alloc: Global,
+        mut nodes: Vec<H::Digest>,
+        bits: Prunable<N>,
+        floor: Location<F>,
+    ) -> Result<Self, AllocError>
+        requires chunks { IsChunkSize N }
+        requires unpruned { bits.pruned ≡ 0 }
+        requires few { bit_count N bits ≤ 2 ^ 62 }
+        requires whole { length nodes.items ≡ size F.shape (bit_count N bits) }
+        requires floor { floor ≤ bit_count N bits }
+        ensures status { IfOk result (λ kept. kept.status ≡ bits.entry) }
+        ensures stands { let g : Grafting = record { shape = F.shape; bytes = N } in IfOk result (λ kept. (list : List (List ℕ)) → length list ≡ bit_count N bits.entry → AreNodes F.shape (plain_node H.hash_of F.shape list) (map H.Digest.text nodes.items) → let s : SnapshotOf = record { operations = list; bits = bits.entry.bits; floor = floor } in IsSnapshot s × StandsFor H.hash_of g kept s) }
+    {
+        let leaves = bits.len();
         let height = grafting::height::<N>();
         let exact = exact_inactive::<F>(leaves, floor.as_u64());
-        let ops_root = tree_root::<F, H>(alloc, &nodes.plain, leaves, exact)?;
+        let ops_root = tree_root::<F, H>(alloc, &nodes, leaves, exact)?;
+        graft_nodes::<F, H, Prunable<N>, N>(alloc, &mut nodes, leaves, &bits)?;
         let aligned = aligned_inactive::<F>(leaves, floor.as_u64(), height);
-        let grafted_root = tree_root::<F, H>(alloc, &nodes.view, leaves, aligned)?;
+        let grafted_root = tree_root::<F, H>(alloc, &nodes, leaves, aligned)?;
         let counts = ChunkCounts::over::<F>(leaves, height);
         let pending = chunk_digest::<H, N>(counts.pending::<Prunable<N>, N>(&bits));
         let partial = chunk_digest::<H, N>(counts.partial::<Prunable<N>, N>(&bits));
@@ -93,7 +139,7 @@ impl<F: Graftable, H: Hasher, const N: usize> Snapshot<F, H, N> {
             &partial,
         );
         Ok(Snapshot {
-            nodes: nodes.view,
+            nodes,
             status: bits,
             ops_root,
             root,
@@ -140,6 +186,28 @@ impl<F: Graftable, H: Hasher, const N: usize> Snapshot<F, H, N> {
     {
         &self.status
     }
+}
+
+/// Why so many operations with these bits and this floor are no snapshot, if they are none.
+fn refusal<F: Graftable, const N: usize>(
+    leaves: u64,
+    bits: &Prunable<N>,
+    floor: Location<F>,
+) -> Option<Error<F>>
+    ensures size { IsChunkSize N }
+    ensures why { MatchOption result (HasEachBit N leaves bits.now × (floor ≤ leaves) × (leaves ≤ 2 ^ 62)) (IsRefused N leaves bits.now floor) }
+{
+    if bits.len() != leaves || bits.pruned_chunks() > 0 {
+        return Some(Error::DataCorrupted("not one bit for each operation"));
+    }
+    if floor.as_u64() > leaves {
+        return Some(Error::Merkle(merkle::Error::RangeOutOfBounds(floor)));
+    }
+    if leaves > MAX_LEAVES {
+        let leaves = Location::new(leaves);
+        return Some(Error::Merkle(merkle::Error::LocationOverflow(leaves)));
+    }
+    None
 }
 
 /// The root of a tree from its nodes by position, of whose peaks so many leading ones are inactive.

@@ -1,4 +1,4 @@
-use Rattle.std.proofs.Common.{arith, rules, ◌≡◌, ◌≤◌, length, ◌∙◌, ℕ, List, sym}
+use Rattle.std.proofs.Common.{arith, ◌≤◌, length, ◌∙◌}
 use Rattle.storage_current.proofs.NodeLists.{AreChildren, read_left, read_right}
 use Rattle.storage_current.proofs.NodeSteps.{hashed_pair}
 use Rattle.storage_merkle.specs.Trees.{listed, tree_node, ungrafted}

@@ -1,4 +1,4 @@
-use Rattle.std.proofs.Common.{◌≡◌, List, ℕ, map, ap, ◌∙◌}
+use Rattle.std.proofs.Common.{map, ap, ◌∙◌}
 use Rattle.storage_merkle.specs.Trees.{Layout, tree_node}
 use Rattle.storage_current.proofs.Roots.{root_from}
 use Rattle.storage_current.proofs.qmdb.current.snapshot.tree_root.Goals as goal

@@ -1,74 +1,26 @@
-use Rattle.std.proofs.Common.{◌≡◌, ℕ, ◌*◌, List, false, arith, length, map, ap, ◌∙◌, sym}
-use Rattle.std.proofs.Math.Nat.{zero-mul}
-use Rattle.std.proofs.lemmas.List.{length-map}
-use Rattle.std.specs.Option.{option_map}
+use Rattle.std.proofs.Common.{rules, ◌≡◌, ℕ, ◌+◌, List, [], map, length, get_or, ap, sym, ◌∙◌, arith}
+use Rattle.std.proofs.lemmas.List.{get_or-map, length-map}
 use Rattle.storage_merkle.specs.Shape.{size}
-use Rattle.storage_merkle.specs.Trees.{listed, tree_node, tree_root, ungrafted}
-use Rattle.storage_merkle.specs.declared.merkle.bagging.Bagging.TheVariants.{BackwardFold}
-use Rattle.storage_current.specs.Grafted.{grafted_over}
-use Rattle.storage_current.specs.GraftingLaws.{height_of_power}
-use Rattle.storage_current.specs.NodeLists.{AreNodes}
-use Rattle.storage_current.specs.Snapshots.{Grafting, Snapshot, height, graftable, view, content, view_node, exact_of, aligned_of, ops_root_of, grafted_root_of, pending_of, partial_of}
-use Rattle.storage_current.proofs.Heights.{whole_within, rest_within}
-use Rattle.storage_current.proofs.Roots.{AreCounts, counts_at, unpruned_rest, exact_count, aligned_count, pending_kept, partial_kept, canonical_from}
-use Rattle.storage_current.proofs.WitnessWritten.{witness_from}
+use Rattle.storage_current.specs.NodeLists.{AreNodes, plain_node}
 use Rattle.storage_current.proofs.qmdb.current.snapshot.Snapshot.new.Goals as goal
 
-pub pending-requires : goal.pending-requires
-pending-requires g c = (
-  omega (arith, c.len.ensures.size.1),
-  (
-    c.len.ensures.size,
-    (
-      omega (arith, c.if-pruned_chunks-gt0.false, c.pruned_chunks.ensures.value),
-      whole_within g.row.N c.height-height.result (length c.args.operations.now) c.over-counts.result.complete _ c.height-height.ensures.power c.over-counts.ensures.complete (sym c.if-len-leaves.false ∙ c.len.ensures.value),
-    ),
-  ),
-)
-
-pub partial-requires : goal.partial-requires
-partial-requires g c = (
-  omega (arith, c.len.ensures.size.1),
-  (
-    omega (arith, c.if-pruned_chunks-gt0.false, c.pruned_chunks.ensures.value),
-    rest_within g.row.N c.height-height.result (length c.args.operations.now) c.over-counts.result.complete c.over-counts.result.next_bit _ c.height-height.ensures.power c.over-counts.ensures.complete c.over-counts.ensures.next_bit (sym c.if-len-leaves.false ∙ c.len.ensures.value),
-  ),
-)
-
-pub returns-clause-stands : goal.returns-clause-stands
-returns-clause-stands g c =
-    let S = g.F.Family.shape in
-    let h = g.H.Hasher.hash_of in
-    let text = g.H.Digest.Write.text in
-    let G : Grafting = record { shape = S; bytes = g.row.N } in
+pub loop-leaf-preserved : goal.loop-leaf-preserved
+loop-leaf-preserved g c =
     let elements : List (List ℕ) = map g.E.AsSlice.items c.args.operations.now in
-    let s : Snapshot = record { operations = elements; bits = c.args.bits.bits; floor = c.args.floor } in
-    let count : length elements ≡ length c.args.operations.now = length-map c.args.operations.now g.E.AsSlice.items in
-    let unpruned : c.args.bits.pruned ≡ 0 = omega (arith, c.if-pruned_chunks-gt0.false, c.pruned_chunks.ensures.value) in
-    let rest = unpruned_rest g.row.N c.args.bits unpruned in
-    let none : c.args.bits.pruned * (8 * g.row.N) ≡ 0 = ap (λ p. p * (8 * g.row.N)) unpruned ∙ zero-mul (8 * g.row.N) in
-    let bits : length c.args.bits.bits ≡ length c.args.operations.now = omega (arith, c.if-len-leaves.false, c.len.ensures.value, none) in
-    let level : height G ≡ c.height-height.result = height_of_power S g.row.N c.height-height.result c.height-height.ensures.power in
-    let counts : AreCounts G (length elements) c.over-counts.result.complete c.over-counts.result.graftable c.over-counts.result.next_bit =
-    rw count (counts_at G c.height-height.result (length c.args.operations.now) _ _ _ level c.over-counts.ensures.complete c.over-counts.ensures.graftable c.over-counts.ensures.next_bit) in
-    let exact : c.exact_inactive-exact.result ≡ exact_of h G s = exact_count h G s _ (rw (count, ← c.as_u64-2.ensures) c.exact_inactive-exact.ensures) in
-    let aligned : c.aligned_inactive-aligned.result ≡ aligned_of h G s = aligned_count h G s c.height-height.result _ level (rw (count, ← c.as_u64-3.ensures) c.aligned_inactive-aligned.ensures) in
-    let plain : AreNodes S (tree_node h (ungrafted S) (listed elements)) (map text c.deref.result.now) = rw c.deref.ensures.value c.in_ok-nodes.ensures.plain in
-    let seen : AreNodes S (view_node h G s) (map text c.deref-2.result.now) = rw c.deref-2.ensures.value c.in_ok-nodes.ensures.view in
-    let ops_root : text c.in_ok-ops_root.ops_root ≡ ops_root_of h G s = c.in_ok-ops_root.ensures (λ a k. false) (listed elements) count plain ∙ ap (tree_root h (ungrafted S) BackwardFold (listed elements)) exact in
-    let grafted_root : text c.in_ok-grafted_root.grafted_root ≡ grafted_root_of h G s =
-    c.in_ok-grafted_root.ensures (grafted_over (height G) (graftable G (length elements))) (content h G s) count seen ∙ ap (tree_root h (view G (length elements)) BackwardFold (content h G s)) aligned in
-    let pending : option_map text c.chunk_digest-pending.result ≡ option_map h (pending_of h G s) =
-    c.chunk_digest-pending.ensures ∙ ap (option_map h) (pending_kept h G s c.args.bits rest _ _ _ counts c.pending.result (omega (arith, unpruned)) c.pending.ensures) in
-    let partial : option_map text c.chunk_digest-partial.result ≡ option_map h (partial_of h G s) =
-    c.chunk_digest-partial.ensures ∙ ap (option_map h) (partial_kept h G s c.args.bits rest _ _ _ counts c.partial.result (omega (arith, unpruned)) c.partial.ensures) in (
-      record { bit_each = bits ∙ sym count; floor_within = omega (arith, count, c.if-as_u64-leaves.false, c.as_u64.ensures); few = omega (arith, count, c.if-leaves-gt-MAX_LEAVES.false) },
-      record {
-        count = length-map c.in_ok-nodes.nodes.view.items text ∙ c.in_ok-nodes.ensures.view_count ∙ ap (size S) (sym count);
-        nodes = c.in_ok-nodes.ensures.view;
-        status = ap (λ p. record { pruned = p; bits = c.args.bits.bits }) unpruned;
-        ops_root = ops_root;
-        root = canonical_from h G s _ _ _ _ _ _ ops_root grafted_root pending counts.next_is partial c.canonical_root-root.ensures;
-        witness = witness_from h G s _ _ _ _ _ c.of.ensures grafted_root pending counts.next_is partial;
-      },
+    let i : ℕ = c.loop-leaf.leaf in
+    let here : get_or elements i [] ≡ c.as_slice.result.now =
+    get_or-map g.E.AsSlice.items c.args.operations.now i c.index-operations-leaf.result [] (omega arith) ∙ ap g.E.AsSlice.items (sym c.index-operations-leaf.is) ∙ sym c.as_slice.ensures in
+    record { count = c.in_ok-grow.ensures.count; are = c.in_ok-grow.ensures.grown elements c.loop-leaf.invariant.are here }
+
+pub over-requires : goal.over-requires
+over-requires g c =
+    let fits = c.in_default.ensures.why in
+    let done : c.loop-leaf.leaf ≡ length c.args.operations.now = omega (arith, c.loop-leaf-test.false, c.loop-leaf.auto.leaf-end) in
+    let whole : length c.loop-leaf.nodes.items ≡ size g.F.Family.shape (length c.args.operations.now) = rw done at c.loop-leaf.invariant.count in (
+      search rules,
+      (search rules, (c.in_default.ensures.size, (fits.0.unpruned, (rw fits.0.all fits.2, (rw fits.0.all whole, rw fits.0.all fits.1))))),
     )
+
+pub returns-in-Ok-clause-stands : goal.returns-in-Ok-clause-stands
+returns-in-Ok-clause-stands g c =
+    c.in-Ok.ensures.stands (map g.E.AsSlice.items c.args.operations.now) (length-map c.args.operations.now g.E.AsSlice.items ∙ sym c.in_default.ensures.why.0.all) c.loop-leaf.invariant.are
