@@ -2,6 +2,8 @@ pub mod Snapshots
 pub mod Keys
 pub mod KeyProofs
 pub mod HeldKeys
+pub mod KeyWire
+pub mod KeyWireLaws
 pub mod CurrentProofs
 pub mod GraftingLaws
 pub mod CurrentSoundness

@@ -1,0 +1,269 @@
+//! Exclusion proofs as bytes: a tag, then the operation proof and the update, or the operation proof and the value.
+
+ghost use Rattle.std.specs.Prelude.{◌≡◌, ℕ, ◌+◌, [], ◌∷◌, ◌++◌, length, OnOk, OnErr};
+ghost use Rattle.storage_codec.specs.Codec.{Gives, byte_at, whole};
+ghost use Rattle.storage_codec.specs.Parts.{AppendsStart, IsEnding, size_of};
+ghost use Rattle.storage_current.specs.CurrentWire.{IsAdmittedArray, IsAdmittedSized, operation_at, sized_operation_at};
+ghost use Rattle.storage_current.specs.HeldKeys.{held_exclusion};
+ghost use Rattle.storage_current.specs.KeyProofs.{Exclusion};
+ghost use Rattle.storage_current.specs.KeyWire.{IsAdmittedExclusion, exclusion_at, exclusion_map, exclusion_text};
+ghost use Rattle.storage_current.specs.KeyWireLaws.{Sized, array_read, array_spelled, excluded_digests, exclusion_again, exclusion_back, sized_read, sized_spelled, with_digests};
+
+use crate::qmdb::current::ordered::ExclusionProof;
+use crate::qmdb::current::ordered::codec::read_pair;
+use crate::qmdb::current::proof::Chunk;
+use crate::qmdb::current::proof::operation::Proof;
+use bytes::Bytes;
+use std::alloc::Global;
+use storage_codec::NoMemory;
+use storage_codec::codec::{Buf, Canonical, Codec, EncodeSize, Error, Read, Write};
+use storage_codec::digest::Digest;
+use storage_merkle::merkle::Graftable;
+use storage_ops::qmdb::any::operation::update::Ordered;
+use storage_ops::qmdb::any::value::ValueEncoding;
+use storage_ops::qmdb::operation::Key;
+
+/// The tag of an update that excludes.
+pub(crate) const KEY_VALUE_CONTEXT: u8 = 0;
+
+/// The tag of a commit that excludes.
+pub(crate) const COMMIT_CONTEXT: u8 = 1;
+
+/// Appends a tag and two values.
+#[tactic(auto, using(storage_codec::specs::PartsLaws::starts_cons, storage_codec::specs::PartsLaws::starts_then, storage_codec::specs::PartsLaws::starts_first))]
+fn write_tagged<A: Write, B: Write>(
+    tag: u8,
+    first: &A,
+    second: &B,
+    out: &mut Vec<u8>,
+) -> Result<(), NoMemory>
+    ensures ok { OnOk result (out.new.items ≡ out.old.items ++ (tag ∷ (A.text first.now ++ B.text second.now))) }
+    ensures err { OnErr result (AppendsStart out.old.items out.new.items (tag ∷ (A.text first.now ++ B.text second.now))) }
+{
+    out.push(tag)?;
+    write_both(first, second, out)
+}
+
+/// Appends two values.
+#[tactic(auto, using(storage_codec::specs::PartsLaws::starts_then, storage_codec::specs::PartsLaws::starts_first))]
+fn write_both<A: Write, B: Write>(
+    first: &A,
+    second: &B,
+    out: &mut Vec<u8>,
+) -> Result<(), NoMemory>
+    ensures ok { OnOk result (out.new.items ≡ out.old.items ++ (A.text first.now ++ B.text second.now)) }
+    ensures err { OnErr result (AppendsStart out.old.items out.new.items (A.text first.now ++ B.text second.now)) }
+{
+    first.write(out)?;
+    second.write(out)
+}
+
+impl<F: Graftable, K: Key, V: ValueEncoding, D: Digest, C: Chunk> Write
+    for ExclusionProof<F, K, V, D, C> {
+    ghost text = { λ x. exclusion_text F.has_pending (λ u. K.text u.key ++ V.Value.text u.value ++ K.text u.next_key) V.Value.text (held_exclusion D.text C.text x) };
+
+    fn write(&self, out: &mut Vec<u8>) -> Result<(), NoMemory> {
+        match self {
+            ExclusionProof::KeyValue(proof, update) => {
+                write_tagged(KEY_VALUE_CONTEXT, proof, update, out)
+            }
+            ExclusionProof::Commit(proof, value) => {
+                write_tagged(COMMIT_CONTEXT, proof, value, out)
+            }
+        }
+    }
+}
+
+impl<F: Graftable, K: Key, V: ValueEncoding, D: Digest, C: Chunk> EncodeSize
+    for ExclusionProof<F, K, V, D, C> {
+    fn encode_size(&self) -> Option<u64> {
+        match self {
+            ExclusionProof::KeyValue(proof, update) => size_of_tagged(proof, update),
+            ExclusionProof::Commit(proof, value) => size_of_tagged(proof, value),
+        }
+    }
+}
+
+/// The number of bytes of a tag and two values, `None` past the greatest `u64`.
+#[tactic(auto, using(std::proofs::lemmas::Grind::common_steps))]
+fn size_of_tagged<A: EncodeSize, B: EncodeSize>(first: &A, second: &B) -> Option<u64>
+    ensures { result ≡ size_of (1 + length (A.text first.now ++ B.text second.now)) }
+{
+    let both = first.encode_size()?.checked_add(second.encode_size()?)?;
+    both.checked_add(1)
+}
+
+/// The tag.
+fn read_tag<B: Buf>(buf: &mut B) -> Result<u8, Error>
+    ensures gives { Gives (λ tag. tag) result (B.unread buf.new) (byte_at (B.unread buf.old)) }
+    ensures ends { IsEnding (B.unread buf.old) (B.unread buf.new) }
+{
+    let mut tag = [0u8; 1];
+    buf.read_into(&mut tag)?;
+    Ok(tag[0])
+}
+
+/// The chunk is read as `N` bytes.
+impl<F: Graftable, K: Key, V: ValueEncoding, D: Digest, const N: usize> Read
+    for ExclusionProof<F, K, V, D, [u8; N]>
+where
+    Ordered<K, V>: Read,
+{
+    /// The greatest number of digests, and what the readers of the update and of the value are told.
+    type Cfg = (usize, <Ordered<K, V> as Read>::Cfg, <V::Value as Read>::Cfg);
+
+    ghost View = { Exclusion ⟦<Ordered<K, V> as Read>⟧.View V.Value.View };
+
+    ghost view = { λ x. exclusion_map ⟦<Ordered<K, V> as Read>⟧.view V.Value.view (held_exclusion D.text (λ c. c) x) };
+
+    ghost admits = { λ cfg x. IsAdmittedExclusion (IsAdmittedArray F.has_pending N cfg.0) (⟦<Ordered<K, V> as Read>⟧.admits cfg.1) (V.Value.admits cfg.2) (held_exclusion D.text (λ c. c) x) };
+
+    ghost parse = { λ cfg. exclusion_at (operation_at F.has_pending D.size N cfg.0) (⟦<Ordered<K, V> as Read>⟧.parse cfg.1) (V.Value.parse cfg.2) };
+
+    #[tactic(auto, using(storage_codec::specs::PartsLaws::ends_then))]
+    fn read_cfg<B: Buf>(
+        alloc: Global,
+        buf: &mut B,
+        cfg: &(usize, <Ordered<K, V> as Read>::Cfg, <V::Value as Read>::Cfg),
+    ) -> Result<Self, Error> {
+        match read_tag(buf)? {
+            KEY_VALUE_CONTEXT => {
+                match read_pair::<Proof<F, D, [u8; N]>, Ordered<K, V>, B>(alloc, buf, &cfg.0, &cfg.1) {
+                    Ok((proof, update)) => Ok(ExclusionProof::KeyValue(proof, update)),
+                    Err(error) => Err(error),
+                }
+            }
+            COMMIT_CONTEXT => {
+                match read_pair::<Proof<F, D, [u8; N]>, Option<V::Value>, B>(alloc, buf, &cfg.0, &cfg.2) {
+                    Ok((proof, value)) => Ok(ExclusionProof::Commit(proof, value)),
+                    Err(error) => Err(error),
+                }
+            }
+            tag => Err(Error::InvalidEnum(tag)),
+        }
+    }
+}
+
+impl<F: Graftable, K: Key, V: ValueEncoding, D: Digest> ExclusionProof<F, K, V, D, Bytes>
+where
+    Ordered<K, V>: Read,
+{
+    /// Reads as `read_cfg` does, with the configurations of the parts lent apart.
+    #[tactic(auto, using(storage_codec::specs::PartsLaws::ends_then))]
+    fn read_with<B: Buf>(
+        alloc: Global,
+        buf: &mut B,
+        proof: &(usize, usize),
+        update: &<Ordered<K, V> as Read>::Cfg,
+        value: &<V::Value as Read>::Cfg,
+    ) -> Result<Self, Error>
+        ensures gives { Gives (λ x. exclusion_map ⟦<Ordered<K, V> as Read>⟧.view V.Value.view (held_exclusion D.text (λ c. c) x)) result (B.unread buf.new) (exclusion_at (sized_operation_at F.has_pending D.size proof.now.0 proof.now.1) (⟦<Ordered<K, V> as Read>⟧.parse update.now) (V.Value.parse value.now) (B.unread buf.old)) }
+        ensures ends { IsEnding (B.unread buf.old) (B.unread buf.new) }
+    {
+        match read_tag(buf)? {
+            KEY_VALUE_CONTEXT => {
+                match read_pair::<Proof<F, D, Bytes>, Ordered<K, V>, B>(alloc, buf, proof, update) {
+                    Ok((proof, update)) => Ok(ExclusionProof::KeyValue(proof, update)),
+                    Err(error) => Err(error),
+                }
+            }
+            COMMIT_CONTEXT => {
+                match read_pair::<Proof<F, D, Bytes>, Option<V::Value>, B>(alloc, buf, proof, value) {
+                    Ok((proof, value)) => Ok(ExclusionProof::Commit(proof, value)),
+                    Err(error) => Err(error),
+                }
+            }
+            tag => Err(Error::InvalidEnum(tag)),
+        }
+    }
+
+    /// The proof that is all of `buf`, as `decode_cfg` reads it, with the configurations of the parts lent apart.
+    ///
+    /// # Errors
+    ///
+    /// The first of: `EndOfBuffer` where there is no tag; `InvalidEnum` of another tag than 0 and 1; those of the operation
+    /// proof; those of the update or of the value; `ExtraData` with the number of bytes left over. `Memory` may come at any
+    /// point.
+    pub fn decode_with<B: Buf>(
+        alloc: Global,
+        mut buf: B,
+        proof: &(usize, usize),
+        update: &<Ordered<K, V> as Read>::Cfg,
+        value: &<V::Value as Read>::Cfg,
+    ) -> Result<Self, Error>
+        ensures { Gives (λ x. exclusion_map ⟦<Ordered<K, V> as Read>⟧.view V.Value.view (held_exclusion D.text (λ c. c) x)) result [] (whole (exclusion_at (sized_operation_at F.has_pending D.size proof.now.0 proof.now.1) (⟦<Ordered<K, V> as Read>⟧.parse update.now) (V.Value.parse value.now) (B.unread buf))) }
+    {
+        let value = Self::read_with(alloc, &mut buf, proof, update, value)?;
+        let left = buf.remaining();
+        if left > 0 {
+            return Err(Error::ExtraData(left as u64));
+        }
+        Ok(value)
+    }
+}
+
+/// The chunk is cut from the bytes. A size that chunks can't have is refused first.
+impl<F: Graftable, K: Key, V: ValueEncoding, D: Digest> Read for ExclusionProof<F, K, V, D, Bytes>
+where
+    Ordered<K, V>: Read,
+{
+    /// The size of the chunk in bytes and the greatest number of digests, and what the readers of the update and of the
+    /// value are told.
+    type Cfg = ((usize, usize), <Ordered<K, V> as Read>::Cfg, <V::Value as Read>::Cfg);
+
+    ghost View = { Exclusion ⟦<Ordered<K, V> as Read>⟧.View V.Value.View };
+
+    ghost view = { λ x. exclusion_map ⟦<Ordered<K, V> as Read>⟧.view V.Value.view (held_exclusion D.text (λ c. c) x) };
+
+    ghost admits = { λ cfg x. IsAdmittedExclusion (IsAdmittedSized F.has_pending cfg.0.0 cfg.0.1) (⟦<Ordered<K, V> as Read>⟧.admits cfg.1) (V.Value.admits cfg.2) (held_exclusion D.text (λ c. c) x) };
+
+    ghost parse = { λ cfg. exclusion_at (sized_operation_at F.has_pending D.size cfg.0.0 cfg.0.1) (⟦<Ordered<K, V> as Read>⟧.parse cfg.1) (V.Value.parse cfg.2) };
+
+    fn read_cfg<B: Buf>(
+        alloc: Global,
+        buf: &mut B,
+        cfg: &((usize, usize), <Ordered<K, V> as Read>::Cfg, <V::Value as Read>::Cfg),
+    ) -> Result<Self, Error> {
+        Self::read_with(alloc, buf, &cfg.0, &cfg.1, &cfg.2)
+    }
+}
+
+impl<F: Graftable, K: Key, V: ValueEncoding, D: Digest, const N: usize> Codec
+    for ExclusionProof<F, K, V, D, [u8; N]>
+where
+    Ordered<K, V>: Codec,
+{
+    ghost again = { λ cfg x rest ok. exclusion_again F.has_pending (λ u. K.text u.key ++ V.Value.text u.value ++ K.text u.next_key) V.Value.text ⟦<Ordered<K, V> as Read>⟧.view V.Value.view (operation_at F.has_pending D.size N cfg.0) (⟦<Ordered<K, V> as Read>⟧.parse cfg.1) (V.Value.parse cfg.2)
+        (Sized D.size (IsAdmittedArray F.has_pending N cfg.0)) (⟦<Ordered<K, V> as Read>⟧.admits cfg.1) (V.Value.admits cfg.2) (array_read F.has_pending D.size N cfg.0) (record { again = ⟦<Ordered<K, V> as Codec>⟧.again cfg.1 }) (record { again = V.Value.again cfg.2 })
+        (held_exclusion D.text (λ c. c) x) rest (with_digests D.size (IsAdmittedArray F.has_pending N cfg.0) (⟦<Ordered<K, V> as Read>⟧.admits cfg.1) (V.Value.admits cfg.2) (held_exclusion D.text (λ c. c) x) (excluded_digests D.text (λ c. c) D.size D.sized x) ok) };
+}
+
+impl<F: Graftable, K: Key, V: ValueEncoding, D: Digest, const N: usize> Canonical
+    for ExclusionProof<F, K, V, D, [u8; N]>
+where
+    Ordered<K, V>: Canonical,
+    V::Value: Canonical,
+{
+    ghost back = { λ cfg bytes x rest fits e. exclusion_back F.has_pending (λ u. K.text u.key ++ V.Value.text u.value ++ K.text u.next_key) V.Value.text ⟦<Ordered<K, V> as Read>⟧.view V.Value.view (operation_at F.has_pending D.size N cfg.0) (⟦<Ordered<K, V> as Read>⟧.parse cfg.1) (V.Value.parse cfg.2)
+        (array_spelled F.has_pending D.size N cfg.0) (record { back = ⟦<Ordered<K, V> as Canonical>⟧.back cfg.1 }) (record { back = V.Value.back cfg.2 }) bytes (held_exclusion D.text (λ c. c) x) rest fits e };
+}
+
+impl<F: Graftable, K: Key, V: ValueEncoding, D: Digest> Codec
+    for ExclusionProof<F, K, V, D, Bytes>
+where
+    Ordered<K, V>: Codec,
+{
+    ghost again = { λ cfg x rest ok. exclusion_again F.has_pending (λ u. K.text u.key ++ V.Value.text u.value ++ K.text u.next_key) V.Value.text ⟦<Ordered<K, V> as Read>⟧.view V.Value.view (sized_operation_at F.has_pending D.size cfg.0.0 cfg.0.1) (⟦<Ordered<K, V> as Read>⟧.parse cfg.1) (V.Value.parse cfg.2)
+        (Sized D.size (IsAdmittedSized F.has_pending cfg.0.0 cfg.0.1)) (⟦<Ordered<K, V> as Read>⟧.admits cfg.1) (V.Value.admits cfg.2) (sized_read F.has_pending D.size cfg.0.0 cfg.0.1) (record { again = ⟦<Ordered<K, V> as Codec>⟧.again cfg.1 }) (record { again = V.Value.again cfg.2 })
+        (held_exclusion D.text (λ c. c) x) rest (with_digests D.size (IsAdmittedSized F.has_pending cfg.0.0 cfg.0.1) (⟦<Ordered<K, V> as Read>⟧.admits cfg.1) (V.Value.admits cfg.2) (held_exclusion D.text (λ c. c) x) (excluded_digests D.text (λ c. c) D.size D.sized x) ok) };
+}
+
+impl<F: Graftable, K: Key, V: ValueEncoding, D: Digest> Canonical
+    for ExclusionProof<F, K, V, D, Bytes>
+where
+    Ordered<K, V>: Canonical,
+    V::Value: Canonical,
+{
+    ghost back = { λ cfg bytes x rest fits e. exclusion_back F.has_pending (λ u. K.text u.key ++ V.Value.text u.value ++ K.text u.next_key) V.Value.text ⟦<Ordered<K, V> as Read>⟧.view V.Value.view (sized_operation_at F.has_pending D.size cfg.0.0 cfg.0.1) (⟦<Ordered<K, V> as Read>⟧.parse cfg.1) (V.Value.parse cfg.2)
+        (sized_spelled F.has_pending D.size cfg.0.0 cfg.0.1) (record { back = ⟦<Ordered<K, V> as Canonical>⟧.back cfg.1 }) (record { back = V.Value.back cfg.2 }) bytes (held_exclusion D.text (λ c. c) x) rest fits e };
+}
