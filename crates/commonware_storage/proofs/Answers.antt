@@ -42,12 +42,15 @@ operation_chunk there d size most bytes p rest e =
     subst (λ (q : OperationProof × List ℕ). length q.0.chunk ≡ size) (ok_is (at_location a.0.0 b.0.0 range, tail) (p, rest) c.2) (front_length size a.0.1 b.0 b.1)
 
 -- the chunk of a proof that was read has the size that the reader was told
-pub chunk_is : (there : Bool) (d size most : ℕ) (bytes : List ℕ) (p : OperationProof) → whole (sized_operation_at there d size most bytes) ≡ Ok (p, []) → length p.chunk ≡ size
-chunk_is there d size most bytes p e =
-    elim (halves size size && leb size (2 ^ 59)) as (λ b. cond b (operation_at there d size most bytes) (Err (Invalid (codes "current proof") (codes "invalid bitmap chunk size"))) ≡ Ok (p, []) → length p.chunk ≡ size) [
-      | true ↦ λ f. operation_chunk there d size most bytes p [] f
+pub front_chunk : (there : Bool) (d size most : ℕ) (bytes : List ℕ) (p : OperationProof) (rest : List ℕ) → sized_operation_at there d size most bytes ≡ Ok (p, rest) → length p.chunk ≡ size
+front_chunk there d size most bytes p rest e =
+    elim (halves size size && leb size (2 ^ 59)) as (λ b. cond b (operation_at there d size most bytes) (Err (Invalid (codes "current proof") (codes "invalid bitmap chunk size"))) ≡ Ok (p, rest) → length p.chunk ≡ size) [
+      | true ↦ λ f. operation_chunk there d size most bytes p rest f
       | false ↦ λ f. absurd cc
-    ] (whole_ok (sized_operation_at there d size most bytes) p [] e).0
+    ] e
+
+pub chunk_is : (there : Bool) (d size most : ℕ) (bytes : List ℕ) (p : OperationProof) → whole (sized_operation_at there d size most bytes) ≡ Ok (p, []) → length p.chunk ≡ size
+chunk_is there d size most bytes p e = front_chunk there d size most bytes p [] (whole_ok (sized_operation_at there d size most bytes) p [] e).0
 
 -- bytes that are refused, and not for want of memory, are read as nothing
 pub nothing_read : {Y : Type 0} (e : Error) (answer : Result Y Fault) (y : Y) → MayFail e answer → (e ≡ code.Memory → ⊥) → answer ≡ Ok y → ⊥

@@ -1,3 +1,4 @@
 pub mod Words
 pub mod Light
+pub mod LightKeys
 pub mod Handed

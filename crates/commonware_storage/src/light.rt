@@ -6,8 +6,10 @@ ghost use Rattle.storage_bitmap.specs.Chunks.{IsChunkSize};
 ghost use Rattle.commonware_storage.specs.Light.{IsAcceptedAt, IsTrueAt, IsTextAcceptedAt, IsTextTrueAt, IsProofAt, IsProofTextAt, IsTextRefusal};
 ghost use Rattle.commonware_storage.specs.declared.light.text_error.TextError.TheVariants.{Memory};
 
+mod keys;
 mod text_error;
 
+pub use keys::{check_absence, check_value};
 use std::alloc::Global;
 use storage_codec::NoMemory;
 use storage_codec::codec::{Decode, Error};

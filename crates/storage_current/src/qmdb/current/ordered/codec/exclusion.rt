@@ -3,6 +3,8 @@
 ghost use Rattle.std.specs.Prelude.{◌≡◌, ℕ, ◌+◌, [], ◌∷◌, ◌++◌, length, OnOk, OnErr};
 ghost use Rattle.storage_codec.specs.Codec.{Gives, byte_at, whole};
 ghost use Rattle.storage_codec.specs.Parts.{AppendsStart, IsEnding, size_of};
+ghost use Rattle.storage_ops.specs.Updates.{ordered_at};
+ghost use Rattle.storage_ops.specs.UpdatesLaws.{ordered_again, ordered_back};
 ghost use Rattle.storage_current.specs.CurrentWire.{IsAdmittedArray, IsAdmittedSized, operation_at, sized_operation_at};
 ghost use Rattle.storage_current.specs.HeldKeys.{held_exclusion};
 ghost use Rattle.storage_current.specs.KeyProofs.{Exclusion};
@@ -20,7 +22,9 @@ use storage_codec::codec::{Buf, Canonical, Codec, EncodeSize, Error, Read, Write
 use storage_codec::digest::Digest;
 use storage_merkle::merkle::Graftable;
 use storage_ops::qmdb::any::operation::update::Ordered;
-use storage_ops::qmdb::any::value::ValueEncoding;
+use storage_ops::qmdb::any::value::{
+    FixedEncoding, FixedValue, ValueEncoding, VariableEncoding, VariableValue,
+};
 use storage_ops::qmdb::operation::Key;
 
 /// The tag of an update that excludes.
@@ -228,42 +232,70 @@ where
     }
 }
 
-impl<F: Graftable, K: Key, V: ValueEncoding, D: Digest, const N: usize> Codec
-    for ExclusionProof<F, K, V, D, [u8; N]>
-where
-    Ordered<K, V>: Codec,
-{
-    ghost again = { λ cfg x rest ok. exclusion_again F.has_pending (λ u. K.text u.key ++ V.Value.text u.value ++ K.text u.next_key) V.Value.text ⟦<Ordered<K, V> as Read>⟧.view V.Value.view (operation_at F.has_pending D.size N cfg.0) (⟦<Ordered<K, V> as Read>⟧.parse cfg.1) (V.Value.parse cfg.2)
-        (Sized D.size (IsAdmittedArray F.has_pending N cfg.0)) (⟦<Ordered<K, V> as Read>⟧.admits cfg.1) (V.Value.admits cfg.2) (array_read F.has_pending D.size N cfg.0) (record { again = ⟦<Ordered<K, V> as Codec>⟧.again cfg.1 }) (record { again = V.Value.again cfg.2 })
-        (held_exclusion D.text (λ c. c) x) rest (with_digests D.size (IsAdmittedArray F.has_pending N cfg.0) (⟦<Ordered<K, V> as Read>⟧.admits cfg.1) (V.Value.admits cfg.2) (held_exclusion D.text (λ c. c) x) (excluded_digests D.text (λ c. c) D.size D.sized x) ok) };
+impl<F: Graftable, K: Key + Read<Cfg = ()>, V: FixedValue, D: Digest, const N: usize> Codec
+    for ExclusionProof<F, K, FixedEncoding<V>, D, [u8; N]> {
+    ghost again = { λ cfg x rest ok. exclusion_again F.has_pending (λ u. K.text u.key ++ V.text u.value ++ K.text u.next_key) V.text (λ u. (K.view u.key, V.view u.value, K.view u.next_key)) V.view (operation_at F.has_pending D.size N cfg.0) (ordered_at (K.parse tt) (V.parse tt)) (V.parse tt)
+        (Sized D.size (IsAdmittedArray F.has_pending N cfg.0)) (λ u. K.admits tt u.key × V.admits tt u.value × K.admits tt u.next_key) (V.admits tt) (array_read F.has_pending D.size N cfg.0)
+        (record { again = λ u r h. ordered_again K.text V.text K.view V.view (K.parse tt) (V.parse tt) (K.admits tt) (V.admits tt) (record { again = K.again tt }) (record { again = V.again tt }) u.key u.value u.next_key r h })
+        (record { again = V.again tt }) (held_exclusion D.text (λ c. c) x) rest
+        (with_digests D.size (IsAdmittedArray F.has_pending N cfg.0) (λ u. K.admits tt u.key × V.admits tt u.value × K.admits tt u.next_key) (V.admits tt) (held_exclusion D.text (λ c. c) x) (excluded_digests D.text (λ c. c) D.size D.sized x) ok) };
 }
 
-impl<F: Graftable, K: Key, V: ValueEncoding, D: Digest, const N: usize> Canonical
-    for ExclusionProof<F, K, V, D, [u8; N]>
-where
-    Ordered<K, V>: Canonical,
-    V::Value: Canonical,
-{
-    ghost back = { λ cfg bytes x rest fits e. exclusion_back F.has_pending (λ u. K.text u.key ++ V.Value.text u.value ++ K.text u.next_key) V.Value.text ⟦<Ordered<K, V> as Read>⟧.view V.Value.view (operation_at F.has_pending D.size N cfg.0) (⟦<Ordered<K, V> as Read>⟧.parse cfg.1) (V.Value.parse cfg.2)
-        (array_spelled F.has_pending D.size N cfg.0) (record { back = ⟦<Ordered<K, V> as Canonical>⟧.back cfg.1 }) (record { back = V.Value.back cfg.2 }) bytes (held_exclusion D.text (λ c. c) x) rest fits e };
+impl<F: Graftable, K: Key + Canonical + Read<Cfg = ()>, V: FixedValue + Canonical, D: Digest, const N: usize> Canonical
+    for ExclusionProof<F, K, FixedEncoding<V>, D, [u8; N]> {
+    ghost back = { λ cfg bytes x rest fits e. exclusion_back F.has_pending (λ u. K.text u.key ++ V.text u.value ++ K.text u.next_key) V.text (λ u. (K.view u.key, V.view u.value, K.view u.next_key)) V.view (operation_at F.has_pending D.size N cfg.0) (ordered_at (K.parse tt) (V.parse tt)) (V.parse tt)
+        (array_spelled F.has_pending D.size N cfg.0)
+        (record { back = λ b u r f p. ordered_back K.text V.text K.view V.view (K.parse tt) (V.parse tt) (record { back = K.back tt }) (record { back = V.back tt }) b u.key u.value u.next_key r f p })
+        (record { back = V.back tt }) bytes (held_exclusion D.text (λ c. c) x) rest fits e };
 }
 
-impl<F: Graftable, K: Key, V: ValueEncoding, D: Digest> Codec
-    for ExclusionProof<F, K, V, D, Bytes>
-where
-    Ordered<K, V>: Codec,
-{
-    ghost again = { λ cfg x rest ok. exclusion_again F.has_pending (λ u. K.text u.key ++ V.Value.text u.value ++ K.text u.next_key) V.Value.text ⟦<Ordered<K, V> as Read>⟧.view V.Value.view (sized_operation_at F.has_pending D.size cfg.0.0 cfg.0.1) (⟦<Ordered<K, V> as Read>⟧.parse cfg.1) (V.Value.parse cfg.2)
-        (Sized D.size (IsAdmittedSized F.has_pending cfg.0.0 cfg.0.1)) (⟦<Ordered<K, V> as Read>⟧.admits cfg.1) (V.Value.admits cfg.2) (sized_read F.has_pending D.size cfg.0.0 cfg.0.1) (record { again = ⟦<Ordered<K, V> as Codec>⟧.again cfg.1 }) (record { again = V.Value.again cfg.2 })
-        (held_exclusion D.text (λ c. c) x) rest (with_digests D.size (IsAdmittedSized F.has_pending cfg.0.0 cfg.0.1) (⟦<Ordered<K, V> as Read>⟧.admits cfg.1) (V.Value.admits cfg.2) (held_exclusion D.text (λ c. c) x) (excluded_digests D.text (λ c. c) D.size D.sized x) ok) };
+impl<F: Graftable, K: Key + Read<Cfg = ()>, V: FixedValue, D: Digest> Codec
+    for ExclusionProof<F, K, FixedEncoding<V>, D, Bytes> {
+    ghost again = { λ cfg x rest ok. exclusion_again F.has_pending (λ u. K.text u.key ++ V.text u.value ++ K.text u.next_key) V.text (λ u. (K.view u.key, V.view u.value, K.view u.next_key)) V.view (sized_operation_at F.has_pending D.size cfg.0.0 cfg.0.1) (ordered_at (K.parse tt) (V.parse tt)) (V.parse tt)
+        (Sized D.size (IsAdmittedSized F.has_pending cfg.0.0 cfg.0.1)) (λ u. K.admits tt u.key × V.admits tt u.value × K.admits tt u.next_key) (V.admits tt) (sized_read F.has_pending D.size cfg.0.0 cfg.0.1)
+        (record { again = λ u r h. ordered_again K.text V.text K.view V.view (K.parse tt) (V.parse tt) (K.admits tt) (V.admits tt) (record { again = K.again tt }) (record { again = V.again tt }) u.key u.value u.next_key r h })
+        (record { again = V.again tt }) (held_exclusion D.text (λ c. c) x) rest
+        (with_digests D.size (IsAdmittedSized F.has_pending cfg.0.0 cfg.0.1) (λ u. K.admits tt u.key × V.admits tt u.value × K.admits tt u.next_key) (V.admits tt) (held_exclusion D.text (λ c. c) x) (excluded_digests D.text (λ c. c) D.size D.sized x) ok) };
 }
 
-impl<F: Graftable, K: Key, V: ValueEncoding, D: Digest> Canonical
-    for ExclusionProof<F, K, V, D, Bytes>
-where
-    Ordered<K, V>: Canonical,
-    V::Value: Canonical,
-{
-    ghost back = { λ cfg bytes x rest fits e. exclusion_back F.has_pending (λ u. K.text u.key ++ V.Value.text u.value ++ K.text u.next_key) V.Value.text ⟦<Ordered<K, V> as Read>⟧.view V.Value.view (sized_operation_at F.has_pending D.size cfg.0.0 cfg.0.1) (⟦<Ordered<K, V> as Read>⟧.parse cfg.1) (V.Value.parse cfg.2)
-        (sized_spelled F.has_pending D.size cfg.0.0 cfg.0.1) (record { back = ⟦<Ordered<K, V> as Canonical>⟧.back cfg.1 }) (record { back = V.Value.back cfg.2 }) bytes (held_exclusion D.text (λ c. c) x) rest fits e };
+impl<F: Graftable, K: Key + Canonical + Read<Cfg = ()>, V: FixedValue + Canonical, D: Digest> Canonical
+    for ExclusionProof<F, K, FixedEncoding<V>, D, Bytes> {
+    ghost back = { λ cfg bytes x rest fits e. exclusion_back F.has_pending (λ u. K.text u.key ++ V.text u.value ++ K.text u.next_key) V.text (λ u. (K.view u.key, V.view u.value, K.view u.next_key)) V.view (sized_operation_at F.has_pending D.size cfg.0.0 cfg.0.1) (ordered_at (K.parse tt) (V.parse tt)) (V.parse tt)
+        (sized_spelled F.has_pending D.size cfg.0.0 cfg.0.1)
+        (record { back = λ b u r f p. ordered_back K.text V.text K.view V.view (K.parse tt) (V.parse tt) (record { back = K.back tt }) (record { back = V.back tt }) b u.key u.value u.next_key r f p })
+        (record { back = V.back tt }) bytes (held_exclusion D.text (λ c. c) x) rest fits e };
+}
+
+impl<F: Graftable, K: Key, V: VariableValue, D: Digest, const N: usize> Codec
+    for ExclusionProof<F, K, VariableEncoding<V>, D, [u8; N]> {
+    ghost again = { λ cfg x rest ok. exclusion_again F.has_pending (λ u. K.text u.key ++ V.text u.value ++ K.text u.next_key) V.text (λ u. (K.view u.key, V.view u.value, K.view u.next_key)) V.view (operation_at F.has_pending D.size N cfg.0) (ordered_at (K.parse cfg.1.0) (V.parse cfg.1.1)) (V.parse cfg.2)
+        (Sized D.size (IsAdmittedArray F.has_pending N cfg.0)) (λ u. K.admits cfg.1.0 u.key × V.admits cfg.1.1 u.value × K.admits cfg.1.0 u.next_key) (V.admits cfg.2) (array_read F.has_pending D.size N cfg.0)
+        (record { again = λ u r h. ordered_again K.text V.text K.view V.view (K.parse cfg.1.0) (V.parse cfg.1.1) (K.admits cfg.1.0) (V.admits cfg.1.1) (record { again = K.again cfg.1.0 }) (record { again = V.again cfg.1.1 }) u.key u.value u.next_key r h })
+        (record { again = V.again cfg.2 }) (held_exclusion D.text (λ c. c) x) rest
+        (with_digests D.size (IsAdmittedArray F.has_pending N cfg.0) (λ u. K.admits cfg.1.0 u.key × V.admits cfg.1.1 u.value × K.admits cfg.1.0 u.next_key) (V.admits cfg.2) (held_exclusion D.text (λ c. c) x) (excluded_digests D.text (λ c. c) D.size D.sized x) ok) };
+}
+
+impl<F: Graftable, K: Key + Canonical, V: VariableValue + Canonical, D: Digest, const N: usize> Canonical
+    for ExclusionProof<F, K, VariableEncoding<V>, D, [u8; N]> {
+    ghost back = { λ cfg bytes x rest fits e. exclusion_back F.has_pending (λ u. K.text u.key ++ V.text u.value ++ K.text u.next_key) V.text (λ u. (K.view u.key, V.view u.value, K.view u.next_key)) V.view (operation_at F.has_pending D.size N cfg.0) (ordered_at (K.parse cfg.1.0) (V.parse cfg.1.1)) (V.parse cfg.2)
+        (array_spelled F.has_pending D.size N cfg.0)
+        (record { back = λ b u r f p. ordered_back K.text V.text K.view V.view (K.parse cfg.1.0) (V.parse cfg.1.1) (record { back = K.back cfg.1.0 }) (record { back = V.back cfg.1.1 }) b u.key u.value u.next_key r f p })
+        (record { back = V.back cfg.2 }) bytes (held_exclusion D.text (λ c. c) x) rest fits e };
+}
+
+impl<F: Graftable, K: Key, V: VariableValue, D: Digest> Codec
+    for ExclusionProof<F, K, VariableEncoding<V>, D, Bytes> {
+    ghost again = { λ cfg x rest ok. exclusion_again F.has_pending (λ u. K.text u.key ++ V.text u.value ++ K.text u.next_key) V.text (λ u. (K.view u.key, V.view u.value, K.view u.next_key)) V.view (sized_operation_at F.has_pending D.size cfg.0.0 cfg.0.1) (ordered_at (K.parse cfg.1.0) (V.parse cfg.1.1)) (V.parse cfg.2)
+        (Sized D.size (IsAdmittedSized F.has_pending cfg.0.0 cfg.0.1)) (λ u. K.admits cfg.1.0 u.key × V.admits cfg.1.1 u.value × K.admits cfg.1.0 u.next_key) (V.admits cfg.2) (sized_read F.has_pending D.size cfg.0.0 cfg.0.1)
+        (record { again = λ u r h. ordered_again K.text V.text K.view V.view (K.parse cfg.1.0) (V.parse cfg.1.1) (K.admits cfg.1.0) (V.admits cfg.1.1) (record { again = K.again cfg.1.0 }) (record { again = V.again cfg.1.1 }) u.key u.value u.next_key r h })
+        (record { again = V.again cfg.2 }) (held_exclusion D.text (λ c. c) x) rest
+        (with_digests D.size (IsAdmittedSized F.has_pending cfg.0.0 cfg.0.1) (λ u. K.admits cfg.1.0 u.key × V.admits cfg.1.1 u.value × K.admits cfg.1.0 u.next_key) (V.admits cfg.2) (held_exclusion D.text (λ c. c) x) (excluded_digests D.text (λ c. c) D.size D.sized x) ok) };
+}
+
+impl<F: Graftable, K: Key + Canonical, V: VariableValue + Canonical, D: Digest> Canonical
+    for ExclusionProof<F, K, VariableEncoding<V>, D, Bytes> {
+    ghost back = { λ cfg bytes x rest fits e. exclusion_back F.has_pending (λ u. K.text u.key ++ V.text u.value ++ K.text u.next_key) V.text (λ u. (K.view u.key, V.view u.value, K.view u.next_key)) V.view (sized_operation_at F.has_pending D.size cfg.0.0 cfg.0.1) (ordered_at (K.parse cfg.1.0) (V.parse cfg.1.1)) (V.parse cfg.2)
+        (sized_spelled F.has_pending D.size cfg.0.0 cfg.0.1)
+        (record { back = λ b u r f p. ordered_back K.text V.text K.view V.view (K.parse cfg.1.0) (V.parse cfg.1.1) (record { back = K.back cfg.1.0 }) (record { back = V.back cfg.1.1 }) b u.key u.value u.next_key r f p })
+        (record { back = V.back cfg.2 }) bytes (held_exclusion D.text (λ c. c) x) rest fits e };
 }
