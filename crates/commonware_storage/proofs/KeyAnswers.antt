@@ -7,6 +7,7 @@ use Rattle.storage_codec.specs.Codec.{Answer, mapped, whole}
 use Rattle.storage_codec.specs.CodecLaws.{whole_ok}
 use Rattle.storage_codec.specs.Laws.{bind_ok, mapped_ok, ok_is}
 use Rattle.storage_merkle.specs.Shape.{Shape}
+use Rattle.storage_ops.specs.Operations.{Update}
 use Rattle.storage_current.specs.Snapshots.{Grafting, OperationProof}
 use Rattle.storage_current.specs.CurrentProofs.{IsActiveCurrent}
 use Rattle.storage_current.specs.CurrentWire.{sized_operation_at}
@@ -48,4 +49,29 @@ module _ {K V X : Type 0} (e : Keyed K V) (view : K → X) (next_at : List ℕ �
   accepted_along : (g : Grafting) (p q : OperationProof) (m n : K) → (p ≡ q) × (e.key m ≡ e.key n) → IsActiveCurrent h g p (update_text e key value m) root → IsActiveCurrent h g q (update_text e key value n) root
   accepted_along g p q m n same a =
       subst (λ (y : OperationProof). IsActiveCurrent h g y (update_text e key value n) root) same.0
-      (subst (λ (t : List ℕ). IsActiveCurrent h g p (e.operation t) root) (ap (λ (t : List ℕ). op_of (e.key key ++ e.value value ++ t)) same.1) a)
+      (subst (λ (t : List ℕ). IsActiveCurrent h g p (e.operation (Update (e.key key ++ e.value value ++ t))) root) same.1 a)
+
+  module _ (p : OperationProof) (next : K) (read : Read p next) {E : Type 0} where
+    -- what the check of the bytes answers, from what the check of the proof that they are read as does
+    pub value_exactly : (answer : Result Bool E)
+        → IfOk answer (λ yes. IsTrue yes ↔ IsActiveCurrent h (grafting (length p.chunk)) p (update_text e key value next) root)
+        → IfOk answer (λ yes. IsTrue yes ↔ IsAcceptedValue e view next_at h (grafting size) there d bytes key value root)
+    value_exactly (Err x) exact = tt
+    value_exactly (Ok b) exact =
+        let on : IsTrue b ↔ IsActiveCurrent h (grafting size) p (update_text e key value next) root =
+        subst (λ (n : ℕ). IsTrue b ↔ IsActiveCurrent h (grafting n) p (update_text e key value next) root) (chunk_size p next read) exact in (
+          λ t. record { proof = p; next = next; read = read; accepted = on.0 t },
+          λ a. on.1 (accepted_along (grafting size) a.proof p a.next next (same_next a.proof p a.next next a.read read) a.accepted),
+        )
+
+    -- and what its yes means
+    pub value_meaning : (answer : Result Bool E)
+        → IfOk answer (λ yes. IsTrue yes → MeansValue e h (grafting (length p.chunk)) p key value next root)
+        → IfOk answer (λ yes. IsTrue yes → IsTrueValue e view next_at h (grafting size) there d bytes key value root)
+    value_meaning (Err x) means = tt
+    value_meaning (Ok b) means = λ t. record {
+      proof = p;
+      next = next;
+      read = read;
+      means = subst (λ (n : ℕ). MeansValue e h (grafting n) p key value next root) (chunk_size p next read) (means t);
+    }

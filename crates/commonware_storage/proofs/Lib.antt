@@ -1,4 +1,5 @@
 mod Answers
+mod KeyAnswers
 mod OwnProofs
 mod OwnParts
 mod OwnYes
