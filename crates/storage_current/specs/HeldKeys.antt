@@ -11,8 +11,3 @@ use Rattle.storage_current.specs.declared.qmdb.current.ordered.exclusion.Exclusi
 abbrev pub exclusion_of : {F K V D C A W B : Type 0} → (D → List ℕ) → (C → List ℕ) → ExclusionProof F K V D C A W B → Exclusion (K × W × K) W
 exclusion_of text bytes (code.KeyValue proof update) = of.KeyValue (operation_of text bytes proof) (update.key, update.value, update.next_key)
 exclusion_of text bytes (code.Commit proof value) = of.Commit (operation_of text bytes proof) value
-
--- the same, its update whole
-abbrev pub held_exclusion : {F K V D C A W B : Type 0} → (D → List ℕ) → (C → List ℕ) → ExclusionProof F K V D C A W B → Exclusion (Update K V A W B) W
-held_exclusion text bytes (code.KeyValue proof update) = of.KeyValue (operation_of text bytes proof) update
-held_exclusion text bytes (code.Commit proof value) = of.Commit (operation_of text bytes proof) value

@@ -11,7 +11,7 @@ use Rattle.storage_current.specs.Snapshots.{OperationProof}
 use Rattle.storage_current.specs.CurrentSoundness.{HasDigests}
 use Rattle.storage_current.specs.CurrentWire.{operation_text, operation_at, sized_operation_at, IsAdmittedArray, IsAdmittedSized}
 use Rattle.storage_current.specs.CurrentWireLaws.{operation_again, operation_back, sized_again, sized_back, held_digests}
-use Rattle.storage_current.specs.HeldKeys.{held_exclusion}
+use Rattle.storage_current.specs.HeldKeys.{exclusion_of}
 use Rattle.storage_current.specs.declared.qmdb.current.ordered.exclusion.ExclusionProof.{ExclusionProof}
 use Rattle.storage_current.specs.declared.qmdb.current.ordered.exclusion.ExclusionProof.TheVariants as code
 use Rattle.storage_current.specs.KeyProofs.{Exclusion, KeyValue, Commit, proof_of}
@@ -91,7 +91,7 @@ module _ {U V X Y : Type 0} (there : Bool) (update : U → List ℕ) (value : V 
         | inr h ↦ elim (chosen (eqb tag 1) commits wrong (Ok (exclusion_map uview vview x, rest)) h.1) [
           | inl i ↦ rw (tag_is tag 1 i.0) (empty_back pis vis bytes x rest after i.1)
           | inr i ↦ no_fault (InvalidEnum tag) (exclusion_map uview vview x, rest) _ i.1
-          ]
+        ]
       ]
 
 -- operation proofs with digests of d bytes, over a chunk of a size that is known, and of one that is told
@@ -117,6 +117,6 @@ with_digests d P update value (KeyValue p u) has ok = ((has, ok.0), ok.1)
 with_digests d P update value (Commit p v) has ok = ((has, ok.0), ok.1)
 
 pub excluded_digests : {F K V D C A W B : Type 0} (text : D → List ℕ) (bytes : C → List ℕ) (d : ℕ) → ((x : D) → length (text x) ≡ d)
-    → (x : ExclusionProof F K V D C A W B) → HasDigests d (proof_of (held_exclusion text bytes x)).range
+    → (x : ExclusionProof F K V D C A W B) → HasDigests d (proof_of (exclusion_of text bytes x)).range
 excluded_digests text bytes d sized (code.KeyValue proof update) = held_digests text d sized proof.range_proof
 excluded_digests text bytes d sized (code.Commit proof value) = held_digests text d sized proof.range_proof

@@ -6,9 +6,11 @@ mod copies;
 mod exclusion;
 mod key_value;
 mod span;
+mod update_codec;
 
 pub use exclusion::ExclusionProof;
 pub use key_value::KeyValueProof;
+pub use update_codec::UpdateCodec;
 
 /// Proofs over chunks of a size that is known when the program is compiled.
 pub mod constant {

@@ -6,13 +6,13 @@ ghost use Rattle.storage_codec.specs.Parts.{AppendsStart, IsEnding, size_of};
 ghost use Rattle.storage_ops.specs.Updates.{ordered_at};
 ghost use Rattle.storage_ops.specs.UpdatesLaws.{ordered_again, ordered_back};
 ghost use Rattle.storage_current.specs.CurrentWire.{IsAdmittedArray, IsAdmittedSized, operation_at, sized_operation_at};
-ghost use Rattle.storage_current.specs.HeldKeys.{held_exclusion};
+ghost use Rattle.storage_current.specs.HeldKeys.{exclusion_of};
 ghost use Rattle.storage_current.specs.KeyProofs.{Exclusion};
-ghost use Rattle.storage_current.specs.KeyWire.{IsAdmittedExclusion, exclusion_at, exclusion_map, exclusion_text};
+ghost use Rattle.storage_current.specs.KeyWire.{IsAdmittedExclusion, exclusion_at, exclusion_map, exclusion_text, pair_at};
 ghost use Rattle.storage_current.specs.KeyWireLaws.{Sized, array_read, array_spelled, excluded_digests, exclusion_again, exclusion_back, sized_read, sized_spelled, with_digests};
 
-use crate::qmdb::current::ordered::ExclusionProof;
 use crate::qmdb::current::ordered::codec::read_pair;
+use crate::qmdb::current::ordered::{ExclusionProof, UpdateCodec};
 use crate::qmdb::current::proof::Chunk;
 use crate::qmdb::current::proof::operation::Proof;
 use bytes::Bytes;
@@ -22,9 +22,7 @@ use storage_codec::codec::{Buf, Canonical, Codec, EncodeSize, Error, Read, Write
 use storage_codec::digest::Digest;
 use storage_merkle::merkle::Graftable;
 use storage_ops::qmdb::any::operation::update::Ordered;
-use storage_ops::qmdb::any::value::{
-    FixedEncoding, FixedValue, ValueEncoding, VariableEncoding, VariableValue,
-};
+use storage_ops::qmdb::any::value::ValueEncoding;
 use storage_ops::qmdb::operation::Key;
 
 /// The tag of an update that excludes.
@@ -50,11 +48,7 @@ fn write_tagged<A: Write, B: Write>(
 
 /// Appends two values.
 #[tactic(auto, using(storage_codec::specs::PartsLaws::starts_then, storage_codec::specs::PartsLaws::starts_first))]
-fn write_both<A: Write, B: Write>(
-    first: &A,
-    second: &B,
-    out: &mut Vec<u8>,
-) -> Result<(), NoMemory>
+fn write_both<A: Write, B: Write>(first: &A, second: &B, out: &mut Vec<u8>) -> Result<(), NoMemory>
     ensures ok { OnOk result (out.new.items ≡ out.old.items ++ (A.text first.now ++ B.text second.now)) }
     ensures err { OnErr result (AppendsStart out.old.items out.new.items (A.text first.now ++ B.text second.now)) }
 {
@@ -64,7 +58,7 @@ fn write_both<A: Write, B: Write>(
 
 impl<F: Graftable, K: Key, V: ValueEncoding, D: Digest, C: Chunk> Write
     for ExclusionProof<F, K, V, D, C> {
-    ghost text = { λ x. exclusion_text F.has_pending (λ u. K.text u.key ++ V.Value.text u.value ++ K.text u.next_key) V.Value.text (held_exclusion D.text C.text x) };
+    ghost text = { λ x. exclusion_text F.has_pending (λ t. K.text t.0 ++ V.Value.text t.1 ++ K.text t.2) V.Value.text (exclusion_of D.text C.text x) };
 
     fn write(&self, out: &mut Vec<u8>) -> Result<(), NoMemory> {
         match self {
@@ -107,38 +101,68 @@ fn read_tag<B: Buf>(buf: &mut B) -> Result<u8, Error>
     Ok(tag[0])
 }
 
-/// The chunk is read as `N` bytes.
-impl<F: Graftable, K: Key, V: ValueEncoding, D: Digest, const N: usize> Read
-    for ExclusionProof<F, K, V, D, [u8; N]>
-where
-    Ordered<K, V>: Read,
+/// Reads one value, and then an update.
+#[tactic(auto, using(storage_codec::specs::PartsLaws::ends_then))]
+fn read_before_update<A: Read, K: Key, V: UpdateCodec<K>, B: Buf>(
+    alloc: Global,
+    buf: &mut B,
+    first: &A::Cfg,
+    update: &V::UpdateCfg,
+) -> Result<(A, Ordered<K, V>), Error>
+    ensures gives { Gives (λ x. (A.view x.0, (K.view x.1.key, V.Value.view x.1.value, K.view x.1.next_key))) result (B.unread buf.new) (pair_at (A.parse first.now) (ordered_at (K.parse (V.key_cfg update.now)) (V.Value.parse (V.value_cfg update.now))) (B.unread buf.old)) }
+    ensures ends { IsEnding (B.unread buf.old) (B.unread buf.new) }
 {
+    let one = match A::read_cfg(alloc, buf, first) {
+        Ok(one) => one,
+        Err(error) => return Err(error),
+    };
+    match V::read_update(alloc, buf, update) {
+        Ok(update) => Ok((one, update)),
+        Err(error) => Err(error),
+    }
+}
+
+/// The chunk is read as `N` bytes.
+impl<F: Graftable, K: Key, V: UpdateCodec<K>, D: Digest, const N: usize> Read
+    for ExclusionProof<F, K, V, D, [u8; N]> {
     /// The greatest number of digests, and what the readers of the update and of the value are told.
-    type Cfg = (usize, <Ordered<K, V> as Read>::Cfg, <V::Value as Read>::Cfg);
+    type Cfg = (
+        usize,
+        <V as UpdateCodec<K>>::UpdateCfg,
+        <V::Value as Read>::Cfg,
+    );
 
-    ghost View = { Exclusion ⟦<Ordered<K, V> as Read>⟧.View V.Value.View };
+    ghost View = { Exclusion (K.View × V.Value.View × K.View) V.Value.View };
 
-    ghost view = { λ x. exclusion_map ⟦<Ordered<K, V> as Read>⟧.view V.Value.view (held_exclusion D.text (λ c. c) x) };
+    ghost view = { λ x. exclusion_map (λ t. (K.view t.0, V.Value.view t.1, K.view t.2)) V.Value.view (exclusion_of D.text (λ c. c) x) };
 
-    ghost admits = { λ cfg x. IsAdmittedExclusion (IsAdmittedArray F.has_pending N cfg.0) (⟦<Ordered<K, V> as Read>⟧.admits cfg.1) (V.Value.admits cfg.2) (held_exclusion D.text (λ c. c) x) };
+    ghost admits = { λ cfg x. IsAdmittedExclusion (IsAdmittedArray F.has_pending N cfg.0) (λ t. K.admits (V.key_cfg cfg.1) t.0 × V.Value.admits (V.value_cfg cfg.1) t.1 × K.admits (V.key_cfg cfg.1) t.2) (V.Value.admits cfg.2) (exclusion_of D.text (λ c. c) x) };
 
-    ghost parse = { λ cfg. exclusion_at (operation_at F.has_pending D.size N cfg.0) (⟦<Ordered<K, V> as Read>⟧.parse cfg.1) (V.Value.parse cfg.2) };
+    ghost parse = { λ cfg. exclusion_at (operation_at F.has_pending D.size N cfg.0) (ordered_at (K.parse (V.key_cfg cfg.1)) (V.Value.parse (V.value_cfg cfg.1))) (V.Value.parse cfg.2) };
 
     #[tactic(auto, using(storage_codec::specs::PartsLaws::ends_then))]
     fn read_cfg<B: Buf>(
         alloc: Global,
         buf: &mut B,
-        cfg: &(usize, <Ordered<K, V> as Read>::Cfg, <V::Value as Read>::Cfg),
+        cfg: &(
+            usize,
+            <V as UpdateCodec<K>>::UpdateCfg,
+            <V::Value as Read>::Cfg,
+        ),
     ) -> Result<Self, Error> {
         match read_tag(buf)? {
             KEY_VALUE_CONTEXT => {
-                match read_pair::<Proof<F, D, [u8; N]>, Ordered<K, V>, B>(alloc, buf, &cfg.0, &cfg.1) {
+                match read_before_update::<Proof<F, D, [u8; N]>, K, V, B>(
+                    alloc, buf, &cfg.0, &cfg.1,
+                ) {
                     Ok((proof, update)) => Ok(ExclusionProof::KeyValue(proof, update)),
                     Err(error) => Err(error),
                 }
             }
             COMMIT_CONTEXT => {
-                match read_pair::<Proof<F, D, [u8; N]>, Option<V::Value>, B>(alloc, buf, &cfg.0, &cfg.2) {
+                match read_pair::<Proof<F, D, [u8; N]>, Option<V::Value>, B>(
+                    alloc, buf, &cfg.0, &cfg.2,
+                ) {
                     Ok((proof, value)) => Ok(ExclusionProof::Commit(proof, value)),
                     Err(error) => Err(error),
                 }
@@ -148,31 +172,30 @@ where
     }
 }
 
-impl<F: Graftable, K: Key, V: ValueEncoding, D: Digest> ExclusionProof<F, K, V, D, Bytes>
-where
-    Ordered<K, V>: Read,
-{
+impl<F: Graftable, K: Key, V: UpdateCodec<K>, D: Digest> ExclusionProof<F, K, V, D, Bytes> {
     /// Reads as `read_cfg` does, with the configurations of the parts lent apart.
     #[tactic(auto, using(storage_codec::specs::PartsLaws::ends_then))]
     fn read_with<B: Buf>(
         alloc: Global,
         buf: &mut B,
         proof: &(usize, usize),
-        update: &<Ordered<K, V> as Read>::Cfg,
+        update: &<V as UpdateCodec<K>>::UpdateCfg,
         value: &<V::Value as Read>::Cfg,
     ) -> Result<Self, Error>
-        ensures gives { Gives (λ x. exclusion_map ⟦<Ordered<K, V> as Read>⟧.view V.Value.view (held_exclusion D.text (λ c. c) x)) result (B.unread buf.new) (exclusion_at (sized_operation_at F.has_pending D.size proof.now.0 proof.now.1) (⟦<Ordered<K, V> as Read>⟧.parse update.now) (V.Value.parse value.now) (B.unread buf.old)) }
+        ensures gives { Gives (λ x. exclusion_map (λ t. (K.view t.0, V.Value.view t.1, K.view t.2)) V.Value.view (exclusion_of D.text (λ c. c) x)) result (B.unread buf.new) (exclusion_at (sized_operation_at F.has_pending D.size proof.now.0 proof.now.1) (ordered_at (K.parse (V.key_cfg update.now)) (V.Value.parse (V.value_cfg update.now))) (V.Value.parse value.now) (B.unread buf.old)) }
         ensures ends { IsEnding (B.unread buf.old) (B.unread buf.new) }
     {
         match read_tag(buf)? {
             KEY_VALUE_CONTEXT => {
-                match read_pair::<Proof<F, D, Bytes>, Ordered<K, V>, B>(alloc, buf, proof, update) {
+                match read_before_update::<Proof<F, D, Bytes>, K, V, B>(alloc, buf, proof, update) {
                     Ok((proof, update)) => Ok(ExclusionProof::KeyValue(proof, update)),
                     Err(error) => Err(error),
                 }
             }
             COMMIT_CONTEXT => {
-                match read_pair::<Proof<F, D, Bytes>, Option<V::Value>, B>(alloc, buf, proof, value) {
+                match read_pair::<Proof<F, D, Bytes>, Option<V::Value>, B>(
+                    alloc, buf, proof, value,
+                ) {
                     Ok((proof, value)) => Ok(ExclusionProof::Commit(proof, value)),
                     Err(error) => Err(error),
                 }
@@ -192,10 +215,10 @@ where
         alloc: Global,
         mut buf: B,
         proof: &(usize, usize),
-        update: &<Ordered<K, V> as Read>::Cfg,
+        update: &<V as UpdateCodec<K>>::UpdateCfg,
         value: &<V::Value as Read>::Cfg,
     ) -> Result<Self, Error>
-        ensures { Gives (λ x. exclusion_map ⟦<Ordered<K, V> as Read>⟧.view V.Value.view (held_exclusion D.text (λ c. c) x)) result [] (whole (exclusion_at (sized_operation_at F.has_pending D.size proof.now.0 proof.now.1) (⟦<Ordered<K, V> as Read>⟧.parse update.now) (V.Value.parse value.now) (B.unread buf))) }
+        ensures { Gives (λ x. exclusion_map (λ t. (K.view t.0, V.Value.view t.1, K.view t.2)) V.Value.view (exclusion_of D.text (λ c. c) x)) result [] (whole (exclusion_at (sized_operation_at F.has_pending D.size proof.now.0 proof.now.1) (ordered_at (K.parse (V.key_cfg update.now)) (V.Value.parse (V.value_cfg update.now))) (V.Value.parse value.now) (B.unread buf))) }
     {
         let value = Self::read_with(alloc, &mut buf, proof, update, value)?;
         let left = buf.remaining();
@@ -207,95 +230,71 @@ where
 }
 
 /// The chunk is cut from the bytes. A size that chunks can't have is refused first.
-impl<F: Graftable, K: Key, V: ValueEncoding, D: Digest> Read for ExclusionProof<F, K, V, D, Bytes>
-where
-    Ordered<K, V>: Read,
-{
+impl<F: Graftable, K: Key, V: UpdateCodec<K>, D: Digest> Read
+    for ExclusionProof<F, K, V, D, Bytes> {
     /// The size of the chunk in bytes and the greatest number of digests, and what the readers of the update and of the
     /// value are told.
-    type Cfg = ((usize, usize), <Ordered<K, V> as Read>::Cfg, <V::Value as Read>::Cfg);
+    type Cfg = (
+        (usize, usize),
+        <V as UpdateCodec<K>>::UpdateCfg,
+        <V::Value as Read>::Cfg,
+    );
 
-    ghost View = { Exclusion ⟦<Ordered<K, V> as Read>⟧.View V.Value.View };
+    ghost View = { Exclusion (K.View × V.Value.View × K.View) V.Value.View };
 
-    ghost view = { λ x. exclusion_map ⟦<Ordered<K, V> as Read>⟧.view V.Value.view (held_exclusion D.text (λ c. c) x) };
+    ghost view = { λ x. exclusion_map (λ t. (K.view t.0, V.Value.view t.1, K.view t.2)) V.Value.view (exclusion_of D.text (λ c. c) x) };
 
-    ghost admits = { λ cfg x. IsAdmittedExclusion (IsAdmittedSized F.has_pending cfg.0.0 cfg.0.1) (⟦<Ordered<K, V> as Read>⟧.admits cfg.1) (V.Value.admits cfg.2) (held_exclusion D.text (λ c. c) x) };
+    ghost admits = { λ cfg x. IsAdmittedExclusion (IsAdmittedSized F.has_pending cfg.0.0 cfg.0.1) (λ t. K.admits (V.key_cfg cfg.1) t.0 × V.Value.admits (V.value_cfg cfg.1) t.1 × K.admits (V.key_cfg cfg.1) t.2) (V.Value.admits cfg.2) (exclusion_of D.text (λ c. c) x) };
 
-    ghost parse = { λ cfg. exclusion_at (sized_operation_at F.has_pending D.size cfg.0.0 cfg.0.1) (⟦<Ordered<K, V> as Read>⟧.parse cfg.1) (V.Value.parse cfg.2) };
+    ghost parse = { λ cfg. exclusion_at (sized_operation_at F.has_pending D.size cfg.0.0 cfg.0.1) (ordered_at (K.parse (V.key_cfg cfg.1)) (V.Value.parse (V.value_cfg cfg.1))) (V.Value.parse cfg.2) };
 
     fn read_cfg<B: Buf>(
         alloc: Global,
         buf: &mut B,
-        cfg: &((usize, usize), <Ordered<K, V> as Read>::Cfg, <V::Value as Read>::Cfg),
+        cfg: &(
+            (usize, usize),
+            <V as UpdateCodec<K>>::UpdateCfg,
+            <V::Value as Read>::Cfg,
+        ),
     ) -> Result<Self, Error> {
         Self::read_with(alloc, buf, &cfg.0, &cfg.1, &cfg.2)
     }
 }
 
-impl<F: Graftable, K: Key + Read<Cfg = ()>, V: FixedValue, D: Digest, const N: usize> Codec
-    for ExclusionProof<F, K, FixedEncoding<V>, D, [u8; N]> {
-    ghost again = { λ cfg x rest ok. exclusion_again F.has_pending (λ u. K.text u.key ++ V.text u.value ++ K.text u.next_key) V.text (λ u. (K.view u.key, V.view u.value, K.view u.next_key)) V.view (operation_at F.has_pending D.size N cfg.0) (ordered_at (K.parse tt) (V.parse tt)) (V.parse tt)
-        (Sized D.size (IsAdmittedArray F.has_pending N cfg.0)) (λ u. K.admits tt u.key × V.admits tt u.value × K.admits tt u.next_key) (V.admits tt) (array_read F.has_pending D.size N cfg.0)
-        (record { again = λ u r h. ordered_again K.text V.text K.view V.view (K.parse tt) (V.parse tt) (K.admits tt) (V.admits tt) (record { again = K.again tt }) (record { again = V.again tt }) u.key u.value u.next_key r h })
-        (record { again = V.again tt }) (held_exclusion D.text (λ c. c) x) rest
-        (with_digests D.size (IsAdmittedArray F.has_pending N cfg.0) (λ u. K.admits tt u.key × V.admits tt u.value × K.admits tt u.next_key) (V.admits tt) (held_exclusion D.text (λ c. c) x) (excluded_digests D.text (λ c. c) D.size D.sized x) ok) };
+impl<F: Graftable, K: Key, V: UpdateCodec<K>, D: Digest, const N: usize> Codec
+    for ExclusionProof<F, K, V, D, [u8; N]> {
+    ghost again = { λ cfg x rest ok. exclusion_again F.has_pending (λ t. K.text t.0 ++ V.Value.text t.1 ++ K.text t.2) V.Value.text (λ t. (K.view t.0, V.Value.view t.1, K.view t.2)) V.Value.view (operation_at F.has_pending D.size N cfg.0) (ordered_at (K.parse (V.key_cfg cfg.1)) (V.Value.parse (V.value_cfg cfg.1))) (V.Value.parse cfg.2)
+        (Sized D.size (IsAdmittedArray F.has_pending N cfg.0)) (λ t. K.admits (V.key_cfg cfg.1) t.0 × V.Value.admits (V.value_cfg cfg.1) t.1 × K.admits (V.key_cfg cfg.1) t.2) (V.Value.admits cfg.2) (array_read F.has_pending D.size N cfg.0)
+        (record { again = λ t r h. ordered_again K.text V.Value.text K.view V.Value.view (K.parse (V.key_cfg cfg.1)) (V.Value.parse (V.value_cfg cfg.1)) (K.admits (V.key_cfg cfg.1)) (V.Value.admits (V.value_cfg cfg.1)) (record { again = K.again (V.key_cfg cfg.1) }) (record { again = V.Value.again (V.value_cfg cfg.1) }) t.0 t.1 t.2 r h }) (record { again = V.Value.again cfg.2 }) (exclusion_of D.text (λ c. c) x) rest
+        (with_digests D.size (IsAdmittedArray F.has_pending N cfg.0) (λ t. K.admits (V.key_cfg cfg.1) t.0 × V.Value.admits (V.value_cfg cfg.1) t.1 × K.admits (V.key_cfg cfg.1) t.2) (V.Value.admits cfg.2) (exclusion_of D.text (λ c. c) x) (excluded_digests D.text (λ c. c) D.size D.sized x) ok) };
 }
 
-impl<F: Graftable, K: Key + Canonical + Read<Cfg = ()>, V: FixedValue + Canonical, D: Digest, const N: usize> Canonical
-    for ExclusionProof<F, K, FixedEncoding<V>, D, [u8; N]> {
-    ghost back = { λ cfg bytes x rest fits e. exclusion_back F.has_pending (λ u. K.text u.key ++ V.text u.value ++ K.text u.next_key) V.text (λ u. (K.view u.key, V.view u.value, K.view u.next_key)) V.view (operation_at F.has_pending D.size N cfg.0) (ordered_at (K.parse tt) (V.parse tt)) (V.parse tt)
+impl<F: Graftable, K: Key, V: UpdateCodec<K>, D: Digest> Codec
+    for ExclusionProof<F, K, V, D, Bytes> {
+    ghost again = { λ cfg x rest ok. exclusion_again F.has_pending (λ t. K.text t.0 ++ V.Value.text t.1 ++ K.text t.2) V.Value.text (λ t. (K.view t.0, V.Value.view t.1, K.view t.2)) V.Value.view (sized_operation_at F.has_pending D.size cfg.0.0 cfg.0.1) (ordered_at (K.parse (V.key_cfg cfg.1)) (V.Value.parse (V.value_cfg cfg.1))) (V.Value.parse cfg.2)
+        (Sized D.size (IsAdmittedSized F.has_pending cfg.0.0 cfg.0.1)) (λ t. K.admits (V.key_cfg cfg.1) t.0 × V.Value.admits (V.value_cfg cfg.1) t.1 × K.admits (V.key_cfg cfg.1) t.2) (V.Value.admits cfg.2) (sized_read F.has_pending D.size cfg.0.0 cfg.0.1)
+        (record { again = λ t r h. ordered_again K.text V.Value.text K.view V.Value.view (K.parse (V.key_cfg cfg.1)) (V.Value.parse (V.value_cfg cfg.1)) (K.admits (V.key_cfg cfg.1)) (V.Value.admits (V.value_cfg cfg.1)) (record { again = K.again (V.key_cfg cfg.1) }) (record { again = V.Value.again (V.value_cfg cfg.1) }) t.0 t.1 t.2 r h }) (record { again = V.Value.again cfg.2 }) (exclusion_of D.text (λ c. c) x) rest
+        (with_digests D.size (IsAdmittedSized F.has_pending cfg.0.0 cfg.0.1) (λ t. K.admits (V.key_cfg cfg.1) t.0 × V.Value.admits (V.value_cfg cfg.1) t.1 × K.admits (V.key_cfg cfg.1) t.2) (V.Value.admits cfg.2) (exclusion_of D.text (λ c. c) x) (excluded_digests D.text (λ c. c) D.size D.sized x) ok) };
+}
+
+impl<F: Graftable, K: Key + Canonical, V: UpdateCodec<K>, D: Digest, const N: usize> Canonical
+    for ExclusionProof<F, K, V, D, [u8; N]>
+where
+    V::Value: Canonical,
+{
+    ghost back = { λ cfg bytes x rest fits e. exclusion_back F.has_pending (λ t. K.text t.0 ++ V.Value.text t.1 ++ K.text t.2) V.Value.text (λ t. (K.view t.0, V.Value.view t.1, K.view t.2)) V.Value.view (operation_at F.has_pending D.size N cfg.0) (ordered_at (K.parse (V.key_cfg cfg.1)) (V.Value.parse (V.value_cfg cfg.1))) (V.Value.parse cfg.2)
         (array_spelled F.has_pending D.size N cfg.0)
-        (record { back = λ b u r f p. ordered_back K.text V.text K.view V.view (K.parse tt) (V.parse tt) (record { back = K.back tt }) (record { back = V.back tt }) b u.key u.value u.next_key r f p })
-        (record { back = V.back tt }) bytes (held_exclusion D.text (λ c. c) x) rest fits e };
+        (record { back = λ b t r f p. ordered_back K.text V.Value.text K.view V.Value.view (K.parse (V.key_cfg cfg.1)) (V.Value.parse (V.value_cfg cfg.1)) (record { back = K.back (V.key_cfg cfg.1) }) (record { back = V.Value.back (V.value_cfg cfg.1) }) b t.0 t.1 t.2 r f p })
+        (record { back = V.Value.back cfg.2 }) bytes (exclusion_of D.text (λ c. c) x) rest fits e };
 }
 
-impl<F: Graftable, K: Key + Read<Cfg = ()>, V: FixedValue, D: Digest> Codec
-    for ExclusionProof<F, K, FixedEncoding<V>, D, Bytes> {
-    ghost again = { λ cfg x rest ok. exclusion_again F.has_pending (λ u. K.text u.key ++ V.text u.value ++ K.text u.next_key) V.text (λ u. (K.view u.key, V.view u.value, K.view u.next_key)) V.view (sized_operation_at F.has_pending D.size cfg.0.0 cfg.0.1) (ordered_at (K.parse tt) (V.parse tt)) (V.parse tt)
-        (Sized D.size (IsAdmittedSized F.has_pending cfg.0.0 cfg.0.1)) (λ u. K.admits tt u.key × V.admits tt u.value × K.admits tt u.next_key) (V.admits tt) (sized_read F.has_pending D.size cfg.0.0 cfg.0.1)
-        (record { again = λ u r h. ordered_again K.text V.text K.view V.view (K.parse tt) (V.parse tt) (K.admits tt) (V.admits tt) (record { again = K.again tt }) (record { again = V.again tt }) u.key u.value u.next_key r h })
-        (record { again = V.again tt }) (held_exclusion D.text (λ c. c) x) rest
-        (with_digests D.size (IsAdmittedSized F.has_pending cfg.0.0 cfg.0.1) (λ u. K.admits tt u.key × V.admits tt u.value × K.admits tt u.next_key) (V.admits tt) (held_exclusion D.text (λ c. c) x) (excluded_digests D.text (λ c. c) D.size D.sized x) ok) };
-}
-
-impl<F: Graftable, K: Key + Canonical + Read<Cfg = ()>, V: FixedValue + Canonical, D: Digest> Canonical
-    for ExclusionProof<F, K, FixedEncoding<V>, D, Bytes> {
-    ghost back = { λ cfg bytes x rest fits e. exclusion_back F.has_pending (λ u. K.text u.key ++ V.text u.value ++ K.text u.next_key) V.text (λ u. (K.view u.key, V.view u.value, K.view u.next_key)) V.view (sized_operation_at F.has_pending D.size cfg.0.0 cfg.0.1) (ordered_at (K.parse tt) (V.parse tt)) (V.parse tt)
+impl<F: Graftable, K: Key + Canonical, V: UpdateCodec<K>, D: Digest> Canonical
+    for ExclusionProof<F, K, V, D, Bytes>
+where
+    V::Value: Canonical,
+{
+    ghost back = { λ cfg bytes x rest fits e. exclusion_back F.has_pending (λ t. K.text t.0 ++ V.Value.text t.1 ++ K.text t.2) V.Value.text (λ t. (K.view t.0, V.Value.view t.1, K.view t.2)) V.Value.view (sized_operation_at F.has_pending D.size cfg.0.0 cfg.0.1) (ordered_at (K.parse (V.key_cfg cfg.1)) (V.Value.parse (V.value_cfg cfg.1))) (V.Value.parse cfg.2)
         (sized_spelled F.has_pending D.size cfg.0.0 cfg.0.1)
-        (record { back = λ b u r f p. ordered_back K.text V.text K.view V.view (K.parse tt) (V.parse tt) (record { back = K.back tt }) (record { back = V.back tt }) b u.key u.value u.next_key r f p })
-        (record { back = V.back tt }) bytes (held_exclusion D.text (λ c. c) x) rest fits e };
-}
-
-impl<F: Graftable, K: Key, V: VariableValue, D: Digest, const N: usize> Codec
-    for ExclusionProof<F, K, VariableEncoding<V>, D, [u8; N]> {
-    ghost again = { λ cfg x rest ok. exclusion_again F.has_pending (λ u. K.text u.key ++ V.text u.value ++ K.text u.next_key) V.text (λ u. (K.view u.key, V.view u.value, K.view u.next_key)) V.view (operation_at F.has_pending D.size N cfg.0) (ordered_at (K.parse cfg.1.0) (V.parse cfg.1.1)) (V.parse cfg.2)
-        (Sized D.size (IsAdmittedArray F.has_pending N cfg.0)) (λ u. K.admits cfg.1.0 u.key × V.admits cfg.1.1 u.value × K.admits cfg.1.0 u.next_key) (V.admits cfg.2) (array_read F.has_pending D.size N cfg.0)
-        (record { again = λ u r h. ordered_again K.text V.text K.view V.view (K.parse cfg.1.0) (V.parse cfg.1.1) (K.admits cfg.1.0) (V.admits cfg.1.1) (record { again = K.again cfg.1.0 }) (record { again = V.again cfg.1.1 }) u.key u.value u.next_key r h })
-        (record { again = V.again cfg.2 }) (held_exclusion D.text (λ c. c) x) rest
-        (with_digests D.size (IsAdmittedArray F.has_pending N cfg.0) (λ u. K.admits cfg.1.0 u.key × V.admits cfg.1.1 u.value × K.admits cfg.1.0 u.next_key) (V.admits cfg.2) (held_exclusion D.text (λ c. c) x) (excluded_digests D.text (λ c. c) D.size D.sized x) ok) };
-}
-
-impl<F: Graftable, K: Key + Canonical, V: VariableValue + Canonical, D: Digest, const N: usize> Canonical
-    for ExclusionProof<F, K, VariableEncoding<V>, D, [u8; N]> {
-    ghost back = { λ cfg bytes x rest fits e. exclusion_back F.has_pending (λ u. K.text u.key ++ V.text u.value ++ K.text u.next_key) V.text (λ u. (K.view u.key, V.view u.value, K.view u.next_key)) V.view (operation_at F.has_pending D.size N cfg.0) (ordered_at (K.parse cfg.1.0) (V.parse cfg.1.1)) (V.parse cfg.2)
-        (array_spelled F.has_pending D.size N cfg.0)
-        (record { back = λ b u r f p. ordered_back K.text V.text K.view V.view (K.parse cfg.1.0) (V.parse cfg.1.1) (record { back = K.back cfg.1.0 }) (record { back = V.back cfg.1.1 }) b u.key u.value u.next_key r f p })
-        (record { back = V.back cfg.2 }) bytes (held_exclusion D.text (λ c. c) x) rest fits e };
-}
-
-impl<F: Graftable, K: Key, V: VariableValue, D: Digest> Codec
-    for ExclusionProof<F, K, VariableEncoding<V>, D, Bytes> {
-    ghost again = { λ cfg x rest ok. exclusion_again F.has_pending (λ u. K.text u.key ++ V.text u.value ++ K.text u.next_key) V.text (λ u. (K.view u.key, V.view u.value, K.view u.next_key)) V.view (sized_operation_at F.has_pending D.size cfg.0.0 cfg.0.1) (ordered_at (K.parse cfg.1.0) (V.parse cfg.1.1)) (V.parse cfg.2)
-        (Sized D.size (IsAdmittedSized F.has_pending cfg.0.0 cfg.0.1)) (λ u. K.admits cfg.1.0 u.key × V.admits cfg.1.1 u.value × K.admits cfg.1.0 u.next_key) (V.admits cfg.2) (sized_read F.has_pending D.size cfg.0.0 cfg.0.1)
-        (record { again = λ u r h. ordered_again K.text V.text K.view V.view (K.parse cfg.1.0) (V.parse cfg.1.1) (K.admits cfg.1.0) (V.admits cfg.1.1) (record { again = K.again cfg.1.0 }) (record { again = V.again cfg.1.1 }) u.key u.value u.next_key r h })
-        (record { again = V.again cfg.2 }) (held_exclusion D.text (λ c. c) x) rest
-        (with_digests D.size (IsAdmittedSized F.has_pending cfg.0.0 cfg.0.1) (λ u. K.admits cfg.1.0 u.key × V.admits cfg.1.1 u.value × K.admits cfg.1.0 u.next_key) (V.admits cfg.2) (held_exclusion D.text (λ c. c) x) (excluded_digests D.text (λ c. c) D.size D.sized x) ok) };
-}
-
-impl<F: Graftable, K: Key + Canonical, V: VariableValue + Canonical, D: Digest> Canonical
-    for ExclusionProof<F, K, VariableEncoding<V>, D, Bytes> {
-    ghost back = { λ cfg bytes x rest fits e. exclusion_back F.has_pending (λ u. K.text u.key ++ V.text u.value ++ K.text u.next_key) V.text (λ u. (K.view u.key, V.view u.value, K.view u.next_key)) V.view (sized_operation_at F.has_pending D.size cfg.0.0 cfg.0.1) (ordered_at (K.parse cfg.1.0) (V.parse cfg.1.1)) (V.parse cfg.2)
-        (sized_spelled F.has_pending D.size cfg.0.0 cfg.0.1)
-        (record { back = λ b u r f p. ordered_back K.text V.text K.view V.view (K.parse cfg.1.0) (V.parse cfg.1.1) (record { back = K.back cfg.1.0 }) (record { back = V.back cfg.1.1 }) b u.key u.value u.next_key r f p })
-        (record { back = V.back cfg.2 }) bytes (held_exclusion D.text (λ c. c) x) rest fits e };
+        (record { back = λ b t r f p. ordered_back K.text V.Value.text K.view V.Value.view (K.parse (V.key_cfg cfg.1)) (V.Value.parse (V.value_cfg cfg.1)) (record { back = K.back (V.key_cfg cfg.1) }) (record { back = V.Value.back (V.value_cfg cfg.1) }) b t.0 t.1 t.2 r f p })
+        (record { back = V.Value.back cfg.2 }) bytes (exclusion_of D.text (λ c. c) x) rest fits e };
 }

@@ -35,7 +35,9 @@ impl<F: Graftable, K: Key, D: Digest, C: Chunk> Write for KeyValueProof<F, K, D,
 impl<F: Graftable, K: Key, D: Digest, C: Chunk> EncodeSize for KeyValueProof<F, K, D, C> {
     #[tactic(auto, using(std::proofs::lemmas::Grind::common_steps))]
     fn encode_size(&self) -> Option<u64> {
-        self.proof.encode_size()?.checked_add(self.next_key.encode_size()?)
+        self.proof
+            .encode_size()?
+            .checked_add(self.next_key.encode_size()?)
     }
 }
 
@@ -52,11 +54,7 @@ impl<F: Graftable, K: Key, D: Digest, const N: usize> Read for KeyValueProof<F, 
 
     ghost parse = { λ cfg. pair_at (operation_at F.has_pending D.size N cfg.0) (K.parse cfg.1) };
 
-    fn read_cfg<B: Buf>(
-        alloc: Global,
-        buf: &mut B,
-        cfg: &(usize, K::Cfg),
-    ) -> Result<Self, Error> {
+    fn read_cfg<B: Buf>(alloc: Global, buf: &mut B, cfg: &(usize, K::Cfg)) -> Result<Self, Error> {
         match read_pair::<Proof<F, D, [u8; N]>, K, B>(alloc, buf, &cfg.0, &cfg.1) {
             Ok((proof, next_key)) => Ok(KeyValueProof { proof, next_key }),
             Err(error) => Err(error),
