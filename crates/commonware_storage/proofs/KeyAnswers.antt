@@ -1,20 +1,27 @@
 -- What bytes are read as that are to prove something of a key, and what a check of them answers.
-use Rattle.std.proofs.Common.{◌≡◌, ℕ, ◌↔◌, Bool, List, [], ◌++◌, length, Result, Ok, Err, refl, sym, ap, subst, ◌∙◌, append-nil}
+use Rattle.std.proofs.Common.{◌≡◌, ℕ, ◌↔◌, Bool, true, false, cond, not, ◌&&◌, ◌||◌, eqb, List, [], ◌∷◌, ◌++◌, length, Option, Some, None, Result, Ok, Err, Ordering, Less, Equal, Greater, is_lt, inl, inr, refl, sym, ap, subst, ◌∙◌}
+use Rattle.std.specs.Prelude.{option_map}
+use Rattle.std.specs.Cmp.{IsTotalOrder}
+use Rattle.std.specs.Ordering.{is_eq}
+use Rattle.std.proofs.lemmas.Bool.{false≢true}
+use Rattle.std.proofs.lemmas.Cmp.{alike_right}
 use Rattle.std.specs.Bool.{IsTrue}
 use Rattle.std.specs.Result.{IfOk}
 use Rattle.storage_codec.specs.Digests.{HashFunction}
-use Rattle.storage_codec.specs.Codec.{Answer, mapped, whole}
+use Rattle.storage_codec.specs.Codec.{Answer, mapped, option_at, whole}
+use Rattle.storage_codec.specs.Faults.{EndOfBuffer, InvalidEnum}
 use Rattle.storage_codec.specs.CodecLaws.{whole_ok}
 use Rattle.storage_codec.specs.Laws.{bind_ok, mapped_ok, ok_is}
 use Rattle.storage_merkle.specs.Shape.{Shape}
-use Rattle.storage_ops.specs.Operations.{Update}
+use Rattle.storage_ops.specs.Operations.{Update, CommitFloor}
+use Rattle.storage_ops.specs.Reading.{chosen, failed, no_fault}
 use Rattle.storage_current.specs.Snapshots.{Grafting, OperationProof}
 use Rattle.storage_current.specs.CurrentProofs.{IsActiveCurrent}
 use Rattle.storage_current.specs.CurrentWire.{sized_operation_at}
-use Rattle.storage_current.specs.Keys.{Keyed, update_text}
-use Rattle.storage_current.specs.KeyProofs.{MeansValue}
-use Rattle.storage_current.specs.KeyWire.{pair_at}
-use Rattle.commonware_storage.specs.LightKeys.{IsAcceptedValue, IsTrueValue}
+use Rattle.storage_current.specs.Keys.{Keyed, update_text, before, Excludes}
+use Rattle.storage_current.specs.KeyProofs.{MeansValue, MeansAbsent, Exclusion, KeyValue, Commit, Allows, IsExcluded, proof_of, shown_text}
+use Rattle.storage_current.specs.KeyWire.{pair_at, exclusion_at, exclusion_map}
+use Rattle.commonware_storage.specs.LightKeys.{IsAcceptedValue, IsTrueValue, IsAcceptedAbsence, IsTrueAbsence}
 use Rattle.commonware_storage.proofs.Answers.{front_chunk}
 
 -- the chunk of a proof that was read in front of another part
@@ -75,3 +82,144 @@ module _ {K V X : Type 0} (e : Keyed K V) (view : K → X) (next_at : List ℕ �
       read = read;
       means = subst (λ (n : ℕ). MeansValue e h (grafting n) p key value next root) (chunk_size p next read) (means t);
     }
+
+-- ---- exclusions
+
+update_same : {K V : Type 0} (e : Keyed K V) {a b c x y z : List ℕ} → a ≡ x → b ≡ y → c ≡ z → e.operation (Update (a ++ b ++ c)) ≡ e.operation (Update (x ++ y ++ z))
+update_same e p q r = rw (p, q, r) refl
+
+commit_same : {K V : Type 0} (e : Keyed K V) {v w : Option (List ℕ)} {m n : ℕ} → v ≡ w → m ≡ n → e.operation (CommitFloor v m) ≡ e.operation (CommitFloor w n)
+commit_same e p q = rw (p, q) refl
+
+module _ {X Y : Type 0} (there : Bool) (d size most : ℕ) (update_at : List ℕ → Answer X) (value_at : List ℕ → Answer Y) where
+  abbrev reader : List ℕ → Answer OperationProof
+  reader = sized_operation_at there d size most
+
+  abbrev span_of_pair : OperationProof × X → Exclusion X Y
+  span_of_pair x = KeyValue x.0 x.1
+
+  abbrev commit_of_pair : OperationProof × Option Y → Exclusion X Y
+  commit_of_pair x = Commit x.0 x.1
+
+  -- the chunk of an exclusion proof that was read
+  pub exclusion_chunk : (bytes : List ℕ) (y : Exclusion X Y) (rest : List ℕ) → exclusion_at reader update_at value_at bytes ≡ Ok (y, rest) → length (proof_of y).chunk ≡ size
+  exclusion_chunk [] y rest e = no_fault {A = Exclusion X Y × List ℕ} EndOfBuffer (y, rest) _ e
+  exclusion_chunk (tag ∷ bytes) y rest e =
+      let wrong = failed (Exclusion X Y × List ℕ) (InvalidEnum tag) in
+      let spans = mapped span_of_pair (pair_at reader update_at bytes) in
+      let commits = mapped commit_of_pair (pair_at reader (option_at value_at) bytes) in
+      elim (chosen (eqb tag 0) spans (cond (eqb tag 1) commits wrong) (Ok (y, rest)) e) [
+        | inl i ↦
+            let m = mapped_ok span_of_pair (pair_at reader update_at bytes) y rest i.1 in
+            subst (λ (z : Exclusion X Y). length (proof_of z).chunk ≡ size) m.2 (pair_chunk there d size most update_at bytes m.0.0 m.0.1 rest m.1)
+        | inr i ↦ elim (chosen (eqb tag 1) commits wrong (Ok (y, rest)) i.1) [
+          | inl j ↦
+              let m = mapped_ok commit_of_pair (pair_at reader (option_at value_at) bytes) y rest j.1 in
+              subst (λ (z : Exclusion X Y). length (proof_of z).chunk ≡ size) m.2 (pair_chunk there d size most (option_at value_at) bytes m.0.0 m.0.1 rest m.1)
+          | inr j ↦ no_fault (InvalidEnum tag) (y, rest) _ j.1
+          ]
+      ]
+
+-- what the order and the encodings of keys and values have in common
+pub record AreAlike {K V X Y : Type 0} (e : Keyed K V) (kview : K → X) (vview : V → Y) : Type 0 where
+  pub key : (a b : K) → kview a ≡ kview b → e.key a ≡ e.key b
+  pub value : (a b : V) → vview a ≡ vview b → e.value a ≡ e.value b
+  pub total : IsTotalOrder e.cmp
+  pub tied : (a b : K) → e.key a ≡ e.key b → e.cmp a b ≡ Equal
+
+equal_of : (o : Ordering) → is_eq o ≡ true → o ≡ Equal
+equal_of Less h = absurd (false≢true h)
+equal_of Equal h = refl
+equal_of Greater h = absurd (false≢true h)
+
+pub tied_of : {K : Type 0} (cmp : K → K → Ordering) (eq : K → K → Bool) (text : K → List ℕ) → ((a b : K) → eq a b ≡ is_eq (cmp a b))
+    → ((a b : K) → (eq a b ≡ true → text a ≡ text b) × (text a ≡ text b → eq a b ≡ true)) → (a b : K) → text a ≡ text b → cmp a b ≡ Equal
+tied_of cmp eq text eq_is same a b e = equal_of (cmp a b) (sym (eq_is a b) ∙ (same a b).1 e)
+
+option_alike : {V Y : Type 0} (vview : V → Y) (value : V → List ℕ) → ((a b : V) → vview a ≡ vview b → value a ≡ value b)
+    → (v w : Option V) → option_map vview v ≡ option_map vview w → option_map value v ≡ option_map value w
+option_alike vview value seen None None e = refl
+option_alike vview value seen None (Some w) e = absurd cc
+option_alike vview value seen (Some v) None e = absurd cc
+option_alike vview value seen (Some v) (Some w) e = ap (λ t. Some t) (seen v w cc)
+
+module _ {K V X Y : Type 0} (e : Keyed K V) (kview : K → X) (vview : V → Y) (alike : AreAlike e kview vview) where
+  abbrev View : Exclusion (K × V × K) V → Exclusion (X × Y × X) Y
+  View = exclusion_map (λ u. (kview u.0, vview u.1, kview u.2)) vview
+
+  before_alike : (a b k l : K) → e.key a ≡ e.key b → e.key k ≡ e.key l → before e a k ≡ before e b l
+  before_alike a b k l p q = ap is_lt (alike.total.congr a b k (alike.tied a b p) ∙ alike_right alike.total k l b (alike.tied k l q))
+
+  abbrev span_of : Bool → Bool → Bool → Bool
+  span_of across from to = cond across (not from && to) (not from || to)
+
+  same_span : (a b c x y z : Bool) → a ≡ x → b ≡ y → c ≡ z → span_of a b c ≡ span_of x y z
+  same_span a b c x y z p q r = rw (p, q, r) refl
+
+  excludes_alike : (a b m n key : K) → e.key a ≡ e.key b → e.key m ≡ e.key n → Excludes e a m key → Excludes e b n key
+  excludes_alike a b m n key p q x = record {
+    other = λ same. x.other (same ∙ sym p);
+    spanned =
+        let across = before_alike a b m n p q in
+        let from = before_alike key key a b refl p in
+        let to = before_alike key key m n refl q in
+        sym (same_span _ _ _ _ _ _ across from to) ∙ x.spanned;
+  }
+  record SameShown (x y : Exclusion (K × V × K) V) (key : K) : Type 0 where
+    proof : proof_of x ≡ proof_of y
+    text : shown_text e x ≡ shown_text e y
+    allows : Allows e x key → Allows e y key
+
+  shown_alike : (x y : Exclusion (K × V × K) V) (key : K) → View x ≡ View y → SameShown x y key
+  shown_alike (KeyValue p u) (KeyValue q w) key same =
+      let seen : (kview u.0, vview u.1, kview u.2) ≡ (kview w.0, vview w.1, kview w.2) = cc in
+      let first = alike.key u.0 w.0 (ap (λ (t : X × Y × X). t.0) seen) in
+      let second = alike.value u.1 w.1 (ap (λ (t : X × Y × X). t.1) seen) in
+      let third = alike.key u.2 w.2 (ap (λ (t : X × Y × X). t.2) seen) in
+      record { proof = cc; text = update_same e first second third; allows = excludes_alike u.0 w.0 u.2 w.2 key first third }
+  shown_alike (KeyValue p u) (Commit q w) key same = absurd cc
+  shown_alike (Commit p v) (KeyValue q w) key same = absurd cc
+  shown_alike (Commit p v) (Commit q w) key same =
+      let seen : option_map vview v ≡ option_map vview w = cc in
+      let values = option_alike vview e.value alike.value v w seen in
+      let proofs : p ≡ q = cc in
+      record { proof = proofs; text = commit_same e values (ap (λ (r : OperationProof). r.location) proofs); allows = λ t. t }
+
+  excluded_alike : (h : HashFunction) (g : Grafting) (x y : Exclusion (K × V × K) V) (key : K) (root : List ℕ) → View x ≡ View y → IsExcluded e h g x key root → IsExcluded e h g y key root
+  excluded_alike h g x y key root same a =
+      let s = shown_alike x y key same in
+      record {
+        allowed = s.allows a.allowed;
+        accepted = subst (λ (t : List ℕ). IsActiveCurrent h g (proof_of y) t root) s.text (subst (λ (q : OperationProof). IsActiveCurrent h g q (shown_text e x) root) s.proof a.accepted);
+      }
+
+  same_proof : (x : Exclusion (K × V × K) V) → proof_of (View x) ≡ proof_of x
+  same_proof (KeyValue p u) = refl
+  same_proof (Commit p v) = refl
+
+  module _ (update_at : List ℕ → Answer (X × Y × X)) (value_at : List ℕ → Answer Y) (h : HashFunction) (S : Shape) (size : ℕ) (there : Bool) (d : ℕ) (bytes : List ℕ) (key : K) (root : List ℕ)
+      (x : Exclusion (K × V × K) V) (read : whole (exclusion_at (sized_operation_at there d size 128) update_at value_at bytes) ≡ Ok (View x, [])) where
+    abbrev over : ℕ → Grafting
+    over n = record { shape = S; bytes = n }
+
+    size_is : length (proof_of x).chunk ≡ size
+    size_is = subst (λ (p : OperationProof). length p.chunk ≡ size) (same_proof x)
+        (exclusion_chunk there d size 128 update_at value_at bytes (View x) [] (whole_ok (exclusion_at (sized_operation_at there d size 128) update_at value_at bytes) (View x) [] read).0)
+
+    -- what the check of the bytes answers, from what the check of the proof that they are read as does
+    pub absence_exactly : {E : Type 0} (answer : Result Bool E)
+        → IfOk answer (λ yes. IsTrue yes ↔ IsExcluded e h (over (length (proof_of x).chunk)) x key root)
+        → IfOk answer (λ yes. IsTrue yes ↔ IsAcceptedAbsence e kview vview update_at value_at h (over size) there d bytes key root)
+    absence_exactly (Err z) exact = tt
+    absence_exactly (Ok b) exact =
+        let on : IsTrue b ↔ IsExcluded e h (over size) x key root = subst (λ (n : ℕ). IsTrue b ↔ IsExcluded e h (over n) x key root) size_is exact in (
+          λ t. record { proof = x; read = read; accepted = on.0 t },
+          λ a. on.1 (excluded_alike h (over size) a.proof x key root (one_read a.read read) a.accepted),
+        )
+
+    -- and what its yes means
+    pub absence_meaning : {E : Type 0} (answer : Result Bool E)
+        → IfOk answer (λ yes. IsTrue yes → MeansAbsent e h (over (length (proof_of x).chunk)) x key root)
+        → IfOk answer (λ yes. IsTrue yes → IsTrueAbsence e kview vview update_at value_at h (over size) there d bytes key root)
+    absence_meaning (Err z) means = tt
+    absence_meaning (Ok b) means = λ t. record { proof = x; read = read; means = subst (λ (n : ℕ). MeansAbsent e h (over n) x key root) size_is (means t) }

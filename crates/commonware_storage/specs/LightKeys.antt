@@ -1,14 +1,14 @@
 -- What a client that trusts one digest learns of keys from bytes.
-use Rattle.std.specs.Prelude.{◌≡◌, ℕ, Bool, List, [], ◌++◌, Option, Ok, IfSome}
+use Rattle.std.specs.Prelude.{◌≡◌, ℕ, Bool, List, [], ◌++◌, Ok}
 use Rattle.storage_codec.specs.Digests.{HashFunction, IsSized}
 use Rattle.storage_codec.specs.Codec.{Answer, whole}
 use Rattle.storage_current.specs.Snapshots.{Grafting, IsGrafting, Snapshot, IsSnapshot, IsActive, OperationProof, canonical_root, own_operation_proof}
 use Rattle.storage_current.specs.CurrentProofs.{IsActiveCurrent}
 use Rattle.storage_current.specs.CurrentWire.{operation_text, sized_operation_at}
 use Rattle.storage_current.specs.OwnWire.{IsPrompt}
-use Rattle.storage_current.specs.Keys.{Keyed, update_text, commit_text, Updates, Excludes}
-use Rattle.storage_current.specs.KeyProofs.{Exclusion, KeyValue, Commit, IsExcluded, MeansValue, MeansAbsent}
-use Rattle.storage_current.specs.KeyWire.{pair_at, exclusion_text, exclusion_at, exclusion_map}
+use Rattle.storage_current.specs.Keys.{Keyed, update_text, Updates}
+use Rattle.storage_current.specs.KeyProofs.{Exclusion, Allows, IsExcluded, MeansValue, MeansAbsent, proof_of, shown_text}
+use Rattle.storage_current.specs.KeyWire.{pair_at, exclusion_text, exclusion_at, exclusion_map, IsAdmittedExclusion}
 
 module _ {K V X : Type 0} (e : Keyed K V) (view : K → X) (next_at : List ℕ → Answer X) where
   -- These bytes are one whole key-value proof over a chunk of so many bytes, with at most 128 digests of d bytes, and the check of
@@ -33,30 +33,28 @@ module _ {K V X : Type 0} (e : Keyed K V) (view : K → X) (next_at : List ℕ �
       (s : Snapshot) → IsSnapshot s → (location : ℕ) (key : K) (value : V) (next : K) → Updates e s location key value next → Admits next →
       IsAcceptedValue h g has_pending d (operation_text has_pending (own_operation_proof h g s location) ++ e.key next) key value (canonical_root h g s)
 
--- the key, the value and the next key of an update
-abbrev pub parts_of : {U K V : Type 0} → (U → K × V × K) → Exclusion U V → Exclusion (K × V × K) V
-parts_of parts (KeyValue proof update) = KeyValue proof (parts update)
-parts_of parts (Commit proof value) = Commit proof value
+module _ {K V X Y : Type 0} (e : Keyed K V) (kview : K → X) (vview : V → Y) (update_at : List ℕ → Answer (X × Y × X)) (value_at : List ℕ → Answer Y) where
+  -- what is seen of an exclusion proof
+  abbrev pub exclusion_view : Exclusion (K × V × K) V → Exclusion (X × Y × X) Y
+  exclusion_view = exclusion_map (λ u. (kview u.0, vview u.1, kview u.2)) vview
 
-module _ {U K V X Y : Type 0} (e : Keyed K V) (uview : U → X) (vview : V → Y) (update_at : List ℕ → Answer X) (value_at : List ℕ → Answer Y) (parts : U → K × V × K) where
   -- the same of exclusion proofs
   pub record IsAcceptedAbsence (h : HashFunction) (g : Grafting) (has_pending : Bool) (d : ℕ) (bytes : List ℕ) (key : K) (root : List ℕ) : Type 0 where
-    pub proof : Exclusion U V
-    pub read : whole (exclusion_at (sized_operation_at has_pending d g.bytes 128) update_at value_at bytes) ≡ Ok (exclusion_map uview vview proof, [])
-    pub accepted : IsExcluded e h g (parts_of parts proof) key root
+    pub proof : Exclusion (K × V × K) V
+    pub read : whole (exclusion_at (sized_operation_at has_pending d g.bytes 128) update_at value_at bytes) ≡ Ok (exclusion_view proof, [])
+    pub accepted : IsExcluded e h g proof key root
 
   pub record IsTrueAbsence (h : HashFunction) (g : Grafting) (has_pending : Bool) (d : ℕ) (bytes : List ℕ) (key : K) (root : List ℕ) : Type 0 where
-    pub proof : Exclusion U V
-    pub read : whole (exclusion_at (sized_operation_at has_pending d g.bytes 128) update_at value_at bytes) ≡ Ok (exclusion_map uview vview proof, [])
-    pub means : MeansAbsent e h g (parts_of parts proof) key root
+    pub proof : Exclusion (K × V × K) V
+    pub read : whole (exclusion_at (sized_operation_at has_pending d g.bytes 128) update_at value_at bytes) ≡ Ok (exclusion_view proof, [])
+    pub means : MeansAbsent e h g proof key root
 
-  -- A snapshot's own proof of an active update whose span excludes a key, with that update; and of a commit at its own floor, with
-  -- its value.
-  abbrev pub OwnExclusionsAreAccepted : (U → List ℕ) → (U → Type 0) → (V → Type 0) → Type 0
-  OwnExclusionsAreAccepted text UAdmits VAdmits =
+  -- A snapshot's own proof of an active operation that excludes a key is accepted: with the update whose span holds the key, or with
+  -- the value of a commit at its own floor.
+  abbrev pub OwnExclusionsAreAccepted : (K → Type 0) → (V → Type 0) → Type 0
+  OwnExclusionsAreAccepted KAdmits VAdmits =
       (d : ℕ) (h : HashFunction) → IsSized d h → (g : Grafting) → IsGrafting g → (has_pending : Bool) → IsPrompt has_pending g.shape →
-      (s : Snapshot) → IsSnapshot s → (location : ℕ) (key : K) →
-      ((u : U) → Updates e s location (parts u).0 (parts u).1 (parts u).2 → Excludes e (parts u).0 (parts u).2 key → UAdmits u →
-          IsAcceptedAbsence h g has_pending d (exclusion_text has_pending text e.value (KeyValue (own_operation_proof h g s location) u)) key (canonical_root h g s))
-      × ((value : Option V) → IsActive s location (commit_text e value location) → IfSome value VAdmits →
-          IsAcceptedAbsence h g has_pending d (exclusion_text has_pending text e.value (Commit (own_operation_proof h g s location) value)) key (canonical_root h g s))
+      (s : Snapshot) → IsSnapshot s → (x : Exclusion (K × V × K) V) (key : K) → proof_of x ≡ own_operation_proof h g s (proof_of x).location →
+      IsActive s (proof_of x).location (shown_text e x) → Allows e x key →
+      IsAdmittedExclusion (λ _. Unit {0}) (λ u. KAdmits u.0 × VAdmits u.1 × KAdmits u.2) VAdmits x →
+      IsAcceptedAbsence h g has_pending d (exclusion_text has_pending (λ u. e.key u.0 ++ e.value u.1 ++ e.key u.2) e.value x) key (canonical_root h g s)

@@ -9,7 +9,7 @@ ghost use Rattle.commonware_storage.specs.declared.light.text_error.TextError.Th
 mod keys;
 mod text_error;
 
-pub use keys::check_value;
+pub use keys::{check_absence, check_value};
 use std::alloc::Global;
 use storage_codec::NoMemory;
 use storage_codec::codec::{Decode, Error};

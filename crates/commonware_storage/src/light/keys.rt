@@ -2,17 +2,19 @@
 
 ghost use Rattle.std.specs.Prelude.{◌≡◌, ◌↔◌, ◌⊎◌, IfOk, IsTrue, Ok, false};
 ghost use Rattle.storage_bitmap.specs.Chunks.{IsChunkSize};
+ghost use Rattle.storage_ops.specs.Updates.{ordered_at};
 ghost use Rattle.storage_current.specs.Keys.{Keyed};
 ghost use Rattle.storage_current.specs.Snapshots.{Grafting};
-ghost use Rattle.commonware_storage.specs.LightKeys.{IsAcceptedValue, IsTrueValue};
+ghost use Rattle.commonware_storage.specs.LightKeys.{IsAcceptedAbsence, IsAcceptedValue, IsTrueAbsence, IsTrueValue};
 
 use crate::light::MAX_DIGESTS;
 use std::alloc::Global;
 use storage_codec::NoMemory;
-use storage_codec::codec::Error;
+use storage_codec::codec::{Error, Read};
 use storage_codec::digest::Hasher;
 use storage_current::qmdb::current::grafting;
-use storage_current::qmdb::current::ordered::dynamic::KeyValueProof;
+use storage_current::qmdb::current::ordered::UpdateCodec;
+use storage_current::qmdb::current::ordered::dynamic::{ExclusionProof, KeyValueProof};
 use storage_merkle::merkle::Graftable;
 use storage_ops::qmdb::any::operation::OperationCodec;
 use storage_ops::qmdb::any::operation::update::Ordered;
@@ -42,6 +44,36 @@ pub fn check_value<F: Graftable, H: Hasher, K: Key, V: OperationCodec<F, Ordered
     let limits = (chunk_size, MAX_DIGESTS);
     match KeyValueProof::<F, K, H::Digest>::decode_with(alloc, proof, &limits, cfg) {
         Ok(proof) => proof.verify::<H, V>(alloc, key, value, root),
+        Err(Error::Memory) => Err(NoMemory),
+        Err(_) => Ok(false),
+    }
+}
+
+/// Whether the key has no value in the snapshot with that canonical root. `proof` is an exclusion proof as it is written, over
+/// a chunk of `chunk_size` bytes, and `cfgs` are what the readers of its update and of its value are told.
+///
+/// The answer is no where the bytes are not one whole proof with at most [`MAX_DIGESTS`] digests, and where no chunk has that
+/// size: this last no takes no memory. Else it is what the proof's `verify` answers.
+pub fn check_absence<F: Graftable, H: Hasher, K: Key, V: OperationCodec<F, Ordered<K, V>> + UpdateCodec<K>>(
+    alloc: Global,
+    proof: &[u8],
+    chunk_size: usize,
+    cfgs: &(<V as UpdateCodec<K>>::UpdateCfg, <V::Value as Read>::Cfg),
+    key: &K,
+    root: &H::Digest,
+) -> Result<bool, NoMemory>
+    ensures refused { ¬ IsChunkSize chunk_size → result ≡ Ok false }
+    ensures exact { let e : Keyed K V.Value = record { key = K.text; value = V.Value.text; operation = V.operation_text; cmp = K.cmp } in IfOk result (λ yes. IsTrue yes ↔ IsAcceptedAbsence e K.view V.Value.view (ordered_at (K.parse (V.key_cfg cfgs.now.0)) (V.Value.parse (V.value_cfg cfgs.now.0))) (V.Value.parse cfgs.now.1) H.hash_of (record { shape = F.shape; bytes = chunk_size }) F.has_pending H.Digest.size proof.now key.now (H.Digest.text root.now)) }
+    ensures meaning { let e : Keyed K V.Value = record { key = K.text; value = V.Value.text; operation = V.operation_text; cmp = K.cmp } in (H.Digest.size ≡ 32) ⊎ (H.Digest.size ≡ 64) → IfOk result (λ yes. IsTrue yes → IsTrueAbsence e K.view V.Value.view (ordered_at (K.parse (V.key_cfg cfgs.now.0)) (V.Value.parse (V.value_cfg cfgs.now.0))) (V.Value.parse cfgs.now.1) H.hash_of (record { shape = F.shape; bytes = chunk_size }) F.has_pending H.Digest.size proof.now key.now (H.Digest.text root.now)) }
+{
+    if grafting::chunk_height(chunk_size).is_none() {
+        return Ok(false);
+    }
+    let limits = (chunk_size, MAX_DIGESTS);
+    match ExclusionProof::<F, K, V, H::Digest>::decode_with(
+        alloc, proof, &limits, &cfgs.0, &cfgs.1,
+    ) {
+        Ok(proof) => proof.verify::<H>(alloc, key, root),
         Err(Error::Memory) => Err(NoMemory),
         Err(_) => Ok(false),
     }
