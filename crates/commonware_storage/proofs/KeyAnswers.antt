@@ -117,7 +117,7 @@ module _ {X Y : Type 0} (there : Bool) (d size most : ℕ) (update_at : List ℕ
               let m = mapped_ok commit_of_pair (pair_at reader (option_at value_at) bytes) y rest j.1 in
               subst (λ (z : Exclusion X Y). length (proof_of z).chunk ≡ size) m.2 (pair_chunk there d size most (option_at value_at) bytes m.0.0 m.0.1 rest m.1)
           | inr j ↦ no_fault (InvalidEnum tag) (y, rest) _ j.1
-          ]
+        ]
       ]
 
 -- what the order and the encodings of keys and values have in common
@@ -165,6 +165,7 @@ module _ {K V X Y : Type 0} (e : Keyed K V) (kview : K → X) (vview : V → Y) 
         let to = before_alike key key m n refl q in
         sym (same_span _ _ _ _ _ _ across from to) ∙ x.spanned;
   }
+
   record SameShown (x y : Exclusion (K × V × K) V) (key : K) : Type 0 where
     proof : proof_of x ≡ proof_of y
     text : shown_text e x ≡ shown_text e y

@@ -1,6 +1,7 @@
 //! One function for each list.
 
 mod codecs;
+mod keys;
 mod operations;
 mod plain;
 mod program;
@@ -26,6 +27,7 @@ pub fn answer(alloc: Global, line: &str) -> Result<String, Fault> {
         "written" => operations::written(alloc, columns),
         "program" => program::program(alloc, columns),
         "program_checks" => program::program_checks(alloc, columns),
+        "key_values" | "exclusions" | "golden_keys" => keys::answer(alloc, *list, columns),
         "golden" | "ranges" | "ranges_checks" => snapshots::answer(alloc, *list, columns),
         _ => trees::answer(alloc, *list, columns),
     }

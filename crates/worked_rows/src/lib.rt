@@ -13,6 +13,8 @@ mod digests;
 #[cfg(test)]
 mod floors;
 #[cfg(test)]
+mod keys;
+#[cfg(test)]
 mod operation_proofs;
 #[cfg(test)]
 mod program;

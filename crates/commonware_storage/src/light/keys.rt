@@ -54,7 +54,12 @@ pub fn check_value<F: Graftable, H: Hasher, K: Key, V: OperationCodec<F, Ordered
 ///
 /// The answer is no where the bytes are not one whole proof with at most [`MAX_DIGESTS`] digests, and where no chunk has that
 /// size: this last no takes no memory. Else it is what the proof's `verify` answers.
-pub fn check_absence<F: Graftable, H: Hasher, K: Key, V: OperationCodec<F, Ordered<K, V>> + UpdateCodec<K>>(
+pub fn check_absence<
+    F: Graftable,
+    H: Hasher,
+    K: Key,
+    V: OperationCodec<F, Ordered<K, V>> + UpdateCodec<K>,
+>(
     alloc: Global,
     proof: &[u8],
     chunk_size: usize,
