@@ -13,6 +13,7 @@ use storage_codec::codec::{
 use storage_merkle::merkle::{Family, Location, mmb, mmr};
 
 mod multi;
+mod plain_proofs;
 
 type Fixed<const N: usize> = Ordered<mmr::Family, FixedBytes<N>, FixedEncoding<u64>>;
 
