@@ -5,6 +5,8 @@
 #[cfg(test)]
 mod altered;
 #[cfg(test)]
+mod bit_proofs;
+#[cfg(test)]
 mod bitmaps;
 #[cfg(test)]
 mod built;
