@@ -1,7 +1,9 @@
 //! One function for each list.
 
+mod bitmaps;
 mod codecs;
 mod keys;
+mod mems;
 mod operations;
 mod plain;
 mod program;
@@ -28,6 +30,7 @@ pub fn answer(alloc: Global, line: &str) -> Result<String, Fault> {
         "program" => program::program(alloc, columns),
         "program_checks" => program::program_checks(alloc, columns),
         "key_values" | "exclusions" | "golden_keys" => keys::answer(alloc, *list, columns),
+        "bitmaps_checks" | "bitmaps_init" => bitmaps::answer(alloc, *list, columns),
         "golden" | "ranges" | "ranges_checks" => snapshots::answer(alloc, *list, columns),
         _ => trees::answer(alloc, *list, columns),
     }

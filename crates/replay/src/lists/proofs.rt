@@ -46,7 +46,7 @@ fn positions<F: Family>(alloc: Global, plan: &RangePlan<F>) -> Result<String, Fa
 }
 
 /// The direction of this name.
-fn bagging(word: &str) -> Result<Bagging, Fault> {
+pub fn bagging(word: &str) -> Result<Bagging, Fault> {
     match word {
         "forward" => Ok(Bagging::ForwardFold),
         "backward" => Ok(Bagging::BackwardFold),

@@ -5,7 +5,7 @@ ghost use Rattle.storage_merkle.specs.Nodes.{IsNode, CoversSame};
 ghost use Rattle.storage_merkle.specs.Shape.{size};
 
 use crate::columns::{Fault, Series, number};
-use crate::lists::{plain, proofs};
+use crate::lists::{mems, plain, proofs};
 use reference::shape::Digits;
 use std::alloc::Global;
 use storage_merkle::merkle::family::{
@@ -38,6 +38,7 @@ fn over<F: Graftable + Digits>(
         "maps" => maps::<F>(alloc, columns),
         "elements" => proofs::elements::<F>(alloc, columns),
         "plans" => proofs::plans::<F>(alloc, columns),
+        "mem_init" => mems::mem_init::<F>(alloc, columns),
         "plain_checks" => proofs::plain_checks::<F>(alloc, columns),
         _ => Err(Fault::Malformed),
     }
