@@ -10,6 +10,7 @@ use commonware_storage::qmdb::operation::Key;
 use std::alloc::Global;
 
 /// A check of a key: its value by its encoding, and none where the key is to have no value.
+#[derive(Drop)]
 struct Case<'a> {
     chunk_size: usize,
     proof: &'a [u8],
