@@ -11,7 +11,11 @@ mod bitmaps;
 #[cfg(test)]
 mod built;
 #[cfg(test)]
+mod combined;
+#[cfg(test)]
 mod digests;
+#[cfg(test)]
+mod faulty;
 #[cfg(test)]
 mod floors;
 #[cfg(test)]
