@@ -35,6 +35,14 @@ refusal_no_fault F n low high code e =
       ]
     ]
 
+abbrev refused_as : {X F : Type 0} → Refusal F → Result X (Error F)
+refused_as e = Err (Merkle e)
+
+pub plan_no_fault : {X : Type 0} (F : Type 0) (n low high : ℕ) (e : Refusal F) → refusal F n low high ≡ Some e → (code : ℕ) × (refused_as {X = X} e ≡ Err (Merkle (tree.Source code))) → ⊥
+plan_no_fault F n low high e refused f =
+    let is : e ≡ tree.Source f.0 = (let h = f.1 in cc) in
+    refusal_no_fault F n low high f.0 (refused ∙ ap Some is)
+
 abbrev ok_plan : {F : Type 0} → PlanOf → Result PlanOf (Refusal F)
 ok_plan plan = Ok plan
 

@@ -10,6 +10,7 @@ ghost use Rattle.storage_current.specs.BuiltProofs.{AreAnswered, AreBitsOf, AreP
 ghost use Rattle.storage_current.specs.Snapshots.{Grafting, Snapshot as SnapshotOf, first_chunk, height, own_operation_proof};
 
 mod codec;
+mod stored;
 
 use crate::laws::operation_proofs_are_sound;
 use crate::qmdb::current::grafting;
