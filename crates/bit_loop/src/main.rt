@@ -1,0 +1,125 @@
+//! A bitmap of many bits, and what its root takes. The arguments are the size of a chunk (1, 4 or 32), how many bits are pushed,
+//! of which each third one is set, and how many of them, spread evenly, are turned one after another, with a new root each time.
+//!
+//! It prints the last root, how many strings were hashed for the root of the pushed bits, and how many at most for the root after
+//! one of them was turned.
+#![tactic(auto)]
+
+ghost use Rattle.storage_bitmap.specs.Chunks.{IsChunkSize};
+
+mod counted;
+
+use anyhow::{Result, bail};
+use counted::Counted;
+use std::alloc::Global;
+use std::env;
+use storage_bitmap::bitmap::authenticated::{
+    BitMap, MerkleizedBitMap, PrunedState, UnmerkleizedBitMap,
+};
+use storage_codec::codec::FixedBytes;
+use storage_codec::digest::Sha256;
+use storage_merkle::merkle::hasher::Standard;
+use storage_merkle::merkle::{Bagging, MAX_LEAVES};
+
+type Digest = FixedBytes<32>;
+
+type Hasher = Counted<Standard<Sha256>>;
+
+/// The bitmap of no bits, open to changes.
+fn empty<const N: usize>(alloc: Global, hasher: &Hasher) -> Result<UnmerkleizedBitMap<Digest, N>>
+    requires { IsChunkSize N }
+{
+    let state = PrunedState {
+        pruned_chunks: 0,
+        pinned: Vec::new(alloc),
+    };
+    match BitMap::init(alloc, hasher, state) {
+        Ok(bitmap) => Ok(bitmap.into_dirty()),
+        Err(_) => bail!("no bitmap"),
+    }
+}
+
+/// Appends a bit.
+fn push<const N: usize>(bitmap: &mut UnmerkleizedBitMap<Digest, N>, bit: bool) -> Result<()> {
+    if bitmap.len() >= MAX_LEAVES || bitmap.push(bit).is_err() {
+        bail!("not pushed");
+    }
+    Ok(())
+}
+
+/// The bitmap with its root.
+fn merkleized<const N: usize>(
+    bitmap: UnmerkleizedBitMap<Digest, N>,
+    hasher: &Hasher,
+) -> Result<MerkleizedBitMap<Digest, N>> {
+    match bitmap.merkleize(hasher) {
+        Ok(bitmap) => Ok(bitmap),
+        Err(_) => bail!("no root"),
+    }
+}
+
+/// The bitmap of so many bits.
+fn pushed<const N: usize>(
+    alloc: Global,
+    hasher: &Hasher,
+    count: u64,
+) -> Result<MerkleizedBitMap<Digest, N>>
+    requires { IsChunkSize N }
+{
+    let mut bitmap = empty(alloc, hasher)?;
+    let _root_of_none = hasher.take();
+    for bit in 0..count {
+        push(&mut bitmap, bit % 3 == 0)?;
+    }
+    merkleized(bitmap, hasher)
+}
+
+/// The bitmap with one bit turned.
+fn turned<const N: usize>(
+    bitmap: MerkleizedBitMap<Digest, N>,
+    hasher: &Hasher,
+    bit: u64,
+) -> Result<MerkleizedBitMap<Digest, N>> {
+    let mut bitmap = bitmap.into_dirty();
+    if bit < bitmap.pruned_bits() || bit >= bitmap.len() {
+        bail!("no such bit");
+    }
+    let value = bitmap.get_bit(bit);
+    if bitmap.set_bit(bit, !value).is_err() {
+        bail!("not turned");
+    }
+    merkleized(bitmap, hasher)
+}
+
+/// The lines to print for chunks of `N` bytes.
+fn report<const N: usize>(alloc: Global, count: u64, turns: u64) -> Result<String>
+    requires { IsChunkSize N }
+{
+    let hasher = Counted::new(Standard::new(Bagging::ForwardFold));
+    let mut bitmap = pushed::<N>(alloc, &hasher, count)?;
+    let whole = hasher.take();
+    let mut most = 0;
+    for turn in 0..turns {
+        bitmap = turned(bitmap, &hasher, count / turns * turn)?;
+        most = hasher.take().max(most);
+    }
+    let root = hex::encode(alloc, bitmap.root().bytes)?;
+    Ok(format!(in alloc; "{root}\nhashed for all: {whole}\nhashed for one bit: {most}")?)
+}
+
+fn main(rt: HostRuntime) -> Result<()> {
+    let words: Vec<String> = env::args(&rt)?.skip(1).collect(rt.alloc())?;
+    let [size, count, turns] = words.as_slice() else {
+        bail!("the size of a chunk, how many bits, and how many of them are turned");
+    };
+    let count = count.as_str().parse::<u64>()?;
+    let turns = turns.as_str().parse::<u64>()?;
+    let lines = match size.as_str() {
+        "1" => report::<1>(rt.alloc(), count, turns)?,
+        "4" => report::<4>(rt.alloc(), count, turns)?,
+        "32" => report::<32>(rt.alloc(), count, turns)?,
+        _ => bail!("a chunk has 1, 4 or 32 bytes"),
+    };
+    println!(rt; "{lines}")?;
+    Ok(())
+}
