@@ -6,7 +6,7 @@ use Rattle.std.proofs.Math.Nat.{div-mul-le_self}
 use Rattle.storage_merkle.specs.Multiples.{log_unique, pow_two, pow_order, pow_le, below_pow}
 use Rattle.storage_bitmap.specs.Chunks.{IsChunkSize, halves}
 
-halves_power : (times n : ℕ) → halves times n ≡ true → (k : ℕ) × (n ≡ 2 ^ k)
+pub halves_power : (times n : ℕ) → halves times n ≡ true → (k : ℕ) × (n ≡ 2 ^ k)
 halves_power zero n h = absurd (cc)
 halves_power (suc times) n h =
     elim (or_cases (eqb n 1) (eqb (n % 2) 0 && halves times (n / 2)) h) [

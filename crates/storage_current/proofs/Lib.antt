@@ -29,3 +29,4 @@ mod Required
 mod WitnessWritten
 mod Fetching
 mod Making
+mod Serving

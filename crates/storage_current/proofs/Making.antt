@@ -59,7 +59,7 @@ planned_err (Some e) error m not_memory = let f : error ≡ e = cc in ap Some (s
 
 -- ---- the tree of a store
 
-same_count : (S : Shape) → Laws S → (m n : ℕ) → size S m ≡ size S n → m ≡ n
+pub same_count : (S : Shape) → Laws S → (m n : ℕ) → size S m ≡ size S n → m ≡ n
 same_count S L m n e =
     elim (cases_lt m n) [
       | inl less ↦ absurd (let up = size_order S L (m + 1) n (omega arith) in let step = L.grows m in omega (arith, up, step, e))

@@ -1,19 +1,23 @@
 -- Proofs from stores and logs that may fail.
-use Rattle.std.specs.Prelude.{◌≡◌, ℕ, ◌+◌, ◌⊎◌, ◌↔◌, List, length, Option, Some, None, Result, Err}
+use Rattle.std.specs.Prelude.{◌≡◌, ℕ, ◌+◌, ◌-◌, ◌<◌, ◌≤◌, ◌⊎◌, ◌↔◌, List, [], length, map, min, get_or, Option, Some, None, Result, Err}
 use Rattle.storage_codec.specs.Digests.{HashFunction}
 use Rattle.storage_merkle.specs.declared.merkle.error.Error.{Error as Refusal}
 use Rattle.storage_merkle.specs.declared.merkle.error.Error.TheVariants as tree
 use Rattle.storage_merkle.specs.Shape.{size}
 use Rattle.storage_merkle.specs.Plans.{PlanOf, refusal, IsFirstAbsent}
-use Rattle.storage_bitmap.specs.Chunks.{Retained}
+use Rattle.storage_bitmap.specs.Chunks.{Retained, bit_count}
 use Rattle.storage_ops.specs.declared.qmdb.error.Error.{Error}
-use Rattle.storage_ops.specs.declared.qmdb.error.Error.TheVariants.{Merkle, Memory}
+use Rattle.storage_ops.specs.declared.qmdb.error.Error.TheVariants.{Merkle, OperationPruned, Log, Memory}
 use Rattle.storage_current.specs.BuiltProofs.{ArePartsOf, AreAnswered, AreBitsOf, IsNotBuilt}
-use Rattle.storage_current.specs.Snapshots.{Grafting, Snapshot}
+use Rattle.storage_current.specs.KeptSnapshots.{IsCorrupted}
+use Rattle.storage_current.specs.Snapshots.{Grafting, Snapshot, first_chunk}
 
--- the answer is a fault of the store
+-- the answer is a fault of the store, or of the log
 abbrev pub IsStoreFault : {X F : Type 0} → Result X (Error F) → Type 0
 IsStoreFault result = (code : ℕ) × (result ≡ Err (Merkle (tree.Source code)))
+
+abbrev pub IsLogFault : {X F : Type 0} → Result X (Error F) → Type 0
+IsLogFault result = (code : ℕ) × (result ≡ Err (Log code))
 
 -- a count of failures grew just where the answer is a fault, and then by one
 pub record Counts (fault : Type 0) (before after : ℕ) : Type 0 where
@@ -65,3 +69,39 @@ module _ {D : Type 0} (nodes : ℕ) (node : ℕ → Option D) (g : Grafting) (lo
   pub record AreServedOf (text : D → List ℕ) (h : HashFunction) (floor : ℕ) (ops_root : List ℕ) (s : Snapshot) : Type 0 where
     pub tree : size g.shape (length s.operations) ≡ nodes
     pub parts : ArePartsOf text (held_at node) h g (plan_over (length s.operations) low high) status floor ops_root s
+
+-- ---- with the operations
+
+-- the location past the range of at most so many operations from `start` on, of so many
+abbrev pub end_of : ℕ → ℕ → ℕ → ℕ
+end_of start most count = min (start + most) count
+
+-- a location is that of an operation whose chunk of bits is not pruned
+pub record IsKept (g : Grafting) (start : ℕ) (status : Retained) : Type 0 where
+  pub within : start < bit_count g.bytes status
+  pub kept : status.pruned ≤ first_chunk g start
+
+-- why there is none: the first reason that holds
+abbrev pub IsGone : {F : Type 0} → Grafting → ℕ → Retained → Error F → Type 0
+IsGone g start status error =
+    ((bit_count g.bytes status ≤ start) × (error ≡ Merkle (tree.RangeOutOfBounds start)))
+    ⊎ ((start < bit_count g.bytes status) × (first_chunk g start < status.pruned) × (error ≡ OperationPruned start))
+
+-- a log holds the locations from low to before high
+abbrev pub HoldsRange : (first past low high : ℕ) → Type 0
+HoldsRange first past low high = (first ≤ low) × (high ≤ past)
+
+-- why no proof with its operations is made from a store and a log: the first reason that holds, else want of memory
+abbrev pub IsNotAnswered : {F D : Type 0} → (nodes : ℕ) (node : ℕ → Option D) (first past : ℕ) → Grafting → (start high : ℕ) → Retained → Error F → Type 0
+IsNotAnswered {F} nodes node first past g start high status error =
+    IsGone g start status error
+    ⊎ (IsKept g start status × IsNotMade nodes node g start high status error)
+    ⊎ (IsKept g start status × IsServable nodes node g start high status F × (HoldsRange first past start high → ⊥) × IsCorrupted error)
+    ⊎ (IsKept g start status × IsServable nodes node g start high status F × HoldsRange first past start high × ((code : ℕ) × (error ≡ Log code)))
+    ⊎ (error ≡ Memory)
+
+-- a store and a log have what a proof with its operations is made from
+pub record IsAnswerable {D : Type 0} (nodes : ℕ) (node : ℕ → Option D) (first past : ℕ) (g : Grafting) (start high : ℕ) (status : Retained) (F : Type 0) : Type 0 where
+  pub start_is : IsKept g start status
+  pub store : IsServable nodes node g start high status F
+  pub log : HoldsRange first past start high

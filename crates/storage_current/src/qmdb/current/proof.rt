@@ -16,6 +16,7 @@ pub mod operation;
 mod served;
 mod slots;
 mod window;
+mod with_operations;
 mod witness;
 
 use crate::laws::current_proofs_are_sound;
@@ -32,6 +33,7 @@ use storage_codec::codec::Write;
 use storage_codec::digest::{Digest, Hasher};
 use storage_merkle::merkle::{self, Graftable, Location, Position, Proof, RangePlan};
 use storage_ops::qmdb::{self, Error};
+pub use with_operations::RangeProofSpec;
 pub use witness::OpsRootWitness;
 
 /// A proof that operations stand at a range of locations, and of their activity bits.
