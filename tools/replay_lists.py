@@ -32,6 +32,23 @@ def cut(folder, name, count):
         yield columns[:count], columns[count:]
 
 
+def told_apart(calls):
+    """Calls without what they answer, and the places and refusals of the refused ones, which a `=` parts from the call."""
+    given = []
+    refusals = []
+    for place, call in enumerate(calls.split(",")):
+        call, _, refusal = call.partition("=E")
+        given.append(call)
+        if refusal:
+            refusals.append(f"{place}:E{refusal}")
+    return ",".join(given), ",".join(refusals) or "none"
+
+
+def firsts(column):
+    """What stands before the first colon of each part of a column; `none` for no part."""
+    return "none" if column == "-" else ",".join(part.split(":")[0] for part in column.split(","))
+
+
 def cases(folder):
     """All cases: the name of the list, the columns that are given, the columns that are asked for."""
     for given, asked in cut(folder, "varints", 1):
@@ -78,6 +95,33 @@ def cases(folder):
         yield "ranges", given, asked
     for given, asked in cut(folder, "ranges_checks", 9):
         yield "ranges_checks", given, asked
+    for given, asked in cut(folder, "key_values", 8):
+        yield "key_values", given, asked
+    for given, asked in cut(folder, "exclusions", 7):
+        yield "exclusions", given, asked
+    for _, *given in rows(folder, "golden_keys"):
+        # the first column is a label; each proof is accepted
+        yield "golden_keys", given, ["yes"]
+    for given, asked in cut(folder, "bitmaps_checks", 9):
+        yield "bitmaps_checks", given, asked
+    for given, asked in cut(folder, "bitmaps_init", 4):
+        yield "bitmaps_init", given, asked
+    for given, asked in cut(folder, "mem_init", 4):
+        yield "mem_init", given, asked
+    for family, direction, calls, *asked in rows(folder, "mems"):
+        given, refusals = told_apart(calls)
+        yield "mems", [family, direction, given], [refusals, *asked]
+    for direction, chunk, calls, *asked in rows(folder, "bitmaps"):
+        # proofs are asked of the bits that the list proves
+        yield "bitmaps", [direction, chunk, calls, firsts(asked[7])], asked
+    for given, asked in cut(folder, "required", 6):
+        yield "required", given, asked
+    for given, asked in cut(folder, "witnesses", 5):
+        yield "witnesses", given, asked
+    for given, asked in cut(folder, "multi_checks", 8):
+        yield "multi_checks", given, asked
+    for given, asked in cut(folder, "extracted", 8):
+        yield "extracted", given, asked
 
 
 def main():

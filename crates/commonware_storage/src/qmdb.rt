@@ -1,4 +1,4 @@
-//! Databases of operations: how operations are written, and which of them are active.
+//! Databases of operations: how operations are written, which of them are active, and checks of proofs over them.
 
 pub use storage_current::qmdb::current;
-pub use storage_ops::qmdb::{Error, any, hasher, operation};
+pub use storage_ops::qmdb::{Error, any, hasher, operation, verify};

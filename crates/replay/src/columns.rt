@@ -63,13 +63,32 @@ pub fn digest(column: &str) -> Result<FixedBytes<32>, Fault> {
 
 /// Digests with commas between them; `none` is none.
 pub fn digests(alloc: Global, column: &str) -> Result<Vec<FixedBytes<32>>, Fault> {
+    digests_between(alloc, column, ',', "none")
+}
+
+/// Digests with slashes between them; `-` is none.
+pub fn inner_digests(alloc: Global, column: &str) -> Result<Vec<FixedBytes<32>>, Fault> {
+    digests_between(alloc, column, '/', "-")
+}
+
+fn digests_between(
+    alloc: Global,
+    column: &str,
+    separator: char,
+    none: &str,
+) -> Result<Vec<FixedBytes<32>>, Fault> {
     let mut digests = Vec::new(alloc);
-    if column != "none" {
-        for part in column.split(',') {
+    if column != none {
+        for part in column.split(separator) {
             digests.push(digest(part)?)?;
         }
     }
     Ok(digests)
+}
+
+/// The text of an answer to a check.
+pub fn verdict(alloc: Global, yes: bool) -> Result<String, Fault> {
+    Ok(String::from_str(alloc, if yes { "yes" } else { "no" })?)
 }
 
 /// Byte strings with commas between them; `none` is none.
@@ -92,31 +111,75 @@ pub fn unblanked(alloc: Global, text: &str) -> Result<String, Fault> {
     Ok(answer)
 }
 
-/// Numbers with commas between them; `none` where there are none.
+/// Parts with commas or slashes between them.
 #[derive(Drop)]
 pub struct Series {
     text: String,
+    separator: char,
 }
 
 impl Series {
+    /// No parts yet; commas will stand between them.
     pub fn new(alloc: Global) -> Self {
         Series {
             text: String::new(alloc),
+            separator: ',',
+        }
+    }
+
+    /// No parts yet; slashes will stand between them.
+    pub fn inner(alloc: Global) -> Self {
+        Series {
+            text: String::new(alloc),
+            separator: '/',
         }
     }
 
     /// Adds a number at the end.
     pub fn push(&mut self, number: u64) -> Result<(), AllocError> {
-        if !self.text.is_empty() {
-            self.text.push(',')?;
-        }
+        self.separate()?;
         write!(self.text, "{number}")
     }
 
-    /// The text.
-    pub fn finish(mut self) -> Result<String, AllocError> {
+    /// Adds a text at the end.
+    pub fn push_text(&mut self, text: &str) -> Result<(), AllocError> {
+        self.separate()?;
+        self.text.push_str(text)
+    }
+
+    /// Adds a place and the digest there at the end; `-` stands for none.
+    pub fn push_digest(
+        &mut self,
+        alloc: Global,
+        place: u64,
+        digest: Option<FixedBytes<32>>,
+    ) -> Result<(), Fault> {
+        let digest = match digest {
+            Some(digest) => hex::encode(alloc, digest.bytes)?,
+            None => String::from_str(alloc, "-")?,
+        };
+        self.separate()?;
+        write!(self.text, "{place}:{digest}")?;
+        Ok(())
+    }
+
+    fn separate(&mut self) -> Result<(), AllocError> {
+        let separator = self.separator;
+        if !self.text.is_empty() {
+            self.text.push(separator)?;
+        }
+        Ok(())
+    }
+
+    /// The text; `none` where there are no parts.
+    pub fn finish(self) -> Result<String, AllocError> {
+        self.finish_or("none")
+    }
+
+    /// The text, or another one where there are no parts.
+    pub fn finish_or(mut self, none: &str) -> Result<String, AllocError> {
         if self.text.is_empty() {
-            self.text.push_str("none")?;
+            self.text.push_str(none)?;
         }
         Ok(self.text)
     }

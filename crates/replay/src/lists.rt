@@ -2,16 +2,21 @@
 
 mod bitmaps;
 mod codecs;
+mod extracted;
 mod keys;
 mod mems;
+mod multi;
 mod operations;
 mod plain;
 mod program;
 mod proofs;
 mod refusals;
+mod required;
 mod snapshots;
 mod spelling;
 mod trees;
+mod unframed;
+mod witnesses;
 
 use crate::columns::Fault;
 use std::alloc::Global;
@@ -30,7 +35,7 @@ pub fn answer(alloc: Global, line: &str) -> Result<String, Fault> {
         "program" => program::program(alloc, columns),
         "program_checks" => program::program_checks(alloc, columns),
         "key_values" | "exclusions" | "golden_keys" => keys::answer(alloc, *list, columns),
-        "bitmaps_checks" | "bitmaps_init" => bitmaps::answer(alloc, *list, columns),
+        "bitmaps" | "bitmaps_checks" | "bitmaps_init" => bitmaps::answer(alloc, *list, columns),
         "golden" | "ranges" | "ranges_checks" => snapshots::answer(alloc, *list, columns),
         _ => trees::answer(alloc, *list, columns),
     }

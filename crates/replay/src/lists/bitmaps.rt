@@ -2,15 +2,17 @@
 
 ghost use Rattle.storage_bitmap.specs.Chunks.{IsChunkSize};
 
-use crate::columns::{Fault, bytes, digest, digests, number};
-use crate::lists::proofs::bagging;
+mod histories;
+
+use crate::columns::{Fault, bytes, digest, digests, number, verdict};
+use crate::lists::proofs::{bagging, proof_of};
 use crate::lists::refusals::merkle_refusal;
 use std::alloc::Global;
 use storage_bitmap::bitmap::authenticated::{BitMap, MerkleizedBitMap, PrunedState};
 use storage_codec::codec::FixedBytes;
 use storage_codec::digest::Sha256;
 use storage_merkle::merkle::hasher::Standard;
-use storage_merkle::merkle::{Location, Proof, mmr};
+use storage_merkle::merkle::mmr;
 
 /// The answer of a list of that name.
 pub fn answer(alloc: Global, list: &str, columns: &[&str]) -> Result<String, Fault> {
@@ -38,6 +40,7 @@ fn over<const N: usize>(
     requires { IsChunkSize N }
 {
     match list {
+        "bitmaps" => histories::bitmaps::<N>(alloc, hasher, columns),
         "bitmaps_checks" => bitmaps_checks::<N>(alloc, hasher, columns),
         "bitmaps_init" => bitmaps_init::<N>(alloc, hasher, columns),
         _ => Err(Fault::Malformed),
@@ -55,18 +58,12 @@ fn bitmaps_checks<const N: usize>(
     let [leaves, inactive, nodes, chunk, bit, root, _] = columns else {
         return Err(Fault::Malformed);
     };
-    let proof = Proof::<mmr::Family, _> {
-        leaves: Location::new(number(*leaves)?),
-        inactive_peaks: number(*inactive)? as usize,
-        digests: digests(alloc, *nodes)?,
-    };
+    let proof = proof_of::<mmr::Family>(alloc, *leaves, *inactive, *nodes)?;
     let chunk = chunk_of::<N>(alloc, *chunk)?;
     let bit = number(*bit)?;
     let root = digest(*root)?;
-    let verdict = MerkleizedBitMap::verify_bit_inclusion(
-        alloc, hasher, &proof, &chunk, bit, &root,
-    )?;
-    Ok(String::from_str(alloc, if verdict { "yes" } else { "no" })?)
+    let yes = MerkleizedBitMap::verify_bit_inclusion(alloc, hasher, &proof, &chunk, bit, &root)?;
+    verdict(alloc, yes)
 }
 
 /// A chunk in hexadecimal.

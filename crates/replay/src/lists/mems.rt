@@ -1,6 +1,6 @@
 //! Lists on trees in memory.
 
-use crate::columns::{Fault, digests, number};
+use crate::columns::{Fault, Series, bytes, digest, digests, inner_digests, number};
 use crate::lists::proofs::bagging;
 use crate::lists::refusals::merkle_refusal;
 use std::alloc::Global;
@@ -8,7 +8,7 @@ use storage_codec::codec::FixedBytes;
 use storage_codec::digest::Sha256;
 use storage_merkle::merkle::hasher::Standard;
 use storage_merkle::merkle::mem::Mem;
-use storage_merkle::merkle::{Family, Location};
+use storage_merkle::merkle::{Family, Location, Position};
 
 /// `bagging boundary digests`: how many nodes the tree has whose leaves before the boundary are forgotten, its root, and what
 /// adding a leaf of no bytes answers; or the refusal.
@@ -33,4 +33,115 @@ pub fn mem_init<F: Family>(alloc: Global, columns: &[&str]) -> Result<String, Fa
         Err(error) => merkle_refusal(alloc, &error)?,
     };
     Ok(format!(in alloc; "{nodes}:{root}:{added}")?)
+}
+
+/// `bagging calls`: the places of the refused calls on a tree in memory and their refusals, and what stands after the last call:
+/// how many leaves and nodes there are, the root with none of the peaks inactive, with one, and so on up to the refusal, and
+/// the digests at all positions and at the next two.
+pub fn mems<F: Family>(alloc: Global, columns: &[&str]) -> Result<String, Fault> {
+    let [direction, calls] = columns else {
+        return Err(Fault::Malformed);
+    };
+    let hasher = Standard::<Sha256>::new(bagging(*direction)?);
+    let mut tree = Mem::<F, _>::new(alloc);
+    let mut refusals = Series::new(alloc);
+    for (place, call) in calls.split(',').enumerate() {
+        if let Some(refusal) = called(alloc, &hasher, &mut tree, call)? {
+            let refusal = format!(in alloc; "{place}:{refusal}")?;
+            refusals.push_text(refusal.as_str())?;
+        }
+    }
+    let refusals = refusals.finish()?;
+    let leaves = tree.leaves();
+    let size = tree.size();
+    let roots = roots(alloc, &hasher, &tree)?;
+    let mut nodes = Series::new(alloc);
+    for place in 0..size.as_u64().saturating_add(2) {
+        nodes.push_digest(alloc, place, tree.get_node(Position::new(place)))?;
+    }
+    let nodes = nodes.finish()?;
+    Ok(format!(in alloc; "{refusals} {leaves} {size} {roots} {nodes}")?)
+}
+
+/// Makes a call: `a:ELEMENT` adds a leaf, `u:LOCATION=DIGEST/..` changes leaves, `x:LOCATION` forgets those before it, and
+/// `init:BOUNDARY:DIGESTS` takes another tree, whose leaves are all forgotten. The name of its refusal, if there is one.
+fn called<F: Family>(
+    alloc: Global,
+    hasher: &Standard<Sha256>,
+    tree: &mut Mem<F, FixedBytes<32>>,
+    call: &str,
+) -> Result<Option<String>, Fault> {
+    let (verb, rest) = call.split_once(':').ok_or(Fault::Malformed)?;
+    let answer = match verb {
+        "a" => {
+            let element = bytes(alloc, rest)?;
+            tree.add(hasher, &element)
+        }
+        "u" => {
+            let updates = updates(alloc, rest)?;
+            tree.update_leaves(hasher, &updates)
+        }
+        "x" => tree.prune(Location::new(number(rest)?)),
+        "init" => return taken(alloc, tree, rest),
+        _ => return Err(Fault::Malformed),
+    };
+    match answer {
+        Ok(()) => Ok(None),
+        Err(error) => Ok(Some(merkle_refusal(alloc, &error)?)),
+    }
+}
+
+/// Takes the tree of `BOUNDARY:DIGESTS` in place of this one; the name of the refusal, if there is one.
+fn taken<F: Family>(
+    alloc: Global,
+    tree: &mut Mem<F, FixedBytes<32>>,
+    parts: &str,
+) -> Result<Option<String>, Fault> {
+    let (boundary, pinned) = parts.split_once(':').ok_or(Fault::Malformed)?;
+    let boundary = Location::new(number(boundary)?);
+    let pinned = inner_digests(alloc, pinned)?;
+    match Mem::init(alloc, boundary, &pinned) {
+        Ok(other) => {
+            *tree = other;
+            Ok(None)
+        }
+        Err(error) => Ok(Some(merkle_refusal(alloc, &error)?)),
+    }
+}
+
+/// Leaves and their digests, `LOCATION=DIGEST` with slashes between them; `-` is none.
+fn updates<F: Family>(
+    alloc: Global,
+    column: &str,
+) -> Result<Vec<(Location<F>, FixedBytes<32>)>, Fault> {
+    let mut updates = Vec::new(alloc);
+    if column == "-" {
+        return Ok(updates);
+    }
+    for part in column.split('/') {
+        let (location, written) = part.split_once('=').ok_or(Fault::Malformed)?;
+        updates.push((Location::new(number(location)?), digest(written)?))?;
+    }
+    Ok(updates)
+}
+
+/// The roots with none of the peaks inactive, with one, and so on up to the refusal.
+fn roots<F: Family>(
+    alloc: Global,
+    hasher: &Standard<Sha256>,
+    tree: &Mem<F, FixedBytes<32>>,
+) -> Result<String, Fault> {
+    let mut roots = Series::new(alloc);
+    for inactive in 0..=u64::BITS {
+        match tree.root(hasher, inactive as usize) {
+            Ok(root) => roots.push_digest(alloc, inactive as u64, Some(root))?,
+            Err(error) => {
+                let refusal = merkle_refusal(alloc, &error)?;
+                let refusal = format!(in alloc; "{inactive}:{refusal}")?;
+                roots.push_text(refusal.as_str())?;
+                break;
+            }
+        }
+    }
+    Ok(roots.finish()?)
 }

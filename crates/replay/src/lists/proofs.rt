@@ -54,6 +54,20 @@ pub fn bagging(word: &str) -> Result<Bagging, Fault> {
     }
 }
 
+/// A proof of these numbers of leaves and of inactive peaks and these digests.
+pub fn proof_of<F>(
+    alloc: Global,
+    leaves: &str,
+    inactive: &str,
+    nodes: &str,
+) -> Result<Proof<F, FixedBytes<32>>, Fault> {
+    Ok(Proof {
+        leaves: Location::new(number(leaves)?),
+        inactive_peaks: number(inactive)? as usize,
+        digests: digests(alloc, nodes)?,
+    })
+}
+
 /// `bagging leaves inactive digests start elements root label`: whether the proof is accepted, and the root that it
 /// gives. The label says how the case was made.
 pub fn plain_checks<F: Digits>(alloc: Global, columns: &[&str]) -> Result<String, Fault> {
@@ -61,11 +75,7 @@ pub fn plain_checks<F: Digits>(alloc: Global, columns: &[&str]) -> Result<String
         return Err(Fault::Malformed);
     };
     let bagging = bagging(*direction)?;
-    let proof = Proof::<F, _> {
-        leaves: Location::new(number(*leaves)?),
-        inactive_peaks: number(*inactive)? as usize,
-        digests: digests(alloc, *nodes)?,
-    };
+    let proof = proof_of::<F>(alloc, *leaves, *inactive, *nodes)?;
     let start = number(*start)?;
     let items = strings(alloc, *items)?;
     let root = digest(*root)?;

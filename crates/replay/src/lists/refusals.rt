@@ -1,6 +1,7 @@
 //! The names of refusals.
 
 use crate::columns::{Fault, unblanked};
+use commonware_storage::qmdb;
 use std::alloc::Global;
 use storage_codec::codec;
 use storage_merkle::merkle;
@@ -40,5 +41,19 @@ pub fn merkle_refusal<F>(alloc: Global, error: &merkle::Error<F>) -> Result<Stri
         merkle::Error::CompressedDigest(position) => Ok(format!(in alloc; "E12({position})")?),
         merkle::Error::Source(fault) => Ok(format!(in alloc; "E13({fault})")?),
         merkle::Error::Memory => Err(Fault::Memory),
+    }
+}
+
+/// The name of a refusal of a call over a database.
+pub fn database_refusal<F>(alloc: Global, error: &qmdb::Error<F>) -> Result<String, Fault> {
+    match error {
+        qmdb::Error::DataCorrupted(_) => Ok(String::from_str(alloc, "Q1")?),
+        qmdb::Error::OperationPruned(location) => Ok(format!(in alloc; "Q2({location})")?),
+        qmdb::Error::Merkle(error) => {
+            let refusal = merkle_refusal(alloc, error)?;
+            Ok(format!(in alloc; "Q3({refusal})")?)
+        }
+        qmdb::Error::Log(fault) => Ok(format!(in alloc; "Q4({fault})")?),
+        qmdb::Error::Memory => Err(Fault::Memory),
     }
 }

@@ -5,7 +5,7 @@ ghost use Rattle.storage_merkle.specs.Nodes.{IsNode, CoversSame};
 ghost use Rattle.storage_merkle.specs.Shape.{size};
 
 use crate::columns::{Fault, Series, number};
-use crate::lists::{mems, plain, proofs};
+use crate::lists::{extracted, mems, multi, plain, proofs, required, witnesses};
 use reference::shape::Digits;
 use std::alloc::Global;
 use storage_merkle::merkle::family::{
@@ -39,7 +39,12 @@ fn over<F: Graftable + Digits>(
         "elements" => proofs::elements::<F>(alloc, columns),
         "plans" => proofs::plans::<F>(alloc, columns),
         "mem_init" => mems::mem_init::<F>(alloc, columns),
+        "mems" => mems::mems::<F>(alloc, columns),
         "plain_checks" => proofs::plain_checks::<F>(alloc, columns),
+        "multi_checks" => multi::multi_checks::<F>(alloc, columns),
+        "extracted" => extracted::extracted::<F>(alloc, columns),
+        "required" => required::required::<F>(alloc, columns),
+        "witnesses" => witnesses::witnesses::<F>(alloc, columns),
         _ => Err(Fault::Malformed),
     }
 }

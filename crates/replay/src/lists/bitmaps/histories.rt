@@ -1,0 +1,236 @@
+//! The list on calls on bitmaps.
+
+ghost use Rattle.storage_bitmap.specs.Chunks.{IsChunkSize};
+
+use crate::columns::{Fault, Series, inner_digests, number};
+use crate::lists::refusals::merkle_refusal;
+use std::alloc::Global;
+use storage_bitmap::bitmap::authenticated::{
+    BitMap, MerkleizedBitMap, PrunedState, UnmerkleizedBitMap,
+};
+use storage_codec::codec::FixedBytes;
+use storage_codec::digest::Sha256;
+use storage_merkle::merkle::hasher::Standard;
+use storage_merkle::merkle::{MAX_LEAVES, Position};
+
+/// A bitmap between two calls.
+#[derive(Drop)]
+enum Stage<const N: usize> {
+    Merkleized(MerkleizedBitMap<FixedBytes<32>, N>),
+    Unmerkleized(UnmerkleizedBitMap<FixedBytes<32>, N>),
+}
+
+/// `calls bits`: what stands after the calls on a bitmap, which begins without bits: how many bits it has and how many of them
+/// are pruned, how many nodes, its last chunk and how many bits that has, its root, what is kept of the pruned chunks, the
+/// proofs of these bits, and the digests at all positions.
+pub fn bitmaps<const N: usize>(
+    alloc: Global,
+    hasher: &Standard<Sha256>,
+    columns: &[&str],
+) -> Result<String, Fault>
+    requires { IsChunkSize N }
+{
+    let [calls, bits] = columns else {
+        return Err(Fault::Malformed);
+    };
+    let mut stage = Stage::Merkleized(restored::<N>(alloc, hasher, 0, "-")?);
+    for call in calls.split(',') {
+        let (verb, rest) = call.split_once(':').unwrap_or((call, ""));
+        stage = match stage {
+            Stage::Merkleized(bitmap) => merkleized(alloc, hasher, bitmap, verb, rest)?,
+            Stage::Unmerkleized(bitmap) => unmerkleized(hasher, bitmap, verb, rest)?,
+        };
+    }
+    let Stage::Merkleized(bitmap) = stage else {
+        return Err(Fault::Malformed);
+    };
+    let counts = counts(alloc, &bitmap)?;
+    let kept = kept(alloc, &bitmap)?;
+    let proofs = proofs(alloc, hasher, &bitmap, *bits)?;
+    let nodes = nodes(alloc, &bitmap)?;
+    Ok(format!(in alloc; "{counts} {kept} {proofs} {nodes}")?)
+}
+
+/// The bitmap of so many chunks, all pruned, and these digests.
+fn restored<const N: usize>(
+    alloc: Global,
+    hasher: &Standard<Sha256>,
+    pruned_chunks: u64,
+    pinned: &str,
+) -> Result<MerkleizedBitMap<FixedBytes<32>, N>, Fault>
+    requires { IsChunkSize N }
+{
+    let state = PrunedState {
+        pruned_chunks,
+        pinned: inner_digests(alloc, pinned)?,
+    };
+    match BitMap::init(alloc, hasher, state) {
+        Ok(bitmap) => Ok(bitmap),
+        Err(_) => Err(Fault::Malformed),
+    }
+}
+
+/// The bitmap after a call: `d` opens it to changes, `x:BIT` prunes up to a bit, and `init:COUNT:DIGESTS` takes another one.
+fn merkleized<const N: usize>(
+    alloc: Global,
+    hasher: &Standard<Sha256>,
+    mut bitmap: MerkleizedBitMap<FixedBytes<32>, N>,
+    verb: &str,
+    rest: &str,
+) -> Result<Stage<N>, Fault>
+    requires { IsChunkSize N }
+{
+    match verb {
+        "d" => Ok(Stage::Unmerkleized(bitmap.into_dirty())),
+        "x" => {
+            let bit = number(rest)?;
+            if bit > bitmap.len() {
+                return Err(Fault::Malformed);
+            }
+            match bitmap.prune_to_bit(bit) {
+                Ok(()) => Ok(Stage::Merkleized(bitmap)),
+                Err(_) => Err(Fault::Memory),
+            }
+        }
+        "init" => {
+            let (count, pinned) = rest.split_once(':').ok_or(Fault::Malformed)?;
+            let other = restored::<N>(alloc, hasher, number(count)?, pinned)?;
+            Ok(Stage::Merkleized(other))
+        }
+        _ => Err(Fault::Malformed),
+    }
+}
+
+/// The bitmap after a call: `p:BITS` appends bits, `s:BIT:VALUE` changes a bit, and `m` hashes what changed.
+fn unmerkleized<const N: usize>(
+    hasher: &Standard<Sha256>,
+    mut bitmap: UnmerkleizedBitMap<FixedBytes<32>, N>,
+    verb: &str,
+    rest: &str,
+) -> Result<Stage<N>, Fault>
+    requires { IsChunkSize N }
+{
+    match verb {
+        "p" => push(&mut bitmap, rest)?,
+        "s" => set(&mut bitmap, rest)?,
+        "m" => {
+            return match bitmap.merkleize(hasher) {
+                Ok(bitmap) => Ok(Stage::Merkleized(bitmap)),
+                Err(_) => Err(Fault::Memory),
+            };
+        }
+        _ => return Err(Fault::Malformed),
+    }
+    Ok(Stage::Unmerkleized(bitmap))
+}
+
+/// Appends a bit for each digit.
+fn push<const N: usize>(
+    bitmap: &mut UnmerkleizedBitMap<FixedBytes<32>, N>,
+    digits: &str,
+) -> Result<(), Fault>
+    requires { IsChunkSize N }
+{
+    for digit in digits.bytes() {
+        if bitmap.len() >= MAX_LEAVES || bitmap.push(digit == b'1').is_err() {
+            return Err(Fault::Memory);
+        }
+    }
+    Ok(())
+}
+
+/// Changes the bit of `BIT:VALUE`.
+fn set<const N: usize>(
+    bitmap: &mut UnmerkleizedBitMap<FixedBytes<32>, N>,
+    parts: &str,
+) -> Result<(), Fault>
+    requires { IsChunkSize N }
+{
+    let (bit, value) = parts.split_once(':').ok_or(Fault::Malformed)?;
+    let bit = number(bit)?;
+    if bit < bitmap.pruned_bits() || bit >= bitmap.len() {
+        return Err(Fault::Malformed);
+    }
+    if bitmap.set_bit(bit, value == "1").is_err() {
+        return Err(Fault::Memory);
+    }
+    Ok(())
+}
+
+/// How many bits there are and how many are pruned, how many nodes, the last chunk and how many bits it has, and the root.
+fn counts<const N: usize>(
+    alloc: Global,
+    bitmap: &MerkleizedBitMap<FixedBytes<32>, N>,
+) -> Result<String, Fault> {
+    let length = bitmap.len();
+    let pruned = bitmap.pruned_bits();
+    let size = bitmap.size();
+    let (chunk, count) = bitmap.last_chunk();
+    let chunk = hex::encode(alloc, *chunk)?;
+    let root = hex::encode(alloc, bitmap.root().bytes)?;
+    Ok(format!(in alloc; "{length} {pruned} {size} {chunk} {count} {root}")?)
+}
+
+/// What is kept of the pruned chunks: their number and the digests of the peaks over them.
+fn kept<const N: usize>(
+    alloc: Global,
+    bitmap: &MerkleizedBitMap<FixedBytes<32>, N>,
+) -> Result<String, Fault> {
+    let state = match bitmap.write_pruned() {
+        Ok(state) => state,
+        Err(_) => return Err(Fault::Memory),
+    };
+    let chunks = state.pruned_chunks;
+    let pinned = joined(alloc, &state.pinned)?;
+    Ok(format!(in alloc; "{chunks}:{pinned}")?)
+}
+
+fn joined(alloc: Global, digests: &[FixedBytes<32>]) -> Result<String, Fault> {
+    let mut series = Series::inner(alloc);
+    for digest in digests {
+        let digest = hex::encode(alloc, digest.bytes)?;
+        series.push_text(digest.as_str())?;
+    }
+    Ok(series.finish_or("-")?)
+}
+
+/// The proofs of bits: each bit with the number of leaves, the digests, and the bit's chunk.
+fn proofs<const N: usize>(
+    alloc: Global,
+    hasher: &Standard<Sha256>,
+    bitmap: &MerkleizedBitMap<FixedBytes<32>, N>,
+    bits: &str,
+) -> Result<String, Fault> {
+    let mut series = Series::new(alloc);
+    if bits == "none" {
+        return Ok(series.finish_or("-")?);
+    }
+    for bit in bits.split(',') {
+        let bit = number(bit)?;
+        if bit < bitmap.pruned_bits() {
+            return Err(Fault::Malformed);
+        }
+        let (proof, chunk) = match bitmap.proof(hasher, bit) {
+            Ok(pair) => pair,
+            Err(error) => return merkle_refusal(alloc, &error),
+        };
+        let leaves = proof.leaves;
+        let digests = joined(alloc, &proof.digests)?;
+        let chunk = hex::encode(alloc, chunk)?;
+        let text = format!(in alloc; "{bit}:{leaves}:{digests}:{chunk}")?;
+        series.push_text(text.as_str())?;
+    }
+    Ok(series.finish_or("-")?)
+}
+
+/// The digests at all positions.
+fn nodes<const N: usize>(
+    alloc: Global,
+    bitmap: &MerkleizedBitMap<FixedBytes<32>, N>,
+) -> Result<String, Fault> {
+    let mut series = Series::new(alloc);
+    for place in 0..bitmap.size().as_u64() {
+        series.push_digest(alloc, place, bitmap.get_node(Position::new(place)))?;
+    }
+    Ok(series.finish_or("-")?)
+}

@@ -1,0 +1,35 @@
+//! Operations that are no more than their bytes.
+
+use crate::columns::{Fault, bytes};
+use std::alloc::Global;
+use storage_codec::NoMemory;
+use storage_codec::codec::{EncodeSize, Write};
+
+/// An operation that is written as these bytes.
+#[derive(Drop)]
+pub struct Unframed {
+    bytes: Vec<u8>,
+}
+
+impl Unframed {
+    /// The operation of bytes in hexadecimal.
+    pub fn parse(alloc: Global, column: &str) -> Result<Self, Fault> {
+        let bytes = bytes(alloc, column)?;
+        Ok(Unframed { bytes })
+    }
+}
+
+impl Write for Unframed {
+    ghost text = { λ operation. operation.bytes.items };
+
+    fn write(&self, out: &mut Vec<u8>) -> Result<(), NoMemory> {
+        out.extend_from_slice(&self.bytes)?;
+        Ok(())
+    }
+}
+
+impl EncodeSize for Unframed {
+    fn encode_size(&self) -> Option<u64> {
+        Some(self.bytes.len() as u64)
+    }
+}

@@ -1,0 +1,24 @@
+//! The list on witnesses of the operations root.
+
+use crate::columns::{Fault, bytes, digest, verdict};
+use crate::lists::refusals::codec_refusal;
+use commonware_storage::codec::{Decode, FixedBytes};
+use commonware_storage::digest::Sha256;
+use commonware_storage::merkle::Graftable;
+use commonware_storage::qmdb::current::proof::OpsRootWitness;
+use std::alloc::Global;
+
+/// `witness ops_root root label`: whether the operations root is that of the snapshot with that root, or why the witness is
+/// none. The label says how the case was made.
+pub fn witnesses<F: Graftable>(alloc: Global, columns: &[&str]) -> Result<String, Fault> {
+    let [witness, ops_root, root, _] = columns else {
+        return Err(Fault::Malformed);
+    };
+    let witness = bytes(alloc, *witness)?;
+    let ops_root = digest(*ops_root)?;
+    let root = digest(*root)?;
+    match OpsRootWitness::<F, FixedBytes<32>>::decode_cfg(alloc, witness.as_slice(), &()) {
+        Ok(witness) => verdict(alloc, witness.verify::<Sha256>(&ops_root, &root)),
+        Err(error) => codec_refusal(alloc, error),
+    }
+}
