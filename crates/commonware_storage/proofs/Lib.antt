@@ -1,5 +1,6 @@
 mod Answers
 mod KeyAnswers
+mod OwnKeys
 mod OwnProofs
 mod OwnParts
 mod OwnYes

@@ -51,10 +51,10 @@ module _ {K V X Y : Type 0} (e : Keyed K V) (kview : K → X) (vview : V → Y) 
 
   -- A snapshot's own proof of an active operation that excludes a key is accepted: with the update whose span holds the key, or with
   -- the value of a commit at its own floor.
-  abbrev pub OwnExclusionsAreAccepted : (K → Type 0) → (V → Type 0) → Type 0
-  OwnExclusionsAreAccepted KAdmits VAdmits =
+  abbrev pub OwnExclusionsAreAccepted : (K × V × K → Type 0) → (V → Type 0) → Type 0
+  OwnExclusionsAreAccepted UpdateAdmits ValueAdmits =
       (d : ℕ) (h : HashFunction) → IsSized d h → (g : Grafting) → IsGrafting g → (has_pending : Bool) → IsPrompt has_pending g.shape →
       (s : Snapshot) → IsSnapshot s → (x : Exclusion (K × V × K) V) (key : K) → proof_of x ≡ own_operation_proof h g s (proof_of x).location →
       IsActive s (proof_of x).location (shown_text e x) → Allows e x key →
-      IsAdmittedExclusion (λ _. Unit {0}) (λ u. KAdmits u.0 × VAdmits u.1 × KAdmits u.2) VAdmits x →
+      IsAdmittedExclusion (λ _. Unit {0}) UpdateAdmits ValueAdmits x →
       IsAcceptedAbsence h g has_pending d (exclusion_text has_pending (λ u. e.key u.0 ++ e.value u.1 ++ e.key u.2) e.value x) key (canonical_root h g s)

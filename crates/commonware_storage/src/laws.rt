@@ -8,6 +8,8 @@ ghost use Rattle.storage_current.specs.Snapshots.{Grafting, IsActive, IsSnapshot
 ghost use Rattle.commonware_storage.specs.Handed.{AreHandedOut};
 ghost use Rattle.commonware_storage.specs.Light.{OwnProofsAreAccepted};
 
+pub mod keys;
+
 use crate::light::check_operation;
 use std::alloc::Global;
 use storage_bitmap::bitmap::Readable;
