@@ -14,6 +14,7 @@ mod Grafts
 mod Raised
 mod Joined
 mod CombinedViews
+mod StoresOfViews
 mod Splitting
 pub mod Windows
 mod Checks

@@ -1,12 +1,15 @@
 -- Two trees that are read as one are a snapshot's grafted view.
-use Rattle.std.specs.Prelude.{◌≡◌, ℕ, ◌+◌, ◌*◌, ◌^◌, ◌<◌, ◌≤◌, List, [], length, get_or, Option, Some, option_map}
+use Rattle.std.specs.Prelude.{◌≡◌, ℕ, ◌+◌, ◌*◌, ◌^◌, ◌<◌, ◌≤◌, List, [], length, get_or, min, Option, Some, option_map}
 use Rattle.storage_codec.specs.Digests.{HashFunction}
 use Rattle.storage_merkle.specs.Shape.{Shape, size}
 use Rattle.storage_merkle.specs.Nodes.{IsNode}
 use Rattle.storage_merkle.specs.Trees.{ungrafted, listed, tree_node}
 use Rattle.storage_merkle.specs.Hashing.{node_over}
+use Rattle.storage_bitmap.specs.Chunks.{Retained, IsRest}
+use Rattle.storage_current.specs.BuiltProofs.{AreAnswered}
 use Rattle.storage_current.specs.Combined.{over_chunks, joined}
-use Rattle.storage_current.specs.Snapshots.{Grafting, IsGrafting, height, graftable, graftable_at, Snapshot, IsSnapshot, view_node}
+use Rattle.storage_current.specs.Served.{AreServedOf, held_at, plan_over}
+use Rattle.storage_current.specs.Snapshots.{Grafting, IsGrafting, height, graftable, graftable_at, Snapshot, IsSnapshot, ops_root_of, view_node}
 
 -- the digest of each node of the tree over n leaves is answered
 abbrev pub AreAnswersOf : {D : Type 0} → (D → List ℕ) → Shape → ℕ → (ℕ → ℕ → List ℕ) → (ℕ → Option D) → Type 0
@@ -30,3 +33,19 @@ JoinedTreesAreTheView {D} text h g =
     AreAnswersOf text g.shape (length leaves) (λ a k. node_over h (over_chunks (height g) (ungrafted g.shape)) (λ a. []) leaves k a) chunks →
     AreAnswersOf text g.shape (length s.operations) (tree_node h (ungrafted g.shape) (listed s.operations)) operations →
     AreAnswersOf text g.shape (length s.operations) (view_node h g s) (joined g.shape (height g) (size g.shape (length s.operations)) chunks operations)
+
+-- A store with these nodes answers each planned position of a snapshot's operations, and with what is left of the snapshot's bits,
+-- its floor and its operations root all of it is the snapshot's.
+abbrev pub IsStoreOf : {D : Type 0} → (D → List ℕ) → HashFunction → Grafting → ℕ → (ℕ → Option D) → Snapshot → Type 0
+IsStoreOf text h g nodes node s =
+    (low high floor : ℕ) (status : Retained) (ops_root : List ℕ) → IsRest g.bytes status s.bits → s.floor ≡ min floor (length s.operations) → ops_root ≡ ops_root_of h g s →
+    AreAnswered (held_at node) g.shape (plan_over (length s.operations) low high) × AreServedOf nodes node g low high status text h floor ops_root s
+
+-- Two such trees as one are a store of the snapshot.
+abbrev pub JoinedTreesServeTheView : {D : Type 0} → (D → List ℕ) → HashFunction → Grafting → Type 0
+JoinedTreesServeTheView {D} text h g =
+    IsGrafting g → ChunksKeepPace g.shape (height g) → (s : Snapshot) → IsSnapshot s → (leaves : List (List ℕ)) → AreGraftedLeaves h g s leaves →
+    (chunks operations : ℕ → Option D) →
+    AreAnswersOf text g.shape (length leaves) (λ a k. node_over h (over_chunks (height g) (ungrafted g.shape)) (λ a. []) leaves k a) chunks →
+    AreAnswersOf text g.shape (length s.operations) (tree_node h (ungrafted g.shape) (listed s.operations)) operations →
+    IsStoreOf text h g (size g.shape (length s.operations)) (joined g.shape (height g) (size g.shape (length s.operations)) chunks operations) s

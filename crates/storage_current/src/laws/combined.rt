@@ -6,9 +6,10 @@ ghost use Rattle.storage_merkle.specs.Mmr.{mmr};
 ghost use Rattle.storage_merkle.specs.Nodes.{CoversSame, IsNode};
 ghost use Rattle.storage_merkle.specs.Shape.{size};
 ghost use Rattle.storage_current.specs.Combined.{IsRaised, joined};
-ghost use Rattle.storage_current.specs.CombinedViews.{ChunksKeepPace, JoinedTreesAreTheView};
+ghost use Rattle.storage_current.specs.CombinedViews.{ChunksKeepPace, JoinedTreesAreTheView, JoinedTreesServeTheView};
 
 use storage_codec::digest::{self, Digest};
+use storage_merkle::laws::greatest_nodes_are_planned;
 use storage_merkle::merkle::hasher::Hasher;
 use storage_merkle::merkle::{Family, Graftable};
 
@@ -37,3 +38,11 @@ pub fn chunks_keep_pace()
 pub fn joined_trees_are_the_view<F: Graftable, H: digest::Hasher, const N: usize>()
     ensures { JoinedTreesAreTheView H.Digest.text H.hash_of (record { shape = F.shape; bytes = N }) }
 {}
+
+/// From such trees both as one each proof of the snapshot's operations is made: every planned position has its digest, and what
+/// is proved is the snapshot's own.
+pub fn combined_stores_serve_the_view<F: Graftable, H: digest::Hasher, const N: usize>()
+    ensures { JoinedTreesServeTheView H.Digest.text H.hash_of (record { shape = F.shape; bytes = N }) }
+{
+    greatest_nodes_are_planned();
+}
