@@ -38,7 +38,8 @@ fn of_operations<F: Family>(
     if column != "none" {
         for part in column.split(',') {
             let (location, operation) = claim_of(part)?;
-            operations.push((location, Unframed::parse(alloc, operation)?))?;
+            let operation = Unframed::parse(alloc, operation)?;
+            operations.push((Location::new(location), operation))?;
         }
     }
     Ok(verify_multi_proof::<Sha256, F, _>(alloc, proof, &operations, root)?)
@@ -56,7 +57,7 @@ fn of_elements<F: Family>(
     if column != "none" {
         for part in column.split(',') {
             let (location, element) = claim_of(part)?;
-            elements.push((bytes(alloc, element)?, location))?;
+            elements.push((bytes(alloc, element)?, Location::new(location)))?;
         }
     }
     let hasher = Standard::<Sha256>::new(bagging);
@@ -64,7 +65,7 @@ fn of_elements<F: Family>(
 }
 
 /// The location of a claim, and its element in hexadecimal.
-fn claim_of<F: Family>(part: &str) -> Result<(Location<F>, &str), Fault> {
+fn claim_of(part: &str) -> Result<(u64, &str), Fault> {
     let (location, element) = part.split_once(':').ok_or(Fault::Malformed)?;
-    Ok((Location::new(number(location)?), element))
+    Ok((number(location)?, element))
 }

@@ -11,7 +11,7 @@ use storage_bitmap::bitmap::authenticated::{
 use storage_codec::codec::FixedBytes;
 use storage_codec::digest::Sha256;
 use storage_merkle::merkle::hasher::Standard;
-use storage_merkle::merkle::{MAX_LEAVES, Position};
+use storage_merkle::merkle::{Error, MAX_LEAVES, Position};
 
 /// A bitmap between two calls.
 #[derive(Drop)]
@@ -66,6 +66,7 @@ fn restored<const N: usize>(
     };
     match BitMap::init(alloc, hasher, state) {
         Ok(bitmap) => Ok(bitmap),
+        Err(Error::Memory) => Err(Fault::Memory),
         Err(_) => Err(Fault::Malformed),
     }
 }
