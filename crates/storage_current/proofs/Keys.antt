@@ -10,13 +10,14 @@ use Rattle.storage_ops.specs.PrefixFreeLaws.{three_parts}
 use Rattle.storage_current.specs.Snapshots.{Snapshot, IsSnapshot, IsActive}
 use Rattle.storage_current.specs.Keys.{Keyed, update_text, commit_text, before, in_span, Excludes, Updates, HasKey, IsAbsent, IsValue, IsWellFormed, UpdatesAreValues, ExcludedAreAbsent, NoneAtItsFloor}
 
--- what the bytes of an operation settle, and that keys which compare alike are written alike
+-- what the bytes of an operation settle, and that exactly those keys compare alike which are written alike
 pub record IsKeyed {K V : Type 0} (e : Keyed K V) : Type 0 where
   pub one : (a b : K) (v w : V) (m n : K) → update_text e a v m ≡ update_text e b w n → (e.key a ≡ e.key b) × (e.value v ≡ e.value w) × (e.key m ≡ e.key n)
   pub apart : (a : K) (v : V) (m : K) (o : Option V) (floor : ℕ) → floor < 2 ^ 64 → update_text e a v m ≡ commit_text e o floor → ⊥
   pub floors : (o p : Option V) (m n : ℕ) → m < 2 ^ 64 → n < 2 ^ 64 → commit_text e o m ≡ commit_text e p n → m ≡ n
   pub total : IsTotalOrder e.cmp
   pub exact : (a b : K) → e.cmp a b ≡ Equal → e.key a ≡ e.key b
+  pub alike : (a b : K) → e.key a ≡ e.key b → e.cmp a b ≡ Equal
 
 abbrev text_view : OperationView (List ℕ) (List ℕ) (List ℕ) → OperationView (List ℕ) (List ℕ) (List ℕ)
 text_view x = x
@@ -29,6 +30,11 @@ update_no_commit a o n e = cc
 
 commits_same : (a b : Option (List ℕ)) (m n : ℕ) → text_view (CommitFloor a m) ≡ CommitFloor b n → m ≡ n
 commits_same a b m n e = cc
+
+tested : (o : Ordering) → is_eq o ≡ true → o ≡ Equal
+tested Less h = absurd (false≢true h)
+tested Equal h = refl
+tested Greater h = absurd (false≢true h)
 
 -- Codecs of keys and values, and of operations whose updates are written as their parts, give them.
 pub keyed_of : {K V U X Y : Type 0} (key : K → List ℕ) (value : V → List ℕ) (operation : OperationView (List ℕ) (List ℕ) (List ℕ) → List ℕ) (cmp : K → K → Ordering)
@@ -52,6 +58,7 @@ keyed_of {K} {V} key value operation cmp kview vview update make made parts kis 
           commits_same _ _ _ _ (parts (CommitFloor o m) (CommitFloor p n) small_m small_n e);
       total = total;
       exact = λ a b e. (same a b).0 (eq_is a b ∙ ap is_eq e);
+      alike = λ a b e. tested (cmp a b) (sym (eq_is a b) ∙ (same a b).1 e);
     }
 
 same_active : (s : Snapshot) (location : ℕ) (a b : List ℕ) → IsActive s location a → IsActive s location b → a ≡ b

@@ -5,6 +5,7 @@ pub mod Canonical
 pub mod Bits
 pub mod Operations
 pub mod Keys
+pub mod WellFormed
 pub mod KeyAnswers
 pub mod Served
 pub mod Witnesses

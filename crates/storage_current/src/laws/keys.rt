@@ -1,6 +1,8 @@
 //! What a well-formed snapshot says of keys.
 
-ghost use Rattle.storage_current.specs.Keys.{ExcludedAreAbsent, Keyed, NoneAtItsFloor, UpdatesAreValues};
+ghost use Rattle.std.specs.Prelude.{[], ◌∷◌, Option, true};
+ghost use Rattle.storage_current.specs.Keys.{ExcludedAreAbsent, IsWellFormed, Keyed, NoneAtItsFloor, UpdatesAreValues, commit_text, update_text};
+ghost use Rattle.storage_current.specs.Snapshots.{IsSnapshot, Snapshot};
 
 use storage_merkle::merkle::Family;
 use storage_ops::qmdb::any::operation::OperationCodec;
@@ -20,4 +22,14 @@ pub fn spanned_key_is_absent<F: Family, K: Key, V: OperationCodec<F, Ordered<K, 
 /// Where an active commit of a well-formed snapshot stands at its own floor, every key is absent.
 pub fn commit_at_floor_is_empty<F: Family, K: Key, V: OperationCodec<F, Ordered<K, V>>>()
     ensures { let e : Keyed K V.Value = record { key = K.text; value = V.Value.text; operation = V.operation_text; cmp = K.cmp } in NoneAtItsFloor e }
+{}
+
+/// A snapshot of one active commit at its own floor is well-formed.
+pub fn one_commit_is_well_formed<F: Family, K: Key, V: OperationCodec<F, Ordered<K, V>>>()
+    ensures { let e : Keyed K V.Value = record { key = K.text; value = V.Value.text; operation = V.operation_text; cmp = K.cmp } in (value : Option V.Value) → let s : Snapshot = record { operations = commit_text e value 0 ∷ []; bits = true ∷ []; floor = 0 } in IsSnapshot s × IsWellFormed e s }
+{}
+
+/// So is one of an active update of a key, which names the key itself as the next one, and an active commit.
+pub fn lone_key_is_well_formed<F: Family, K: Key, V: OperationCodec<F, Ordered<K, V>>>()
+    ensures { let e : Keyed K V.Value = record { key = K.text; value = V.Value.text; operation = V.operation_text; cmp = K.cmp } in (key : K) (value : V.Value) (committed : Option V.Value) → let s : Snapshot = record { operations = update_text e key value key ∷ commit_text e committed 0 ∷ []; bits = true ∷ true ∷ []; floor = 0 } in IsSnapshot s × IsWellFormed e s }
 {}
