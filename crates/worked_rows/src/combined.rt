@@ -3,7 +3,8 @@
 ghost use Rattle.std.specs.Prelude.{◌≡◌, ◌+◌, ◌<◌, ◌≤◌, ◌^◌};
 
 use crate::faulty::{CODE, Faulty};
-use crate::served::{Digest, operations, snapshot};
+use crate::served::{Digest, checked, operations, proof, range_proof, snapshot, written};
+use commonware_storage::bitmap::Prunable;
 use commonware_storage::digest::Sha256;
 use commonware_storage::merkle::hasher::Standard;
 use commonware_storage::merkle::mem::Mem;
@@ -13,6 +14,8 @@ use commonware_storage::merkle::{
 use commonware_storage::qmdb;
 use commonware_storage::qmdb::current::Snapshot;
 use commonware_storage::qmdb::current::grafting::{GraftedHasher, Storage, graftable_chunks};
+use commonware_storage::qmdb::current::proof::RangeProof;
+use commonware_storage::qmdb::current::proof::constant::OperationProof;
 use std::alloc::Global;
 use std::process::Abort;
 use std::test::Fail;
@@ -29,9 +32,6 @@ const NONE: u64 = u64::MAX;
 
 /// Calls of a store without a failure.
 const ALWAYS: u64 = u64::MAX;
-
-/// The positions that a proof of operation 9 of 18 needs.
-const PLANNED: [u64; 5] = [13, 18, 20, 29, 31];
 
 fn hasher<F: Graftable>() -> GraftedHasher<F, Standard<Sha256>>
     ensures { result.height ≡ 3 }
@@ -156,14 +156,18 @@ fn combined_trees_are_the_view(rt: HostRuntime) -> Result<(), Fail> {
     Ok(())
 }
 
-/// What both trees of 18 operations answer for the planned positions, over the grafted tree or an empty one.
-fn planned(
+/// A refusal, or the proof of operation 9.
+type Answer = Result<OperationProof<mmb::Family, Digest, 1>, qmdb::Error<mmb::Family>>;
+
+/// The proof of operation 9 of 18 from both trees, over the grafted tree or an empty one. The tree over the operations lacks a
+/// node, and fails after so many calls.
+fn proved(
     alloc: Global,
     snapshot: &Snapshot<mmb::Family, Sha256, 1>,
     whole: bool,
     lacks: u64,
     calls: u64,
-) -> Result<Result<Vec<Digest>, Error<mmb::Family>>, Fail> {
+) -> Result<Answer, Fail> {
     let grafted = if whole {
         grafted_tree(alloc, snapshot, 18)?
     } else {
@@ -171,38 +175,77 @@ fn planned(
     };
     let mut operations = Faulty::new(operations_tree(alloc, 18)?, lacks, calls);
     let mut both = Storage::new(&grafted, HEIGHT, &mut operations);
-    let positions = PLANNED.map(|place| Position::new(place));
-    Ok(both.get_nodes(alloc, &positions))
+    Ok(OperationProof::new::<Sha256, Prunable<1>, _>(
+        alloc,
+        snapshot.status(),
+        &mut both,
+        Location::new(0),
+        Location::new(9),
+        snapshot.ops_root(),
+    ))
 }
 
-#[test]
-fn combined_whole_nodes(rt: HostRuntime) -> Result<(), Fail> {
-    let alloc = rt.alloc();
+/// Stops where both trees answer otherwise than that the node at a position is absent.
+fn assert_absent(
+    rt: &impl Abort,
+    alloc: Global,
+    whole: bool,
+    lacks: u64,
+    position: u64,
+) -> Result<(), Fail> {
     let snapshot = snapshot::<mmb::Family>(alloc, 18, &[9], 0)?;
-    let Ok(nodes) = planned(alloc, &snapshot, true, NONE, ALWAYS)? else {
-        return Err(Fail::new("not served"));
-    };
-    assert_eq!(rt; nodes.len(), 5);
-    for (index, place) in PLANNED.iter().enumerate() {
-        assert!(rt; Some(nodes[index]) == snapshot.get_node(Position::new(*place)));
-    }
+    let absent = Error::ElementPruned(Position::new(position));
+    let answer = proved(alloc, &snapshot, whole, lacks, ALWAYS)?;
+    assert!(rt; answer.err() == Some(qmdb::Error::Merkle(absent)));
     Ok(())
 }
 
 #[test]
-fn combined_absent_nodes(rt: HostRuntime) -> Result<(), Fail> {
+fn combined_whole(rt: HostRuntime) -> Result<(), Fail> {
     let alloc = rt.alloc();
     let snapshot = snapshot::<mmb::Family>(alloc, 18, &[9], 0)?;
-    let cases = [
-        (false, NONE, 18),
-        (false, 13, 13),
-        (false, 20, 18),
-        (true, 20, 20),
-    ];
-    for (whole, lacks, absent) in cases {
-        let answer = planned(alloc, &snapshot, whole, lacks, ALWAYS)?;
-        assert!(rt; answer.err() == Some(Error::ElementPruned(Position::new(absent))));
-    }
+    let answer = proved(alloc, &snapshot, true, NONE, ALWAYS)?;
+    let own = answer.ok().ok_or("no proof")?;
+    assert!(rt; own == proof(alloc, &snapshot, 0, 9)?);
+    let bytes = written(&rt, alloc, &own, 231)?;
+    assert!(rt; checked(alloc, &snapshot, 9, &bytes)?);
+    Ok(())
+}
+
+#[test]
+fn combined_no_grafted(rt: HostRuntime) -> Result<(), Fail> {
+    assert_absent(&rt, rt.alloc(), false, NONE, 18)
+}
+
+#[test]
+fn combined_operation_missing(rt: HostRuntime) -> Result<(), Fail> {
+    assert_absent(&rt, rt.alloc(), false, 13, 13)
+}
+
+#[test]
+fn combined_grafted_first(rt: HostRuntime) -> Result<(), Fail> {
+    assert_absent(&rt, rt.alloc(), false, 20, 18)
+}
+
+#[test]
+fn combined_second_missing(rt: HostRuntime) -> Result<(), Fail> {
+    assert_absent(&rt, rt.alloc(), true, 20, 20)
+}
+
+/// Stops where a failure of the first call is not told, or one of a later call changes the answer: the tree over the operations
+/// is asked once.
+fn assert_failures(
+    rt: &impl Abort,
+    alloc: Global,
+    snapshot: &Snapshot<mmb::Family, Sha256, 1>,
+    whole: bool,
+    lacks: u64,
+) -> Result<(), Fail> {
+    let answer = proved(alloc, snapshot, whole, lacks, 0)?;
+    assert!(rt; answer.err() == Some(qmdb::Error::Merkle(Error::Source(CODE))));
+    let late = proved(alloc, snapshot, whole, lacks, 1)?;
+    let never = proved(alloc, snapshot, whole, lacks, ALWAYS)?;
+    assert!(rt; late == never);
     Ok(())
 }
 
@@ -212,9 +255,27 @@ fn combined_failures(rt: HostRuntime) -> Result<(), Fail> {
     let snapshot = snapshot::<mmb::Family>(alloc, 18, &[9], 0)?;
     for whole in [false, true] {
         for lacks in [NONE, 13, 20] {
-            let answer = planned(alloc, &snapshot, whole, lacks, 0)?;
-            assert!(rt; answer.err() == Some(Error::Source(CODE)));
+            assert_failures(&rt, alloc, &snapshot, whole, lacks)?;
         }
     }
+    Ok(())
+}
+
+#[test]
+fn combined_range(rt: HostRuntime) -> Result<(), Fail> {
+    let alloc = rt.alloc();
+    let snapshot = snapshot::<mmr::Family>(alloc, 50, &[9, 17, 30], 0)?;
+    let grafted = grafted_tree(alloc, &snapshot, 50)?;
+    let mut operations = Faulty::new(operations_tree(alloc, 50)?, NONE, ALWAYS);
+    let mut both = Storage::new(&grafted, HEIGHT, &mut operations);
+    let answer = RangeProof::new::<Sha256, Prunable<1>, _, 1>(
+        alloc,
+        snapshot.status(),
+        &mut both,
+        Location::new(0),
+        Location::new(7)..Location::new(20),
+        snapshot.ops_root(),
+    );
+    assert!(rt; answer.ok() == Some(range_proof(alloc, &snapshot, 0, 7, 20)?));
     Ok(())
 }
