@@ -1,15 +1,27 @@
 //! What holds between a snapshot's own proofs about keys and the checks of a light client.
 
+ghost use Rattle.std.specs.Prelude.{◌≡◌, ℕ, List, IfOk, true};
+ghost use Rattle.storage_bitmap.specs.Chunks.{IsChunkSize};
 ghost use Rattle.storage_ops.specs.Updates.{ordered_at};
-ghost use Rattle.storage_current.specs.Keys.{Keyed};
+ghost use Rattle.storage_current.specs.Held.{operation_of};
+ghost use Rattle.storage_current.specs.HeldKeys.{exclusion_of};
+ghost use Rattle.storage_current.specs.KeyProofs.{Allows, Exclusion, proof_of, shown_text};
+ghost use Rattle.storage_current.specs.KeyWire.{IsAdmittedExclusion};
+ghost use Rattle.storage_current.specs.Keys.{Keyed, Updates};
+ghost use Rattle.storage_current.specs.Snapshots.{Grafting, IsActive, IsSnapshot, Snapshot, canonical_root, own_operation_proof};
 ghost use Rattle.commonware_storage.specs.LightKeys.{OwnExclusionsAreAccepted, OwnValuesAreAccepted};
 
-use storage_codec::codec::Read;
+use crate::light::{check_absence, check_value};
+use std::alloc::Global;
+use storage_codec::NoMemory;
+use storage_codec::codec::{Read, Write};
+use storage_codec::digest::Hasher;
 use storage_current::laws::{
     own_operation_proofs_are_accepted, own_operation_proofs_are_read_again,
 };
 use storage_current::qmdb::current::ordered::UpdateCodec;
-use storage_merkle::merkle::Family;
+use storage_current::qmdb::current::ordered::constant::{ExclusionProof, KeyValueProof};
+use storage_merkle::merkle::{Family, Graftable};
 use storage_ops::qmdb::any::operation::OperationCodec;
 use storage_ops::qmdb::any::operation::update::Ordered;
 use storage_ops::qmdb::operation::Key;
@@ -34,4 +46,55 @@ pub fn own_exclusions_are_accepted<
 {
     own_operation_proofs_are_accepted();
     own_operation_proofs_are_read_again();
+}
+
+/// Writes the proof, and answers what [`check_value`] says of the bytes: yes wherever its operation proof is a snapshot's own
+/// one of the active update of the key to the value, the update names this next key, and `root` is the canonical root.
+pub fn written_values_are_accepted<
+    F: Graftable,
+    H: Hasher,
+    K: Key,
+    V: OperationCodec<F, Ordered<K, V>>,
+    const N: usize,
+>(
+    alloc: Global,
+    proof: &KeyValueProof<F, K, H::Digest, N>,
+    cfg: &K::Cfg,
+    key: K,
+    value: V::Value,
+    root: &H::Digest,
+) -> Result<bool, NoMemory>
+    requires size { IsChunkSize N }
+    ensures { let e : Keyed K V.Value = record { key = K.text; value = V.Value.text; operation = V.operation_text; cmp = K.cmp } in let g : Grafting = record { shape = F.shape; bytes = N } in (s : Snapshot) → IsSnapshot s → (location : ℕ) → operation_of H.Digest.text (λ c. c) proof.now.proof ≡ own_operation_proof H.hash_of g s location → Updates e s location key value proof.now.next_key → K.admits cfg.now proof.now.next_key → H.Digest.text root.now ≡ canonical_root H.hash_of g s → IfOk result (λ yes. yes ≡ true) }
+{
+    own_values_are_accepted::<F, K, V>();
+    let mut bytes = Vec::new(alloc);
+    proof.write(&mut bytes)?;
+    let yes = check_value::<F, H, K, V>(alloc, &bytes, N, cfg, key, value, root)?;
+    Ok(yes)
+}
+
+/// Writes the proof, and answers what [`check_absence`] says of the bytes: yes wherever its operation proof is a snapshot's own
+/// one, its update or commit is active there and excludes the key, and `root` is the canonical root.
+pub fn written_exclusions_are_accepted<
+    F: Graftable,
+    H: Hasher,
+    K: Key,
+    V: OperationCodec<F, Ordered<K, V>> + UpdateCodec<K>,
+    const N: usize,
+>(
+    alloc: Global,
+    proof: &ExclusionProof<F, K, V, H::Digest, N>,
+    cfgs: &(<V as UpdateCodec<K>>::UpdateCfg, <V::Value as Read>::Cfg),
+    key: &K,
+    root: &H::Digest,
+) -> Result<bool, NoMemory>
+    requires size { IsChunkSize N }
+    ensures { let e : Keyed K V.Value = record { key = K.text; value = V.Value.text; operation = V.operation_text; cmp = K.cmp } in let g : Grafting = record { shape = F.shape; bytes = N } in let x : Exclusion (K × V.Value × K) V.Value = exclusion_of H.Digest.text (λ c. c) proof.now in (s : Snapshot) → IsSnapshot s → proof_of x ≡ own_operation_proof H.hash_of g s (proof_of x).location → IsActive s (proof_of x).location (shown_text e x) → Allows e x key.now → IsAdmittedExclusion (λ _. Unit {0}) (λ u. K.admits (V.key_cfg cfgs.now.0) u.0 × V.Value.admits (V.value_cfg cfgs.now.0) u.1 × K.admits (V.key_cfg cfgs.now.0) u.2) (V.Value.admits cfgs.now.1) x → H.Digest.text root.now ≡ canonical_root H.hash_of g s → IfOk result (λ yes. yes ≡ true) }
+{
+    own_exclusions_are_accepted::<F, K, V>();
+    let mut bytes = Vec::new(alloc);
+    proof.write(&mut bytes)?;
+    let yes = check_absence::<F, H, K, V>(alloc, &bytes, N, cfgs, key, root)?;
+    Ok(yes)
 }
