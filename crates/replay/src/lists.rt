@@ -2,6 +2,7 @@
 
 mod bitmaps;
 mod codecs;
+mod combined;
 mod extracted;
 mod keys;
 mod mems;
@@ -36,6 +37,7 @@ pub fn answer(alloc: Global, line: &str) -> Result<String, Fault> {
         "program_checks" => program::program_checks(alloc, columns),
         "key_values" | "exclusions" | "golden_keys" => keys::answer(alloc, *list, columns),
         "bitmaps" | "bitmaps_checks" | "bitmaps_init" => bitmaps::answer(alloc, *list, columns),
+        "combined" => combined::combined(alloc, columns),
         "golden" | "ranges" | "ranges_checks" => snapshots::answer(alloc, *list, columns),
         _ => trees::answer(alloc, *list, columns),
     }

@@ -93,7 +93,7 @@ fn places<T>(items: &[T], start: u64, end: u64) -> Result<&[T], Fault> {
 }
 
 /// A bit for each digit; `-` is none.
-fn bits_of<const N: usize>(alloc: Global, digits: &str) -> Result<Prunable<N>, Fault>
+pub fn bits_of<const N: usize>(alloc: Global, digits: &str) -> Result<Prunable<N>, Fault>
     requires { IsChunkSize N }
 {
     let mut bits = Prunable::new(alloc);

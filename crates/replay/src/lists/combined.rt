@@ -1,0 +1,221 @@
+//! The list on proofs from a tree over chunks and a tree over the operations, read as one.
+
+ghost use Rattle.std.specs.Prelude.{◌≡◌, ◌%◌, ◌^◌, ◌≤◌};
+ghost use Rattle.storage_bitmap.specs.Chunks.{IsChunkSize};
+
+mod lacking;
+
+use crate::columns::{Fault, number, strings};
+use crate::lists::refusals::database_refusal;
+use crate::lists::snapshots::bits_of;
+use commonware_storage::bitmap::{Prunable, Readable};
+use commonware_storage::codec::{Encode, FixedBytes};
+use commonware_storage::digest::Sha256;
+use commonware_storage::merkle::hasher::Standard;
+use commonware_storage::merkle::mem::Mem;
+use commonware_storage::merkle::{
+    Bagging, Countable, Graftable, Location, MAX_LEAVES, Position, Storage as _, mmb, mmr,
+};
+use commonware_storage::qmdb;
+use commonware_storage::qmdb::current::Snapshot;
+use commonware_storage::qmdb::current::grafting::{self, GraftedHasher, Storage, graftable_chunks};
+use commonware_storage::qmdb::current::proof::constant::OperationProof;
+use lacking::Lacking;
+use std::alloc::Global;
+use storage_current::laws::combined::nodes_over_chunks_are_taken;
+
+/// More chunks than a case has.
+const MANY: u64 = 1000;
+
+/// A position that no tree has.
+const NONE: u64 = u64::MAX;
+
+/// What a case gives.
+#[derive(Drop)]
+struct Case<'a> {
+    bits: &'a str,
+    floor: u64,
+    operations: Vec<Vec<u8>>,
+    location: u64,
+    /// Whether the tree over chunks has nodes.
+    whole: bool,
+    /// The position that the tree over the operations lacks.
+    absent: u64,
+}
+
+/// `family chunk_size bits floor operations location grafted absent`: the proof of the operation at the location, or the refusal.
+/// The tree over chunks is whole or `empty`, and the one over the operations lacks a position or `none`.
+pub fn combined(alloc: Global, columns: &[&str]) -> Result<String, Fault> {
+    let [
+        family,
+        chunk_size,
+        bits,
+        floor,
+        operations,
+        location,
+        grafted,
+        absent,
+    ] = columns
+    else {
+        return Err(Fault::Malformed);
+    };
+    let case = Case {
+        bits: *bits,
+        floor: number(*floor)?,
+        operations: strings(alloc, *operations)?,
+        location: number(*location)?,
+        whole: *grafted != "empty",
+        absent: if *absent == "none" {
+            NONE
+        } else {
+            number(*absent)?
+        },
+    };
+    match (*family, *chunk_size) {
+        ("mmr", "1") => proved::<mmr::Family, 1>(alloc, &case),
+        ("mmr", "2") => proved::<mmr::Family, 2>(alloc, &case),
+        ("mmb", "1") => proved::<mmb::Family, 1>(alloc, &case),
+        ("mmb", "2") => proved::<mmb::Family, 2>(alloc, &case),
+        _ => Err(Fault::Malformed),
+    }
+}
+
+fn proved<F: Graftable + Countable, const N: usize>(
+    alloc: Global,
+    case: &Case<'_>,
+) -> Result<String, Fault>
+    requires { IsChunkSize N }
+{
+    let height = grafting::height::<N>();
+    if height > 8 {
+        return Err(Fault::Malformed);
+    }
+    let bits = bits_of::<N>(alloc, case.bits)?;
+    let floor = Location::new(case.floor);
+    let snapshot = match Snapshot::<F, Sha256, N>::new(alloc, &case.operations, bits, floor) {
+        Ok(snapshot) => snapshot,
+        Err(_) => return Err(Fault::Malformed),
+    };
+    let grafted = if case.whole {
+        grafted_tree(alloc, &snapshot, height)?
+    } else {
+        Mem::new(alloc)
+    };
+    let mut operations = Lacking::new(operations_tree(alloc, &case.operations)?, case.absent);
+    let mut both = Storage::new(&grafted, height, &mut operations);
+    let answer = OperationProof::new::<Sha256, Prunable<N>, _>(
+        alloc,
+        snapshot.status(),
+        &mut both,
+        floor,
+        Location::new(case.location),
+        snapshot.ops_root(),
+    );
+    match answer {
+        Ok(proof) => Ok(hex::encode(alloc, proof.encode(alloc)?)?),
+        Err(error) => database_refusal(alloc, &error),
+    }
+}
+
+/// The tree over operations.
+fn operations_tree<F: Graftable>(
+    alloc: Global,
+    operations: &[Vec<u8>],
+) -> Result<Mem<F, FixedBytes<32>>, Fault> {
+    let hasher = qmdb::hasher::<Sha256>();
+    let mut tree = Mem::new(alloc);
+    for operation in operations {
+        if tree.add(&hasher, operation.as_slice()).is_err() {
+            return Err(Fault::Malformed);
+        }
+    }
+    Ok(tree)
+}
+
+/// The tree over the graftable chunks of a snapshot.
+fn grafted_tree<F: Graftable, const N: usize>(
+    alloc: Global,
+    snapshot: &Snapshot<F, Sha256, N>,
+    height: u32,
+) -> Result<Mem<F, FixedBytes<32>>, Fault>
+    requires low { 1 ≤ height }
+    requires high { height ≤ 8 }
+{
+    let mut tree = Mem::new(alloc);
+    let mut digests = Vec::new(alloc);
+    for chunk in 0..graftable_chunks::<F>(snapshot.status().len(), height) {
+        add_chunk(&mut tree, height)?;
+        digests.push((Location::new(chunk), chunk_digest(snapshot, chunk, height)?))?;
+    }
+    put(&mut tree, &digests, height)?;
+    Ok(tree)
+}
+
+fn hasher<F: Graftable>(height: u32) -> GraftedHasher<F, Standard<Sha256>>
+    ensures { result.height ≡ height }
+{
+    GraftedHasher::new(Standard::new(Bagging::BackwardFold), height)
+}
+
+/// Adds a chunk whose digest is put in later.
+fn add_chunk<F: Graftable>(tree: &mut Mem<F, FixedBytes<32>>, height: u32) -> Result<(), Fault>
+    requires low { 1 ≤ height }
+    requires high { height ≤ 8 }
+{
+    nodes_over_chunks_are_taken::<F, Standard<Sha256>>();
+    if tree.leaves().as_u64() >= MANY {
+        return Err(Fault::Malformed);
+    }
+    match tree.add(&hasher::<F>(height), &[]) {
+        Ok(()) => Ok(()),
+        Err(_) => Err(Fault::Malformed),
+    }
+}
+
+/// Puts in the digests of chunks.
+fn put<F: Graftable>(
+    tree: &mut Mem<F, FixedBytes<32>>,
+    digests: &[(Location<F>, FixedBytes<32>)],
+    height: u32,
+) -> Result<(), Fault>
+    requires low { 1 ≤ height }
+    requires high { height ≤ 8 }
+{
+    nodes_over_chunks_are_taken::<F, Standard<Sha256>>();
+    if tree.leaves().as_u64() >= MANY {
+        return Err(Fault::Malformed);
+    }
+    match tree.update_leaves(&hasher::<F>(height), digests) {
+        Ok(()) => Ok(()),
+        Err(_) => Err(Fault::Malformed),
+    }
+}
+
+/// The digest that a snapshot's grafted view has of a chunk's node.
+fn chunk_digest<F: Graftable, const N: usize>(
+    snapshot: &Snapshot<F, Sha256, N>,
+    chunk: u64,
+    height: u32,
+) -> Result<FixedBytes<32>, Fault>
+    requires { height ≤ 8 }
+{
+    let Some(first) = chunk.checked_mul(1 << height) else {
+        return Err(Fault::Malformed);
+    };
+    if first > MAX_LEAVES || !first.is_multiple_of(1 << height) {
+        return Err(Fault::Malformed);
+    }
+    match snapshot.get_node(position_over::<F>(first, height)) {
+        Some(digest) => Ok(digest),
+        None => Err(Fault::Malformed),
+    }
+}
+
+/// The position of the node of a height with this first leaf.
+fn position_over<F: Graftable>(first: u64, height: u32) -> Position<F>
+    requires aligned { first % 2 ^ height ≡ 0 }
+    requires early { first ≤ 2 ^ 62 }
+    requires low { height ≤ 61 }
+{
+    F::subtree_root_position(Location::new(first), height)
+}
