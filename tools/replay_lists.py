@@ -122,6 +122,10 @@ def cases(folder):
         yield "multi_checks", given, asked
     for given, asked in cut(folder, "extracted", 8):
         yield "extracted", given, asked
+    for family, chunk, stage, bits, floor, operations, location, _, grafted, absent, answer in rows(folder, "combined"):
+        # the stage where no tree over chunks is pruned; no bits are
+        if stage == "R9":
+            yield "combined", [family, chunk, bits, floor, operations, location, grafted, absent], [answer]
 
 
 def main():
