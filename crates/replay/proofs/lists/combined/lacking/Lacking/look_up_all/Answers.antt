@@ -1,4 +1,4 @@
-use Rattle.std.proofs.Common.{ℕ, Some, None, eqb, if◌then◌else◌, sym, ◌∙◌}
+use Rattle.std.proofs.Common.{ℕ, Some, None, eqb, if◌then◌else◌}
 use Rattle.storage_merkle.specs.Kept.{kept_at}
 use Rattle.replay.proofs.Reading.{read_more, absent_later}
 use Rattle.replay.proofs.lists.combined.lacking.Lacking.look_up_all.Goals as goal
