@@ -29,8 +29,12 @@ mod program_faults;
 #[cfg(test)]
 mod range_proofs;
 #[cfg(test)]
+mod ranges;
+#[cfg(test)]
 mod served;
 #[cfg(test)]
 mod shared_chunks;
+#[cfg(test)]
+mod store;
 #[cfg(test)]
 mod sweep;

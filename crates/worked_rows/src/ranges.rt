@@ -1,0 +1,195 @@
+//! Ranges that a store and a log serve, each of which may fail.
+
+ghost use Rattle.std.specs.Prelude.{◌≡◌, ◌≤◌};
+
+use crate::served::{Digest, operation, proof, snapshot};
+use crate::store::{Log, Store};
+use commonware_storage::bitmap::Prunable;
+use commonware_storage::codec::Encode;
+use commonware_storage::digest::Sha256;
+use commonware_storage::merkle::{self, Graftable, Location, mmb, mmr};
+use commonware_storage::qmdb::Error;
+use commonware_storage::qmdb::current::Snapshot;
+use commonware_storage::qmdb::current::proof::constant::OperationProof;
+use commonware_storage::qmdb::current::proof::{RangeProof, RangeProofSpec};
+use std::alloc::Global;
+use std::process::Abort;
+use std::test::Fail;
+
+type Rows = Snapshot<mmr::Family, Sha256, 1>;
+
+type Answer = Result<(RangeProof<mmr::Family, Digest>, Vec<u64>, Vec<[u8; 1]>), Error<mmr::Family>>;
+
+/// The snapshot of eleven operations, of which three are active.
+fn eleven(alloc: Global) -> Result<Rows, Fail> {
+    snapshot::<mmr::Family>(alloc, 11, &[1, 5, 9], 0)
+}
+
+/// What is asked of a snapshot: at most so many operations from a location on.
+fn spec(snapshot: &Rows, start: u64, max_ops: u64) -> RangeProofSpec<mmr::Family, Digest>
+    ensures { result.max_ops ≡ max_ops }
+{
+    RangeProofSpec {
+        start_loc: Location::new(start),
+        max_ops,
+        inactivity_floor: Location::new(0),
+        ops_root: snapshot.ops_root(),
+    }
+}
+
+/// What is answered from a snapshot's nodes and a log of its operations from a location on.
+fn asked(
+    alloc: Global,
+    snapshot: &Rows,
+    status: &Prunable<1>,
+    first: u64,
+    start: u64,
+) -> Result<Answer, Fail> {
+    let mut store = Store::of(alloc, snapshot, u64::MAX)?;
+    let mut log = Log::new(first, 11, u64::MAX);
+    let spec = spec(snapshot, start, 100);
+    Ok(RangeProof::new_with_ops::<Sha256, _, _, _, 1>(alloc, status, &mut store, &mut log, spec))
+}
+
+/// Stops where the answer is not the proof of operations that follow one another, with so many digests and bytes, or is
+/// not accepted.
+fn assert_proved(
+    rt: &impl Abort,
+    alloc: Global,
+    snapshot: &Rows,
+    max_ops: u64,
+    locations: &[u16],
+    chunks: &[[u8; 1]],
+    counts: (usize, usize),
+) -> Result<(), Fail>
+    requires { 1 ≤ max_ops }
+{
+    let mut store = Store::of(alloc, snapshot, u64::MAX)?;
+    let mut log = Log::new(0, 11, u64::MAX);
+    let asked = spec(snapshot, 5, max_ops);
+    let answer: Answer = RangeProof::new_with_ops::<Sha256, _, _, _, 1>(
+        alloc,
+        snapshot.status(),
+        &mut store,
+        &mut log,
+        asked,
+    );
+    let (proof, items, touched) = answer.ok().ok_or("no proof")?;
+    let mut operations = Vec::new(alloc);
+    for location in locations {
+        operations.push(operation(alloc, *location)?)?;
+    }
+    assert_eq!(rt; items.len(), locations.len());
+    for (item, location) in items.iter().zip(locations.iter()) {
+        assert_eq!(rt; *item, *location as u64);
+    }
+    assert!(rt; touched.as_slice() == chunks);
+    let (digests, size) = counts;
+    assert_eq!(rt; proof.proof.digests.len(), digests);
+    assert_eq!(rt; proof.encode(alloc)?.len(), size);
+    let start = Location::new(5);
+    let root = snapshot.root();
+    assert!(rt;
+        proof.verify_encoded::<Sha256, _, _>(alloc, start, &operations, &touched, 1, &root)?
+    );
+    Ok(())
+}
+
+#[test]
+fn range_to_the_end(rt: HostRuntime) -> Result<(), Fail> {
+    let alloc = rt.alloc();
+    let locations = [5, 6, 7, 8, 9, 10];
+    assert_proved(
+        &rt,
+        alloc,
+        &eleven(alloc)?,
+        100,
+        &locations,
+        &[[0b10_0010], [0b10]],
+        (2, 132),
+    )
+}
+
+#[test]
+fn range_of_two(rt: HostRuntime) -> Result<(), Fail> {
+    let alloc = rt.alloc();
+    assert_proved(
+        &rt,
+        alloc,
+        &eleven(alloc)?,
+        2,
+        &[5, 6],
+        &[[0b10_0010]],
+        (4, 196),
+    )
+}
+
+#[test]
+fn log_too_short(rt: HostRuntime) -> Result<(), Fail> {
+    let alloc = rt.alloc();
+    let snapshot = eleven(alloc)?;
+    let answer = asked(alloc, &snapshot, snapshot.status(), 6, 5)?;
+    assert!(rt; matches!(answer, Err(Error::DataCorrupted(_))));
+    Ok(())
+}
+
+#[test]
+fn store_of_no_tree(rt: HostRuntime) -> Result<(), Fail> {
+    let alloc = rt.alloc();
+    let snapshot = eleven(alloc)?;
+    let mut store = Store::of_size(alloc, &snapshot, 2)?;
+    let mut log = Log::new(0, 11, u64::MAX);
+    let asked = spec(&snapshot, 5, 100);
+    let answer: Answer = RangeProof::new_with_ops::<Sha256, _, _, _, 1>(
+        alloc,
+        snapshot.status(),
+        &mut store,
+        &mut log,
+        asked,
+    );
+    assert!(rt; matches!(answer, Err(Error::Merkle(merkle::Error::DataCorrupted(_)))));
+    Ok(())
+}
+
+#[test]
+fn served_operation_proof(rt: HostRuntime) -> Result<(), Fail> {
+    let alloc = rt.alloc();
+    let snapshot = eleven(alloc)?;
+    let mut store = Store::of(alloc, &snapshot, u64::MAX)?;
+    let served = OperationProof::<mmr::Family, Digest, 1>::new::<Sha256, Prunable<1>, _>(
+        alloc,
+        snapshot.status(),
+        &mut store,
+        Location::new(0),
+        Location::new(9),
+        snapshot.ops_root(),
+    );
+    let served = served.ok().ok_or("no proof")?;
+    assert_eq!(rt; served.range_proof.proof.digests.len(), 3);
+    assert_eq!(rt; served.encode(alloc)?.len(), 166);
+    assert!(rt; served == proof(alloc, &snapshot, 0, 9)?);
+    Ok(())
+}
+
+/// Stops where the snapshot's witness has not so many bytes, or does not stand.
+fn assert_witness<F: Graftable>(
+    rt: &impl Abort,
+    alloc: Global,
+    count: u16,
+    set: u16,
+    size: usize,
+) -> Result<(), Fail> {
+    let snapshot = snapshot::<F>(alloc, count, &[set], 0)?;
+    let witness = snapshot.witness();
+    assert_eq!(rt; witness.encode(alloc)?.len(), size);
+    assert!(rt; witness.verify::<Sha256>(&snapshot.ops_root(), &snapshot.root()));
+    Ok(())
+}
+
+#[test]
+fn witness_sizes(rt: HostRuntime) -> Result<(), Fail> {
+    let alloc = rt.alloc();
+    assert_witness::<mmr::Family>(&rt, alloc, 8, 3, 33)?;
+    assert_witness::<mmr::Family>(&rt, alloc, 11, 9, 66)?;
+    assert_witness::<mmb::Family>(&rt, alloc, 18, 9, 99)
+}
