@@ -2,9 +2,9 @@
 
 ghost use Rattle.std.specs.Prelude.{◌≡◌, ◌≤◌};
 
-use crate::served::{Digest, operation, proof, snapshot};
+use crate::served::{Digest, bits, operation, proof, snapshot};
 use crate::store::{Log, Store};
-use commonware_storage::bitmap::Prunable;
+use commonware_storage::bitmap::{Prunable, Readable};
 use commonware_storage::codec::Encode;
 use commonware_storage::digest::Sha256;
 use commonware_storage::merkle::{self, Graftable, Location, mmb, mmr};
@@ -192,4 +192,77 @@ fn witness_sizes(rt: HostRuntime) -> Result<(), Fail> {
     assert_witness::<mmr::Family>(&rt, alloc, 8, 3, 33)?;
     assert_witness::<mmr::Family>(&rt, alloc, 11, 9, 66)?;
     assert_witness::<mmb::Family>(&rt, alloc, 18, 9, 99)
+}
+
+#[test]
+fn range_start_at_length(rt: HostRuntime) -> Result<(), Fail> {
+    let alloc = rt.alloc();
+    let snapshot = eleven(alloc)?;
+    let answer = asked(alloc, &snapshot, snapshot.status(), 0, 11)?;
+    let past = merkle::Error::RangeOutOfBounds(Location::new(11));
+    assert!(rt; answer.err() == Some(Error::Merkle(past)));
+    Ok(())
+}
+
+#[test]
+fn range_start_pruned(rt: HostRuntime) -> Result<(), Fail> {
+    let alloc = rt.alloc();
+    let snapshot = eleven(alloc)?;
+    let mut status = bits(alloc, 11, &[1, 5, 9])?;
+    if status.len() < 8 {
+        return Err(Fail::new("too few bits"));
+    }
+    status.prune_to_bit(8);
+    let answer = asked(alloc, &snapshot, &status, 0, 5)?;
+    assert!(rt; answer.err() == Some(Error::OperationPruned(Location::new(5))));
+    Ok(())
+}
+
+#[test]
+fn start_past_the_end(rt: HostRuntime) -> Result<(), Fail> {
+    let alloc = rt.alloc();
+    let snapshot = snapshot::<mmr::Family>(alloc, 8, &[3], 0)?;
+    let at_the_end = asked(alloc, &snapshot, snapshot.status(), 0, 8)?;
+    let past = merkle::Error::RangeOutOfBounds(Location::new(8));
+    assert!(rt; at_the_end.err() == Some(Error::Merkle(past)));
+    let far = asked(alloc, &snapshot, snapshot.status(), 0, (1 << 62) + 1)?;
+    let past = merkle::Error::RangeOutOfBounds(Location::new((1 << 62) + 1));
+    assert!(rt; far.err() == Some(Error::Merkle(past)));
+    Ok(())
+}
+
+/// The fault that is told where the store has so many answers and the log so many; none where both have enough.
+fn fault(alloc: Global, nodes: u64, items: u64) -> Result<Option<u32>, Fail> {
+    let snapshot = eleven(alloc)?;
+    let mut store = Store::of(alloc, &snapshot, nodes)?;
+    let mut log = Log::new(0, 11, items);
+    let asked = spec(&snapshot, 5, 2);
+    let answer: Answer = RangeProof::new_with_ops::<Sha256, _, _, _, 1>(
+        alloc,
+        snapshot.status(),
+        &mut store,
+        &mut log,
+        asked,
+    );
+    match answer {
+        Ok(_) => Ok(None),
+        Err(Error::Merkle(merkle::Error::Source(code))) => Ok(Some(code)),
+        Err(Error::Log(code)) => Ok(Some(code)),
+        Err(_) => Err(Fail::new("another answer")),
+    }
+}
+
+#[test]
+fn failing_stores(rt: HostRuntime) -> Result<(), Fail> {
+    let alloc = rt.alloc();
+    // the peaks of 8..10 and of 10, that of 0..4, leaf 4 and leaf 7
+    for nodes in 0..5 {
+        assert!(rt; fault(alloc, nodes, u64::MAX)? == Some(7));
+    }
+    assert!(rt; fault(alloc, 5, u64::MAX)?.is_none());
+    for items in 0..2 {
+        assert!(rt; fault(alloc, u64::MAX, items)? == Some(9));
+    }
+    assert!(rt; fault(alloc, u64::MAX, 2)?.is_none());
+    Ok(())
 }
