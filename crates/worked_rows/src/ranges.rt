@@ -9,9 +9,9 @@ use commonware_storage::codec::Encode;
 use commonware_storage::digest::Sha256;
 use commonware_storage::merkle::{self, Graftable, Location, mmb, mmr};
 use commonware_storage::qmdb::Error;
-use commonware_storage::qmdb::current::Snapshot;
 use commonware_storage::qmdb::current::proof::constant::OperationProof;
 use commonware_storage::qmdb::current::proof::{RangeProof, RangeProofSpec};
+use commonware_storage::qmdb::current::{self, Snapshot};
 use std::alloc::Global;
 use std::process::Abort;
 use std::test::Fail;
@@ -264,5 +264,41 @@ fn failing_stores(rt: HostRuntime) -> Result<(), Fail> {
         assert!(rt; fault(alloc, u64::MAX, items)? == Some(9));
     }
     assert!(rt; fault(alloc, u64::MAX, 2)?.is_none());
+    Ok(())
+}
+
+#[test]
+fn required_chunks(rt: HostRuntime) -> Result<(), Fail> {
+    let length = Location::<mmb::Family>::new(18);
+    let first = Some(Location::<mmb::Family>::new(0));
+    let queried = current::required_chunks::<mmb::Family, 1>(length, 18, 0, first);
+    let mut chunks = queried.ok().ok_or("no chunks")?;
+    assert!(rt; chunks.next() == Some(0));
+    assert!(rt; chunks.next() == Some(1));
+    assert!(rt; chunks.next() == Some(2));
+    assert!(rt; chunks.next().is_none());
+    let unqueried = current::required_chunks::<mmb::Family, 1>(length, 18, 0, None);
+    let mut chunks = unqueried.ok().ok_or("no chunks")?;
+    assert!(rt; chunks.next() == Some(1));
+    assert!(rt; chunks.next() == Some(2));
+    assert!(rt; chunks.next().is_none());
+    let past = Some(Location::<mmb::Family>::new(18));
+    let refused = current::required_chunks::<mmb::Family, 1>(length, 18, 0, past);
+    let error = merkle::Error::RangeOutOfBounds(Location::new(18));
+    assert!(rt; refused.err() == Some(Error::Merkle(error)));
+    Ok(())
+}
+
+#[test]
+fn required_chunks_once_pruned(rt: HostRuntime) -> Result<(), Fail> {
+    let length = Location::<mmr::Family>::new(16);
+    let seventh = Some(Location::<mmr::Family>::new(7));
+    let refused = current::required_chunks::<mmr::Family, 1>(length, 16, 1, seventh);
+    assert!(rt; refused.err() == Some(Error::OperationPruned(Location::new(7))));
+    let unqueried = current::required_chunks::<mmr::Family, 1>(length, 16, 1, None);
+    let mut chunks = unqueried.ok().ok_or("no chunks")?;
+    assert!(rt; chunks.next().is_none());
+    let corrupted = current::required_chunks::<mmr::Family, 1>(length, 16, 3, None);
+    assert!(rt; matches!(corrupted, Err(Error::DataCorrupted(_))));
     Ok(())
 }
