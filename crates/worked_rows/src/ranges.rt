@@ -231,12 +231,15 @@ fn start_past_the_end(rt: HostRuntime) -> Result<(), Fail> {
     Ok(())
 }
 
-/// The fault that is told where the store has so many answers and the log so many; none where both have enough.
-fn fault(alloc: Global, nodes: u64, items: u64) -> Result<Option<u32>, Fail> {
+/// The fault that is told of so many operations where the store has so many answers and the log so many; none where both
+/// have enough.
+fn fault(alloc: Global, max_ops: u64, nodes: u64, items: u64) -> Result<Option<u32>, Fail>
+    requires { 1 ≤ max_ops }
+{
     let snapshot = eleven(alloc)?;
     let mut store = Store::of(alloc, &snapshot, nodes)?;
     let mut log = Log::new(0, 11, items);
-    let asked = spec(&snapshot, 5, 2);
+    let asked = spec(&snapshot, 5, max_ops);
     let answer: Answer = RangeProof::new_with_ops::<Sha256, _, _, _, 1>(
         alloc,
         snapshot.status(),
@@ -257,13 +260,28 @@ fn failing_stores(rt: HostRuntime) -> Result<(), Fail> {
     let alloc = rt.alloc();
     // the peaks of 8..10 and of 10, that of 0..4, leaf 4 and leaf 7
     for nodes in 0..5 {
-        assert!(rt; fault(alloc, nodes, u64::MAX)? == Some(7));
+        assert!(rt; fault(alloc, 2, nodes, u64::MAX)? == Some(7));
     }
-    assert!(rt; fault(alloc, 5, u64::MAX)?.is_none());
+    assert!(rt; fault(alloc, 2, 5, u64::MAX)?.is_none());
     for items in 0..2 {
-        assert!(rt; fault(alloc, u64::MAX, items)? == Some(9));
+        assert!(rt; fault(alloc, 2, u64::MAX, items)? == Some(9));
     }
-    assert!(rt; fault(alloc, u64::MAX, 2)?.is_none());
+    assert!(rt; fault(alloc, 2, u64::MAX, 2)?.is_none());
+    Ok(())
+}
+
+#[test]
+fn failing_stores_to_the_end(rt: HostRuntime) -> Result<(), Fail> {
+    let alloc = rt.alloc();
+    // the peak of 0..4 and leaf 4
+    for nodes in 0..2 {
+        assert!(rt; fault(alloc, 100, nodes, u64::MAX)? == Some(7));
+    }
+    assert!(rt; fault(alloc, 100, 2, u64::MAX)?.is_none());
+    for items in 0..6 {
+        assert!(rt; fault(alloc, 100, u64::MAX, items)? == Some(9));
+    }
+    assert!(rt; fault(alloc, 100, u64::MAX, 6)?.is_none());
     Ok(())
 }
 
