@@ -39,12 +39,14 @@ fn empty<const N: usize>(alloc: Global, hasher: &Hasher) -> Result<UnmerkleizedB
     }
 }
 
-/// Appends a bit.
-fn push<const N: usize>(bitmap: &mut UnmerkleizedBitMap<Digest, N>, bit: bool) -> Result<()> {
-    if bitmap.len() >= MAX_LEAVES || bitmap.push(bit).is_err() {
-        bail!("not pushed");
+/// Appends so many bits, of which each third one is set; none where one is refused.
+fn push_all<const N: usize>(bitmap: &mut UnmerkleizedBitMap<Digest, N>, count: u64) -> Option<()> {
+    for bit in 0..count {
+        if bitmap.len() >= MAX_LEAVES || bitmap.push(bit % 3 == 0).is_err() {
+            return None;
+        }
     }
-    Ok(())
+    Some(())
 }
 
 /// The bitmap with its root.
@@ -68,8 +70,8 @@ fn pushed<const N: usize>(
 {
     let mut bitmap = empty(alloc, hasher)?;
     let _root_of_none = hasher.take();
-    for bit in 0..count {
-        push(&mut bitmap, bit % 3 == 0)?;
+    if push_all(&mut bitmap, count).is_none() {
+        bail!("not pushed");
     }
     merkleized(bitmap, hasher)
 }

@@ -1,7 +1,8 @@
 -- Packed bits and the bytes of chunks.
-use Rattle.std.proofs.Common.{◌≡◌, ◌≢◌, ℕ, zero, suc, ◌+◌, ◌-◌, ◌*◌, ◌/◌, ◌%◌, ◌^◌, ◌<◌, ◌≤◌, List, [], ◌∷◌, ◌++◌, length, drop, set, get_or, refl, sym, ap, ◌∙◌, arith, Bool, true, false, eqb, inl, inr, add-zero, zero-mul, get_or-drop, ext_get_or, get_or-set_same, get_or-set_other, length-set, length-drop, length-append, mul_comm, ap₂, replicate, take, Option, Some, None, MatchOption, Bor}
+use Rattle.std.proofs.Common.{◌≡◌, ◌≢◌, ℕ, zero, suc, ◌+◌, ◌-◌, ◌*◌, ◌/◌, ◌%◌, ◌^◌, ◌<◌, ◌≤◌, List, [], ◌∷◌, ◌++◌, length, drop, set, get_or, refl, sym, ap, ◌∙◌, arith, Bool, true, false, eqb, inl, inr, add-zero, zero-mul, get_or-drop, ext_get_or, get_or-set_same, get_or-set_other, length-set, length-drop, length-append, mul_comm, ap₂, replicate, take, Option, Some, None, MatchOption, Bor, bit_or, w8}
+use mir.Val.{bool_byte}
 use Rattle.std.specs.Int.{bit_at}
-use Rattle.std.proofs.lemmas.Nat.Bits.{bit_at-suc, bit_at_lowest, bit_at-zero, same_from_bits_below, bit_at-lt}
+use Rattle.std.proofs.lemmas.Nat.Bits.{bit_at-suc, bit_at_lowest, bit_at_or, bit_at_set_same, bit_at_set_other, bit_at-zero, same_from_bits_below, bit_at-lt}
 use Rattle.std.proofs.lemmas.List.{drop-drop, get_or_past, length_push, get_or_push, get_or_append_left}
 use Rattle.std.proofs.lemmas.List.FromFn.{length-map-range_with_len, get_or-map-range_with_len}
 use Rattle.std.proofs.lemmas.Bool.{cases_lt, cases_eq}
@@ -297,6 +298,31 @@ written bytes place byte bit inside small there others = record {
     | inr e ↦ rw (get_or-set_other bytes (place / 8) (i / 8) byte 0 e) refl
   ];
 }
+
+-- a byte to which no bit is added
+or_none : (byte place i : ℕ) → bit_at (bit_or byte (0 * 2 ^ place % 256)) i ≡ bit_at byte i
+or_none byte place i =
+    ap (λ (m : ℕ). bit_at (bit_or byte m) i) (ap (λ (m : ℕ). m % 256) (zero-mul (2 ^ place))) ∙ omega (arith, bit_at_or byte 0 i, bit_at-zero i, bit_at-lt byte i)
+
+-- a byte with one of its clear bits changed
+pub filled_there : (byte place : ℕ) (bit : Bool) → place < 8 → bit_at byte place ≡ 0 → bit_at (bit_or byte (bool_byte bit * 2 ^ place % 256)) place ≡ digit bit
+filled_there byte place true small clear = bit_at_set_same w8 byte place small
+filled_there byte place false small clear = or_none byte place place ∙ clear
+
+pub filled_other : (byte place : ℕ) (bit : Bool) → place < 8 → (i : ℕ) → i ≢ place → bit_at (bit_or byte (bool_byte bit * 2 ^ place % 256)) i ≡ bit_at byte i
+filled_other byte place true small i apart = bit_at_set_other w8 byte place small i apart
+filled_other byte place false small i apart = or_none byte place i
+
+-- a clear bit of packed bytes is one of its byte
+pub clear_bit : (bytes : List ℕ) (place : ℕ) → bit_in bytes place ≡ false → bit_at (get_or bytes (place / 8) 0) (place % 8) ≡ 0
+unfolding bit_in
+clear_bit bytes place h =
+    let byte : ℕ = get_or bytes (place / 8) 0 in
+    sym (digit-eqb (bit_at byte (place % 8)) (bit_at-lt byte (place % 8))) ∙ ap digit h
+
+-- the bit that comes next is clear
+pub next_clear : (n pruned kept : ℕ) (old mid : List ℕ) → IsPacked n pruned kept old → HasRoom n old mid kept → bit_in mid kept ≡ false
+next_clear n pruned kept old mid p r = r.same kept ∙ p.clear kept (omega arith)
 
 pub roomy : (n : ℕ) (bytes : List ℕ) (kept : ℕ) → kept ≡ 8 * length bytes → HasRoom n bytes (bytes ++ replicate n 0) kept
 unfolding bit_in

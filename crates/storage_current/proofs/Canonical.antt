@@ -10,10 +10,10 @@ use Rattle.storage_merkle.specs.Shape.{Laws}
 use Rattle.storage_merkle.specs.Calc.{be8}
 use Rattle.storage_merkle.specs.CalcLaws.{split_append, be8_length, heads, same_or_cross, cross_wider}
 use Rattle.storage_merkle.specs.Trees.{Content, ungrafted, listed, tree_strings}
-use Rattle.storage_merkle.specs.RangeProofs.{IsOwn, own_proof, check_strings, apart}
+use Rattle.storage_merkle.specs.RangeProofs.{IsAccepted, IsOwn, own_proof, check_strings, recomputed_root, apart}
 use Rattle.storage_merkle.specs.Soundness.{RangeProofsAreSound}
 use Rattle.storage_bitmap.specs.Chunks.{chunk, chunks_from, bytes_of}
-use Rattle.storage_current.specs.Snapshots.{Grafting, height, complete, graftable, view, Snapshot, IsSnapshot, slot, counted_slot, canonical_string, content, aligned_of, exact_of, ops_root_of, pending_of, partial_of, snapshot_string, snapshot_strings, canonical_root, first_chunk, last_chunk, Holds, CurrentProof, own_current_proof}
+use Rattle.storage_current.specs.Snapshots.{Grafting, height, complete, graftable, view, Snapshot, IsSnapshot, slot, counted_slot, canonical_string, content, aligned_of, exact_of, ops_root_of, grafted_root_of, pending_of, partial_of, snapshot_string, snapshot_strings, canonical_root, first_chunk, last_chunk, Holds, CurrentProof, own_current_proof}
 use Rattle.storage_current.specs.CurrentProofs.{claimed, claim, touches_pending, touches_partial, current_string, current_strings, IsCurrent, IsSlot}
 use Rattle.storage_current.specs.CurrentSoundness.{HasDigests}
 use Rattle.storage_current.proofs.Padding.{AsGood, pad, pad-length, pad-whole, pad-good, supplied-length, supplied-get, supplied-whole, same_string, same_check_strings, same_fit}
@@ -106,14 +106,57 @@ all_chunks n bits none (suc count) j (x ∷ xs) l f =
     let tail : xs ≡ chunks_from n bits count (suc j) = all_chunks n bits none count (suc j) xs (omega arith) (λ i l. f (suc i) (omega arith) ∙ ap (chunk n bits) (let e : j + suc i ≡ suc j + i = omega arith in e)) in
     cc
 
-module _ (sound : RangeProofsAreSound) (d : ℕ) (h : HashFunction) (width : (d ≡ 32) ⊎ (d ≡ 64)) (sized : IsSized d h) (g : Grafting) (laws : Laws g.shape) (proof : CurrentProof) (start : ℕ) (operations chunks : List (List ℕ)) (digests : HasDigests d proof) (s : Snapshot) (snapshot : IsSnapshot s) where
+-- the grafted tree's part of an accepted check
+module _ (d : ℕ) (h : HashFunction) (sized : IsSized d h) (g : Grafting) (proof : CurrentProof) (start : ℕ) (operations chunks : List (List ℕ)) (s : Snapshot) where
   -- the claim, with chunks that are not supplied filled up with zeros
-  abbrev padded : Content
+  abbrev pub padded : Content
   padded = record { elements = operations; chunk = λ a. pad g.bytes (claimed h g proof start operations chunks (a / 2 ^ height g)) }
 
+  pub fewer : IsCurrent h g proof start operations chunks (canonical_root h g s) → (a : ℕ) → AsGood (claimed h g proof start operations chunks (a / 2 ^ height g)) (padded.chunk a)
+  fewer ok a = pad-good g.bytes _ (supplied-length g.bytes (first_chunk g start) chunks ok.chunk_lengths (a / 2 ^ height g))
+
+  -- what the check puts together is what the snapshot's root is made of
+  abbrev pub AreSameParts : Type 0
+  AreSameParts = SameCanonical proof.ops_root (recomputed_root h (view g proof.range.leaves) BackwardFold proof.range start (claim h g proof start operations chunks)) (ops_root_of h g s) (grafted_root_of h g s) proof.pending (option_map h (pending_of h g s)) proof.partial (option_map h (partial_of h g s))
+
+  pub same_parts : 0 < d → HasDigests d proof → IsCurrent h g proof start operations chunks (canonical_root h g s) → AreSameParts ⊎ Cross h (current_strings h g proof start operations chunks) (snapshot_strings h g s)
+  same_parts pos digests ok = elim (heads h (current_string h g proof start operations chunks) (snapshot_string h g s) _ _ ok.root_is) [
+    | inr c ↦ inr c
+    | inl same ↦ inl (same_canonical d (proof.range.leaves % 2 ^ height g) (length s.operations % 2 ^ height g) pos _ _ _ _ proof.pending _ proof.partial _ digests.ops_root (sized _) (sized _) (sized _) digests.pending (mapped-slot d h sized (pending_of h g s)) digests.partial (mapped-slot d h sized (partial_of h g s)) same)
+  ]
+
+  -- the check of the grafted tree says yes
+  pub grafted_accepted : IsCurrent h g proof start operations chunks (canonical_root h g s) → AreSameParts → IsAccepted h (view g proof.range.leaves) BackwardFold proof.range start padded (grafted_root_of h g s)
+  grafted_accepted ok parts =
+      let c : ℕ → List ℕ = (claim h g proof start operations chunks).chunk in
+      inl (
+        same_fit h (view g proof.range.leaves) proof.range start operations c padded.chunk (fewer ok) ok.counts,
+        ap h (sym (same_string h (view g proof.range.leaves) proof.range start operations c padded.chunk (fewer ok))) ∙ parts.grafted,
+      )
+
+  -- the other strings of the check, and of the snapshot
+  abbrev chunk_strings : List (List ℕ)
+  chunk_strings = (if touches_pending h g proof start operations chunks then claimed h g proof start operations chunks (graftable g proof.range.leaves) ∷ [] else []) ++ (if touches_partial h g proof start operations chunks then claimed h g proof start operations chunks (complete g proof.range.leaves) ∷ [] else [])
+
+  abbrev other_strings : List (List ℕ)
+  other_strings = tree_strings h (ungrafted g.shape) BackwardFold (listed s.operations) (exact_of h g s) ++ (option_to_list (pending_of h g s) ++ option_to_list (partial_of h g s))
+
+  -- what crosses in the grafted tree crosses in the whole
+  pub wider : IsCurrent h g proof start operations chunks (canonical_root h g s) → Cross h (check_strings h (view g proof.range.leaves) BackwardFold proof.range start padded) (tree_strings h (view g (length s.operations)) BackwardFold (content h g s) (aligned_of h g s)) → Cross h (current_strings h g proof start operations chunks) (snapshot_strings h g s)
+  wider ok c =
+      let T = view g proof.range.leaves in
+      let cl = claim h g proof start operations chunks in
+      let xs = check_strings h T BackwardFold proof.range start cl in
+      let ys = tree_strings h (view g (length s.operations)) BackwardFold (content h g s) (aligned_of h g s) in
+      let hashes = same_check_strings h T proof.range start operations cl.chunk padded.chunk (fewer ok) in
+      let into_first : (x : List ℕ) → Contains xs x → Contains (current_strings h g proof start operations chunks) x = λ x f. Contains-append_right (current_string h g proof start operations chunks ∷ []) (xs ++ chunk_strings) x (Contains-append_left xs chunk_strings x f) in
+      let into_second : (x : List ℕ) → Contains ys x → Contains (snapshot_strings h g s) x = λ x f. Contains-append_right (snapshot_string h g s ∷ []) (ys ++ other_strings) x (Contains-append_left ys other_strings x f) in
+      cross_wider into_first into_second (subst (λ zs. Cross h zs ys) (sym hashes) c)
+
+module _ (sound : RangeProofsAreSound) (d : ℕ) (h : HashFunction) (width : (d ≡ 32) ⊎ (d ≡ 64)) (sized : IsSized d h) (g : Grafting) (laws : Laws g.shape) (proof : CurrentProof) (start : ℕ) (operations chunks : List (List ℕ)) (digests : HasDigests d proof) (s : Snapshot) (snapshot : IsSnapshot s) where
   -- the range proof in it is the tree's own
   abbrev IsRangeOwn : Type 0
-  IsRangeOwn = IsOwn h (view g (length s.operations)) BackwardFold proof.range start padded (content h g s) (aligned_of h g s)
+  IsRangeOwn = IsOwn h (view g (length s.operations)) BackwardFold proof.range start (padded d h sized g proof start operations chunks s) (content h g s) (aligned_of h g s)
 
   -- the chunk of each touched index
   chunk_is : IsCurrent h g proof start operations chunks (canonical_root h g s) → proof.range.leaves ≡ length s.operations → IsRangeOwn
@@ -209,17 +252,12 @@ module _ (sound : RangeProofsAreSound) (d : ℕ) (h : HashFunction) (width : (d 
       let X = range_strings ++ (hashed ++ hashed') in
       let Y = tree ++ (ops ++ (opt1 ++ opt2)) in
       let pos : 0 < d = omega (arith, width) in
-      let into_first : (x : List ℕ) → Contains range_strings x → Contains xs x = λ x c. Contains-append_right (cs ∷ []) X x (Contains-append_left range_strings (hashed ++ hashed') x c) in
-      let into_second : (x : List ℕ) → Contains tree x → Contains ys x = λ x c. Contains-append_right (ss ∷ []) Y x (Contains-append_left tree (ops ++ (opt1 ++ opt2)) x c) in
-      elim (heads h cs ss X Y ok.root_is) [
+      elim (same_parts d h sized g proof start operations chunks s pos digests ok) [
         | inr c ↦ inr c
-        | inl same ↦
-            let parts = same_canonical d (n % 2 ^ height g) (m % 2 ^ height g) pos _ _ _ _ proof.pending _ proof.partial _ digests.ops_root (sized _) (sized _) (sized _) digests.pending (mapped-slot d h sized (pending_of h g s)) digests.partial (mapped-slot d h sized (partial_of h g s)) same in
-            let fewer : (a : ℕ) → AsGood (claimed h g proof start operations chunks (a / 2 ^ height g)) (pad g.bytes (claimed h g proof start operations chunks (a / 2 ^ height g))) = λ a. pad-good g.bytes _ (supplied-length g.bytes (first_chunk g start) chunks ok.chunk_lengths (a / 2 ^ height g)) in
-            let filled = same_string h (view g n) proof.range start operations cl.chunk padded.chunk fewer in
-            let hashes = same_check_strings h (view g n) proof.range start operations cl.chunk padded.chunk fewer in
-            elim (sound d g.bytes h sized (chunk_apart g ok.size d width) g.shape laws (λ i. (view g i).grafted) BackwardFold proof.range start padded digests.range (λ a. pad-length g.bytes _) ct (aligned_of h g s) (λ a. chunk-length g.bytes s.bits _) snapshot.few (aligned-le g.shape m s.floor (height g)) (inl (same_fit h (view g n) proof.range start operations cl.chunk padded.chunk fewer ok.counts, ap h (sym filled) ∙ parts.grafted))) [
-              | inr c ↦ inr (cross_wider into_first into_second (subst (λ zs. Cross h zs tree) (sym hashes) c))
+        | inl parts ↦
+            let whole = padded d h sized g proof start operations chunks s in
+            elim (sound d g.bytes h sized (chunk_apart g ok.size d width) g.shape laws (λ i. (view g i).grafted) BackwardFold proof.range start whole digests.range (λ a. pad-length g.bytes _) ct (aligned_of h g s) (λ a. chunk-length g.bytes s.bits _) snapshot.few (aligned-le g.shape m s.floor (height g)) (grafted_accepted d h sized g proof start operations chunks s ok parts)) [
+              | inr c ↦ inr (wider d h sized g proof start operations chunks s ok c)
               | inl own ↦
                   let leaves : n ≡ m = ap (λ r. r.leaves) own.proof_is in
                   elim (slot_decided h xs ys proof.pending (pending_of h g s) gr tp parts.pending ok.pending_is

@@ -42,13 +42,13 @@ module _ (h : HashFunction) (g : Grafting) (proof : CurrentProof) (start : ℕ) 
 
   -- what the tree's check is given, as the verifier has it
   module _ (k first r : ℕ) (lent : List (List ℕ)) (k_is : k ≡ w.height) (first_is : first ≡ w.first_chunk) (r_is : r ≡ w.counts.graftable) (lent_is : lent ≡ chunks) where
-    abbrev layout : Layout
+    abbrev pub layout : Layout
     layout = record { shape = g.shape; grafted = grafted_over k r }
 
-    abbrev content : Content
+    abbrev pub content : Content
     content = record { elements = operations; chunk = λ a. supplied first lent (a / 2 ^ k) }
 
-    to_claim : (P : Layout → Content → Type 0) → P layout content → P (view g proof.range.leaves) (claim h g proof start operations chunks)
+    pub to_claim : (P : Layout → Content → Type 0) → P layout content → P (view g proof.range.leaves) (claim h g proof start operations chunks)
     to_claim P p = moved (k_is ∙ of.height_is) (first_is ∙ of.first_is) (r_is ∙ of.graftable_is) lent_is
       where
         moved : k ≡ height g → first ≡ first_chunk g start → r ≡ graftable g proof.range.leaves → lent ≡ chunks → P (view g proof.range.leaves) (claim h g proof start operations chunks)

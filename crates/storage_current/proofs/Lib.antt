@@ -19,6 +19,7 @@ mod StoresOfViews
 mod Splitting
 pub mod Windows
 mod Checks
+mod Extracting
 mod NodeSteps
 mod NodeLists
 mod Turning

@@ -3,9 +3,10 @@ use Rattle.std.proofs.Common.{◌≡◌, ℕ, zero, suc, ◌+◌, ◌-◌, ◌<�
 use Rattle.std.proofs.lemmas.List.{length-replicate}
 use Rattle.storage_codec.specs.Digests.{HashFunction}
 use Rattle.storage_merkle.specs.declared.merkle.bagging.Bagging.TheVariants.{BackwardFold}
-use Rattle.storage_merkle.specs.Calc.{Site, Calc, given, leaf, pair, graft, be8, is_zero, grafted_digest, grafted_strings, Values, eval, strings}
-use Rattle.storage_merkle.specs.Trees.{Layout, Content, eval_bag, strings_bag, root_head}
-use Rattle.storage_merkle.specs.RangeProofs.{RangeProof, AreDigests, check_bag, check_values, check_string, check_strings, CountsFit}
+use Rattle.storage_merkle.specs.Calc.{Site, front, back, node, Calc, given, leaf, pair, graft, be8, is_zero, grafted_digest, grafted_strings, Values, eval, strings}
+use Rattle.storage_merkle.specs.Trees.{Layout, Content, node_calc, eval_bag, strings_bag, root_head}
+use Rattle.storage_merkle.specs.RangeProofs.{RangeProof, AreDigests, apart, position_of, check_bag, check_values, check_string, check_strings, CountsFit}
+use Rattle.storage_merkle.specs.Extracted.{checked, digest_at, extracted, extracted_sites}
 use Rattle.storage_current.specs.Grafted.{supplied}
 
 -- equal, or both all zero
@@ -69,6 +70,21 @@ module _ (h : HashFunction) (T : Layout) (proof : RangeProof) (start : ℕ) (ele
 
   pub same_fit : CountsFit h T BackwardFold proof start first → CountsFit h T BackwardFold proof start second
   same_fit ok = record { few = ok.few; peaks = ok.peaks; some = ok.some; within = ok.within; count = ok.count }
+
+  -- what both hand out
+  same_digest : (site : Site) → digest_at h (check_values h T BackwardFold proof start first) T (apart start (start + length elements)) site ≡ digest_at h (check_values h T BackwardFold proof start second) T (apart start (start + length elements)) site
+  same_digest front = refl
+  same_digest back = refl
+  same_digest (node a k) =
+      let v = check_values h T BackwardFold proof start first in
+      same_eval h v.digest v.element c e good (node_calc T (apart start (start + length elements)) k a)
+
+  same_entries : (sites : List Site) → checked h T BackwardFold proof start first sites ≡ checked h T BackwardFold proof start second sites
+  same_entries [] = refl
+  same_entries (site ∷ sites) = ap₂ (λ digest es. (position_of T site, digest) ∷ es) (same_digest site) (same_entries sites)
+
+  pub same_extracted : extracted h T BackwardFold proof start first ≡ extracted h T BackwardFold proof start second
+  same_extracted = same_entries (extracted_sites T proof.leaves start (start + length elements))
 
 -- ---- supplied chunks, filled up
 

@@ -1,5 +1,5 @@
 -- The proofs of the definitions that proof values hold.
-use Rattle.std.specs.Prelude.{ℕ, List, map, option_map}
+use Rattle.std.specs.Prelude.{◌≡◌, ℕ, List, map, option_map}
 use Rattle.storage_merkle.specs.RangeProofs.{RangeProof as Range}
 use Rattle.storage_merkle.specs.declared.merkle.proof.Proof.{Proof}
 use Rattle.storage_current.specs.Snapshots.{CurrentProof, OperationProof}
@@ -16,3 +16,7 @@ current_of text p = record { range = range_of text p.proof; pending = option_map
 -- an operation proof, its chunk by its bytes
 abbrev pub operation_of : {F D C : Type 0} → (D → List ℕ) → (C → List ℕ) → OneProof F D C → OperationProof
 operation_of text bytes p = record { location = p.loc; chunk = bytes p.chunk; range = current_of text p.range_proof }
+
+-- the bytes of a clone are those of its source
+abbrev pub ClonesAreEqual : {C : Type 0} → (C → C → Type 0) → (C → List ℕ) → Type 0
+ClonesAreEqual {C} is_clone bytes = (x y : C) → is_clone x y → bytes y ≡ bytes x

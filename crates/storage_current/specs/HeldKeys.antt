@@ -1,5 +1,5 @@
 -- The proofs about keys of the definitions that proof values hold.
-use Rattle.std.specs.Prelude.{ℕ, List}
+use Rattle.std.specs.Prelude.{ℕ, List, option_map}
 use Rattle.storage_ops.specs.declared.qmdb.any.operation.update.ordered.Update.{Update}
 use Rattle.storage_current.specs.Held.{operation_of}
 use Rattle.storage_current.specs.KeyProofs.{Exclusion}
@@ -11,3 +11,8 @@ use Rattle.storage_current.specs.declared.qmdb.current.ordered.exclusion.Exclusi
 abbrev pub exclusion_of : {F K V D C A W B : Type 0} → (D → List ℕ) → (C → List ℕ) → ExclusionProof F K V D C A W B → Exclusion (K × W × K) W
 exclusion_of text bytes (code.KeyValue proof update) = of.KeyValue (operation_of text bytes proof) (update.key, update.value, update.next_key)
 exclusion_of text bytes (code.Commit proof value) = of.Commit (operation_of text bytes proof) value
+
+-- an exclusion as its keys and values are seen
+abbrev pub exclusion_seen : {K W A B : Type 0} → (K → A) → (W → B) → Exclusion (K × W × K) W → Exclusion (A × B × A) B
+exclusion_seen key value (of.KeyValue proof update) = of.KeyValue proof (key update.0, value update.1, key update.2)
+exclusion_seen key value (of.Commit proof v) = of.Commit proof (option_map value v)

@@ -7,6 +7,7 @@ pub mod KeyWireLaws
 pub mod CurrentProofs
 pub mod GraftingLaws
 pub mod CurrentSoundness
+pub mod ExtractedCurrent
 pub mod Grafted
 pub mod Combined
 pub mod CombinedViews

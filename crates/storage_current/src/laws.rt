@@ -5,6 +5,7 @@ ghost use Rattle.storage_current.specs.CurrentSoundness.{CurrentProofsAreSound, 
 ghost use Rattle.storage_current.specs.OwnWire.{OwnCurrentProofsAreReadAgain, OwnOperationProofsAreReadAgain};
 
 pub mod combined;
+pub mod extracted;
 pub mod keys;
 
 use storage_merkle::laws::{own_range_proofs_are_accepted, range_proofs_are_sound};

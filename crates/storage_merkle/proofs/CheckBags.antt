@@ -43,7 +43,7 @@ module _ (h : HashFunction) where
     fold_for [] = []
     fold_for (p ∷ ps) = fold ∷ []
 
-    right_of-folded : (ps : List Peak) → right_of h item fold high ps ≡ folded_onto h (map item (up_to high ps) ++ fold_for (trailing high ps)) None
+    pub right_of-folded : (ps : List Peak) → right_of h item fold high ps ≡ folded_onto h (map item (up_to high ps) ++ fold_for (trailing high ps)) None
     right_of-folded [] = refl
     right_of-folded (p ∷ ps) =
         elim (leb high p.first) as (λ b. (if b then Some fold else Some (joined h (item p) (right_of h item fold high ps))) ≡ folded_onto h (map item (if b then [] else p ∷ up_to high ps) ++ fold_for (if b then p ∷ ps else trailing high ps)) None) [

@@ -141,7 +141,7 @@ module _ (T : Layout) (low high : ℕ) where
       ∙ sym (sites_in-append (overlapped low high (take f ps)) (overlapped low high (drop f ps)))
       ∙ ap cut (sym (overlapped-append (take f ps) (drop f ps)) ∙ ap (overlapped low high) (take-append-drop f ps) ∙ overlapped-is low high s ks)
 
-  front_before-are : (a : ℕ) (ps : List Peak) → IsPast 0 a ps → front_sites ps ≡ front_before a
+  pub front_before-are : (a : ℕ) (ps : List Peak) → IsPast 0 a ps → front_sites ps ≡ front_before a
   front_before-are a [] e = ap front_before (sym e)
   front_before-are zero (p ∷ ps) l = absurd (omega arith)
   front_before-are (suc a) (p ∷ ps) l = refl

@@ -84,13 +84,13 @@ module _ (S : Shape) (h : HashFunction) (T : Layout) (same : T.shape ≡ S) (b :
   after_here : AreAfterLeading T.shape low 0 n f a r g
   after_here = subst (λ U. AreAfterLeading U low 0 n f a r g) (sym same) after
 
-  split : low < high → all ≡ tops ++ siblings
+  pub split : low < high → all ≡ tops ++ siblings
   split some =
       ap (λ z. sites T low z b n i) (sym range)
       ∙ sites_are T low high b n i f a r g some parts_here after_here
       ∙ ap₂ (λ us vs. us ++ vs) (ap (λ U. front_before a ++ top_sites low high (peaks_from U a r) g) same) (plain_siblings T n low high ∙ ap (λ U. sibling_sites (ungrafted U) n low high) same)
 
-  counted : low < high → length all ≡ length tops + length siblings
+  pub counted : low < high → length all ≡ length tops + length siblings
   counted some = ap length (split some) ∙ length-append tops siblings
 
   -- the counts don't fit

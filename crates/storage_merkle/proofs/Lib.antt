@@ -55,3 +55,12 @@ pub mod StoreMulti
 pub mod StoreMade
 mod Countable
 pub mod StoreSteps
+pub mod StoreTops
+pub mod StoreReads
+pub mod StoreKept
+pub mod StoreRange
+pub mod StoreAnswers
+pub mod PinnedNodes
+pub mod PinnedMatch
+pub mod PinnedChecks
+pub mod PinnedMeaning

@@ -1,5 +1,5 @@
 -- A range check with its nodes before the start expanded down to the pinned ones.
-use Rattle.std.proofs.Common.{◌≡◌, ℕ, zero, suc, ◌+◌, ◌-◌, ◌*◌, ◌<◌, ◌≤◌, ◌^◌, List, [], ◌∷◌, ◌++◌, length, map, get_or, Bool, true, false, if◌then◌else◌, ◌||◌, ◌⊎◌, Contains, inl, inr, refl, sym, ap, ap₂, ◌∙◌, arith, subst, leb, leb-true, le-leb, pow-suc, Option}
+use Rattle.std.proofs.Common.{◌≡◌, ℕ, zero, suc, ◌+◌, ◌-◌, ◌*◌, ◌<◌, ◌≤◌, ◌^◌, List, [], ◌∷◌, ◌++◌, length, map, get_or, Bool, true, false, if◌then◌else◌, ◌||◌, Contains, inl, inr, refl, sym, ap, ap₂, ◌∙◌, arith, subst, leb, leb-true, le-leb, pow-suc, Option}
 use Rattle.std.proofs.lemmas.List.{map-append}
 use Rattle.std.proofs.lemmas.List.Elements.{Contains-append_left, Contains-append_right}
 use Rattle.storage_codec.specs.Digests.{HashFunction}
@@ -102,7 +102,7 @@ module _ (h : HashFunction) (S : Shape) (b : Bagging) (proof : RangeProof) (star
   module _ (X : List (List ℕ)) where
     -- what the check says of the digest at a site
     abbrev Checked : Site → Type 0
-    Checked s = is_earlier h (ungrafted S) b proof start (listed elements) pinned s ≡ true → (read s ≡ recomputed h (ungrafted S) b proof start (listed elements) pinned s) × ((x : List ℕ) → Contains (recomputed_strings h (ungrafted S) b proof start (listed elements) pinned s) x → Contains X x)
+    Checked s = is_earlier start s ≡ true → (read s ≡ recomputed h (ungrafted S) b proof start (listed elements) pinned s) × ((x : List ℕ) → Contains (recomputed_strings h (ungrafted S) b proof start (listed elements) pinned s) x → Contains X x)
 
     abbrev pub Deep : Calc → Calc → Type 0
     Deep t u = Expands h read deep_read claimed_element X t u
@@ -227,21 +227,21 @@ module _ (h : HashFunction) (S : Shape) (b : Bagging) (proof : RangeProof) (star
         (front_bag ls ns Y ∙ ap (λ ps. bag (map (part (ungrafted S) deep_cut) ps) Y) (leading-all start xs)) r
 
   -- what a match says of each site
-  pub match_reads : (ss : List Site) → Match h (ungrafted S) b proof start (listed elements) pinned ss → (s : Site) → 1 ≤ times s ss → is_earlier h (ungrafted S) b proof start (listed elements) pinned s ≡ true → read s ≡ recomputed h (ungrafted S) b proof start (listed elements) pinned s
+  pub match_reads : (ss : List Site) → Match start read (recomputed h (ungrafted S) b proof start (listed elements) pinned) ss → (s : Site) → 1 ≤ times s ss → is_earlier start s ≡ true → read s ≡ recomputed h (ungrafted S) b proof start (listed elements) pinned s
   match_reads [] m s l e = absurd (omega arith)
   match_reads (t ∷ ts) m s l e =
       elim (tells (same_site t s)) [
-        | inl c ↦ let q = same_site-eq t s c in subst (λ z. is_earlier h (ungrafted S) b proof start (listed elements) pinned z ≡ true → read z ≡ recomputed h (ungrafted S) b proof start (listed elements) pinned z) q m.0 e
+        | inl c ↦ let q = same_site-eq t s c in subst (λ z. is_earlier start z ≡ true → read z ≡ recomputed h (ungrafted S) b proof start (listed elements) pinned z) q m.0 e
         | inr c ↦ let z : one_if (same_site t s) ≡ 0 = ap one_if c in match_reads ts m.1 s (omega arith) e
       ]
 
-  pub match_holds : (ss : List Site) (s : Site) → 1 ≤ times s ss → is_earlier h (ungrafted S) b proof start (listed elements) pinned s ≡ true → (x : List ℕ) → Contains (recomputed_strings h (ungrafted S) b proof start (listed elements) pinned s) x → Contains (match_strings h (ungrafted S) b proof start (listed elements) pinned ss) x
+  pub match_holds : (ss : List Site) (s : Site) → 1 ≤ times s ss → is_earlier start s ≡ true → (x : List ℕ) → Contains (recomputed_strings h (ungrafted S) b proof start (listed elements) pinned s) x → Contains (match_strings h (ungrafted S) b proof start (listed elements) pinned ss) x
   match_holds [] s l e x m = absurd (omega arith)
   match_holds (t ∷ ts) s l e x m =
       elim (tells (same_site t s)) [
         | inl c ↦
             let q = same_site-eq t s c in
-            let here : Contains (if is_earlier h (ungrafted S) b proof start (listed elements) pinned s then recomputed_strings h (ungrafted S) b proof start (listed elements) pinned s else []) x = rw e m in
-            Contains-append_left _ _ x (subst (λ z. Contains (if is_earlier h (ungrafted S) b proof start (listed elements) pinned z then recomputed_strings h (ungrafted S) b proof start (listed elements) pinned z else []) x) (sym q) here)
+            let here : Contains (if is_earlier start s then recomputed_strings h (ungrafted S) b proof start (listed elements) pinned s else []) x = rw e m in
+            Contains-append_left _ _ x (subst (λ z. Contains (if is_earlier start z then recomputed_strings h (ungrafted S) b proof start (listed elements) pinned z else []) x) (sym q) here)
         | inr c ↦ let z : one_if (same_site t s) ≡ 0 = ap one_if c in Contains-append_right _ _ x (match_holds ts s (omega arith) e x m)
       ]

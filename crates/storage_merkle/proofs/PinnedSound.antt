@@ -1,5 +1,5 @@
 -- Accepted pinned digests are those of the peaks over the start, or two strings cross.
-use Rattle.std.proofs.Common.{◌≡◌, ◌≢◌, ℕ, zero, suc, ◌+◌, ◌-◌, ◌*◌, ◌%◌, ◌<◌, ◌≤◌, ◌^◌, List, [], ◌∷◌, length, map, take, drop, Bool, true, false, if◌then◌else◌, ◌&&◌, ◌||◌, ◌⊎◌, Contains, inl, inr, refl, sym, ap, ◌∙◌, arith, subst, leb, eqb, eq-eqb, ne_eqb, eqb-true, pow_pos, pow-suc, pow-add, lt_of_mul-lt-mul_right}
+use Rattle.std.proofs.Common.{◌≡◌, ◌≢◌, ℕ, zero, suc, ◌+◌, ◌-◌, ◌*◌, ◌<◌, ◌≤◌, ◌^◌, List, [], ◌∷◌, length, map, take, drop, Bool, true, false, if◌then◌else◌, ◌&&◌, ◌||◌, ◌⊎◌, Contains, inl, inr, refl, sym, ap, ◌∙◌, arith, subst, leb, eqb, eq-eqb, ne_eqb, eqb-true, pow_pos, pow-suc, pow-add, lt_of_mul-lt-mul_right}
 use Rattle.std.proofs.lemmas.Bool.{cases_lt, lt-leb}
 use Rattle.std.proofs.lemmas.List.Elements.{Contains-append_left, Contains-append_right}
 use Rattle.storage_codec.specs.Digests.{HashFunction, IsSized, Cross}
@@ -10,11 +10,11 @@ use Rattle.storage_merkle.specs.declared.merkle.bagging.Bagging.{Bagging}
 use Rattle.storage_merkle.specs.declared.merkle.bagging.Bagging.TheVariants.{ForwardFold, BackwardFold}
 use Rattle.storage_merkle.specs.Calc.{Site, front, back, node, Values, Agree}
 use Rattle.storage_merkle.specs.CalcLaws.{IsWide, cross_wider}
-use Rattle.storage_merkle.specs.Trees.{Peak, Content, listed, ungrafted, places, node_calc, whole, part, peaks_of, folded, unfolded, bag, eval_bag, strings_bag, tree_bag, plain, tree_root, tree_string, tree_strings}
-use Rattle.storage_merkle.specs.RangeProofs.{RangeProof, AreDigests, CountsFit, IsEmptyProof, range_sites, check_string, check_strings, check_bag, up_to, trailing, same_site, fold_digest, IsOwn}
+use Rattle.storage_merkle.specs.Trees.{Peak, listed, ungrafted, places, node_calc, whole, part, peaks_of, folded, unfolded, bag, eval_bag, strings_bag, tree_bag, plain, tree_root, tree_string, tree_strings}
+use Rattle.storage_merkle.specs.RangeProofs.{RangeProof, AreDigests, CountsFit, range_sites, check_string, check_strings, check_bag, up_to, trailing, same_site, fold_digest, IsOwn}
 use Rattle.storage_merkle.specs.Multi.{tree_digest}
-use Rattle.storage_merkle.specs.Pinned.{stands_in, peak_sites, Match, pinned_sites, pinned_strings, match_strings, IsPinnedAccepted, IsPinnedOwn, PinnedDigestsAreSound}
-use Rattle.storage_merkle.proofs.Prune.{Prunes, PrunesAll, PrunesBag, prunes_node, prunes_pair, prunes_given, prunes_forward, prunes_bag, up_to-all}
+use Rattle.storage_merkle.specs.Pinned.{stands_in, peak_sites, Match, recomputed, pinned_sites, pinned_strings, match_strings, IsPinnedAccepted, IsPinnedOwn, PinnedDigestsAreSound}
+use Rattle.storage_merkle.proofs.Prune.{PrunesBag, prunes_bag, up_to-all}
 use Rattle.storage_merkle.proofs.Agreeing.{AllPeaks, AgreeAll, AgreeAt, agree_bag, agree_append, agree_join, holds_inside}
 use Rattle.storage_merkle.proofs.Distinct.{times, one_if, one_if-le, other_first, read_all}
 use Rattle.storage_merkle.proofs.RangeSound.{own_values, law_bag, look_up-wide, own-wide, own-prunes, places-take, places-drop, leaves-split, all_take, all_drop, range_agrees, range_sound, some_own}
@@ -207,7 +207,7 @@ module _ (d : ℕ) (h : HashFunction) (sized : IsSized d h) (S : Shape) (L : Law
           | false ↦ look_up-wide d (h []) (sized []) (range_sites h (ungrafted S) b proof start (listed elements)) proof.digests wide (node a k)
         ]
 
-    some_sound : (inactive : ℕ) → length list ≤ 2 ^ 62 → inactive ≤ length (S.peaks (length list)) → (acc : CountsFit h (ungrafted S) b proof start (listed elements)) (root_is : h (check_string h (ungrafted S) b proof start (listed elements)) ≡ tree_root h (ungrafted S) b (listed list) inactive) → length pinned ≡ length (pinned_sites h (ungrafted S) b proof start (listed elements) pinned) → Match h (ungrafted S) b proof start (listed elements) pinned (range_sites h (ungrafted S) b proof start (listed elements))
+    some_sound : (inactive : ℕ) → length list ≤ 2 ^ 62 → inactive ≤ length (S.peaks (length list)) → (acc : CountsFit h (ungrafted S) b proof start (listed elements)) (root_is : h (check_string h (ungrafted S) b proof start (listed elements)) ≡ tree_root h (ungrafted S) b (listed list) inactive) → length pinned ≡ length (pinned_sites h (ungrafted S) b proof start (listed elements) pinned) → Match start (read h S b proof start elements pinned) (recomputed h (ungrafted S) b proof start (listed elements) pinned) (range_sites h (ungrafted S) b proof start (listed elements))
         → IsPinnedOwn h (ungrafted S) b proof start (listed elements) pinned (listed list) inactive ⊎ Cross h (pinned_strings h (ungrafted S) b proof start (listed elements) pinned) (tree_strings h (ungrafted S) b (listed list) inactive)
     some_sound inactive fl fi acc root_is counted same =
         let n = proof.leaves in

@@ -35,15 +35,22 @@ all_weaker : (P Q : Peak → Type 0) → ((p : Peak) → P p → Q p) → (ps : 
 all_weaker P Q f [] a = tt
 all_weaker P Q f (p ∷ ps) a = (f p a.0, all_weaker P Q f ps a.1)
 
-pub kept_aligned : (T : Layout) → Laws T.shape → (b : Bagging) (n i low high : ℕ) → AllSites IsAlignedNode (kept_sites T b n i low high)
-kept_aligned T L b n i low high =
+-- the sites that are kept, before they are sorted
+abbrev pub kept_nodes : Layout → Bagging → ℕ → ℕ → ℕ → ℕ → List Site
+kept_nodes T b n i low high = nodes_in (apart low high) (not_leading low (folded b i (peaks_of T n)) ++ up_to high (unfolded b i (peaks_of T n)))
+
+pub nodes_aligned : (T : Layout) → Laws T.shape → (b : Bagging) (n i low high : ℕ) → AllSites IsAlignedNode (kept_nodes T b n i low high)
+nodes_aligned T L b n i low high =
     let ks = T.shape.peaks n in
     let Q : Peak → Type 0 = λ p. p.first % 2 ^ p.height ≡ 0 in
     let all : AllPeaks Q (peaks_of T n) = all_weaker _ Q (λ p u. u.0) (peaks_of T n) (peaks_under ks ks 0 (L.aligned n) (λ a k i. i)) in
     let parts = all_folded Q b i (peaks_of T n) all in
     let ns = not_leading low (folded b i (peaks_of T n)) in
     let us = up_to high (unfolded b i (peaks_of T n)) in
-    all_sorted IsAlignedNode T (nodes_in (apart low high) (ns ++ us)) (aligned_over (apart low high) (ns ++ us) (all_joined Q ns us (all_not_leading low Q _ parts.0) (all_up_to high Q _ parts.1)))
+    aligned_over (apart low high) (ns ++ us) (all_joined Q ns us (all_not_leading low Q _ parts.0) (all_up_to high Q _ parts.1))
+
+pub kept_aligned : (T : Layout) → Laws T.shape → (b : Bagging) (n i low high : ℕ) → AllSites IsAlignedNode (kept_sites T b n i low high)
+kept_aligned T L b n i low high = all_sorted IsAlignedNode T (kept_nodes T b n i low high) (nodes_aligned T L b n i low high)
 
 module _ (T : Layout) (L : Laws T.shape) where
   -- nodes of one position are one

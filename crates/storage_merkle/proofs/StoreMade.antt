@@ -76,7 +76,7 @@ made_of h T b proof start claim content inactive en ei a =
     }
 
 -- no leaves, nothing kept
-no_kept : (T : Layout) (b : Bagging) (f : Site → List ℕ) (n i low high : ℕ) → T.shape.peaks 0 ≡ [] → n ≡ 0 → i ≡ 0 → entries T f (kept_sites T b n i low high) ≡ []
+pub no_kept : (T : Layout) (b : Bagging) (f : Site → List ℕ) (n i low high : ℕ) → T.shape.peaks 0 ≡ [] → n ≡ 0 → i ≡ 0 → entries T f (kept_sites T b n i low high) ≡ []
 no_kept T ForwardFold f n i low high none en ei = ap₂ (λ m j. entries T f (kept_sites T ForwardFold m j low high)) en ei ∙ rw none refl
 no_kept T BackwardFold f n i low high none en ei = ap₂ (λ m j. entries T f (kept_sites T BackwardFold m j low high)) en ei ∙ rw none refl
 

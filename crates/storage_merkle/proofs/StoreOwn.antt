@@ -126,7 +126,7 @@ module _ (T : Layout) (start past low high : ℕ) (from : start ≤ low) (until 
             rw d q
       ]
 
-  lead_split : (ps : List Peak) → leading low ps ≡ leading start ps ++ leading low (not_leading start ps)
+  pub lead_split : (ps : List Peak) → leading low ps ≡ leading start ps ++ leading low (not_leading start ps)
   lead_split [] = refl
   lead_split (p ∷ ps) =
       elim (tells (leb (p.first + 2 ^ p.height) start)) [
@@ -137,7 +137,7 @@ module _ (T : Layout) (start past low high : ℕ) (from : start ≤ low) (until 
             rw (c, d) (ap (λ qs. p ∷ qs) (lead_split ps))
       ]
 
-  trail_trail : (ps : List Peak) → trailing past (trailing high ps) ≡ trailing past ps
+  pub trail_trail : (ps : List Peak) → trailing past (trailing high ps) ≡ trailing past ps
   trail_trail [] = refl
   trail_trail (p ∷ ps) =
       elim (tells (leb high p.first)) [

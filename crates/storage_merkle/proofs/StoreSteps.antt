@@ -1,11 +1,10 @@
 -- The steps of a multi proof from a store.
-use Rattle.std.proofs.Common.{◌≡◌, ◌≢◌, ℕ, zero, suc, ◌+◌, ◌-◌, ◌%◌, ◌<◌, ◌≤◌, ◌^◌, List, [], ◌∷◌, ◌++◌, length, map, get_or, drop, Bool, true, false, if◌then◌else◌, inl, inr, refl, sym, ap, ap₂, ◌∙◌, arith, subst, leb, ltb, eqb, le-leb, eq-eqb, ne_eqb, eqb-true, leb-true, leb-false, pow_pos, append-nil, append_assoc, Option, Some, None, not, ◌==◌}
-use Rattle.std.specs.List.{list_any}
-use Rattle.std.specs.List.Sorted.{IsPermutation, IsNonDecreasing, IsNonDecreasingBy, IsStrictlyIncreasing, IsPartitionPoint}
+use Rattle.std.proofs.Common.{◌≡◌, ◌≢◌, ℕ, zero, suc, ◌+◌, ◌-◌, ◌<◌, ◌≤◌, ◌^◌, List, [], ◌∷◌, ◌++◌, length, map, get_or, drop, Bool, true, false, if◌then◌else◌, inl, inr, refl, sym, ap, ap₂, ◌∙◌, arith, subst, leb, ltb, eqb, le-leb, eq-eqb, ne_eqb, eqb-true, leb-false, append-nil, append_assoc, Option, Some, None, not, ◌==◌}
+use Rattle.std.specs.List.Sorted.{IsPermutation, IsNonDecreasing, IsNonDecreasingBy, IsPartitionPoint}
 use Rattle.std.proofs.lemmas.Bool.{lt-ltb, lt-leb, ltb-true, ltb-false, cases_lt}
 use Rattle.std.proofs.lemmas.List.{drop_more, drop_all, map-append, length-map, get_or-map, get_or_default}
 use Rattle.storage_merkle.specs.declared.merkle.error.Error.{Error}
-use Rattle.storage_merkle.specs.declared.merkle.error.Error.TheVariants.{Empty, RangeOutOfBounds, ElementPruned, DuplicateLocation, UnsortedLocation, CompressedDigest}
+use Rattle.storage_merkle.specs.declared.merkle.error.Error.TheVariants.{RangeOutOfBounds, ElementPruned, DuplicateLocation, UnsortedLocation, CompressedDigest}
 use Rattle.storage_merkle.specs.Shape.{Shape}
 use Rattle.storage_merkle.specs.Calc.{node}
 use Rattle.storage_merkle.specs.declared.merkle.bagging.Bagging.{Bagging}
@@ -15,7 +14,7 @@ use Rattle.storage_merkle.specs.RangeProofs.{trailing, position_of}
 use Rattle.storage_merkle.specs.Rests.{peaks_from}
 use Rattle.storage_merkle.specs.Multi.{Ascend, needed_sites}
 use Rattle.storage_merkle.specs.Extracted.{texts}
-use Rattle.storage_merkle.specs.Stores.{Store, entry_at, or_else, first_of, location_refusal, found_at, unless_there, needed_refusal, multi_refusal, needed_positions, suffix_positions, store_multi_proof, is_among}
+use Rattle.storage_merkle.specs.Stores.{Store, entry_at, or_else, first_of, location_refusal, found_at, unless_there, needed_refusal, multi_refusal, needed_positions, suffix_positions, is_among}
 use Rattle.storage_merkle.proofs.Siblings.{positions_sorted}
 
 -- ---- locations
@@ -198,31 +197,19 @@ suffix_sorted S store found ps e p up =
     let peaks = trailing store.past (unfolded store.bagging store.inactive (peaks_of (ungrafted S) store.leaves)) in
     positions_sorted (ungrafted S) (map (λ p. node p.first p.height) peaks) ps (subst (λ xs. IsPermutation xs ps) (e ∙ peak_nodes S peaks) p) up
 
-increasing_le : (xs : List ℕ) → IsStrictlyIncreasing xs → (i j : ℕ) → i ≤ j → j < length xs → get_or xs i 0 ≤ get_or xs j 0
-increasing_le xs up i zero le l = let e : i ≡ 0 = omega arith in omega (arith, ap (λ k. get_or xs k 0) e)
-increasing_le xs up i (suc j) le l =
-    elim (cases_lt j i) [
-      | inl last ↦ let e : i ≡ suc j = omega arith in omega (arith, ap (λ k. get_or xs k 0) e)
-      | inr earlier ↦
-          let one : suc j ≡ j + 1 = omega arith in
-          let rest = increasing_le xs up i j earlier (omega arith) in
-          let next : get_or xs j 0 < get_or xs (j + 1) 0 = up j (omega arith) in
-          omega (arith, ap (λ k. get_or xs k 0) one)
-    ]
-
 -- kept at a position: the entry at the place that a search gives, or none
 module _ {D : Type 0} (text : D → List ℕ) (p : ℕ) (es : List (ℕ × D)) (i : ℕ) (parts : IsPartitionPoint (λ (e : ℕ × D). ltb e.0 p ≡ true) (λ e. ltb e.0 p ≡ false) es i) where
   pub kept_found : (e : ℕ × D) → i < length es → e ≡ get_or es i e → e.0 ≡ p → entry_at p (texts text es) ≡ Some (text e.1)
   kept_found e within at same = entry_found text p es i e (λ k d l. ltb-true (get_or es k d).0 p (parts.0 k d (omega arith) l)) within at same
 
   -- the entries from i on are not below p, and ascend
-  pub kept_none : IsStrictlyIncreasing (map (λ e. e.0) es) → (i < length es → (d : ℕ × D) → (get_or es i d).0 ≢ p) → entry_at p (texts text es) ≡ None
+  pub kept_none : IsNonDecreasing (map (λ e. e.0) es) → (i < length es → (d : ℕ × D) → (get_or es i d).0 ≢ p) → entry_at p (texts text es) ≡ None
   kept_none up other = entry_none text p es (λ k d l. elim (cases_lt k i) [
     | inl before ↦ let less : (get_or es k d).0 < p = ltb-true (get_or es k d).0 p (parts.0 k d (omega arith) before) in omega arith
     | inr later ↦
         let ge : p ≤ (get_or es i d).0 = ltb-false (get_or es i d).0 p (parts.1 i d (omega arith) (omega arith)) in
         let ne : (get_or es i d).0 ≢ p = other (omega arith) d in
-        let rises : (get_or es i d).0 ≤ (get_or es k d).0 = omega (arith, increasing_le (map (λ e. e.0) es) up i k later (omega (arith, length-map es (λ (e : ℕ × D). e.0))), get_or-map (λ (e : ℕ × D). e.0) es i d 0 (omega arith), get_or-map (λ (e : ℕ × D). e.0) es k d 0 l) in
+        let rises : (get_or es i d).0 ≤ (get_or es k d).0 = omega (arith, up i k 0 later (omega (arith, length-map es (λ (e : ℕ × D). e.0))), get_or-map (λ (e : ℕ × D). e.0) es i d 0 (omega arith), get_or-map (λ (e : ℕ × D). e.0) es k d 0 l) in
         omega arith
   ])
 
@@ -249,8 +236,16 @@ suffix_backward S store b past inactive leaves old new found e f ep ei en none a
     ∙ ap₂ (λ z i. past_positions S z i 0 leaves) ep ei ∙ ap (past_positions S store.past store.inactive 0) en
     ∙ ap (λ c. map (λ p. S.position p.first p.height) (trailing store.past (unfolded c store.inactive (peaks_of (ungrafted S) store.leaves)))) (sym f ∙ e)
 
-pub entries_rise : {D : Type 0} (es : List (ℕ × D)) → IsStrictlyIncreasing (map (λ e. e.0) es) → IsNonDecreasingBy (λ (e : ℕ × D). e.0) es
-entries_rise es up = λ i j d le l. omega (arith, increasing_le (map (λ e. e.0) es) up i j le (omega (arith, length-map es (λ (e : _ × _). e.0))), get_or-map (λ (e : _ × _). e.0) es i d 0 (omega arith), get_or-map (λ (e : _ × _). e.0) es j d 0 l)
+pub entries_rise : {D : Type 0} (es : List (ℕ × D)) → IsNonDecreasing (map (λ e. e.0) es) → IsNonDecreasingBy (λ (e : ℕ × D). e.0) es
+entries_rise es up = λ i j d le l. omega (arith, up i j 0 le (omega (arith, length-map es (λ (e : _ × _). e.0))), get_or-map (λ (e : _ × _). e.0) es i d 0 (omega arith), get_or-map (λ (e : _ × _). e.0) es j d 0 l)
+
+pub positions_rise : {D : Type 0} (es : List (ℕ × D)) → IsNonDecreasingBy (λ (e : ℕ × D). e.0) es → IsNonDecreasing (map (λ e. e.0) es)
+positions_rise [] up = λ i j d l m. absurd (omega arith)
+positions_rise (e ∷ es) up = λ i j d l m.
+    let n : j < length (e ∷ es) = omega (arith, length-map (e ∷ es) (λ (x : _ × _). x.0)) in
+    let k : i < length (e ∷ es) = omega arith in
+    let le = up i j e l n in
+    omega (arith, le, get_or-map (λ (x : _ × _). x.0) (e ∷ es) i e d k, get_or-map (λ (x : _ × _). x.0) (e ∷ es) j e d n)
 
 -- an entry that stands elsewhere
 pub stands_elsewhere : {D : Type 0} (es : List (ℕ × D)) (i p : ℕ) (e : ℕ × D) → e ≡ get_or es i e → true ≡ not (eqb e.0 p) → i < length es → (d : ℕ × D) → (get_or es i d).0 ≢ p

@@ -25,6 +25,7 @@ pub mod HashingLaws
 pub mod Soundness
 pub mod Extracted
 pub mod Pinned
+pub mod PinnedSteps
 pub mod Kept
 pub mod KeptLaws
 pub mod Rewriting
@@ -41,3 +42,4 @@ pub mod CheckSteps
 pub mod Multi
 pub mod MultiSteps
 pub mod Stores
+pub mod StoreParts

@@ -1,5 +1,5 @@
 -- The check of a range proof with the digests of the peaks over its start.
-use Rattle.std.specs.Prelude.{◌≡◌, ◌≢◌, ℕ, ◌+◌, ◌≤◌, ◌^◌, ◌⊎◌, List, [], ◌∷◌, ◌++◌, length, map, Bool, true, false, if◌then◌else◌, ◌&&◌, ◌||◌, leb, eqb}
+use Rattle.std.specs.Prelude.{◌≡◌, ℕ, ◌+◌, ◌≤◌, ◌^◌, ◌⊎◌, List, [], ◌∷◌, ◌++◌, length, map, Bool, true, false, if◌then◌else◌, ◌&&◌, ◌||◌, leb, eqb}
 use Rattle.storage_codec.specs.Digests.{HashFunction, IsSized, Cross}
 use Rattle.storage_merkle.specs.Shape.{Shape, Laws}
 use Rattle.storage_merkle.specs.Calc.{Site, front, back, node, Values, eval, strings}
@@ -17,6 +17,17 @@ abbrev pub peak_sites : List Peak → List Site
 peak_sites [] = []
 peak_sites (p ∷ ps) = node p.first p.height ∷ peak_sites ps
 
+-- whether a digest of a proof is of leaves before the start
+abbrev pub is_earlier : ℕ → Site → Bool
+is_earlier start front = true
+is_earlier start back = false
+is_earlier start (node a k) = leb (a + 2 ^ k) start
+
+-- each digest of leaves before the start is the recomputed one
+abbrev pub Match : ℕ → (Site → List ℕ) → (Site → List ℕ) → List Site → Type 0
+Match start digest recomputed [] = Unit {0}
+Match start digest recomputed (s ∷ ss) = (is_earlier start s ≡ true → digest s ≡ recomputed s) × Match start digest recomputed ss
+
 module _ (h : HashFunction) (T : Layout) (b : Bagging) (proof : RangeProof) (start : ℕ) (claim : Content) (pinned : List (List ℕ)) where
   -- the peaks over the leaves before the start, whose digests are pinned
   abbrev pub pinned_sites : List Site
@@ -32,12 +43,6 @@ module _ (h : HashFunction) (T : Layout) (b : Bagging) (proof : RangeProof) (sta
   abbrev pub leading_folded : List Peak
   leading_folded = leading start (folded b proof.inactive (peaks_of T proof.leaves))
 
-  -- whether a digest of the proof is of leaves before the start
-  abbrev pub is_earlier : Site → Bool
-  is_earlier front = true
-  is_earlier back = false
-  is_earlier (node a k) = leb (a + 2 ^ k) start
-
   -- the digest there, from the pinned ones by node hashing
   abbrev pub recomputed : Site → List ℕ
   recomputed front = fold_digest h pinned_values (bag (map (part T pinned_cut) leading_folded) [])
@@ -49,14 +54,9 @@ module _ (h : HashFunction) (T : Layout) (b : Bagging) (proof : RangeProof) (sta
   recomputed_strings back = []
   recomputed_strings (node a k) = strings h pinned_values (node_calc T pinned_cut k a)
 
-  -- each digest of the proof that is of leaves before the start is the recomputed one
-  abbrev pub Match : List Site → Type 0
-  Match [] = Unit {0}
-  Match (s ∷ ss) = (is_earlier s ≡ true → (check_values h T b proof start claim).digest s ≡ recomputed s) × Match ss
-
   abbrev pub match_strings : List Site → List (List ℕ)
   match_strings [] = []
-  match_strings (s ∷ ss) = (if is_earlier s then recomputed_strings s else []) ++ match_strings ss
+  match_strings (s ∷ ss) = (if is_earlier start s then recomputed_strings s else []) ++ match_strings ss
 
   -- each string given to the digest function by the check
   abbrev pub pinned_strings : List (List ℕ)
@@ -66,12 +66,21 @@ module _ (h : HashFunction) (T : Layout) (b : Bagging) (proof : RangeProof) (sta
   pub record IsPinnedAccepted (root : List ℕ) : Type 0 where
     pub accepted : IsAccepted h T b proof start claim root
     pub count : length pinned ≡ length pinned_sites
-    pub same : Match (range_sites h T b proof start claim)
+    pub same : Match start (check_values h T b proof start claim).digest recomputed (range_sites h T b proof start claim)
 
   -- the proof is the tree's own, and the pinned digests are those of the peaks over the start
   pub record IsPinnedOwn (content : Content) (inactive : ℕ) : Type 0 where
     pub own : IsOwn h T b proof start claim content inactive
     pub pinned_are : pinned ≡ map (tree_digest h T content) pinned_sites
+
+-- Of each list with that root, the proof is the list's own, what it claims stands there and the pinned digests are those of the
+-- peaks over the start, or a string of the check and a different one of the list's tree have one digest.
+abbrev pub IsPinnedProved : HashFunction → Shape → Bagging → RangeProof → ℕ → List (List ℕ) → List (List ℕ) → List ℕ → Type 0
+IsPinnedProved h S b proof start elements pinned root =
+    (list : List (List ℕ)) (inactive : ℕ) → length list ≤ 2 ^ 62 → inactive ≤ length (S.peaks (length list)) →
+    tree_root h (ungrafted S) b (listed list) inactive ≡ root →
+    IsPinnedOwn h (ungrafted S) b proof start (listed elements) pinned (listed list) inactive
+    ⊎ Cross h (pinned_strings h (ungrafted S) b proof start (listed elements) pinned) (tree_strings h (ungrafted S) b (listed list) inactive)
 
 -- Pinned digests that are accepted are those of the list's peaks over the start, and the proof is the list's own, or a string of
 -- the check and a different one of the list's tree have one digest.

@@ -148,6 +148,13 @@ store_of h T b proof start claim = record {
   kept = entries T (digest_at h (check_values h T b proof start claim) T (apart start (start + length claim.elements))) (kept_sites T b proof.leaves proof.inactive start (start + length claim.elements));
 }
 
+-- the store is that of an accepted proof, and one of each tree with that root, or a string of the check and a different one of the
+-- tree have one digest
+pub record IsMadeOf (d : ℕ) (h : HashFunction) (T : Layout) (b : Bagging) (proof : RangeProof) (start : ℕ) (claim : Content) (root : List ℕ) (store : Store) : Type 0 where
+  pub accepted : IsAccepted h T b proof start claim root
+  pub all : store ≡ store_of h T b proof start claim
+  pub of_trees : HoldsOfEach d h T b proof.leaves claim (check_strings h T b proof start claim) root (λ U content inactive. IsStoreOf h U store content inactive)
+
 -- given digests that are a tree's, where they stand at the place of one of its nodes
 abbrev pub AreTrueAt : HashFunction → Layout → Content → List (ℕ × List ℕ) → Type 0
 AreTrueAt h T content peaks = (p a k : ℕ) (x : List ℕ) → IsNode T.shape p a k → entry_at p peaks ≡ Some x → x ≡ tree_node h T content a k

@@ -2,6 +2,7 @@
 
 ghost use Rattle.storage_bitmap.specs.Chunks.{IsChunkSize};
 
+use crate::granted::told;
 use crate::served::Digest;
 use commonware_storage::bitmap::authenticated::{
     BitMap, MerkleizedBitMap, PrunedState, UnmerkleizedBitMap,
@@ -27,16 +28,19 @@ fn empty<const N: usize>(
     };
     match BitMap::init(alloc, hasher, state) {
         Ok(bitmap) => Ok(bitmap.into_dirty()),
-        Err(_) => Err(Fail::new("no bitmap")),
+        Err(refusal) => Err(told(&refusal)),
     }
 }
 
 /// Appends a bit.
 fn push<const N: usize>(bitmap: &mut UnmerkleizedBitMap<Digest, N>, bit: bool) -> Result<(), Fail> {
-    if bitmap.len() >= MAX_LEAVES || bitmap.push(bit).is_err() {
-        return Err(Fail::new("not pushed"));
+    if bitmap.len() >= MAX_LEAVES {
+        return Err(Fail::new("too many bits"));
     }
-    Ok(())
+    match bitmap.push(bit) {
+        Ok(()) => Ok(()),
+        Err(refusal) => Err(told(&refusal)),
+    }
 }
 
 /// The bitmap with its root.
@@ -46,7 +50,7 @@ fn merkleized<const N: usize>(
 ) -> Result<MerkleizedBitMap<Digest, N>, Fail> {
     match bitmap.merkleize(hasher) {
         Ok(bitmap) => Ok(bitmap),
-        Err(_) => Err(Fail::new("no root")),
+        Err(refusal) => Err(told(&refusal)),
     }
 }
 
@@ -76,7 +80,7 @@ fn proved<const N: usize>(
     }
     match bitmap.proof(hasher, bit) {
         Ok(proof) => Ok(proof),
-        Err(_) => Err(Fail::new("no proof")),
+        Err(refusal) => Err(told(&refusal)),
     }
 }
 

@@ -2,6 +2,7 @@
 
 ghost use Rattle.storage_bitmap.specs.Chunks.{IsChunkSize};
 
+use crate::granted::{granted, told};
 use crate::served::Digest;
 use commonware_storage::bitmap::authenticated::{
     BitMap, MerkleizedBitMap, PrunedState, UnmerkleizedBitMap,
@@ -40,24 +41,30 @@ fn empty<const N: usize>(
 {
     match restored(alloc, hasher, 0, Vec::new(alloc)) {
         Ok(bitmap) => Ok(bitmap),
-        Err(_) => Err(Fail::new("no bitmap")),
+        Err(refusal) => Err(told(&refusal)),
     }
 }
 
 /// Appends a bit.
 fn push<const N: usize>(bitmap: &mut UnmerkleizedBitMap<Digest, N>, bit: bool) -> Result<(), Fail> {
-    if bitmap.len() >= MAX_LEAVES || bitmap.push(bit).is_err() {
-        return Err(Fail::new("not pushed"));
+    if bitmap.len() >= MAX_LEAVES {
+        return Err(Fail::new("too many bits"));
     }
-    Ok(())
+    match bitmap.push(bit) {
+        Ok(()) => Ok(()),
+        Err(refusal) => Err(told(&refusal)),
+    }
 }
 
 /// Changes a bit to 1.
 fn set<const N: usize>(bitmap: &mut UnmerkleizedBitMap<Digest, N>, bit: u64) -> Result<(), Fail> {
-    if bit < bitmap.pruned_bits() || bit >= bitmap.len() || bitmap.set_bit(bit, true).is_err() {
-        return Err(Fail::new("not set"));
+    if bit < bitmap.pruned_bits() || bit >= bitmap.len() {
+        return Err(Fail::new("no such bit"));
     }
-    Ok(())
+    match bitmap.set_bit(bit, true) {
+        Ok(()) => Ok(()),
+        Err(refusal) => Err(told(&refusal)),
+    }
 }
 
 /// The bitmap with its root.
@@ -67,16 +74,19 @@ fn merkleized<const N: usize>(
 ) -> Result<MerkleizedBitMap<Digest, N>, Fail> {
     match bitmap.merkleize(hasher) {
         Ok(bitmap) => Ok(bitmap),
-        Err(_) => Err(Fail::new("no root")),
+        Err(refusal) => Err(told(&refusal)),
     }
 }
 
 /// Forgets the chunks below that of a bit.
 fn prune<const N: usize>(bitmap: &mut MerkleizedBitMap<Digest, N>, bit: u64) -> Result<(), Fail> {
-    if bit > bitmap.len() || bitmap.prune_to_bit(bit).is_err() {
-        return Err(Fail::new("not pruned"));
+    if bit > bitmap.len() {
+        return Err(Fail::new("no such bit"));
     }
-    Ok(())
+    match bitmap.prune_to_bit(bit) {
+        Ok(()) => Ok(()),
+        Err(refusal) => Err(told(&refusal)),
+    }
 }
 
 /// The bitmap with bits from a place on up to another, of which every third from the second on is set, and those that are given.
@@ -151,7 +161,7 @@ fn handed_out<const N: usize>(
 ) -> Result<PrunedState<Digest>, Fail> {
     match bitmap.write_pruned() {
         Ok(state) => Ok(state),
-        Err(_) => Err(Fail::new("not handed out")),
+        Err(refusal) => Err(told(&refusal)),
     }
 }
 
@@ -165,10 +175,9 @@ fn bitmap_restored(rt: HostRuntime) -> Result<(), Fail> {
         let state = handed_out(&bitmap)?;
         assert_eq!(rt; state.pruned_chunks, 2);
         assert_eq!(rt; state.pinned.len(), 1);
-        let again = restored::<1>(alloc, &hasher, 2, state.pinned);
-        assert!(rt;
-            matches!(&again, Ok(again) if again.len() == 16 && again.root() == bitmap.root())
-        );
+        let again = granted(restored::<1>(alloc, &hasher, 2, state.pinned))?;
+        assert_eq!(rt; again.len(), 16);
+        assert_eq!(rt; again.root(), bitmap.root());
         let refused = restored::<1>(alloc, &hasher, 2, Vec::new(alloc)).err();
         assert_eq!(rt; refused, Some(Error::MissingNode(Position::new(2))));
         let refused = restored::<1>(alloc, &hasher, (1 << 59) + 1, Vec::new(alloc)).err();
@@ -208,9 +217,7 @@ fn bitmap_changed_after_pruning(rt: HostRuntime) -> Result<(), Fail> {
         let mut bitmap = bitmap.into_dirty();
         set(&mut bitmap, 19)?;
         let bitmap = merkleized(bitmap, &hasher)?;
-        let Ok(again) = restored::<1>(alloc, &hasher, state.pruned_chunks, state.pinned) else {
-            return Err(Fail::new("not restored"));
-        };
+        let again = granted(restored::<1>(alloc, &hasher, state.pruned_chunks, state.pinned))?;
         let again = with_thirds(again, &hasher, 16, 20, &[19])?;
         assert_eq!(rt; bitmap.root(), again.root());
     }

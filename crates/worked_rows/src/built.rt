@@ -1,5 +1,6 @@
 //! Proofs that are built, written and checked in one call.
 
+use crate::granted::{granted, told};
 use crate::served::{operation, snapshot};
 use commonware_storage::bitmap::{Prunable, Readable};
 use commonware_storage::digest::Sha256;
@@ -17,9 +18,7 @@ fn answer<F: Graftable>(
 ) -> Result<bool, Fail> {
     let operation = operation(alloc, location)?;
     let leaves = Location::new(snapshot.status().len());
-    let plan = ElementPlan::new(alloc, leaves, Location::new(location as u64))
-        .ok()
-        .ok_or("no plan")?;
+    let plan = granted(ElementPlan::new(alloc, leaves, Location::new(location as u64)))?;
     let root = snapshot.root();
     match built_proofs_are_accepted::<F, Sha256, Prunable<1>, _, 1>(
         alloc,
@@ -32,7 +31,7 @@ fn answer<F: Graftable>(
         &root,
     ) {
         Ok(yes) => Ok(yes),
-        Err(_) => Err(Fail::new("not built")),
+        Err(refusal) => Err(told(&refusal)),
     }
 }
 

@@ -3,19 +3,21 @@
 ghost use Rattle.std.specs.Prelude.{◌≡◌, ◌+◌, ◌<◌, ◌≤◌, ◌^◌};
 
 use crate::faulty::{CODE, Faulty};
+use crate::granted::{granted, had_memory, told};
 use crate::served::{Digest, checked, operations, proof, range_proof, snapshot, written};
+use crate::store::Log;
 use commonware_storage::bitmap::Prunable;
 use commonware_storage::digest::Sha256;
 use commonware_storage::merkle::hasher::Standard;
 use commonware_storage::merkle::mem::Mem;
 use commonware_storage::merkle::{
-    Bagging, Error, Graftable, Location, Position, Storage as _, mmb, mmr,
+    Bagging, Countable, Error, Graftable, Location, Position, Storage as _, mmb, mmr,
 };
 use commonware_storage::qmdb;
 use commonware_storage::qmdb::current::Snapshot;
 use commonware_storage::qmdb::current::grafting::{GraftedHasher, Storage, graftable_chunks};
-use commonware_storage::qmdb::current::proof::RangeProof;
 use commonware_storage::qmdb::current::proof::constant::OperationProof;
+use commonware_storage::qmdb::current::proof::{RangeProof, RangeProofSpec};
 use std::alloc::Global;
 use std::process::Abort;
 use std::test::Fail;
@@ -45,8 +47,8 @@ fn operations_tree<F: Graftable>(alloc: Global, count: u16) -> Result<Mem<F, Dig
     let operations = operations(alloc, 0, count)?;
     let mut tree = Mem::new(alloc);
     for operation in &operations {
-        if tree.add(&hasher, operation.as_slice()).is_err() {
-            return Err(Fail::new("no tree"));
+        if let Err(refusal) = tree.add(&hasher, operation.as_slice()) {
+            return Err(told(&refusal));
         }
     }
     Ok(tree)
@@ -58,10 +60,10 @@ fn add_chunk<F: Graftable>(tree: &mut Mem<F, Digest>) -> Result<(), Fail> {
     if tree.leaves().as_u64() >= MANY {
         return Err(Fail::new("too many chunks"));
     }
-    if tree.add(&hasher::<F>(), &[]).is_err() {
-        return Err(Fail::new("no chunk"));
+    match tree.add(&hasher::<F>(), &[]) {
+        Ok(()) => Ok(()),
+        Err(refusal) => Err(told(&refusal)),
     }
-    Ok(())
 }
 
 /// Puts in the digests of chunks.
@@ -73,10 +75,10 @@ fn put<F: Graftable>(
     if tree.leaves().as_u64() >= MANY {
         return Err(Fail::new("too many chunks"));
     }
-    if tree.update_leaves(&hasher::<F>(), digests).is_err() {
-        return Err(Fail::new("no digest"));
+    match tree.update_leaves(&hasher::<F>(), digests) {
+        Ok(()) => Ok(()),
+        Err(refusal) => Err(told(&refusal)),
     }
-    Ok(())
 }
 
 /// The digest that a snapshot's grafted view has of a chunk's node.
@@ -141,7 +143,7 @@ fn node<F: Graftable, S: commonware_storage::merkle::Storage<F, Digest = Digest>
     }
     match store.get_node(position) {
         Ok(node) => Ok(node),
-        Err(_) => Err(Fail::new("not read")),
+        Err(refusal) => Err(told(&refusal)),
     }
 }
 
@@ -175,14 +177,16 @@ fn proved(
     };
     let mut operations = Faulty::new(operations_tree(alloc, 18)?, lacks, calls);
     let mut both = Storage::new(&grafted, HEIGHT, &mut operations);
-    Ok(OperationProof::new::<Sha256, Prunable<1>, _>(
+    let answer = OperationProof::new::<Sha256, Prunable<1>, _>(
         alloc,
         snapshot.status(),
         &mut both,
         Location::new(0),
         Location::new(9),
         snapshot.ops_root(),
-    ))
+    );
+    had_memory(&answer)?;
+    Ok(answer)
 }
 
 /// Stops where both trees answer otherwise than that the node at a position is absent.
@@ -276,6 +280,48 @@ fn combined_range(rt: HostRuntime) -> Result<(), Fail> {
         Location::new(7)..Location::new(20),
         snapshot.ops_root(),
     );
+    had_memory(&answer)?;
     assert!(rt; answer.ok() == Some(range_proof(alloc, &snapshot, 0, 7, 20)?));
     Ok(())
+}
+
+/// Stops where both trees and a log serve another proof of the operations from 7 to before 20, or other chunks of their bits, than
+/// the snapshot's own, or one that is not accepted.
+fn assert_range_with_operations<F: Graftable + Countable>(
+    rt: &impl Abort,
+    alloc: Global,
+) -> Result<(), Fail> {
+    let snapshot = snapshot::<F>(alloc, 50, &[9, 17, 30], 0)?;
+    let grafted = grafted_tree(alloc, &snapshot, 50)?;
+    let mut tree = Faulty::new(operations_tree(alloc, 50)?, NONE, ALWAYS);
+    let mut both = Storage::new(&grafted, HEIGHT, &mut tree);
+    let mut log = Log::new(0, 50, ALWAYS);
+    let start = Location::new(7);
+    let spec = RangeProofSpec {
+        start_loc: start,
+        max_ops: 13,
+        inactivity_floor: Location::new(0),
+        ops_root: snapshot.ops_root(),
+    };
+    let answer = RangeProof::new_with_ops::<Sha256, Prunable<1>, _, _, 1>(
+        alloc,
+        snapshot.status(),
+        &mut both,
+        &mut log,
+        spec,
+    );
+    let (own, items, chunks) = granted(answer)?;
+    assert!(rt; own == range_proof(alloc, &snapshot, 0, 7, 20)?);
+    assert!(rt; items.iter().copied().eq(7..20));
+    assert!(rt; chunks.as_slice() == [[0], [0b10], [0b10]].as_slice());
+    let claimed = operations(alloc, 7, 20)?;
+    let root = snapshot.root();
+    assert!(rt; own.verify_encoded::<Sha256, _, _>(alloc, start, &claimed, &chunks, 1, &root)?);
+    Ok(())
+}
+
+#[test]
+fn combined_range_with_operations(rt: HostRuntime) -> Result<(), Fail> {
+    assert_range_with_operations::<mmr::Family>(&rt, rt.alloc())?;
+    assert_range_with_operations::<mmb::Family>(&rt, rt.alloc())
 }

@@ -1,9 +1,10 @@
 //! Proofs of the values of keys and that keys have none.
 
+use crate::granted::granted;
 use crate::served::{Digest, bits, key, proof, snapshot};
 use commonware_storage::codec::{FixedBytes, Write};
 use commonware_storage::digest::Sha256;
-use commonware_storage::light::{check_absence, check_value};
+use commonware_storage::light::check_absence;
 use commonware_storage::merkle::{Location, mmr};
 use commonware_storage::qmdb::any::FixedEncoding;
 use commonware_storage::qmdb::any::operation::{Ordered, update};
@@ -14,9 +15,9 @@ use std::test::Fail;
 
 type Fixed = Ordered<mmr::Family, FixedBytes<4>, FixedEncoding<u64>>;
 
-type Update = update::Ordered<FixedBytes<4>, FixedEncoding<u64>>;
+pub type Update = update::Ordered<FixedBytes<4>, FixedEncoding<u64>>;
 
-type Exclusion = constant::ExclusionProof<
+pub type Exclusion = constant::ExclusionProof<
     mmr::Family,
     FixedBytes<4>,
     FixedEncoding<u64>,
@@ -24,10 +25,10 @@ type Exclusion = constant::ExclusionProof<
     1,
 >;
 
-type KeyValue = constant::KeyValueProof<mmr::Family, FixedBytes<4>, Digest, 1>;
+pub type KeyValue = constant::KeyValueProof<mmr::Family, FixedBytes<4>, Digest, 1>;
 
 /// The update of a key to a value, which names the next key.
-fn update(number: u32, value: u64, next: u32) -> Update {
+pub fn update(number: u32, value: u64, next: u32) -> Update {
     update::Ordered {
         key: key(number),
         value,
@@ -52,11 +53,7 @@ fn all_active(
         count = count.checked_add(1).ok_or("too many operations")?;
     }
     let bits = bits(alloc, count, &set)?;
-    Ok(
-        Snapshot::new(alloc, &written, bits, Location::new(floor))
-            .ok()
-            .ok_or("no snapshot")?,
-    )
+    granted(Snapshot::new(alloc, &written, bits, Location::new(floor)))
 }
 
 /// Whether the proof excludes the key, checked as it is and from its bytes.
@@ -139,47 +136,5 @@ fn ring_of_three_keys(rt: HostRuntime) -> Result<(), Fail> {
     assert!(rt; !excluded(alloc, &snapshot, &thirty, 10)?);
     assert!(rt; !excluded(alloc, &snapshot, &thirty, 30)?);
     assert!(rt; !excluded(alloc, &snapshot, &ten, 25)?);
-    Ok(())
-}
-
-#[test]
-fn key_proof_sizes(rt: HostRuntime) -> Result<(), Fail> {
-    let alloc = rt.alloc();
-    let snapshot = snapshot::<mmr::Family>(alloc, 8, &[3], 0)?;
-    let key_value = KeyValue {
-        proof: proof(alloc, &snapshot, 0, 3)?,
-        next_key: key(8),
-    };
-    let root = snapshot.root();
-    assert!(rt; key_value.verify::<Sha256, FixedEncoding<u64>>(alloc, key(6), 3, &root)?);
-    let mut bytes = Vec::new(alloc);
-    key_value.write(&mut bytes)?;
-    assert_eq!(rt; bytes.len(), 138);
-    assert!(rt;
-        check_value::<mmr::Family, Sha256, FixedBytes<4>, FixedEncoding<u64>>(
-            alloc,
-            &bytes,
-            1,
-            &(),
-            key(6),
-            3,
-            &root
-        )?
-    );
-    assert!(rt;
-        !check_value::<mmr::Family, Sha256, FixedBytes<4>, FixedEncoding<u64>>(
-            alloc,
-            &bytes,
-            1,
-            &(),
-            key(6),
-            4,
-            &root
-        )?
-    );
-    let exclusion = Exclusion::KeyValue(proof(alloc, &snapshot, 0, 3)?, update(6, 3, 8));
-    let mut bytes = Vec::new(alloc);
-    exclusion.write(&mut bytes)?;
-    assert_eq!(rt; bytes.len(), 151);
     Ok(())
 }

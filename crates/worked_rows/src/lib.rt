@@ -19,6 +19,8 @@ mod faulty;
 #[cfg(test)]
 mod floors;
 #[cfg(test)]
+mod granted;
+#[cfg(test)]
 mod keys;
 #[cfg(test)]
 mod operation_proofs;
@@ -31,9 +33,13 @@ mod range_proofs;
 #[cfg(test)]
 mod ranges;
 #[cfg(test)]
+mod required;
+#[cfg(test)]
 mod served;
 #[cfg(test)]
 mod shared_chunks;
+#[cfg(test)]
+mod sizes;
 #[cfg(test)]
 mod store;
 #[cfg(test)]

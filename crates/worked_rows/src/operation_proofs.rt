@@ -1,5 +1,6 @@
 //! Proofs of one operation: built, written, read and checked.
 
+use crate::granted::told;
 use crate::served::{checked, operation, operations, proof, proved, snapshot, verified};
 use commonware_storage::digest::Sha256;
 use commonware_storage::light::{TextError, check_operation, check_text};
@@ -92,8 +93,8 @@ fn clear_bit(rt: HostRuntime) -> Result<(), Fail> {
 fn first_eight(alloc: Global) -> Result<[u8; 32], Fail> {
     let mut tree = Mem::<mmr::Family, _>::new(alloc);
     for operation in &operations(alloc, 0, 8)? {
-        if tree.add(&qmdb::hasher::<Sha256>(), operation).is_err() {
-            return Err(Fail::new("no leaf"));
+        if let Err(refusal) = tree.add(&qmdb::hasher::<Sha256>(), operation) {
+            return Err(told(&refusal));
         }
     }
     let node = tree.get_node(Position::new(14)).ok_or("no node")?;

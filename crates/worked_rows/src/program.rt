@@ -3,6 +3,7 @@
 use commonware_storage::stateproof::run;
 use std::alloc::Global;
 use std::test::Fail;
+use storage_codec::NoMemory;
 
 /// What a run wrote, and its status.
 #[derive(Drop)]
@@ -12,17 +13,30 @@ pub struct Outcome {
     pub errors: String,
 }
 
-/// A run over the words of a command line and an input.
+/// A run over the words of a command line and an input. Want of memory is no outcome.
 pub fn outcome_of(alloc: Global, line: &str, input: &[u8]) -> Result<Outcome, Fail> {
     let words = words(alloc, line)?;
     let mut output = Vec::new(alloc);
     let mut errors = Vec::new(alloc);
     let status = run(alloc, &words, input, &mut output, &mut errors);
+    if status == 2 {
+        run_had_memory(&errors)?;
+    }
     Ok(Outcome {
         status,
-        output: String::from_utf8(output).ok().ok_or("output")?,
-        errors: String::from_utf8(errors).ok().ok_or("errors")?,
+        output: String::from_utf8(output)?,
+        errors: String::from_utf8(errors)?,
     })
+}
+
+/// Refuses where a run that ended with status 2 wanted memory, by the line that it wrote, or the vector did that it was written to:
+/// then the line is cut short.
+pub fn run_had_memory(errors: &[u8]) -> Result<(), NoMemory> {
+    if errors.ends_with(b"\n") && errors != b"stateproof: memory\n".as_slice() {
+        Ok(())
+    } else {
+        Err(NoMemory)
+    }
 }
 
 /// The words of a command line.

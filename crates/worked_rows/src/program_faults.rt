@@ -1,6 +1,6 @@
 //! Runs of the program that end with a fault, in the order of the faults.
 
-use crate::program::{outcome_of, words};
+use crate::program::{outcome_of, run_had_memory, words};
 use commonware_storage::stateproof::run;
 use std::alloc::Global;
 use std::io::{self, ErrorKind, Read};
@@ -120,6 +120,7 @@ fn program_unreadable(rt: HostRuntime) -> Result<(), Fail> {
     let mut errors = Vec::new(alloc);
     assert_eq!(rt; run(alloc, &words, Unreadable, &mut output, &mut errors), 2);
     assert!(rt; output.is_empty());
+    run_had_memory(&errors)?;
     assert_eq!(rt; errors.as_slice(), b"stateproof: input\n".as_slice());
     Ok(())
 }
@@ -138,6 +139,9 @@ fn program_failed_writes(rt: HostRuntime) -> Result<(), Fail> {
         &mut errors,
     );
     assert_eq!(rt; status, 2);
+    if !errors.is_empty() {
+        run_had_memory(&errors)?;
+    }
     assert!(rt; errors.is_empty());
     let mut output = Vec::new(alloc);
     let status = run(

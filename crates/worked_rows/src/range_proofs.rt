@@ -24,9 +24,7 @@ fn proved<F: Graftable>(
     assert_eq!(rt; proof.proof.digests.len(), digests);
     let bytes = proof.encode(alloc)?;
     assert_eq!(rt; bytes.len(), size);
-    let read = RangeProof::<F, Digest>::decode_cfg(alloc, bytes.as_slice(), &digests)
-        .ok()
-        .ok_or("not read")?;
+    let read = RangeProof::<F, Digest>::decode_cfg(alloc, bytes.as_slice(), &digests)?;
     assert!(rt; read == proof);
     Ok(read)
 }

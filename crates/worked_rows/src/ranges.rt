@@ -2,16 +2,17 @@
 
 ghost use Rattle.std.specs.Prelude.{◌≡◌, ◌≤◌};
 
+use crate::granted::{granted, had_memory};
 use crate::served::{Digest, bits, operation, proof, snapshot};
-use crate::store::{Log, Store};
+use crate::store::{LOG_FAULT, Log, STORE_FAULT, Store};
 use commonware_storage::bitmap::{Prunable, Readable};
 use commonware_storage::codec::Encode;
 use commonware_storage::digest::Sha256;
-use commonware_storage::merkle::{self, Graftable, Location, mmb, mmr};
+use commonware_storage::merkle::{self, Location, Storage, mmr};
 use commonware_storage::qmdb::Error;
 use commonware_storage::qmdb::current::proof::constant::OperationProof;
 use commonware_storage::qmdb::current::proof::{RangeProof, RangeProofSpec};
-use commonware_storage::qmdb::current::{self, Snapshot};
+use commonware_storage::qmdb::current::{Contiguous, Snapshot};
 use std::alloc::Global;
 use std::process::Abort;
 use std::test::Fail;
@@ -20,35 +21,96 @@ type Rows = Snapshot<mmr::Family, Sha256, 1>;
 
 type Answer = Result<(RangeProof<mmr::Family, Digest>, Vec<u64>, Vec<[u8; 1]>), Error<mmr::Family>>;
 
+/// More answers of a store, or of a log, than a call asks for.
+const ENOUGH: u64 = 8;
+
 /// The snapshot of eleven operations, of which three are active.
 fn eleven(alloc: Global) -> Result<Rows, Fail> {
     snapshot::<mmr::Family>(alloc, 11, &[1, 5, 9], 0)
 }
 
-/// What is asked of a snapshot: at most so many operations from a location on.
-fn spec(snapshot: &Rows, start: u64, max_ops: u64) -> RangeProofSpec<mmr::Family, Digest>
-    ensures { result.max_ops ≡ max_ops }
-{
-    RangeProofSpec {
-        start_loc: Location::new(start),
-        max_ops,
-        inactivity_floor: Location::new(0),
-        ops_root: snapshot.ops_root(),
+/// A call for operations of a snapshot.
+#[derive(Clone, Copy)]
+struct Call<'a> {
+    snapshot: &'a Rows,
+    status: &'a Prunable<1>,
+    /// How many nodes the store says to have, where it does not tell the truth.
+    size: Option<u64>,
+    /// The first location that the log holds.
+    first: u64,
+    start: u64,
+    max_ops: u64,
+    ghost some: { 1 ≤ max_ops },
+}
+
+/// The call for the operations of a snapshot from a location to the end, of a store and a log that hold all.
+fn call_to_the_end(snapshot: &Rows, start: u64) -> Call<'_> {
+    Call {
+        snapshot,
+        status: snapshot.status(),
+        size: None,
+        first: 0,
+        start,
+        max_ops: 100,
     }
 }
 
-/// What is answered from a snapshot's nodes and a log of its operations from a location on.
-fn asked(
+/// What is answered, and how often the store and the log failed, where the store has so many answers and the log so many.
+fn answered(
     alloc: Global,
-    snapshot: &Rows,
-    status: &Prunable<1>,
-    first: u64,
-    start: u64,
+    call: Call<'_>,
+    nodes: u64,
+    items: u64,
+) -> Result<(Answer, (u64, u64)), Fail> {
+    let mut store = Store::of(alloc, call.snapshot, nodes)?;
+    if let Some(size) = call.size {
+        store = store.of_size(size);
+    }
+    let mut log = Log::new(call.first, call.snapshot.status().len(), items);
+    let spec = RangeProofSpec {
+        start_loc: Location::new(call.start),
+        max_ops: call.max_ops,
+        inactivity_floor: Location::new(0),
+        ops_root: call.snapshot.ops_root(),
+    };
+    let answer = RangeProof::new_with_ops::<Sha256, _, _, _, 1>(
+        alloc,
+        call.status,
+        &mut store,
+        &mut log,
+        spec,
+    );
+    had_memory(&answer)?;
+    Ok((answer, (store.failures(), log.failures())))
+}
+
+/// What is answered where neither fails. Stops where the store's code does not come back as it has fewer answers than are asked
+/// for, or then the log's, or where a failure that no call reaches changes the answer. Each fails once at most.
+fn answer_whatever_fails(
+    rt: &impl Abort,
+    alloc: Global,
+    call: Call<'_>,
+    asked: (u64, u64),
 ) -> Result<Answer, Fail> {
-    let mut store = Store::of(alloc, snapshot, u64::MAX)?;
-    let mut log = Log::new(first, 11, u64::MAX);
-    let spec = spec(snapshot, start, 100);
-    Ok(RangeProof::new_with_ops::<Sha256, _, _, _, 1>(alloc, status, &mut store, &mut log, spec))
+    let (own, _) = answered(alloc, call, u64::MAX, u64::MAX)?;
+    for nodes in 0..ENOUGH {
+        for items in 0..ENOUGH {
+            let (answer, failures) = answered(alloc, call, nodes, items)?;
+            if nodes < asked.0 {
+                assert!(rt;
+                    answer.err() == Some(Error::Merkle(merkle::Error::Source(STORE_FAULT)))
+                );
+                assert_eq!(rt; failures, (1, 0));
+            } else if items < asked.1 {
+                assert!(rt; answer.err() == Some(Error::Log(LOG_FAULT)));
+                assert_eq!(rt; failures, (0, 1));
+            } else {
+                assert!(rt; answer == own);
+                assert_eq!(rt; failures, (0, 0));
+            }
+        }
+    }
+    Ok(own)
 }
 
 /// Stops where the answer is not the proof of operations that follow one another, with so many digests and bytes, or is
@@ -56,25 +118,13 @@ fn asked(
 fn assert_proved(
     rt: &impl Abort,
     alloc: Global,
-    snapshot: &Rows,
-    max_ops: u64,
+    call: Call<'_>,
+    answer: Answer,
     locations: &[u16],
     chunks: &[[u8; 1]],
     counts: (usize, usize),
-) -> Result<(), Fail>
-    requires { 1 ≤ max_ops }
-{
-    let mut store = Store::of(alloc, snapshot, u64::MAX)?;
-    let mut log = Log::new(0, 11, u64::MAX);
-    let asked = spec(snapshot, 5, max_ops);
-    let answer: Answer = RangeProof::new_with_ops::<Sha256, _, _, _, 1>(
-        alloc,
-        snapshot.status(),
-        &mut store,
-        &mut log,
-        asked,
-    );
-    let (proof, items, touched) = answer.ok().ok_or("no proof")?;
+) -> Result<(), Fail> {
+    let (proof, items, touched) = granted(answer)?;
     let mut operations = Vec::new(alloc);
     for location in locations {
         operations.push(operation(alloc, *location)?)?;
@@ -87,8 +137,8 @@ fn assert_proved(
     let (digests, size) = counts;
     assert_eq!(rt; proof.proof.digests.len(), digests);
     assert_eq!(rt; proof.encode(alloc)?.len(), size);
-    let start = Location::new(5);
-    let root = snapshot.root();
+    let start = Location::new(call.start);
+    let root = call.snapshot.root();
     assert!(rt;
         proof.verify_encoded::<Sha256, _, _>(alloc, start, &operations, &touched, 1, &root)?
     );
@@ -98,107 +148,31 @@ fn assert_proved(
 #[test]
 fn range_to_the_end(rt: HostRuntime) -> Result<(), Fail> {
     let alloc = rt.alloc();
+    let snapshot = eleven(alloc)?;
+    let call = call_to_the_end(&snapshot, 5);
+    // the peak of 0..4 and leaf 4; six operations
+    let answer = answer_whatever_fails(&rt, alloc, call, (2, 6))?;
     let locations = [5, 6, 7, 8, 9, 10];
-    assert_proved(
-        &rt,
-        alloc,
-        &eleven(alloc)?,
-        100,
-        &locations,
-        &[[0b10_0010], [0b10]],
-        (2, 132),
-    )
+    let chunks = [[0b10_0010], [0b10]];
+    assert_proved(&rt, alloc, call, answer, &locations, &chunks, (2, 132))
 }
 
 #[test]
 fn range_of_two(rt: HostRuntime) -> Result<(), Fail> {
     let alloc = rt.alloc();
-    assert_proved(
-        &rt,
-        alloc,
-        &eleven(alloc)?,
-        2,
-        &[5, 6],
-        &[[0b10_0010]],
-        (4, 196),
-    )
-}
-
-#[test]
-fn log_too_short(rt: HostRuntime) -> Result<(), Fail> {
-    let alloc = rt.alloc();
     let snapshot = eleven(alloc)?;
-    let answer = asked(alloc, &snapshot, snapshot.status(), 6, 5)?;
-    assert!(rt; matches!(answer, Err(Error::DataCorrupted(_))));
-    Ok(())
-}
-
-#[test]
-fn store_of_no_tree(rt: HostRuntime) -> Result<(), Fail> {
-    let alloc = rt.alloc();
-    let snapshot = eleven(alloc)?;
-    let mut store = Store::of_size(alloc, &snapshot, 2)?;
-    let mut log = Log::new(0, 11, u64::MAX);
-    let asked = spec(&snapshot, 5, 100);
-    let answer: Answer = RangeProof::new_with_ops::<Sha256, _, _, _, 1>(
-        alloc,
-        snapshot.status(),
-        &mut store,
-        &mut log,
-        asked,
-    );
-    assert!(rt; matches!(answer, Err(Error::Merkle(merkle::Error::DataCorrupted(_)))));
-    Ok(())
-}
-
-#[test]
-fn served_operation_proof(rt: HostRuntime) -> Result<(), Fail> {
-    let alloc = rt.alloc();
-    let snapshot = eleven(alloc)?;
-    let mut store = Store::of(alloc, &snapshot, u64::MAX)?;
-    let served = OperationProof::<mmr::Family, Digest, 1>::new::<Sha256, Prunable<1>, _>(
-        alloc,
-        snapshot.status(),
-        &mut store,
-        Location::new(0),
-        Location::new(9),
-        snapshot.ops_root(),
-    );
-    let served = served.ok().ok_or("no proof")?;
-    assert_eq!(rt; served.range_proof.proof.digests.len(), 3);
-    assert_eq!(rt; served.encode(alloc)?.len(), 166);
-    assert!(rt; served == proof(alloc, &snapshot, 0, 9)?);
-    Ok(())
-}
-
-/// Stops where the snapshot's witness has not so many bytes, or does not stand.
-fn assert_witness<F: Graftable>(
-    rt: &impl Abort,
-    alloc: Global,
-    count: u16,
-    set: u16,
-    size: usize,
-) -> Result<(), Fail> {
-    let snapshot = snapshot::<F>(alloc, count, &[set], 0)?;
-    let witness = snapshot.witness();
-    assert_eq!(rt; witness.encode(alloc)?.len(), size);
-    assert!(rt; witness.verify::<Sha256>(&snapshot.ops_root(), &snapshot.root()));
-    Ok(())
-}
-
-#[test]
-fn witness_sizes(rt: HostRuntime) -> Result<(), Fail> {
-    let alloc = rt.alloc();
-    assert_witness::<mmr::Family>(&rt, alloc, 8, 3, 33)?;
-    assert_witness::<mmr::Family>(&rt, alloc, 11, 9, 66)?;
-    assert_witness::<mmb::Family>(&rt, alloc, 18, 9, 99)
+    let mut call = call_to_the_end(&snapshot, 5);
+    call.max_ops = 2;
+    // the peaks of 8..10 and of 10, that of 0..4, leaf 4 and leaf 7; two operations
+    let answer = answer_whatever_fails(&rt, alloc, call, (5, 2))?;
+    assert_proved(&rt, alloc, call, answer, &[5, 6], &[[0b10_0010]], (4, 196))
 }
 
 #[test]
 fn range_start_at_length(rt: HostRuntime) -> Result<(), Fail> {
     let alloc = rt.alloc();
     let snapshot = eleven(alloc)?;
-    let answer = asked(alloc, &snapshot, snapshot.status(), 0, 11)?;
+    let answer = answer_whatever_fails(&rt, alloc, call_to_the_end(&snapshot, 11), (0, 0))?;
     let past = merkle::Error::RangeOutOfBounds(Location::new(11));
     assert!(rt; answer.err() == Some(Error::Merkle(past)));
     Ok(())
@@ -213,8 +187,33 @@ fn range_start_pruned(rt: HostRuntime) -> Result<(), Fail> {
         return Err(Fail::new("too few bits"));
     }
     status.prune_to_bit(8);
-    let answer = asked(alloc, &snapshot, &status, 0, 5)?;
+    let mut call = call_to_the_end(&snapshot, 5);
+    call.status = &status;
+    let answer = answer_whatever_fails(&rt, alloc, call, (0, 0))?;
     assert!(rt; answer.err() == Some(Error::OperationPruned(Location::new(5))));
+    Ok(())
+}
+
+#[test]
+fn log_too_short(rt: HostRuntime) -> Result<(), Fail> {
+    let alloc = rt.alloc();
+    let snapshot = eleven(alloc)?;
+    let mut call = call_to_the_end(&snapshot, 5);
+    call.first = 6;
+    // the store is asked before the log's bounds are looked at
+    let answer = answer_whatever_fails(&rt, alloc, call, (2, 0))?;
+    assert!(rt; matches!(answer, Err(Error::DataCorrupted(_))));
+    Ok(())
+}
+
+#[test]
+fn store_of_no_tree(rt: HostRuntime) -> Result<(), Fail> {
+    let alloc = rt.alloc();
+    let snapshot = eleven(alloc)?;
+    let mut call = call_to_the_end(&snapshot, 5);
+    call.size = Some(2);
+    let answer = answer_whatever_fails(&rt, alloc, call, (0, 0))?;
+    assert!(rt; matches!(answer, Err(Error::Merkle(merkle::Error::DataCorrupted(_)))));
     Ok(())
 }
 
@@ -222,101 +221,54 @@ fn range_start_pruned(rt: HostRuntime) -> Result<(), Fail> {
 fn start_past_the_end(rt: HostRuntime) -> Result<(), Fail> {
     let alloc = rt.alloc();
     let snapshot = snapshot::<mmr::Family>(alloc, 8, &[3], 0)?;
-    let at_the_end = asked(alloc, &snapshot, snapshot.status(), 0, 8)?;
-    let past = merkle::Error::RangeOutOfBounds(Location::new(8));
-    assert!(rt; at_the_end.err() == Some(Error::Merkle(past)));
-    let far = asked(alloc, &snapshot, snapshot.status(), 0, (1 << 62) + 1)?;
-    let past = merkle::Error::RangeOutOfBounds(Location::new((1 << 62) + 1));
-    assert!(rt; far.err() == Some(Error::Merkle(past)));
+    for start in [8, (1 << 62) + 1] {
+        let answer = answer_whatever_fails(&rt, alloc, call_to_the_end(&snapshot, start), (0, 0))?;
+        let past = merkle::Error::RangeOutOfBounds(Location::new(start));
+        assert!(rt; answer.err() == Some(Error::Merkle(past)));
+    }
     Ok(())
 }
 
-/// The fault that is told of so many operations where the store has so many answers and the log so many; none where both
-/// have enough.
-fn fault(alloc: Global, max_ops: u64, nodes: u64, items: u64) -> Result<Option<u32>, Fail>
-    requires { 1 ≤ max_ops }
-{
-    let snapshot = eleven(alloc)?;
-    let mut store = Store::of(alloc, &snapshot, nodes)?;
-    let mut log = Log::new(0, 11, items);
-    let asked = spec(&snapshot, 5, max_ops);
-    let answer: Answer = RangeProof::new_with_ops::<Sha256, _, _, _, 1>(
+/// The proof of operation 9 from a store of so many answers, and how often that failed.
+fn served(
+    alloc: Global,
+    snapshot: &Rows,
+    nodes: u64,
+) -> Result<
+    (
+        Result<OperationProof<mmr::Family, Digest, 1>, Error<mmr::Family>>,
+        u64,
+    ),
+    Fail,
+> {
+    let mut store = Store::of(alloc, snapshot, nodes)?;
+    let answer = OperationProof::<mmr::Family, Digest, 1>::new::<Sha256, Prunable<1>, _>(
         alloc,
         snapshot.status(),
         &mut store,
-        &mut log,
-        asked,
+        Location::new(0),
+        Location::new(9),
+        snapshot.ops_root(),
     );
-    match answer {
-        Ok(_) => Ok(None),
-        Err(Error::Merkle(merkle::Error::Source(code))) => Ok(Some(code)),
-        Err(Error::Log(code)) => Ok(Some(code)),
-        Err(_) => Err(Fail::new("another answer")),
-    }
+    had_memory(&answer)?;
+    Ok((answer, store.failures()))
 }
 
 #[test]
-fn failing_stores(rt: HostRuntime) -> Result<(), Fail> {
+fn served_operation_proof(rt: HostRuntime) -> Result<(), Fail> {
     let alloc = rt.alloc();
-    // the peaks of 8..10 and of 10, that of 0..4, leaf 4 and leaf 7
-    for nodes in 0..5 {
-        assert!(rt; fault(alloc, 2, nodes, u64::MAX)? == Some(7));
+    let snapshot = eleven(alloc)?;
+    let own = proof(alloc, &snapshot, 0, 9)?;
+    assert_eq!(rt; own.range_proof.proof.digests.len(), 3);
+    assert_eq!(rt; own.encode(alloc)?.len(), 166);
+    // the peak of 0..8, leaf 10 and leaf 8
+    for nodes in 0..3 {
+        let (answer, failures) = served(alloc, &snapshot, nodes)?;
+        assert!(rt; answer.err() == Some(Error::Merkle(merkle::Error::Source(STORE_FAULT))));
+        assert_eq!(rt; failures, 1);
     }
-    assert!(rt; fault(alloc, 2, 5, u64::MAX)?.is_none());
-    for items in 0..2 {
-        assert!(rt; fault(alloc, 2, u64::MAX, items)? == Some(9));
-    }
-    assert!(rt; fault(alloc, 2, u64::MAX, 2)?.is_none());
-    Ok(())
-}
-
-#[test]
-fn failing_stores_to_the_end(rt: HostRuntime) -> Result<(), Fail> {
-    let alloc = rt.alloc();
-    // the peak of 0..4 and leaf 4
-    for nodes in 0..2 {
-        assert!(rt; fault(alloc, 100, nodes, u64::MAX)? == Some(7));
-    }
-    assert!(rt; fault(alloc, 100, 2, u64::MAX)?.is_none());
-    for items in 0..6 {
-        assert!(rt; fault(alloc, 100, u64::MAX, items)? == Some(9));
-    }
-    assert!(rt; fault(alloc, 100, u64::MAX, 6)?.is_none());
-    Ok(())
-}
-
-#[test]
-fn required_chunks(rt: HostRuntime) -> Result<(), Fail> {
-    let length = Location::<mmb::Family>::new(18);
-    let first = Some(Location::<mmb::Family>::new(0));
-    let queried = current::required_chunks::<mmb::Family, 1>(length, 18, 0, first);
-    let mut chunks = queried.ok().ok_or("no chunks")?;
-    assert!(rt; chunks.next() == Some(0));
-    assert!(rt; chunks.next() == Some(1));
-    assert!(rt; chunks.next() == Some(2));
-    assert!(rt; chunks.next().is_none());
-    let unqueried = current::required_chunks::<mmb::Family, 1>(length, 18, 0, None);
-    let mut chunks = unqueried.ok().ok_or("no chunks")?;
-    assert!(rt; chunks.next() == Some(1));
-    assert!(rt; chunks.next() == Some(2));
-    assert!(rt; chunks.next().is_none());
-    let past = Some(Location::<mmb::Family>::new(18));
-    let refused = current::required_chunks::<mmb::Family, 1>(length, 18, 0, past);
-    let error = merkle::Error::RangeOutOfBounds(Location::new(18));
-    assert!(rt; refused.err() == Some(Error::Merkle(error)));
-    Ok(())
-}
-
-#[test]
-fn required_chunks_once_pruned(rt: HostRuntime) -> Result<(), Fail> {
-    let length = Location::<mmr::Family>::new(16);
-    let seventh = Some(Location::<mmr::Family>::new(7));
-    let refused = current::required_chunks::<mmr::Family, 1>(length, 16, 1, seventh);
-    assert!(rt; refused.err() == Some(Error::OperationPruned(Location::new(7))));
-    let unqueried = current::required_chunks::<mmr::Family, 1>(length, 16, 1, None);
-    let mut chunks = unqueried.ok().ok_or("no chunks")?;
-    assert!(rt; chunks.next().is_none());
-    let corrupted = current::required_chunks::<mmr::Family, 1>(length, 16, 3, None);
-    assert!(rt; matches!(corrupted, Err(Error::DataCorrupted(_))));
+    let (answer, failures) = served(alloc, &snapshot, 3)?;
+    assert!(rt; answer.ok() == Some(own));
+    assert_eq!(rt; failures, 0);
     Ok(())
 }

@@ -1,5 +1,6 @@
 //! Snapshots of ordered operations, as a server keeps them, and their proofs.
 
+use crate::granted::granted;
 use commonware_storage::bitmap::{Prunable, Readable};
 use commonware_storage::codec::{Decode, Encode, FixedBytes, Write};
 use commonware_storage::digest::Sha256;
@@ -74,11 +75,7 @@ pub fn snapshot<F: Graftable>(
 ) -> Result<Snapshot<F, Sha256, 1>, Fail> {
     let operations = operations(alloc, 0, count)?;
     let bits = bits(alloc, count, set)?;
-    Ok(
-        Snapshot::new(alloc, &operations, bits, Location::new(floor))
-            .ok()
-            .ok_or("no snapshot")?,
-    )
+    granted(Snapshot::new(alloc, &operations, bits, Location::new(floor)))
 }
 
 /// The snapshot's proof of the operation at a location.
@@ -89,9 +86,7 @@ pub fn proof<F: Graftable>(
     location: u16,
 ) -> Result<OperationProof<F, Digest, 1>, Fail> {
     let leaves = Location::new(snapshot.status().len());
-    let plan = ElementPlan::new(alloc, leaves, Location::new(location as u64))
-        .ok()
-        .ok_or("no plan")?;
+    let plan = granted(ElementPlan::new(alloc, leaves, Location::new(location as u64)))?;
     let proof = OperationProof::build::<Sha256, Prunable<1>, _>(
         alloc,
         snapshot.status(),
@@ -100,7 +95,7 @@ pub fn proof<F: Graftable>(
         Location::new(floor),
         snapshot.ops_root(),
     );
-    Ok(proof.ok().ok_or("no proof")?)
+    granted(proof)
 }
 
 /// The snapshot's proof of the operations from `start` to before `end`.
@@ -112,9 +107,8 @@ pub fn range_proof<F: Graftable>(
     end: u64,
 ) -> Result<RangeProof<F, Digest>, Fail> {
     let leaves = Location::new(snapshot.status().len());
-    let plan = RangePlan::new(alloc, leaves, Location::new(start)..Location::new(end))
-        .ok()
-        .ok_or("no plan")?;
+    let range = Location::new(start)..Location::new(end);
+    let plan = granted(RangePlan::new(alloc, leaves, range))?;
     let proof = RangeProof::build::<Sha256, Prunable<1>, _, 1>(
         alloc,
         snapshot.status(),
@@ -123,7 +117,7 @@ pub fn range_proof<F: Graftable>(
         Location::new(floor),
         snapshot.ops_root(),
     );
-    Ok(proof.ok().ok_or("no proof")?)
+    granted(proof)
 }
 
 /// What a client answers that is given these bytes as the proof of an operation of the snapshot.
@@ -159,9 +153,7 @@ pub fn written<F: Graftable>(
 ) -> Result<Vec<u8>, Fail> {
     let bytes = proof.encode(alloc)?;
     assert_eq!(rt; bytes.len(), size);
-    let read = OperationProof::<F, Digest, 1>::decode_cfg(alloc, bytes.as_slice(), &128)
-        .ok()
-        .ok_or("not read")?;
+    let read = OperationProof::<F, Digest, 1>::decode_cfg(alloc, bytes.as_slice(), &128)?;
     assert!(rt; read == *proof);
     Ok(bytes)
 }

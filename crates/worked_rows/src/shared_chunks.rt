@@ -19,9 +19,11 @@ fn shared_chunk_bytes(rt: HostRuntime) -> Result<(), Fail> {
     let alloc = rt.alloc();
     let snapshot = snapshot::<mmr::Family>(alloc, 8, &[3], 0)?;
     let bytes = written(&rt, alloc, &proof(alloc, &snapshot, 0, 3)?, 134)?;
-    let read = OperationProof::<mmr::Family, Digest>::decode_cfg(alloc, bytes.as_slice(), &(1, 128))
-        .ok()
-        .ok_or("not read")?;
+    let read = OperationProof::<mmr::Family, Digest>::decode_cfg(
+        alloc,
+        bytes.as_slice(),
+        &(1, 128),
+    )?;
     let again = read.encode(alloc)?;
     assert_eq!(rt; again.as_slice(), bytes.as_slice());
     let operation = operation(alloc, 3)?;

@@ -12,7 +12,13 @@ use std::alloc::Global;
 use std::ops::Range;
 use std::test::Fail;
 
-/// The nodes of a snapshot's grafted view. Once it has answered so many it fails, with code 7.
+/// The code that a store fails with.
+pub const STORE_FAULT: u32 = 7;
+
+/// The code that a log fails with.
+pub const LOG_FAULT: u32 = 9;
+
+/// The nodes of a snapshot's grafted view. Once it has answered so many it fails.
 #[derive(Drop)]
 pub struct Store {
     nodes: Vec<Digest>,
@@ -46,17 +52,11 @@ impl Store {
         })
     }
 
-    /// The nodes of a snapshot, said to be so many.
-    pub fn of_size(
-        alloc: Global,
-        snapshot: &Snapshot<mmr::Family, Sha256, 1>,
-        size: u64,
-    ) -> Result<Self, Fail>
-        ensures { IfOk result (λ store. store.failures ≡ 0) }
+    /// The same store, said to have so many nodes.
+    pub fn of_size(self, size: u64) -> Self
+        ensures { result.failures ≡ self.failures }
     {
-        let mut store = Store::of(alloc, snapshot, u64::MAX)?;
-        store.size = size;
-        Ok(store)
+        Store { size, ..self }
     }
 }
 
@@ -120,7 +120,7 @@ impl Storage<mmr::Family> for Store {
     {
         if self.left < 1 {
             self.failures += 1;
-            return Err(Error::Source(7));
+            return Err(Error::Source(STORE_FAULT));
         }
         self.left -= 1;
         Ok(self.nodes.get(position.as_u64() as usize).copied())
@@ -141,7 +141,7 @@ impl Storage<mmr::Family> for Store {
         let count = positions.len() as u64;
         if self.left < count {
             self.failures += 1;
-            return Err(Error::Source(7));
+            return Err(Error::Source(STORE_FAULT));
         }
         self.left -= count;
         match look_up_all(alloc, &self.nodes, positions) {
@@ -151,7 +151,7 @@ impl Storage<mmr::Family> for Store {
     }
 }
 
-/// A log whose item at each location is the location. Once it has answered so many it fails, with code 9.
+/// A log whose item at each location is the location. Once it has answered so many it fails.
 #[derive(Drop)]
 pub struct Log {
     first: u64,
@@ -199,7 +199,7 @@ impl Contiguous for Log {
         let count = locations.len() as u64;
         if self.left < count {
             self.failures += 1;
-            return Err(LogError::Fault(9));
+            return Err(LogError::Fault(LOG_FAULT));
         }
         self.left -= count;
         let mut items = Vec::new(alloc);

@@ -1,5 +1,6 @@
 //! Every location of many snapshots.
 
+use crate::granted::granted;
 use crate::served::{proof, range_proof};
 use commonware_storage::bitmap::{Prunable, Readable};
 use commonware_storage::codec::Encode;
@@ -26,9 +27,7 @@ fn numbers<F: Graftable>(
         }
     }
     let floor = Location::new((count / 2) as u64);
-    let snapshot = Snapshot::new(alloc, &operations, bits, floor)
-        .ok()
-        .ok_or("no snapshot")?;
+    let snapshot = granted(Snapshot::new(alloc, &operations, bits, floor))?;
     Ok((operations, snapshot))
 }
 

@@ -4,6 +4,7 @@ ghost use Rattle.std.specs.Prelude.{◌≡◌};
 ghost use Rattle.commonware_storage.specs.declared.stateproof.fault.Fault.TheVariants.{Memory};
 
 use std::alloc::{AllocError, AllocFailed};
+use std::io::{self, ErrorKind};
 use storage_codec::NoMemory;
 use storage_merkle::merkle;
 use storage_ops::qmdb;
@@ -59,6 +60,14 @@ impl Fault {
         match error {
             qmdb::Error::Merkle(error) => Fault::of_plan(error),
             _ => Fault::Memory,
+        }
+    }
+
+    /// The fault where the input can't be read.
+    pub(crate) fn of_input(error: &io::Error) -> Fault {
+        match error.kind() {
+            ErrorKind::OutOfMemory => Fault::Memory,
+            _ => Fault::Input,
         }
     }
 

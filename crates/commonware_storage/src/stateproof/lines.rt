@@ -1,48 +1,103 @@
 //! The lines of standard input.
 
-ghost use Rattle.std.specs.Prelude.{◌≡◌, MatchResult, MatchOption, List, ℕ, Bool};
+ghost use Rattle.std.specs.Prelude.{◌≡◌, MatchResult, MatchOption, List, ℕ, Bool, IfOk, true, false};
+ghost use Rattle.hex.specs.Hex.{decode_of};
 ghost use Rattle.storage_bitmap.specs.Chunks.{IsChunkSize, bit_count};
 ghost use Rattle.commonware_storage.specs.Words.{IsOperationLine};
 ghost use Rattle.commonware_storage.specs.declared.stateproof.fault.Fault.TheVariants.{Memory};
 
 use crate::stateproof::Fault;
-use hex::FromHexError;
-use std::alloc::Global;
+use std::alloc::{AllocError, Global};
+use std::io::{BufRead, BufReader, Read};
 use storage_bitmap::bitmap::{Prunable, Readable};
-use storage_codec::codec::{Read, UInt, Write};
+use storage_codec::codec::{Read as _, UInt, Write};
 use storage_codec::digest::Sha256;
 use storage_current::qmdb::current::{OperationTree, Snapshot};
 use storage_merkle::merkle::{ElementPlan, Graftable, Location, MAX_LEAVES};
 
-/// A line of operations: the operation's bit, and its bytes.
-#[derive(Debug, Drop)]
-pub struct Operation {
-    pub active: bool,
-    pub bytes: Vec<u8>,
+/// Reads a line `0` or `1`, one blank, and hexadecimal of at least one byte: answers the bit, and puts the bytes in the place
+/// of those in `bytes`. None where the line is none such, and then `bytes` may hold anything.
+pub(crate) fn parse_operation(line: &[u8], bytes: &mut Vec<u8>) -> Result<Option<bool>, Fault>
+    ensures { MatchResult result
+        (λ found. MatchOption found
+        ((active : Bool) (bytes : List ℕ) → IsOperationLine line.now active bytes → ⊥)
+        (λ active. IsOperationLine line.now active bytes.new.items))
+        (λ fault. fault ≡ Memory) }
+{
+    let (active, digits) = match line {
+        [b'0', b' ', digits @ ..] => (false, digits),
+        [b'1', b' ', digits @ ..] => (true, digits),
+        _ => return Ok(None),
+    };
+    if decode(digits, bytes)? && !bytes.is_empty() {
+        Ok(Some(active))
+    } else {
+        Ok(None)
+    }
 }
 
-impl Operation {
-    /// Reads a line `0` or `1`, one blank, and hexadecimal of at least one byte; none where the line is none such.
-    pub fn parse(alloc: Global, line: &str) -> Result<Option<Operation>, Fault>
-        ensures { MatchResult result
-            (λ found. MatchOption found
-            ((active : Bool) (bytes : List ℕ) → IsOperationLine line.now active bytes → ⊥)
-            (λ o. IsOperationLine line.now o.active o.bytes.items))
-            (λ fault. fault ≡ Memory) }
-    {
-        let (active, digits) = if let Some(digits) = line.strip_prefix("0 ") {
-            (false, digits)
-        } else if let Some(digits) = line.strip_prefix("1 ") {
-            (true, digits)
-        } else {
-            return Ok(None);
-        };
-        match hex::decode(alloc, digits) {
-            Ok(bytes) if bytes.is_empty() => Ok(None),
-            Ok(bytes) => Ok(Some(Operation { active, bytes })),
-            Err(FromHexError::OutOfMemory) => Err(Fault::Memory),
-            Err(_) => Ok(None),
+/// Puts the bytes that hexadecimal digits spell in the place of those in `bytes`, and answers whether they spell any. Where
+/// they do not, `bytes` may hold anything.
+fn decode(digits: &[u8], bytes: &mut Vec<u8>) -> Result<bool, AllocError>
+    ensures { IfOk result (λ whole. MatchResult (decode_of digits.now) (λ spelled. (whole ≡ true) × (bytes.new.items ≡ spelled)) (λ _. whole ≡ false)) }
+{
+    bytes.resize(digits.len() / 2, 0)?;
+    Ok(hex::decode_to_slice(digits, bytes.as_mut_slice()).is_ok())
+}
+
+/// How many bytes are read at once.
+const READ_AT_ONCE: usize = 65_536;
+
+/// The lines of an input, one at a time. A line ends at its LF, and what follows the last LF is a line where it is not empty.
+#[derive(Drop)]
+struct Lines<R> {
+    input: BufReader<R>,
+    line: Vec<u8>,
+}
+
+impl<R: Read + Drop> Lines<R> {
+    /// Those of an input, before the first one.
+    fn of(alloc: Global, input: R) -> Result<Lines<R>, Fault> {
+        match BufReader::with_capacity(alloc, READ_AT_ONCE, input) {
+            Ok(input) => Ok(Lines {
+                input,
+                line: Vec::new(alloc),
+            }),
+            Err(_) => Err(Fault::Memory),
         }
+    }
+
+    /// Goes on to the next line, and answers whether there is one.
+    fn advance(&mut self) -> Result<bool, Fault> {
+        self.line.clear();
+        match self.input.read_until(b'\n', &mut self.line) {
+            Ok(count) => Ok(count > 0),
+            Err(error) => Err(Fault::of_input(&error)),
+        }
+    }
+
+    /// The line, its LF left out.
+    fn line(&self) -> &[u8] {
+        match self.line.as_slice() {
+            [line @ .., b'\n'] => line,
+            line => line,
+        }
+    }
+
+    /// The fault where the line of that number is bad and those before it are not: the line, but that of the input comes
+    /// first, where this line or what follows it can't be read or is not UTF-8.
+    fn fault(mut self, number: u64) -> Fault {
+        for _ in 0..u64::MAX {
+            if str::from_utf8(&self.line).is_err() {
+                return Fault::Input;
+            }
+            match self.advance() {
+                Ok(true) => {}
+                Ok(false) => return Fault::Line(number),
+                Err(fault) => return fault,
+            }
+        }
+        Fault::Memory
     }
 }
 
@@ -55,31 +110,35 @@ pub struct Operations<const N: usize> {
 }
 
 impl<const N: usize> Operations<N> {
-    /// Reads a line for each operation. A line ends at its LF, and what follows the last LF is a line where it is not
-    /// empty.
-    pub fn parse(alloc: Global, text: &str) -> Result<Operations<N>, Fault>
+    /// Reads a line for each operation.
+    pub fn read<R: Read + Drop>(alloc: Global, input: R) -> Result<Operations<N>, Fault>
         requires { IsChunkSize N }
     {
         let mut operations = Operations {
             written: Vec::new(alloc),
             bits: Prunable::new(alloc),
         };
-        for (index, line) in text.split_terminator('\n').enumerate() {
-            let Some(operation) = Operation::parse(alloc, line)? else {
-                return Err(Fault::Line(index as u64 + 1));
-            };
-            operations.push(operation)?;
+        let mut lines = Lines::of(alloc, input)?;
+        let mut bytes = Vec::new(alloc);
+        for number in 1..u64::MAX {
+            if !lines.advance()? {
+                return Ok(operations);
+            }
+            match parse_operation(lines.line(), &mut bytes)? {
+                Some(active) => operations.push(active, &bytes)?,
+                None => return Err(lines.fault(number)),
+            }
         }
-        Ok(operations)
+        Err(Fault::Memory)
     }
 
     /// Adds an operation. More than `MAX_LEAVES` of them fit in no memory.
-    fn push(&mut self, operation: Operation) -> Result<(), Fault> {
+    fn push(&mut self, active: bool, bytes: &Vec<u8>) -> Result<(), Fault> {
         if self.bits.len() >= MAX_LEAVES {
             return Err(Fault::Memory);
         }
-        operation.bytes.write(&mut self.written)?;
-        self.bits.push(operation.active)?;
+        bytes.write(&mut self.written)?;
+        self.bits.push(active)?;
         Ok(())
     }
 

@@ -7,7 +7,7 @@ use crate::light::{TextError, check_text};
 use crate::stateproof::lines::Operations;
 use crate::stateproof::{Action, Chunk, Command, Fault, Tree};
 use std::alloc::Global;
-use std::io::{self, ErrorKind, Read};
+use std::io::{self, Read};
 use storage_bitmap::bitmap::Prunable;
 use storage_codec::codec::{Encode, FixedBytes};
 use storage_codec::digest::Sha256;
@@ -33,53 +33,55 @@ impl Reply {
         let Some(command) = Command::parse(words) else {
             return Err(Fault::Usage);
         };
-        let text = text_of(alloc, input)?;
         match command.tree {
-            Tree::Mmr => over_tree::<mmr::Family>(alloc, &command, text),
-            Tree::Mmb => over_tree::<mmb::Family>(alloc, &command, text),
+            Tree::Mmr => over_tree::<mmr::Family, R>(alloc, &command, input),
+            Tree::Mmb => over_tree::<mmb::Family, R>(alloc, &command, input),
         }
     }
 }
 
 /// All of the input.
 fn text_of<R: Read + Drop>(alloc: Global, input: R) -> Result<String, Fault> {
-    io::read_to_string(alloc, input).map_err(|error| match error.kind() {
-        ErrorKind::OutOfMemory => Fault::Memory,
-        _ => Fault::Input,
-    })
+    io::read_to_string(alloc, input).map_err(|error| Fault::of_input(&error))
 }
 
-fn over_tree<F: Graftable>(alloc: Global, command: &Command, text: String) -> Result<Reply, Fault> {
+fn over_tree<F: Graftable, R: Read + Drop>(
+    alloc: Global,
+    command: &Command,
+    input: R,
+) -> Result<Reply, Fault> {
     match command.chunk {
-        Chunk::One => over_chunk::<F, 1>(alloc, &command.action, text),
-        Chunk::ThirtyTwo => over_chunk::<F, 32>(alloc, &command.action, text),
+        Chunk::One => over_chunk::<F, R, 1>(alloc, &command.action, input),
+        Chunk::ThirtyTwo => over_chunk::<F, R, 32>(alloc, &command.action, input),
     }
 }
 
-fn over_chunk<F: Graftable, const N: usize>(
+fn over_chunk<F: Graftable, R: Read + Drop, const N: usize>(
     alloc: Global,
     action: &Action,
-    text: String,
+    input: R,
 ) -> Result<Reply, Fault>
     requires { IsChunkSize N }
 {
     match action {
-        Action::Root { floor } => root::<F, N>(alloc, text, *floor),
-        Action::Prove { floor, location } => prove::<F, N>(alloc, text, *floor, *location),
-        Action::Check { root, location } => { check::<F>(alloc, text.as_str(), N, root, *location) }
+        Action::Root { floor } => root::<F, R, N>(alloc, input, *floor),
+        Action::Prove { floor, location } => prove::<F, R, N>(alloc, input, *floor, *location),
+        Action::Check { root, location } => {
+            let text = text_of(alloc, input)?;
+            check::<F>(alloc, text.as_str(), N, root, *location)
+        }
     }
 }
 
 /// The canonical root of the operations of these lines.
-fn root<F: Graftable, const N: usize>(
+fn root<F: Graftable, R: Read + Drop, const N: usize>(
     alloc: Global,
-    text: String,
+    input: R,
     floor: u64,
 ) -> Result<Reply, Fault>
     requires { IsChunkSize N }
 {
-    let operations = Operations::<N>::parse(alloc, text.as_str())?;
-    drop(text);
+    let operations = Operations::<N>::read(alloc, input)?;
     let snapshot = operations.snapshot::<F>(alloc, floor)?;
     let root = hex::encode(alloc, snapshot.root().bytes)?;
     Ok(Reply {
@@ -89,16 +91,15 @@ fn root<F: Graftable, const N: usize>(
 }
 
 /// The canonical root of the operations of these lines, and the proof of the one at a location.
-fn prove<F: Graftable, const N: usize>(
+fn prove<F: Graftable, R: Read + Drop, const N: usize>(
     alloc: Global,
-    text: String,
+    input: R,
     floor: u64,
     location: u64,
 ) -> Result<Reply, Fault>
     requires { IsChunkSize N }
 {
-    let operations = Operations::<N>::parse(alloc, text.as_str())?;
-    drop(text);
+    let operations = Operations::<N>::read(alloc, input)?;
     let plan = operations.plan::<F>(alloc, location)?;
     let snapshot = operations.snapshot::<F>(alloc, floor)?;
     let proof = proof_of(alloc, &snapshot, plan, floor)?.encode(alloc)?;

@@ -59,9 +59,10 @@ impl<const N: usize> Prunable<N> {
         ensures ok { OnOk result (self.new ≡ record self.old { bits = self.old.bits ++ bit ∷ [] }) }
         ensures err { OnErr result (self.new ≡ self.old) }
     {
-        make_room::<N>(&mut self.bytes, self.kept)?;
-        write(&mut self.bytes, self.kept, bit);
-        self.kept += 1;
+        let kept = self.kept;
+        make_room::<N>(&mut self.bytes, kept)?;
+        fill(&mut self.bytes, kept, bit);
+        self.kept = kept + 1;
         Ok(())
     }
 
@@ -175,6 +176,26 @@ fn write(bytes: &mut Vec<u8>, place: u64, bit: bool)
 {
     let index = (place / 8) as usize;
     bytes[index] = with_bit(bytes[index], (place % 8) as u32, bit);
+}
+
+/// Writes the bit at a place in packed bytes where it is clear.
+fn fill(bytes: &mut Vec<u8>, place: u64, bit: bool)
+    requires within { place / 8 < length bytes.old.items }
+    requires clear { bit_in bytes.old.items place ≡ false }
+    ensures { IsWritten bytes.old.items bytes.new.items place bit }
+{
+    let index = (place / 8) as usize;
+    bytes[index] = filled(bytes[index], (place % 8) as u32, bit);
+}
+
+/// A byte with one of its clear bits changed.
+fn filled(byte: u8, place: u32, bit: bool) -> u8
+    requires small { place < 8 }
+    requires clear { bit_at byte place ≡ 0 }
+    ensures there { bit_at result place ≡ digit bit }
+    ensures others { (i : ℕ) → i < 8 → i ≢ place → bit_at result i ≡ bit_at byte i }
+{
+    byte | (bit as u8) << place
 }
 
 /// A byte with one of its bits changed.

@@ -10,7 +10,7 @@ ghost use Rattle.storage_merkle.specs.Rests.{AreAfterLeading, AreFolded, peaks_f
 ghost use Rattle.storage_merkle.specs.Siblings.{sibling_sites};
 ghost use Rattle.storage_merkle.specs.Trees.{folded, node_calc, unfolded, ungrafted};
 
-mod nodes;
+pub(crate) mod nodes;
 
 use crate::merkle::family::power;
 use crate::merkle::hasher::Hasher;
@@ -66,18 +66,8 @@ impl<F: Family> RangePlan<F> {
     ) -> Result<Self, Error<F>>
         ensures { MatchOption (refusal F leaves start end) (MatchResult result (λ plan. plan ≡ record { leaves = leaves; start = start; end = end }) (λ e. e ≡ Error.Memory)) (λ e. result ≡ Err e) }
     {
-        if !leaves.is_valid() {
-            return Err(Error::LocationOverflow(leaves));
-        }
-        if start >= end {
-            return Err(Error::Empty);
-        }
-        let last = Location::new(end.as_u64() - 1);
-        if !end.is_valid() {
-            return Err(Error::LocationOverflow(last));
-        }
-        if end > leaves {
-            return Err(Error::RangeOutOfBounds(last));
+        if let Err(error) = check_range(leaves, start, end) {
+            return Err(error);
         }
         let siblings = siblings::<F>(alloc, leaves.as_u64(), start.as_u64(), end.as_u64())?;
         let positions = planned::<F>(alloc, leaves.as_u64(), start.as_u64(), end.as_u64())?;
@@ -185,6 +175,34 @@ impl<F: Family> RangePlan<F> {
     }
 }
 
+/// Whether the leaves from `start` to before `end` are a range of a tree of `leaves` leaves.
+///
+/// # Errors
+///
+/// Those of [`RangePlan::new`], but `Memory`.
+pub(crate) fn check_range<F: Family>(
+    leaves: Location<F>,
+    start: Location<F>,
+    end: Location<F>,
+) -> Result<(), Error<F>>
+    ensures { MatchResult result (λ _. refusal F leaves start end ≡ None) (λ e. refusal F leaves start end ≡ Some e) }
+{
+    if !leaves.is_valid() {
+        return Err(Error::LocationOverflow(leaves));
+    }
+    if start >= end {
+        return Err(Error::Empty);
+    }
+    let last = Location::new(end.as_u64() - 1);
+    if !end.is_valid() {
+        return Err(Error::LocationOverflow(last));
+    }
+    if end > leaves {
+        return Err(Error::RangeOutOfBounds(last));
+    }
+    Ok(())
+}
+
 /// What `get_node` answers at positions, which it is asked for in their order.
 ///
 /// # Errors
@@ -226,7 +244,18 @@ impl Rest {
         ensures left { result.left ≡ leaves }
         ensures folded { AreFolded F.shape (H.bagging hasher.now) inactive leaves result.folded }
     {
-        let folded = match hasher.root_bagging() {
+        Self::bagged::<F>(hasher.root_bagging(), leaves, inactive)
+    }
+
+    /// All peaks over so many leaves, of which so many are inactive, folded in that direction.
+    pub fn bagged<F: Family>(bagging: Bagging, leaves: u64, inactive: usize) -> Self
+        requires { leaves ≤ 2 ^ 62 }
+        ensures peaks { ArePeaks F.shape leaves result.first result.left }
+        ensures first { result.first ≡ 0 }
+        ensures left { result.left ≡ leaves }
+        ensures folded { AreFolded F.shape bagging inactive leaves result.folded }
+    {
+        let folded = match bagging {
             Bagging::ForwardFold => peak_count::<F>(leaves),
             Bagging::BackwardFold => inactive as u64,
         };

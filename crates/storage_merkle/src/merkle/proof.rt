@@ -13,11 +13,12 @@ use std::convert::AsSlice;
 use storage_codec::NoMemory;
 use storage_codec::digest::Digest;
 
-mod check;
+pub(crate) mod check;
 mod codec;
 mod extract;
 mod found;
 mod lent;
+mod pinned;
 
 pub use lent::LentProof;
 
@@ -158,7 +159,7 @@ impl<F: Family, D: Digest> Proof<F, D> {
     }
 
     /// The same proof, with its digests lent.
-    fn lent(&self) -> LentProof<F, D>
+    pub(crate) fn lent(&self) -> LentProof<F, D>
         ensures leaves { result.leaves ≡ self.now.leaves }
         ensures inactive { result.inactive_peaks ≡ self.now.inactive_peaks }
         ensures digests { result.digests.now ≡ self.now.digests.items }

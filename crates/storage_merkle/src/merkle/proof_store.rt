@@ -6,6 +6,9 @@ ghost use Rattle.storage_merkle.specs.Rests.{peaks_from};
 ghost use Rattle.storage_merkle.specs.Shape.{AreAligned};
 ghost use Rattle.storage_merkle.specs.Stores.{entry_at, found_at, is_among, location_refusal, multi_refusal, needed_refusal, or_else, store_multi_proof, suffix_positions};
 
+mod made;
+mod range;
+
 use crate::merkle::family::power;
 use crate::merkle::multi::needed;
 use crate::merkle::plan::node_position;
@@ -29,7 +32,7 @@ pub struct ProofStore<F: Family, D: Digest> {
 }
 
 impl<F: Family, D: Digest> Model for ProofStore<F, D> {
-    ghost use Rattle.std.specs.List.Sorted.{IsStrictlyIncreasing};
+    ghost use Rattle.std.specs.List.Sorted.{IsNonDecreasing};
     ghost use Rattle.std.specs.Prelude.{◌≤◌, ◌^◌, map};
     ghost use Rattle.storage_merkle.specs.Extracted.{texts};
     ghost use Rattle.storage_merkle.specs.Stores.{Store};
@@ -38,7 +41,7 @@ impl<F: Family, D: Digest> Model for ProofStore<F, D> {
 
     ghost view = { λ s. record { leaves = s.leaves; inactive = s.inactive_peaks; bagging = s.bagging; start = s.start; past = s.past; front_fold = D.text s.front_fold; back_fold = D.text s.back_fold; kept = texts D.text s.kept.items } };
 
-    ghost invariant = { λ s. (s.leaves ≤ 2 ^ 62) × IsStrictlyIncreasing (map (λ e. e.0) s.kept.items) };
+    ghost invariant = { λ s. (s.leaves ≤ 2 ^ 62) × IsNonDecreasing (map (λ e. e.0) s.kept.items) };
 }
 
 impl<F: Family, D: Digest> ProofStore<F, D> {

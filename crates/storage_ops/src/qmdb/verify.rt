@@ -4,7 +4,9 @@ ghost use Rattle.std.specs.Prelude.{◌≡◌, ◌↔◌, ◌⊎◌, [], map, If
 ghost use Rattle.storage_merkle.specs.declared.merkle.bagging.Bagging.TheVariants.{BackwardFold};
 ghost use Rattle.storage_merkle.specs.Checks.{IsProved};
 ghost use Rattle.storage_merkle.specs.Extracted.{AreHandedOut, Fits, texts};
+ghost use Rattle.storage_merkle.specs.Pinned.{IsPinnedAccepted, IsPinnedProved};
 ghost use Rattle.storage_merkle.specs.RangeProofs.{IsAccepted};
+ghost use Rattle.storage_merkle.specs.Stores.{IsMadeOf};
 ghost use Rattle.storage_merkle.specs.Trees.{listed, ungrafted};
 
 mod multi;
@@ -15,7 +17,7 @@ use std::alloc::Global;
 use storage_codec::NoMemory;
 use storage_codec::codec::Encode;
 use storage_codec::digest::{DigestOf, Hasher};
-use storage_merkle::merkle::{Error, Family, Location, Position, Proof};
+use storage_merkle::merkle::{Error, Family, Location, Position, Proof, ProofStore};
 
 /// Digests that an accepted check hands out, each with its position.
 pub type ExtractedDigests<F, H> = Vec<(Position<F>, DigestOf<H>)>;
@@ -37,6 +39,25 @@ pub fn verify_proof<H: Hasher, F: Family, Op: Encode>(
     proof.verify_range_inclusion(alloc, &qmdb::hasher::<H>(), &elements, start, root)
 }
 
+/// Whether operations stand at the locations from `start` on of the list with that root, and the pinned digests are those of
+/// the peaks over the locations before `start`, in their order. The answer for no operations takes no memory.
+pub fn verify_proof_and_pinned_nodes<H: Hasher, F: Family, Op: Encode>(
+    alloc: Global,
+    proof: &Proof<F, DigestOf<H>>,
+    start: Location<F>,
+    operations: &[Op],
+    pinned: &[DigestOf<H>],
+    root: &DigestOf<H>,
+) -> Result<bool, NoMemory>
+    ensures exact { IfOk result (λ yes. IsTrue yes ↔ IsPinnedAccepted H.hash_of (ungrafted F.shape) BackwardFold (record { leaves = proof.now.leaves; inactive = proof.now.inactive_peaks; digests = map H.Digest.text proof.now.digests.items }) start (listed (map Op.text operations.now)) (map H.Digest.text pinned.now) (H.Digest.text root.now)) }
+    ensures means { IfOk result (λ yes. IsTrue yes → IsPinnedProved H.hash_of F.shape BackwardFold (record { leaves = proof.now.leaves; inactive = proof.now.inactive_peaks; digests = map H.Digest.text proof.now.digests.items }) start (map Op.text operations.now) (map H.Digest.text pinned.now) (H.Digest.text root.now)) }
+    ensures none { operations.now ≡ [] → IsOk result }
+{
+    let elements = encode_all(alloc, operations)?;
+    let hasher = qmdb::hasher::<H>();
+    proof.verify_proof_and_pinned_nodes(alloc, &hasher, &elements, start, pinned, root)
+}
+
 /// Each digest that the check of operations at the locations from `start` on reads or computes in a peak over one of them,
 /// with its position, ascending by position, each once. None are handed out for no operations.
 ///
@@ -56,6 +77,26 @@ pub fn verify_proof_and_extract_digests<H: Hasher, F: Family, Op: Encode>(
     let elements = encode_all(alloc, operations)?;
     let hasher = qmdb::hasher::<H>();
     proof.verify_range_inclusion_and_extract_digests(alloc, &hasher, &elements, start, root)
+}
+
+/// What is kept of a proof that operations stand at the locations from `start` on of the list with that root, to give other
+/// proofs.
+///
+/// # Errors
+///
+/// `InvalidProof` where a count does not fit; `RootMismatch` where another root comes out; `Memory`.
+pub fn create_proof_store<H: Hasher, F: Family, Op: Encode>(
+    alloc: Global,
+    proof: &Proof<F, DigestOf<H>>,
+    start: Location<F>,
+    operations: &[Op],
+    root: &DigestOf<H>,
+) -> Result<ProofStore<F, DigestOf<H>>, Error<F>>
+    ensures made { IfOk result (λ store. IsMadeOf H.Digest.size H.hash_of (ungrafted F.shape) BackwardFold (record { leaves = proof.now.leaves; inactive = proof.now.inactive_peaks; digests = map H.Digest.text proof.now.digests.items }) start (listed (map Op.text operations.now)) (H.Digest.text root.now) store) }
+    ensures why { IfErr result (λ e. (e ≡ Error.Memory) ⊎ (((e ≡ Error.InvalidProof) × (Fits H.hash_of (ungrafted F.shape) BackwardFold (record { leaves = proof.now.leaves; inactive = proof.now.inactive_peaks; digests = map H.Digest.text proof.now.digests.items }) start (listed (map Op.text operations.now)) → ⊥)) ⊎ ((e ≡ Error.RootMismatch) × (Fits H.hash_of (ungrafted F.shape) BackwardFold (record { leaves = proof.now.leaves; inactive = proof.now.inactive_peaks; digests = map H.Digest.text proof.now.digests.items }) start (listed (map Op.text operations.now)) × (IsAccepted H.hash_of (ungrafted F.shape) BackwardFold (record { leaves = proof.now.leaves; inactive = proof.now.inactive_peaks; digests = map H.Digest.text proof.now.digests.items }) start (listed (map Op.text operations.now)) (H.Digest.text root.now) → ⊥))))) }
+{
+    let elements = encode_all(alloc, operations)?;
+    ProofStore::new(alloc, &qmdb::hasher::<H>(), proof, &elements, start, root)
 }
 
 /// The encodings of operations. For none it takes no memory.

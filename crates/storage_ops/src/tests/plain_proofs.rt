@@ -1,7 +1,8 @@
 //! Proofs over lists of numbers, each an operation of eight bytes.
 
+use super::{granted, told};
 use crate::qmdb::hasher;
-use crate::qmdb::verify::{verify_proof, verify_proof_and_extract_digests};
+use crate::qmdb::verify::{create_proof_store, verify_proof, verify_proof_and_extract_digests};
 use std::alloc::Global;
 use std::process::Abort;
 use std::test::Fail;
@@ -9,26 +10,26 @@ use storage_codec::codec::{Encode, U64};
 use storage_codec::digest::{DigestOf, Hasher, Sha256};
 use storage_merkle::merkle::hasher::Hasher as _;
 use storage_merkle::merkle::mem::Mem;
-use storage_merkle::merkle::{Error, Location, Proof, mmr};
+use storage_merkle::merkle::{Error, Location, Position, Proof, mmr};
 
-type Tree = Mem<mmr::Family, DigestOf<Sha256>>;
+pub(super) type Tree = Mem<mmr::Family, DigestOf<Sha256>>;
 
-type RangeProof = Proof<mmr::Family, DigestOf<Sha256>>;
+pub(super) type RangeProof = Proof<mmr::Family, DigestOf<Sha256>>;
 
 /// The tree over some numbers.
-fn tree(alloc: Global, numbers: &[u64]) -> Result<Tree, Fail> {
+pub(super) fn tree(alloc: Global, numbers: &[u64]) -> Result<Tree, Fail> {
     let mut tree = Tree::new(alloc);
     for number in numbers {
         let encoded = U64::new(*number).encode(alloc)?;
-        if tree.add(&hasher::<Sha256>(), &encoded).is_err() {
-            return Err("no room in the tree".into());
+        if let Err(refusal) = tree.add(&hasher::<Sha256>(), &encoded) {
+            return Err(told(&refusal));
         }
     }
     Ok(tree)
 }
 
 /// The tree's root, with no inactive peaks.
-fn root(tree: &Tree) -> Result<DigestOf<Sha256>, Fail> {
+pub(super) fn root(tree: &Tree) -> Result<DigestOf<Sha256>, Fail> {
     match tree.root(&hasher::<Sha256>(), 0) {
         Ok(root) => Ok(root),
         Err(_) => Err("no root".into()),
@@ -36,12 +37,9 @@ fn root(tree: &Tree) -> Result<DigestOf<Sha256>, Fail> {
 }
 
 /// The tree's own proof of the leaves from `start` to before `end`.
-fn proof(alloc: Global, tree: &Tree, start: u64, end: u64) -> Result<RangeProof, Fail> {
+pub(super) fn proof(alloc: Global, tree: &Tree, start: u64, end: u64) -> Result<RangeProof, Fail> {
     let range = Location::new(start)..Location::new(end);
-    match tree.range_proof(alloc, &hasher::<Sha256>(), range, 0) {
-        Ok(proof) => Ok(proof),
-        Err(_) => Err("no proof".into()),
-    }
+    granted(tree.range_proof(alloc, &hasher::<Sha256>(), range, 0))
 }
 
 #[test]
@@ -74,8 +72,8 @@ fn extracted_positions(rt: HostRuntime) -> Result<(), Fail> {
         start,
         &operations,
         &root,
-    ).ok()
-        .ok_or("no digests")?;
+    );
+    let digests = granted(digests)?;
     assert_eq!(rt; digests.len(), 7);
     for (index, (position, digest)) in digests.iter().enumerate() {
         assert_eq!(rt; position.as_u64(), index as u64);
@@ -112,6 +110,36 @@ fn assert_refused(
 }
 
 #[test]
+fn proof_of_one_from_a_store(rt: HostRuntime) -> Result<(), Fail> {
+    let alloc = rt.alloc();
+    let tree = tree(alloc, &[0, 1, 2, 3, 4, 10, 11, 12])?;
+    let root = root(&tree)?;
+    let wide = proof(alloc, &tree, 5, 8)?;
+    let tail = [U64::new(10), U64::new(11), U64::new(12)];
+    let start = Location::new(5);
+    let hash = hasher::<Sha256>();
+    let Ok(store) = create_proof_store::<Sha256, mmr::Family, U64>(
+        alloc, &wide, start, &tail, &root,
+    ) else {
+        return Err("no store".into());
+    };
+    let one = Location::new(6)..Location::new(7);
+    let Ok(given) = store.range_proof(alloc, &hash, one) else {
+        return Err("no proof".into());
+    };
+    assert!(rt; given == proof(alloc, &tree, 6, 7)?);
+    let before = Location::new(4)..Location::new(7);
+    let refused = store.range_proof(alloc, &hash, before).err();
+    assert_eq!(rt; refused, Some(Error::ElementPruned(Position::new(7))));
+    let other = Sha256::fill(0);
+    let refused = create_proof_store::<Sha256, mmr::Family, U64>(
+        alloc, &wide, start, &tail, &other,
+    );
+    assert_eq!(rt; refused.err(), Some(Error::RootMismatch));
+    Ok(())
+}
+
+#[test]
 fn no_operations(rt: HostRuntime) -> Result<(), Fail> {
     let alloc = rt.alloc();
     let none: [U64; 0] = [];
@@ -123,8 +151,7 @@ fn no_operations(rt: HostRuntime) -> Result<(), Fail> {
     assert!(rt; !verify_proof::<Sha256, mmr::Family, U64>(alloc, &proof, later, &none, &root)?);
     let digests = verify_proof_and_extract_digests::<Sha256, mmr::Family, U64>(
         alloc, &proof, start, &none, &root,
-    ).ok()
-        .ok_or("no digests")?;
-    assert!(rt; digests.is_empty());
+    );
+    assert!(rt; granted(digests)?.is_empty());
     Ok(())
 }

@@ -10,7 +10,9 @@ ghost use Rattle.storage_current.specs.Held.{current_of};
 ghost use Rattle.storage_current.specs.Windows.{IsWindow, IsWindowOf};
 
 mod chunk;
+mod clones;
 mod codec;
+mod extract;
 mod fetched;
 pub mod operation;
 mod served;
@@ -25,6 +27,7 @@ use crate::qmdb::current::grafting::{self, Verifier, aligned_inactive};
 use crate::qmdb::current::proof::window::Window;
 use crate::qmdb::current::root::canonical_root;
 pub use chunk::Chunk;
+pub use extract::verify_proof_and_extract_digests;
 use std::alloc::Global;
 use std::convert::AsSlice;
 use storage_bitmap::bitmap::Readable;

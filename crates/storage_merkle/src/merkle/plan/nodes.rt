@@ -135,7 +135,10 @@ impl<F: Family, D: Digest> Nodes<'_, F, D> {
 }
 
 /// Adds a digest if there is one.
-fn push_some<D: Digest>(digests: &mut Vec<D>, digest: Option<D>) -> Result<(), AllocError>
+pub(crate) fn push_some<D: Digest>(
+    digests: &mut Vec<D>,
+    digest: Option<D>,
+) -> Result<(), AllocError>
     ensures { OnOk result (MatchOption digest (digests.new.items ≡ digests.old.items) (λ d. digests.new.items ≡ digests.old.items ++ d ∷ [])) }
 {
     if let Some(digest) = digest {

@@ -7,7 +7,7 @@ ghost use Rattle.storage_merkle.specs.Extracted.{checked, checked_sites, digest_
 ghost use Rattle.storage_merkle.specs.Hashers.{TakesTree};
 ghost use Rattle.storage_merkle.specs.Nodes.{IsNode};
 ghost use Rattle.storage_merkle.specs.Plans.{InTree, ArePeaks};
-ghost use Rattle.storage_merkle.specs.RangeProofs.{apart, sites_of};
+ghost use Rattle.storage_merkle.specs.RangeProofs.{CountsFit, apart, sites_of};
 ghost use Rattle.storage_merkle.specs.Rests.{peaks_from};
 ghost use Rattle.storage_merkle.specs.Trees.{part, node_calc, ungrafted};
 
@@ -33,6 +33,7 @@ pub(crate) fn recompute<F: Family, H: Hasher<F>, E: AsSlice<u8>>(
 ) -> Result<Option<H::Digest>, NoMemory>
     requires { TakesTree (H.takes hasher.now) F.shape proof.now.leaves }
     ensures root { (H.layout hasher.now).shape ≡ F.shape → IfOk result (λ root. IsRecomputed H.hash_of (H.layout hasher.now) (H.bagging hasher.now) (record { leaves = proof.now.leaves; inactive = proof.now.inactive_peaks; digests = map H.Digest.text proof.now.digests.now }) start (record { elements = map E.items elements.now; chunk = H.chunk hasher.now }) (option_map H.Digest.text root)) }
+    ensures fits { IfOk result (λ root. MatchOption root (Unit {0}) (λ _. CountsFit H.hash_of (ungrafted F.shape) (H.bagging hasher.now) (record { leaves = proof.now.leaves; inactive = proof.now.inactive_peaks; digests = map H.Digest.text proof.now.digests.now }) start (record { elements = map E.items elements.now; chunk = H.chunk hasher.now }))) }
     ensures found { (H.layout hasher.now).shape ≡ F.shape → IfOk result (λ root. MatchOption root (Unit {0}) (λ _. option_map (λ v. texts H.Digest.text v.items) found.new ≡ option_map (λ v. texts H.Digest.text v.items ++ checked H.hash_of (H.layout hasher.now) (H.bagging hasher.now) (record { leaves = proof.now.leaves; inactive = proof.now.inactive_peaks; digests = map H.Digest.text proof.now.digests.now }) start (record { elements = map E.items elements.now; chunk = H.chunk hasher.now }) (checked_sites (H.layout hasher.now) proof.now.leaves start (start + length (map E.items elements.now)))) found.old)) }
 {
     let leaves = proof.leaves.as_u64();

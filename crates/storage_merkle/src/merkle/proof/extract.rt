@@ -53,7 +53,7 @@ impl<F: Family, D: Digest> Proof<F, D> {
     /// The root of the tree in which the elements stand at the leaves from `start` on, and each digest that is read or
     /// computed on the way to the peaks over one of them, ascending by position; none where a count does not fit or
     /// there are no elements.
-    fn recompute_digests<H: Hasher<F, Digest = D>, E: AsSlice<u8>>(
+    pub fn recompute_digests<H: Hasher<F, Digest = D>, E: AsSlice<u8>>(
         &self,
         alloc: Global,
         hasher: &H,
@@ -78,7 +78,7 @@ impl<F: Family, D: Digest> Proof<F, D> {
     /// # Errors
     ///
     /// `InvalidProof` where it is not the proof of no elements; `RootMismatch` where that tree has another root.
-    fn extract_nothing<H: Hasher<F, Digest = D>>(
+    pub(crate) fn extract_nothing<H: Hasher<F, Digest = D>>(
         &self,
         hasher: &H,
         start: Location<F>,

@@ -2,28 +2,30 @@
 ghost use Rattle.std.specs.Prelude.{◌+◌, ◌<◌, ◌^◌};
 
 use super::proofs::digest;
+use super::{granted, told};
 use crate::merkle::hasher::Standard;
 use crate::merkle::mem::Mem;
 use crate::merkle::{Bagging, Error, Family, Location, Position, Readable, Storage, mmb, mmr};
 use std::alloc::Global;
 use std::test::Fail;
+use storage_codec::NoMemory;
 use storage_codec::codec::FixedBytes;
 use storage_codec::digest::Sha256;
 
 type Digest = FixedBytes<32>;
 
-/// Appends a leaf for each of some elements; whether it could.
+/// Appends a leaf for each of some elements.
 fn grow<F: Family>(
     mem: &mut Mem<F, Digest>,
     hasher: &Standard<Sha256>,
     elements: &[&[u8]],
-) -> bool {
+) -> Result<(), Fail> {
     for element in elements {
-        if mem.add(hasher, *element).is_err() {
-            return false;
+        if let Err(refusal) = mem.add(hasher, *element) {
+            return Err(told(&refusal));
         }
     }
-    true
+    Ok(())
 }
 
 /// Writes the digest of a leaf anew; whether it could.
@@ -37,15 +39,25 @@ fn write<F: Family>(
     mem.update_leaves(hasher, &updates).is_ok()
 }
 
+/// Refused where a call wanted memory, which is no answer.
+fn had_memory<T, F>(answer: &Result<T, Error<F>>) -> Result<(), NoMemory> {
+    match answer {
+        Err(Error::Memory) => Err(NoMemory),
+        _ => Ok(()),
+    }
+}
+
 /// Whether a store has the digests at some positions.
 fn is_served<S: Storage<mmr::Family>>(
     store: &mut S,
     alloc: Global,
     positions: &[Position<mmr::Family>],
-) -> bool
+) -> Result<bool, Fail>
     requires { S.failed store.old + 1 < 2 ^ 64 }
 {
-    store.get_nodes(alloc, positions).is_ok()
+    let answer = store.get_nodes(alloc, positions);
+    had_memory(&answer)?;
+    Ok(answer.is_ok())
 }
 
 /// The digest at a position.
@@ -62,7 +74,7 @@ fn two_leaves_folded_forwards(rt: HostRuntime) -> Result<(), Fail> {
     let hasher = Standard::<Sha256>::new(Bagging::ForwardFold);
     let mut mem = Mem::<mmr::Family, Digest>::new(rt.alloc());
     let elements: [&[u8]; 2] = [&[0x66, 0xcf], &[0x85]];
-    assert!(rt; grow(&mut mem, &hasher, &elements));
+    grow(&mut mem, &hasher, &elements)?;
     assert_eq!(rt; mem.leaves(), Location::new(2));
     assert_eq!(rt; mem.size(), Position::new(3));
     assert_eq!(rt;
@@ -80,9 +92,9 @@ fn two_leaves_folded_forwards(rt: HostRuntime) -> Result<(), Fail> {
     assert_eq!(rt; read(&mem, 2), Some(parent));
     assert_eq!(rt; read(&mem, 3), None);
     let kept = [Position::new(2), Position::new(0)];
-    assert!(rt; is_served(&mut mem, rt.alloc(), &kept));
+    assert!(rt; is_served(&mut mem, rt.alloc(), &kept)?);
     let absent = [Position::new(2), Position::new(3)];
-    assert!(rt; !is_served(&mut mem, rt.alloc(), &absent));
+    assert!(rt; !is_served(&mut mem, rt.alloc(), &absent)?);
     Ok(())
 }
 
@@ -104,7 +116,7 @@ fn fourteen_leaves_and_one_written_anew(rt: HostRuntime) -> Result<(), Fail> {
     let mut mem = Mem::<mmb::Family, Digest>::new(rt.alloc());
     assert!(rt; mem.prune(Location::new(1)).is_err());
     let first: [&[u8]; 1] = [&[0x8e, 0x1c, 0x71]];
-    assert!(rt; grow(&mut mem, &hasher, &first));
+    grow(&mut mem, &hasher, &first)?;
     let leaf = digest(b"76d2349df3550b8d915f81f940c502a718ba6bdc77a2a4d86236a780d6fd581d");
     assert!(rt; write(&mut mem, &hasher, 0, leaf));
     let elements: [&[u8]; 13] = [
@@ -122,7 +134,7 @@ fn fourteen_leaves_and_one_written_anew(rt: HostRuntime) -> Result<(), Fail> {
         &[],
         &[],
     ];
-    assert!(rt; grow(&mut mem, &hasher, &elements));
+    grow(&mut mem, &hasher, &elements)?;
     assert_eq!(rt; mem.leaves(), Location::new(14));
     assert_eq!(rt; mem.size(), Position::new(25));
     let root = digest(b"0e7285ec5ba7dd66acd59c253cfd7ec107d0a5dfe4793b7f281c27e536051767");
@@ -135,7 +147,9 @@ fn fourteen_leaves_and_one_written_anew(rt: HostRuntime) -> Result<(), Fail> {
     let parent = digest(b"db35e98419d8eafa0ed61e914c3aee3734100b8b7f6e86303bb93fc888c245ec");
     assert_eq!(rt; mem.get_node(Position::new(0)), Some(leaf));
     assert_eq!(rt; mem.get_node(Position::new(2)), Some(parent));
-    assert!(rt; mem.prune(Location::new(9)).is_ok());
+    if let Err(refusal) = mem.prune(Location::new(9)) {
+        return Err(told(&refusal));
+    }
     assert_eq!(rt; mem.root(&hasher, 0), Ok(root));
     assert_eq!(rt; mem.get_node(Position::new(2)), None);
     assert!(rt; !write(&mut mem, &hasher, 8, leaf));
@@ -163,16 +177,15 @@ fn three_forgotten_leaves(rt: HostRuntime) -> Result<(), Fail> {
         digest(b"9caf6a1354e34a562582d688ee901454064df815313457ae94dd61d56408521a"),
         digest(b"dc09dc5dc25cdeae78627f358ce35813a3d46415961bfa4916bdcdcbb7474eda"),
     ];
-    let mut mem = Mem::<mmr::Family, Digest>::init(alloc, Location::new(3), &pinned)
-        .ok()
-        .ok_or("no tree")?;
+    let mem = Mem::<mmr::Family, Digest>::init(alloc, Location::new(3), &pinned);
+    let mut mem = granted(mem)?;
     assert_eq!(rt; mem.size(), Position::new(4));
     assert_eq!(rt;
         mem.root(&hasher, 0),
         Ok(digest(b"1e060997b74ff08f1a2f51b7489ffc7d611cb40a99b1ffb8f802b3831e753972"))
     );
     let element: [&[u8]; 1] = [&[]];
-    assert!(rt; grow(&mut mem, &hasher, &element));
+    grow(&mut mem, &hasher, &element)?;
     assert_eq!(rt; mem.leaves(), Location::new(4));
     Ok(())
 }

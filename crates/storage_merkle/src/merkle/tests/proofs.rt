@@ -1,4 +1,5 @@
 //! Plans and range proofs. The digests and roots are computed by an independent program over whole lists.
+use super::granted;
 use crate::merkle::hasher::{Hasher as _, Standard};
 use crate::merkle::{Bagging, ElementPlan, Error, Location, Position, Proof, RangePlan, mmb, mmr};
 use std::alloc::Global;
@@ -37,18 +38,15 @@ fn assert_positions(rt: &impl Abort, plan: &RangePlan<mmb::Family>, expected: &[
 
 #[test]
 fn mmb_plan_of_one(rt: HostRuntime) -> Result<(), Fail> {
-    let plan = RangePlan::<mmb::Family>::new(
+    let plan = granted(RangePlan::<mmb::Family>::new(
         rt.alloc(),
         Location::new(18),
         Location::new(9)..Location::new(10),
-    )
-    .ok()
-    .ok_or("no plan")?;
+    ))?;
     assert_positions(&rt, &plan, &[13, 18, 20, 29, 31]);
     assert_eq!(rt; plan.leaves(), Location::new(18));
-    let plan = ElementPlan::<mmb::Family>::new(rt.alloc(), Location::new(18), Location::new(9))
-        .ok()
-        .ok_or("no plan")?;
+    let plan = ElementPlan::<mmb::Family>::new(rt.alloc(), Location::new(18), Location::new(9));
+    let plan = granted(plan)?;
     assert_eq!(rt; plan.location(), Location::new(9));
     assert_positions(&rt, &plan.into(), &[13, 18, 20, 29, 31]);
     Ok(())
@@ -119,10 +117,8 @@ fn served(position: Position<mmb::Family>) -> Option<Digest> {
 fn one_element_of_fourteen(rt: HostRuntime) -> Result<(), Fail> {
     let hasher = Standard::<Sha256>::new(Bagging::BackwardFold);
     let root = digest(b"62790fee9c1662a901e51b732f878e07cc24b420dc1d192931106d170846e7d6");
-    let plan = ElementPlan::<mmb::Family>::new(rt.alloc(), Location::new(14), Location::new(12))
-        .ok()
-        .ok_or("no plan")?;
-    let plan = plan.into();
+    let plan = ElementPlan::<mmb::Family>::new(rt.alloc(), Location::new(14), Location::new(12));
+    let plan = granted(plan)?.into();
     assert_eq!(rt;
         plan.build(rt.alloc(), &hasher, 4, served).err(),
         Some(Error::InvalidProof)
@@ -132,10 +128,7 @@ fn one_element_of_fourteen(rt: HostRuntime) -> Result<(), Fail> {
         plan.build(rt.alloc(), &hasher, 0, none).err(),
         Some(Error::ElementPruned(Position::new(18)))
     );
-    let proof = plan
-        .build(rt.alloc(), &hasher, 0, served)
-        .ok()
-        .ok_or("no proof")?;
+    let proof = granted(plan.build(rt.alloc(), &hasher, 0, served))?;
     let location = Location::new(12);
     assert_eq!(rt; proof.digests.len(), 3);
     assert!(rt; proof.verify_element_inclusion(rt.alloc(), &hasher, &ELEMENT, location, &root)?);

@@ -1,4 +1,4 @@
-//! Second keys and values that are written as the first ones.
+//! Second keys and values that are seen and written as the first ones.
 
 ghost use Rattle.std.specs.Prelude.{◌≡◌, IfOk, option_map};
 
@@ -6,18 +6,20 @@ use storage_codec::NoMemory;
 use storage_ops::qmdb::any::value::ValueEncoding;
 use storage_ops::qmdb::operation::Key;
 
-/// A second key that is written as this one.
+/// A second key that is seen and written as this one.
 pub(crate) fn key_as<K: Key>(key: &K) -> Result<K, NoMemory>
-    ensures { IfOk result (λ copy. K.text copy ≡ K.text key.now) }
+    ensures text { IfOk result (λ copy. K.text copy ≡ K.text key.now) }
+    ensures seen { IfOk result (λ copy. K.view copy ≡ K.view key.now) }
 {
     Ok(key.clone()?)
 }
 
-/// A second value, or none, that is written as this one.
+/// A second value, or none, that is seen and written as this one.
 pub(crate) fn value_as<V: ValueEncoding>(
     value: &Option<V::Value>,
 ) -> Result<Option<V::Value>, NoMemory>
-    ensures { IfOk result (λ copy. option_map V.Value.text copy ≡ option_map V.Value.text value.now) }
+    ensures text { IfOk result (λ copy. option_map V.Value.text copy ≡ option_map V.Value.text value.now) }
+    ensures seen { IfOk result (λ copy. option_map V.Value.view copy ≡ option_map V.Value.view value.now) }
 {
     match value {
         Some(value) => Ok(Some(value.clone()?)),

@@ -1,4 +1,4 @@
-use Rattle.std.proofs.Common.{arith, map, option_map, length, ap, sym, ◌≡◌, ◌+◌, ◌-◌, ◌≤◌, ◌++◌, ◌∙◌}
+use Rattle.std.proofs.Common.{arith, refl, map, option_map, length, ap, sym, ◌≡◌, ◌+◌, ◌-◌, ◌≤◌, ◌++◌, ◌∙◌}
 use Rattle.std.proofs.lemmas.List.{length-map}
 use Rattle.storage_merkle.specs.CheckSteps.{top_sites}
 use Rattle.storage_merkle.specs.RangeProofs.{apart, CountsFit, position_of, check_values, recomputed_root}
@@ -77,3 +77,15 @@ returns-clause-found g c = λ same.
     let all = found_rest h T low c.in-Some.end values g.F.Family.shape c.as_u64-leaves.result c.all-all.result.folded c.after_leading-rest.result.first c.after_leading-rest.result.left c.after_leading-rest.result.folded same after in
     claim_on (λ z w. option_map (λ v. texts g.H.Digest.Write.text v.items) c.bag.new.found ≡ option_map (λ v. texts g.H.Digest.Write.text v.items ++ checked h T (g.H.Hasher.bagging c.args.hasher.now) (record { leaves = z; inactive = c.args.proof.now.inactive_peaks; digests = map g.H.Digest.Write.text c.args.proof.now.digests.now }) w (record { elements = (map g.E.AsSlice.items c.args.elements.now); chunk = g.H.Hasher.chunk c.args.hasher.now }) (checked_sites T z w (w + length (map g.E.AsSlice.items c.args.elements.now)))) c.args.found.now) c.as_u64-leaves.result c.args.proof.now.leaves low c.args.start c.as_u64-leaves.ensures c.as_u64-start.ensures
     (adds_same _ c.args.found.now c.bag.new.found _ _ (all ∙ ap (λ z. entries T (digest_at h values T (apart low z)) (checked_sites T c.as_u64-leaves.result low z)) range) kept)
+
+pub returns-clause-fits : goal.returns-clause-fits
+returns-clause-fits g c =
+    let S = g.F.Family.shape in
+    let after = after_all S c.as_u64-start.result c.as_u64-leaves.result c.all-all.result.folded c.all-all.result.first c.all-all.result.left c.after_leading-rest.result.first c.after_leading-rest.result.left c.after_leading-rest.result.folded c.all-all.ensures.first c.all-all.ensures.left c.after_leading-rest.ensures.after in
+    let range : c.in-Some.end ≡ c.as_u64-start.result + length (map g.E.AsSlice.items c.args.elements.now) = c.in-Some.ensures.1 ∙ ap (λ m. c.as_u64-start.result + m) (sym (length-map c.args.elements.now g.E.AsSlice.items)) in
+    let tops = apart_count c.after_leading-rest.result.first c.from.result c.count_apart.result (top_sites c.as_u64-start.result c.in-Some.end (peaks_from S c.after_leading-rest.result.first c.after_leading-rest.result.left) c.after_leading-rest.result.folded) c.from.ensures c.count_apart.ensures.exact in
+    let siblings : c.len.result ≡ length (sibling_sites (ungrafted S) c.as_u64-leaves.result c.as_u64-start.result c.in-Some.end) = omega (arith, c.len.ensures, ap length c.in_ok-siblings.ensures, length-map (sibling_sites (ungrafted S) c.as_u64-leaves.result c.as_u64-start.result c.in-Some.end) (position_of (ungrafted S))) in
+    let enough : (c.from.result + c.count_apart.result) ≤ length c.args.proof.now.digests.now = omega arith in
+    let as_many : length c.args.proof.now.digests.now - (c.from.result + c.count_apart.result) ≡ c.len.result = (let kept : length c.args.proof.now.digests.now - (c.from.result + c.count_apart.result) ≡ c.len.result = c.if-proof-apart-2.false in omega arith) in
+    claim_on (λ z w. CountsFit g.H.Hasher.hash_of (ungrafted S) (g.H.Hasher.bagging c.args.hasher.now) (record { leaves = z; inactive = c.args.proof.now.inactive_peaks; digests = map g.H.Digest.Write.text c.args.proof.now.digests.now }) w (record { elements = (map g.E.AsSlice.items c.args.elements.now); chunk = g.H.Hasher.chunk c.args.hasher.now })) c.as_u64-leaves.result c.args.proof.now.leaves c.as_u64-start.result c.args.start c.as_u64-leaves.ensures c.as_u64-start.ensures
+    (fit S g.H.Hasher.hash_of (ungrafted S) refl (g.H.Hasher.bagging c.args.hasher.now) c.as_u64-leaves.result c.args.proof.now.inactive_peaks c.as_u64-start.result (map g.E.AsSlice.items c.args.elements.now) (g.H.Hasher.chunk c.args.hasher.now) g.H.Digest.Write.text c.args.proof.now.digests.now c.in-Some.end c.all-all.result.folded c.after_leading-rest.result.first c.after_leading-rest.result.left c.after_leading-rest.result.folded range c.all-all.ensures.folded after (c.from.result + c.count_apart.result) c.len.result tops siblings enough as_many c.if-start-end.false c.if-leaves-gt-MAX_LEAVES.false (omega (arith, c.peak_count-peaks.ensures)) c.if-end-leaves.false)

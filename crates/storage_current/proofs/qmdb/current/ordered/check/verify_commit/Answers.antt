@@ -9,6 +9,6 @@ returns-clause-meaning g c = λ wide.
     let p = operation_of g.D.Write.text g.C.Chunk.text c.args.proof.now in
     means_absent g.H.Hasher.hash_of (record { shape = g.F.Family.shape; bytes = length p.chunk }) (g.D.Write.text c.args.root.now) c.verify.result
     (record { key = g.K.Write.text; value = g.V.Value.Write.text; operation = g.V.OperationCodec.operation_text; cmp = g.K.Ord.cmp })
-    (Commit p c.args.value.now) c.args.key.now _ (commit_same g.V.OperationCodec.operation_text p.location _ _ c.in_ok-copy.ensures)
+    (Commit p c.args.value.now) c.args.key.now _ (commit_same g.V.OperationCodec.operation_text p.location _ _ c.in_ok-copy.ensures.text)
     (λ s snapshot well active. c.commit_at_floor_is_empty.ensures s snapshot well p.location c.args.value.now active c.args.key.now)
     (c.verify.ensures.meaning wide)

@@ -1,0 +1,37 @@
+//! Second proofs that are equal to given ones.
+
+ghost use Rattle.std.specs.Prelude.{◌≡◌, IfOk};
+ghost use Rattle.storage_current.specs.Held.{ClonesAreEqual, current_of, operation_of};
+
+use crate::qmdb::current::proof::operation::Proof;
+use crate::qmdb::current::proof::{Chunk, RangeProof};
+use storage_codec::NoMemory;
+use storage_codec::digest::Digest;
+use storage_merkle::merkle::Graftable;
+
+impl<F: Graftable, D: Digest> RangeProof<F, D> {
+    /// An equal proof.
+    pub fn clone(&self) -> Result<Self, NoMemory>
+        ensures { IfOk result (λ copy. current_of D.text copy ≡ current_of D.text self.now) }
+    {
+        Ok(RangeProof {
+            proof: self.proof.clone()?,
+            pending_chunk_digest: self.pending_chunk_digest,
+            partial_chunk_digest: self.partial_chunk_digest,
+            ops_root: self.ops_root,
+        })
+    }
+}
+
+impl<F: Graftable, D: Digest, C: Chunk + Clone> Proof<F, D, C> {
+    /// An equal proof, where a clone of a chunk is equal to it.
+    pub fn clone(&self) -> Result<Self, NoMemory>
+        ensures { ClonesAreEqual C.is_clone C.text → IfOk result (λ copy. operation_of D.text C.text copy ≡ operation_of D.text C.text self.now) }
+    {
+        Ok(Proof {
+            loc: self.loc,
+            chunk: self.chunk.clone()?,
+            range_proof: self.range_proof.clone()?,
+        })
+    }
+}

@@ -1,0 +1,17 @@
+-- The peaks and the fold that a range proof holds one by one.
+use Rattle.std.specs.Prelude.{ℕ, List, [], ◌∷◌, Option, Some, None}
+use Rattle.storage_merkle.specs.Calc.{Site, front, back, node}
+
+-- the nodes among some sites
+abbrev pub nodes_among : List Site → List Site
+nodes_among [] = []
+nodes_among (front ∷ ss) = nodes_among ss
+nodes_among (back ∷ ss) = nodes_among ss
+nodes_among (node a k ∷ ss) = node a k ∷ nodes_among ss
+
+-- the digest at the fold past a range, if it is among some sites
+abbrev pub back_among : (Site → List ℕ) → List Site → Option (List ℕ)
+back_among digest [] = None
+back_among digest (front ∷ ss) = back_among digest ss
+back_among digest (back ∷ ss) = Some (digest back)
+back_among digest (node a k ∷ ss) = back_among digest ss

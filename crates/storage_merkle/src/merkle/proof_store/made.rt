@@ -1,0 +1,140 @@
+//! The store of an accepted range proof.
+ghost use Rattle.std.specs.Prelude.{◌≡◌, ◌≢◌, ℕ, ◌+◌, ◌-◌, ◌^◌, ◌<◌, ◌≤◌, ◌⊎◌, ◌++◌, List, [], length, map, option_map, IfOk, IfErr};
+ghost use Rattle.storage_merkle.specs.Calc.{Site};
+ghost use Rattle.storage_merkle.specs.CheckSteps.{top_sites};
+ghost use Rattle.storage_merkle.specs.Extracted.{Fits, checked, checked_sites, entries, texts};
+ghost use Rattle.storage_merkle.specs.Hashers.{TakesTree};
+ghost use Rattle.storage_merkle.specs.Plans.{ArePeaks};
+ghost use Rattle.storage_merkle.specs.RangeProofs.{CountsFit, IsAccepted};
+ghost use Rattle.storage_merkle.specs.Rests.{peaks_from};
+ghost use Rattle.storage_merkle.specs.StoreParts.{back_among, nodes_among};
+ghost use Rattle.storage_merkle.specs.Stores.{IsMadeOf, store_of};
+ghost use Rattle.storage_merkle.specs.Trees.{Content, Layout, ungrafted};
+
+use crate::merkle::hasher::Hasher;
+use crate::merkle::plan::{Rest, is_apart, node_position};
+use crate::merkle::proof::check;
+use crate::merkle::{Error, Family, Location, Position, Proof, ProofStore};
+use std::alloc::{AllocError, Global};
+use std::convert::AsSlice;
+use storage_codec::digest::Digest;
+
+impl<F: Family, D: Digest> ProofStore<F, D> {
+    /// The store of a proof that elements stand at the leaves from `start` on of the tree with that root.
+    ///
+    /// # Errors
+    ///
+    /// `InvalidProof` where a count does not fit; `RootMismatch` where another root comes out; `Memory`.
+    pub fn new<H: Hasher<F, Digest = D>, E: AsSlice<u8>>(
+        alloc: Global,
+        hasher: &H,
+        proof: &Proof<F, D>,
+        elements: &[E],
+        start: Location<F>,
+        root: &D,
+    ) -> Result<Self, Error<F>>
+        requires { TakesTree (H.takes hasher.now) F.shape proof.now.leaves }
+        ensures made { (H.layout hasher.now).shape ≡ F.shape → IfOk result (λ store. IsMadeOf D.size H.hash_of (H.layout hasher.now) (H.bagging hasher.now) (record { leaves = proof.now.leaves; inactive = proof.now.inactive_peaks; digests = map D.text proof.now.digests.items }) start (record { elements = map E.items elements.now; chunk = H.chunk hasher.now }) (D.text root.now) store) }
+        ensures why { IfErr result (λ e. (e ≡ Error.Memory) ⊎ (((e ≡ Error.InvalidProof) × ((H.layout hasher.now).shape ≡ F.shape → Fits H.hash_of (H.layout hasher.now) (H.bagging hasher.now) (record { leaves = proof.now.leaves; inactive = proof.now.inactive_peaks; digests = map D.text proof.now.digests.items }) start (record { elements = map E.items elements.now; chunk = H.chunk hasher.now }) → ⊥)) ⊎ ((e ≡ Error.RootMismatch) × ((H.layout hasher.now).shape ≡ F.shape → Fits H.hash_of (H.layout hasher.now) (H.bagging hasher.now) (record { leaves = proof.now.leaves; inactive = proof.now.inactive_peaks; digests = map D.text proof.now.digests.items }) start (record { elements = map E.items elements.now; chunk = H.chunk hasher.now }) × (IsAccepted H.hash_of (H.layout hasher.now) (H.bagging hasher.now) (record { leaves = proof.now.leaves; inactive = proof.now.inactive_peaks; digests = map D.text proof.now.digests.items }) start (record { elements = map E.items elements.now; chunk = H.chunk hasher.now }) (D.text root.now) → ⊥))))) }
+    {
+        if elements.is_empty() {
+            return match proof.extract_nothing(hasher, start, root) {
+                Ok(()) => Ok(Self::of_nothing(alloc, hasher)),
+                Err(error) => Err(error),
+            };
+        }
+        let mut found = Some(Vec::new(alloc));
+        let computed = check::recompute(&proof.lent(), alloc, hasher, elements, start, &mut found)?;
+        let (Some(computed), Some(kept)) = (computed, found) else {
+            return Err(Error::InvalidProof);
+        };
+        if computed != *root {
+            return Err(Error::RootMismatch);
+        }
+        let past = Location::new(start.as_u64() + elements.len() as u64);
+        Ok(Self::of_checked(hasher, proof, start, past, kept)?)
+    }
+
+    /// The store of the proof of no elements.
+    fn of_nothing<H: Hasher<F, Digest = D>>(alloc: Global, hasher: &H) -> Self
+        ensures { result ≡ record { leaves = 0; inactive = 0; bagging = H.bagging hasher.now; start = 0; past = 0; front_fold = H.hash_of []; back_fold = H.hash_of []; kept = [] } }
+    {
+        let nothing = hasher.hash(&[]);
+        ProofStore {
+            leaves: Location::new(0),
+            inactive_peaks: 0,
+            bagging: hasher.root_bagging(),
+            start: Location::new(0),
+            past: Location::new(0),
+            front_fold: nothing,
+            back_fold: nothing,
+            kept: Vec::new(alloc),
+        }
+    }
+
+    /// The store of a proof whose counts fit to the range from `start` to before `past`, from the digests that its check
+    /// came upon.
+    fn of_checked<H: Hasher<F, Digest = D>>(
+        hasher: &H,
+        proof: &Proof<F, D>,
+        start: Location<F>,
+        past: Location<F>,
+        found: Vec<(Position<F>, D)>,
+    ) -> Result<Self, AllocError>
+        requires fits { (claim : Content) × (past ≡ start + length claim.elements) × CountsFit H.hash_of (ungrafted F.shape) (H.bagging hasher.now) (record { leaves = proof.now.leaves; inactive = proof.now.inactive_peaks; digests = map D.text proof.now.digests.items }) start claim }
+        ensures { (T : Layout) (claim : Content) → T.shape ≡ F.shape → past ≡ start + length claim.elements → texts D.text found.items ≡ checked H.hash_of T (H.bagging hasher.now) (record { leaves = proof.now.leaves; inactive = proof.now.inactive_peaks; digests = map D.text proof.now.digests.items }) start claim (checked_sites T proof.now.leaves start (start + length claim.elements)) → IfOk result (λ store. store ≡ store_of H.hash_of T (H.bagging hasher.now) (record { leaves = proof.now.leaves; inactive = proof.now.inactive_peaks; digests = map D.text proof.now.digests.items }) start claim) }
+    {
+        let all = Rest::all::<F, H>(hasher, proof.leaves.as_u64(), proof.inactive_peaks);
+        let rest = all.after_leading::<F>(start.as_u64());
+        let nothing = hasher.hash(&[]);
+        let (front_fold, digests) = if rest.first > 0 {
+            (proof.digests[0], &proof.digests[1..])
+        } else {
+            (nothing, &proof.digests[..])
+        };
+        let mut kept = found;
+        let back_fold = keep_peaks(rest, start.as_u64(), past.as_u64(), digests, &mut kept)?;
+        kept.sort_unstable_by_key(|entry| entry.0);
+        Ok(ProofStore {
+            leaves: proof.leaves,
+            inactive_peaks: proof.inactive_peaks,
+            bagging: hasher.root_bagging(),
+            start,
+            past,
+            front_fold,
+            back_fold: back_fold.unwrap_or(nothing),
+            kept,
+        })
+    }
+}
+
+/// Adds the digests of the peaks apart from a range, the first of these, with their positions. The fold of the peaks past
+/// the range, which comes after them; none for no peaks.
+fn keep_peaks<F: Family, D: Digest>(
+    rest: Rest,
+    start: u64,
+    end: u64,
+    digests: &[D],
+    kept: &mut Vec<(Position<F>, D)>,
+) -> Result<Option<D>, AllocError>
+    requires few { rest.first + rest.left ≤ 2 ^ 62 }
+    requires peaks { ArePeaks F.shape (rest.first + rest.left) rest.first rest.left }
+    requires enough { length (top_sites start end (peaks_from F.shape rest.first rest.left) rest.folded) ≤ length digests.now }
+    ensures { (digest : Site → List ℕ) (later : List (List ℕ)) → map D.text digests.now ≡ map digest (top_sites start end (peaks_from F.shape rest.first rest.left) rest.folded) ++ later → IfOk result (λ back. (texts D.text kept.new.items ≡ texts D.text kept.old.items ++ entries (ungrafted F.shape) digest (nodes_among (top_sites start end (peaks_from F.shape rest.first rest.left) rest.folded))) × (option_map D.text back ≡ back_among digest (top_sites start end (peaks_from F.shape rest.first rest.left) rest.folded))) }
+{
+    let mut rest = rest;
+    let mut digests = digests;
+    while rest.left > 0 && (rest.folded > 0 || rest.first < end) {
+        let height = F::first_peak(rest.left);
+        if is_apart(start, end, rest.first, height) {
+            kept.push((node_position(rest.first, height), digests[0]))?;
+            digests = &digests[1..];
+        }
+        rest = rest.next(height);
+    }
+    if rest.left > 0 {
+        Ok(Some(digests[0]))
+    } else {
+        Ok(None)
+    }
+}

@@ -1,0 +1,203 @@
+#!/usr/bin/env python3
+"""Refuses memory to the built tests and programs, and sees that each answer is the right one or want of memory.
+
+    tools/refused_memory.py [CRATE..]
+
+Takes what `rt ci` left: the tests of each crate that has some, and the programs `stateproof` and `replay`; or of the named
+crates alone. A case is a test, a command of `stateproof`, or a line for `replay`, LINES of them of each list. It is run once with
+all memory that it asks for, and must give the right answer. Then each of its requests for memory is refused in turn: once alone,
+and once with all that come after it. Such a run must give the right answer too, or name want of memory, and write nothing else.
+
+Of a case with more than EACH requests the first EACH are refused, and SPREAD of the others, spread evenly up to the last; the line
+of the crate says of how many cases. The last line is 'N cases, M refusals, F faults'. A fault has a line of its own.
+"""
+import collections
+import concurrent.futures
+import os
+import pathlib
+import re
+import resource
+import struct
+import subprocess
+import sys
+import tempfile
+
+ROOT = pathlib.Path(__file__).resolve().parent.parent
+
+EACH = 250
+SPREAD = 50
+LINES = 8
+SECONDS = 60
+LAST = 2**64 - 1
+
+# Want of memory as it is printed, alone or within the errors of the layers above.
+WANT = r"(\w+\()*(AllocError|AllocFailed \{ \.\. \}|NoMemory|OutOfMemory|Memory)\)*"
+
+# What a test writes that returns an error, and one that was given another answer than it expected.
+RETURNED = re.compile(rf"error: {WANT}\n.*\n")
+ANSWERED = re.compile(rf"assertion `left == right` failed(: .*)?\n  left: {WANT}\n right: .*\n")
+STOPPED = re.compile(r"\ntest stopped at .*\n")
+
+Ending = collections.namedtuple("Ending", "status output errors requests")
+Case = collections.namedtuple("Case", "name words given right is_want")
+
+
+def built(crate, end=""):
+    """What `rt ci` built of a crate: the program, or with the end `_tests` its tests."""
+    path = ROOT / f"crates/{crate}/out/{crate}{end}"
+    if not path.is_file():
+        raise SystemExit(f"crates/{crate} is not built: run rt ci first")
+    return path
+
+
+def ended(shim, words, given="", first=0, last=0):
+    """How a program ends whose requests for memory from `first` to `last`, counted from 1, are refused."""
+    with tempfile.TemporaryDirectory() as folder:
+        account = pathlib.Path(folder, "account")
+        account.write_bytes(struct.pack("=QQQ", 0, first, last))
+        # from a file, since how much comes at once from a pipe is not always the same
+        standard_input = pathlib.Path(folder, "input")
+        standard_input.write_text(given)
+        env = {"PATH": "/usr/bin:/bin", "LANG": "C.UTF-8", "LD_PRELOAD": str(shim), "REFUSED_MEMORY": str(account)}
+        how = {"cwd": folder, "env": env, "capture_output": True, "timeout": SECONDS}
+        try:
+            with standard_input.open() as source:
+                run = subprocess.run(words, stdin=source, **how)
+        except subprocess.TimeoutExpired:
+            return Ending(None, "", f"no end after {SECONDS} seconds", 0)
+        output, errors = run.stdout.decode(errors="replace"), run.stderr.decode(errors="replace")
+        return Ending(run.returncode, output, errors, struct.unpack("=QQQ", account.read_bytes())[0])
+
+
+def is_want_of_test(ending):
+    """Whether a test ended, and named want of memory as its error or as the answer that it was given."""
+    if ending.status == 101:
+        return ending.output == "" and bool(RETURNED.fullmatch(ending.errors))
+    answered = ANSWERED.fullmatch(ending.errors) and STOPPED.fullmatch(ending.output)
+    return ending.status == -6 and bool(answered)
+
+
+def tests(shim, crate):
+    """A case for each test of a crate."""
+    program = built(crate, "_tests")
+    listed = ended(shim, [program, "--list"]).output.splitlines()
+    names = [line[: -len(": test")] for line in listed if line.endswith(": test")]
+    if listed[-1:] != [f"tests: {len(names)}"]:
+        raise SystemExit(f"{crate} did not list its tests")
+    for name in names:
+        yield Case(name, [program, name], "", (0, "\ntest result: ok\n", ""), is_want_of_test)
+
+
+def is_want_of_command(ending):
+    """Whether `stateproof` answered nothing but that it wants memory."""
+    return ending[:3] == (2, "", "stateproof: memory\n")
+
+
+OPERATIONS = "".join(f"{int(i % 3 == 1)} {'ab' * (i + 1)}\n" for i in range(11))
+
+
+def commands(shim):
+    """Roots, proofs and checks of `stateproof`, over both families and both chunk sizes."""
+    program = built("stateproof")
+    for tree in [f"{family} {size}" for family in ("mmr", "mmb") for size in (1, 32)]:
+        proved = ended(shim, [program, "prove", *tree.split(), "0", "7"], OPERATIONS).output
+        root, proof = proved.split()
+        for line, given, right in [
+            (f"root {tree} 0", OPERATIONS, (0, f"{root}\n", "")),
+            (f"prove {tree} 0 7", OPERATIONS, (0, proved, "")),
+            (f"check {tree} {root} 7", f"{'ab' * 8}\n{proof}\n", (0, "yes\n", "")),
+            (f"check {tree} {root} 7", f"{'ab' * 9}\n{proof}\n", (1, "no\n", "")),
+            (f"check {tree} {root} 7", f"{'ab' * 8}\n{proof}0\n", (2, "", "stateproof: line 2\n")),
+            (f"root {tree} 12", OPERATIONS, (2, "", "stateproof: range\n")),
+        ]:
+            yield Case(line, [program, *line.split()], given, right, is_want_of_command)
+
+
+def is_want_of_line(ending):
+    """Whether `replay` answered nothing but that it wants memory."""
+    return ending.status == 1 and ending.output == "" and re.fullmatch(rf"Error: {WANT}\n", ending.errors) is not None
+
+
+def lines():
+    """Lines of each list that `replay` answers, evenly spread, and the longest one."""
+    folder = ROOT / "crates/replay"
+    lists = collections.defaultdict(list)
+    for given, answer in zip((folder / "stdin").open(), (folder / "stdout").open()):
+        lists[given.split()[0]].append((given, answer))
+    for cases in lists.values():
+        step = -(-len(cases) // (LINES - 1))
+        for given, answer in dict.fromkeys([*cases[::step], max(cases, key=lambda it: len(it[0]))]):
+            yield Case(given.strip(), [built("replay")], given, (0, answer, ""), is_want_of_line)
+
+
+def refused(requests):
+    """The requests that are refused of so many."""
+    others = max(requests - EACH, 0)
+    spread = min(others, SPREAD)
+    return [*range(1, min(requests, EACH) + 1), *(EACH + others * (i + 1) // spread for i in range(spread))]
+
+
+def fault(case, ending, first):
+    """What is wrong with a run whose requests from `first` on were refused, or none where that is 0; None if nothing is."""
+    if ending[:3] == case.right or (first and case.is_want(ending)):
+        return None if ending.requests >= first else "it made fewer requests than before"
+    return f"status {ending.status}, wrote {ending.output[:200]!r} and {ending.errors[:300]!r}"
+
+
+def sweep(shim, case):
+    """How many requests a case makes, how many refusals there were, how many of them ended in want of memory, and the faults."""
+    whole = ended(shim, case.words, case.given)
+    wrong = fault(case, whole, 0)
+    if wrong:
+        return 0, 0, 0, [f"{case.name[:100]}: nothing refused: {wrong}"]
+    wants, faults, places = 0, [], refused(whole.requests)
+    for first in places:
+        for last, what in ((first, "refused"), (LAST, "and all later ones refused")):
+            ending = ended(shim, case.words, case.given, first, last)
+            wants += case.is_want(ending)
+            wrong = fault(case, ending, first)
+            if wrong:
+                faults.append(f"{case.name[:100]}: request {first} {what}: {wrong}")
+    return whole.requests, 2 * len(places), wants, faults
+
+
+def told(crate, swept):
+    """The line of a crate: its cases, requests, refusals and answers."""
+    requests, refusals, wants = (sum(column) for column in list(zip(*swept))[:3])
+    cut = sum(it[0] > EACH for it in swept)
+    some = f" (of {cut} cases not each request)" if cut else ""
+    return f"{crate}: {len(swept)} cases, {requests} requests, {refusals} refusals{some}: {wants} wanted memory"
+
+
+def cases_of(shim, crate):
+    """All cases of a crate."""
+    if crate == "stateproof":
+        return [*commands(shim)]
+    if crate == "replay":
+        return [*lines()]
+    sources = (ROOT / f"crates/{crate}/src").rglob("*.rt")
+    return [*tests(shim, crate)] if any("#[test]" in it.read_text() for it in sources) else []
+
+
+def main():
+    resource.setrlimit(resource.RLIMIT_CORE, (0, 0))
+    total = [0, 0, 0]
+    with tempfile.TemporaryDirectory() as room, concurrent.futures.ThreadPoolExecutor(os.cpu_count()) as pool:
+        shim = pathlib.Path(room, "refuse_memory.so")
+        flags = ["-std=gnu11", "-O2", "-Wall", "-Wextra", "-shared", "-fPIC"]
+        subprocess.run([os.environ.get("CC", "cc"), *flags, "-o", shim, ROOT / "tools/refuse_memory.c", "-ldl"], check=True)
+        for crate in sys.argv[1:] or sorted(it.name for it in (ROOT / "crates").iterdir()):
+            cases = cases_of(shim, crate)
+            if not cases:
+                continue
+            swept = [*pool.map(lambda case: sweep(shim, case), cases)]
+            faults = [fault for it in swept for fault in it[3]]
+            if not any(it[0] for it in swept):
+                faults.append("no request for memory was seen")
+            print("\n".join([told(crate, swept), *(f"FAULT {crate} {it}" for it in faults)]), flush=True)
+            total = [total[0] + len(cases), total[1] + sum(it[1] for it in swept), total[2] + len(faults)]
+    print("{} cases, {} refusals, {} faults".format(*total))
+    return 1 if total[2] else 0
+
+
+sys.exit(main())
