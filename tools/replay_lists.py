@@ -122,10 +122,17 @@ def cases(folder):
         yield "multi_checks", given, asked
     for given, asked in cut(folder, "extracted", 8):
         yield "extracted", given, asked
-    for family, chunk, stage, bits, floor, operations, location, _, grafted, absent, answer in rows(folder, "combined"):
-        # the stage where no tree over chunks is pruned; no bits are
-        if stage == "R9":
-            yield "combined", [family, chunk, bits, floor, operations, location, grafted, absent], [answer]
+    for family, chunk, _, bits, floor, operations, location, pruned, grafted, absent, answer in rows(folder, "combined"):
+        # no chunk of the tree over chunks is pruned, or it has none; the stage says how the tree was made
+        if grafted in ("0", "empty"):
+            yield "combined", [family, chunk, bits, floor, operations, location, pruned, grafted, absent], [answer]
+    for given, asked in cut(folder, "pinned_checks", 10):
+        yield "pinned_checks", given, asked
+    for columns in rows(folder, "stores"):
+        suffix, call, answer = columns[8:]
+        yield "stores", [*columns[:8], call], [suffix, answer]
+    for given, asked in cut(folder, "ranges_extracted", 7):
+        yield "ranges_extracted", given, asked
 
 
 def main():

@@ -53,12 +53,19 @@ pub fn bytes(alloc: Global, column: &str) -> Result<Vec<u8>, Fault> {
     })
 }
 
-/// A digest of 32 bytes in hexadecimal.
-pub fn digest(column: &str) -> Result<FixedBytes<32>, Fault> {
-    match <[u8; 32] as FromHex>::from_hex(column) {
-        Ok(bytes) => Ok(FixedBytes { bytes }),
+/// So many bytes in hexadecimal.
+pub fn array<const N: usize>(column: &str) -> Result<[u8; N], Fault> {
+    match <[u8; N] as FromHex>::from_hex(column) {
+        Ok(bytes) => Ok(bytes),
         Err(_) => Err(Fault::Malformed),
     }
+}
+
+/// A digest of 32 bytes in hexadecimal.
+pub fn digest(column: &str) -> Result<FixedBytes<32>, Fault> {
+    Ok(FixedBytes {
+        bytes: array(column)?,
+    })
 }
 
 /// Digests with commas between them; `none` is none.

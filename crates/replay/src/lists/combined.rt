@@ -37,14 +37,17 @@ struct Case<'a> {
     floor: u64,
     operations: Vec<Vec<u8>>,
     location: u64,
+    /// How many chunks of the status are pruned.
+    pruned: u64,
     /// Whether the tree over chunks has nodes.
     whole: bool,
     /// The position that the tree over the operations lacks.
     absent: u64,
 }
 
-/// `family chunk_size bits floor operations location grafted absent`: the proof of the operation at the location, or the refusal.
-/// The tree over chunks is whole or `empty`, and the one over the operations lacks a position or `none`.
+/// `family chunk_size bits floor operations location pruned grafted absent`: the proof of the operation at the location, or the
+/// refusal. So many chunks of the status are pruned, the tree over chunks is whole or `empty`, and the one over the operations
+/// lacks a position or `none`.
 pub fn combined(alloc: Global, columns: &[&str]) -> Result<String, Fault> {
     let [
         family,
@@ -53,6 +56,7 @@ pub fn combined(alloc: Global, columns: &[&str]) -> Result<String, Fault> {
         floor,
         operations,
         location,
+        pruned,
         grafted,
         absent,
     ] = columns
@@ -64,6 +68,7 @@ pub fn combined(alloc: Global, columns: &[&str]) -> Result<String, Fault> {
         floor: number(*floor)?,
         operations: strings(alloc, *operations)?,
         location: number(*location)?,
+        pruned: number(*pruned)?,
         whole: *grafted != "empty",
         absent: if *absent == "none" {
             NONE
@@ -101,11 +106,12 @@ fn proved<F: Graftable + Countable, const N: usize>(
     } else {
         Mem::new(alloc)
     };
+    let status = status_of::<N>(alloc, case.bits, case.pruned)?;
     let mut operations = Lacking::new(operations_tree(alloc, &case.operations)?, case.absent);
     let mut both = Storage::new(&grafted, height, &mut operations);
     let answer = OperationProof::new::<Sha256, Prunable<N>, _>(
         alloc,
-        snapshot.status(),
+        &status,
         &mut both,
         floor,
         Location::new(case.location),
@@ -115,6 +121,27 @@ fn proved<F: Graftable + Countable, const N: usize>(
         Ok(proof) => Ok(hex::encode(alloc, proof.encode(alloc)?)?),
         Err(error) => database_refusal(alloc, &error),
     }
+}
+
+/// A bit for each digit, of which so many chunks are pruned; zeros fill up the last of these.
+fn status_of<const N: usize>(alloc: Global, digits: &str, pruned: u64) -> Result<Prunable<N>, Fault>
+    requires { IsChunkSize N }
+{
+    let mut status = bits_of::<N>(alloc, digits)?;
+    let Some(first) = pruned.checked_mul(8 * N as u64) else {
+        return Err(Fault::Malformed);
+    };
+    for _ in status.len()..first {
+        if status.len() >= MAX_LEAVES {
+            return Err(Fault::Malformed);
+        }
+        status.push(false)?;
+    }
+    if status.len() < first {
+        return Err(Fault::Malformed);
+    }
+    status.prune_to_bit(first);
+    Ok(status)
 }
 
 /// The tree over operations.

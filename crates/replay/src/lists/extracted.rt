@@ -1,9 +1,11 @@
-//! The list on the digests that a check hands out.
+//! Lists on the digests that a check hands out.
+
+pub mod current;
 
 use crate::columns::{Fault, Series, digest, number, strings};
 use crate::lists::proofs::{bagging, proof_of};
 use crate::lists::refusals::merkle_refusal;
-use crate::lists::unframed::Unframed;
+use crate::lists::unframed::operations;
 use commonware_storage::qmdb::verify::verify_proof_and_extract_digests;
 use std::alloc::Global;
 use storage_codec::codec::FixedBytes;
@@ -35,19 +37,8 @@ pub fn extracted<F: Family>(alloc: Global, columns: &[&str]) -> Result<String, F
     }
 }
 
-/// Operations with commas between them; `none` is none.
-fn operations(alloc: Global, column: &str) -> Result<Vec<Unframed>, Fault> {
-    let mut operations = Vec::new(alloc);
-    if column != "none" {
-        for part in column.split(',') {
-            operations.push(Unframed::parse(alloc, part)?)?;
-        }
-    }
-    Ok(operations)
-}
-
-/// Positions and their digests.
-fn series<F: Family>(
+/// Positions and their digests with commas between them.
+pub fn series<F: Family>(
     alloc: Global,
     digests: &[(Position<F>, FixedBytes<32>)],
 ) -> Result<String, Fault> {

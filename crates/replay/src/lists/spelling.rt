@@ -1,7 +1,6 @@
 //! How keys, values and operations are spelled in the lists.
 
-use crate::columns::{Fault, bytes, number};
-use hex::FromHex;
+use crate::columns::{Fault, array, bytes, number};
 use std::alloc::Global;
 use storage_codec::codec::{FixedBytes, U64};
 use storage_merkle::merkle::{Location, mmr};
@@ -26,14 +25,6 @@ fn spell_bytes(alloc: Global, bytes: &[u8]) -> Result<String, Fault> {
     Ok(hex::encode(alloc, bytes)?)
 }
 
-/// So many bytes in hexadecimal.
-fn parse_array<const N: usize>(text: &str) -> Result<[u8; N], Fault> {
-    match <[u8; N] as FromHex>::from_hex(text) {
-        Ok(bytes) => Ok(bytes),
-        Err(_) => Err(Fault::Malformed),
-    }
-}
-
 impl Spell for FixedBytes<4> {
     fn spell(&self, alloc: Global) -> Result<String, Fault> {
         spell_bytes(alloc, &self.bytes)
@@ -41,7 +32,7 @@ impl Spell for FixedBytes<4> {
 
     fn parse(_alloc: Global, text: &str) -> Result<FixedBytes<4>, Fault> {
         Ok(FixedBytes {
-            bytes: parse_array(text)?,
+            bytes: array(text)?,
         })
     }
 }
@@ -53,7 +44,7 @@ impl Spell for U64 {
 
     fn parse(_alloc: Global, text: &str) -> Result<U64, Fault> {
         Ok(U64(FixedBytes {
-            bytes: parse_array(text)?,
+            bytes: array(text)?,
         }))
     }
 }
@@ -64,7 +55,7 @@ impl Spell for u64 {
     }
 
     fn parse(_alloc: Global, text: &str) -> Result<u64, Fault> {
-        Ok(u64::from_be_bytes(parse_array(text)?))
+        Ok(u64::from_be_bytes(array(text)?))
     }
 }
 

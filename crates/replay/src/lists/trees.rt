@@ -5,7 +5,7 @@ ghost use Rattle.storage_merkle.specs.Nodes.{IsNode, CoversSame};
 ghost use Rattle.storage_merkle.specs.Shape.{size};
 
 use crate::columns::{Fault, Series, number};
-use crate::lists::{extracted, mems, multi, plain, proofs, required, witnesses};
+use crate::lists::{extracted, mems, multi, pinned, plain, proofs, required, stores, witnesses};
 use reference::shape::Digits;
 use std::alloc::Global;
 use storage_merkle::merkle::family::{
@@ -43,6 +43,9 @@ fn over<F: Graftable + Digits>(
         "plain_checks" => proofs::plain_checks::<F>(alloc, columns),
         "multi_checks" => multi::multi_checks::<F>(alloc, columns),
         "extracted" => extracted::extracted::<F>(alloc, columns),
+        "ranges_extracted" => extracted::current::ranges_extracted::<F>(alloc, columns),
+        "pinned_checks" => pinned::pinned_checks::<F>(alloc, columns),
+        "stores" => stores::stores::<F>(alloc, columns),
         "required" => required::required::<F>(alloc, columns),
         "witnesses" => witnesses::witnesses::<F>(alloc, columns),
         _ => Err(Fault::Malformed),

@@ -19,6 +19,17 @@ impl Unframed {
     }
 }
 
+/// Operations with commas between them; `none` is none.
+pub fn operations(alloc: Global, column: &str) -> Result<Vec<Unframed>, Fault> {
+    let mut operations = Vec::new(alloc);
+    if column != "none" {
+        for part in column.split(',') {
+            operations.push(Unframed::parse(alloc, part)?)?;
+        }
+    }
+    Ok(operations)
+}
+
 impl Write for Unframed {
     ghost text = { λ operation. operation.bytes.items };
 
