@@ -1,7 +1,7 @@
 //! A proof of one operation: built, written, read and checked.
 
-use crate::qmdb::current::proof::{constant, dynamic};
-use crate::qmdb::current::{OperationTree, Snapshot};
+use storage_current::qmdb::current::proof::{constant, dynamic};
+use storage_current::qmdb::current::{OperationTree, Snapshot};
 use std::alloc::Global;
 use std::process::Abort;
 use std::test::Fail;

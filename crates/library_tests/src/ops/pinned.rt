@@ -1,8 +1,8 @@
 //! Plain proofs of the end of a list, checked with the digests of the peaks over what comes before.
 
-use crate::qmdb::hasher;
-use crate::qmdb::verify::verify_proof_and_pinned_nodes;
-use crate::tests::plain_proofs::{RangeProof, Tree, proof, root, tree};
+use storage_ops::qmdb::hasher;
+use storage_ops::qmdb::verify::verify_proof_and_pinned_nodes;
+use super::plain_proofs::{RangeProof, Tree, proof, root, tree};
 use std::alloc::Global;
 use std::test::Fail;
 use storage_codec::codec::U64;

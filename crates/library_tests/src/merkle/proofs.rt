@@ -1,7 +1,7 @@
 //! Plans and range proofs. The digests and roots are computed by an independent program over whole lists.
-use super::granted;
-use crate::merkle::hasher::{Hasher as _, Standard};
-use crate::merkle::{Bagging, ElementPlan, Error, Location, Position, Proof, RangePlan, mmb, mmr};
+use crate::granted::granted;
+use storage_merkle::merkle::hasher::{Hasher as _, Standard};
+use storage_merkle::merkle::{Bagging, ElementPlan, Error, Location, Position, Proof, RangePlan, mmb, mmr};
 use std::alloc::Global;
 use std::process::Abort;
 use std::test::Fail;

@@ -1,7 +1,7 @@
 //! Multi proofs. The digests and roots are computed by an independent program over whole lists.
-use crate::merkle::hasher::{Hasher as _, Standard};
-use crate::merkle::tests::proofs::digest;
-use crate::merkle::{Bagging, Location, Proof, mmb, mmr};
+use storage_merkle::merkle::hasher::{Hasher as _, Standard};
+use super::proofs::digest;
+use storage_merkle::merkle::{Bagging, Location, Proof, mmb, mmr};
 use std::alloc::{AllocError, Global};
 use std::test::Fail;
 use storage_codec::codec::FixedBytes;

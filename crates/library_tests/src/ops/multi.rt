@@ -1,6 +1,6 @@
 //! Multi proofs over operations. The digests and the root are computed by an independent program over whole lists.
-use crate::qmdb;
-use crate::qmdb::verify::verify_multi_proof;
+use storage_ops::qmdb;
+use storage_ops::qmdb::verify::verify_multi_proof;
 use std::alloc::{AllocError, Global};
 use std::test::Fail;
 use storage_codec::codec::FixedBytes;

@@ -1,8 +1,8 @@
 //! Bytes and texts of single operations.
 
-use crate::qmdb::any::operation::{Operation, OperationCodec, Ordered, Unordered, Update, update};
-use crate::qmdb::any::value::{FixedEncoding, VariableEncoding};
-use crate::qmdb::operation::{Committable, Floored, Operation as _};
+use storage_ops::qmdb::any::operation::{Operation, OperationCodec, Ordered, Unordered, Update, update};
+use storage_ops::qmdb::any::value::{FixedEncoding, VariableEncoding};
+use storage_ops::qmdb::operation::{Committable, Floored, Operation as _};
 use std::alloc::Global;
 use std::fmt::Debug;
 use std::process::Abort;
@@ -21,19 +21,6 @@ type Fixed<const N: usize> = Ordered<mmr::Family, FixedBytes<N>, FixedEncoding<u
 type Variable = Ordered<mmr::Family, FixedBytes<4>, VariableEncoding<Vec<u8>>>;
 
 type Unlinked = Unordered<mmb::Family, FixedBytes<4>, FixedEncoding<u64>>;
-
-/// What a call answers that is not to be refused. A refusal fails the test by its name.
-fn granted<T, E: Debug + Drop>(answer: Result<T, E>) -> Result<T, Fail> {
-    match answer {
-        Ok(value) => Ok(value),
-        Err(refusal) => Err(Fail::from(refusal)),
-    }
-}
-
-/// The failure of a test whose call was refused, by the name of the refusal.
-fn told<E: Debug>(refusal: &E) -> Fail {
-    Fail::new(format_args!("error: {refusal:?}"))
-}
 
 /// Stops where the value is not written as these bytes, or another is read from them.
 fn assert_written<T: Codec + EncodeSize + PartialEq + Debug>(

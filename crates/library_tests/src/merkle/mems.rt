@@ -2,10 +2,10 @@
 ghost use Rattle.std.specs.Prelude.{◌+◌, ◌<◌, ◌^◌};
 
 use super::proofs::digest;
-use super::{granted, told};
-use crate::merkle::hasher::Standard;
-use crate::merkle::mem::Mem;
-use crate::merkle::{Bagging, Error, Family, Location, Position, Readable, Storage, mmb, mmr};
+use crate::granted::{granted, told};
+use storage_merkle::merkle::hasher::Standard;
+use storage_merkle::merkle::mem::Mem;
+use storage_merkle::merkle::{Bagging, Error, Family, Location, Position, Readable, Storage, mmb, mmr};
 use std::alloc::Global;
 use std::test::Fail;
 use storage_codec::NoMemory;

@@ -3,8 +3,8 @@ ghost use Rattle.std.specs.Prelude.{◌≡◌, ◌++◌, [], refl};
 ghost use Rattle.storage_merkle.specs.Calc.{be8};
 ghost use Rattle.storage_merkle.specs.Trees.{ungrafted};
 
-use crate::merkle::hasher::{Hasher, Standard};
-use crate::merkle::{Bagging, Family, Location, MAX_LEAVES, Position, Proof, mmb, mmr};
+use storage_merkle::merkle::hasher::{Hasher, Standard};
+use storage_merkle::merkle::{Bagging, Family, Location, MAX_LEAVES, Position, Proof, mmb, mmr};
 use std::alloc::{AllocError, Global};
 use std::cell::Cell;
 use std::test::Fail;

@@ -1,8 +1,8 @@
 //! Proofs over lists of numbers, each an operation of eight bytes.
 
-use super::{granted, told};
-use crate::qmdb::hasher;
-use crate::qmdb::verify::{create_proof_store, verify_proof, verify_proof_and_extract_digests};
+use crate::granted::{granted, told};
+use storage_ops::qmdb::hasher;
+use storage_ops::qmdb::verify::{create_proof_store, verify_proof, verify_proof_and_extract_digests};
 use std::alloc::Global;
 use std::process::Abort;
 use std::test::Fail;
