@@ -1,8 +1,5 @@
 //! Bytes and texts of single operations.
 
-use storage_ops::qmdb::any::operation::{Operation, OperationCodec, Ordered, Unordered, Update, update};
-use storage_ops::qmdb::any::value::{FixedEncoding, VariableEncoding};
-use storage_ops::qmdb::operation::{Committable, Floored, Operation as _};
 use std::alloc::Global;
 use std::fmt::Debug;
 use std::process::Abort;
@@ -11,10 +8,16 @@ use storage_codec::codec::{
     Codec, Decode, Encode, EncodeSize, Error, FixedBytes, FixedSize, RangeCfg, Read, U64, Write,
 };
 use storage_merkle::merkle::{Family, Location, mmb, mmr};
+use storage_ops::qmdb::any::operation::{
+    Operation, OperationCodec, Ordered, Unordered, Update, update,
+};
+use storage_ops::qmdb::any::value::{FixedEncoding, VariableEncoding};
+use storage_ops::qmdb::operation::{Committable, Floored, Operation as _};
 
 mod multi;
 mod pinned;
 mod plain_proofs;
+mod proof_stores;
 
 type Fixed<const N: usize> = Ordered<mmr::Family, FixedBytes<N>, FixedEncoding<u64>>;
 

@@ -1,11 +1,11 @@
 //! Multi proofs. The digests and roots are computed by an independent program over whole lists.
-use storage_merkle::merkle::hasher::{Hasher as _, Standard};
 use super::proofs::digest;
-use storage_merkle::merkle::{Bagging, Location, Proof, mmb, mmr};
 use std::alloc::{AllocError, Global};
 use std::test::Fail;
 use storage_codec::codec::FixedBytes;
 use storage_codec::digest::Sha256;
+use storage_merkle::merkle::hasher::{Hasher as _, Standard};
+use storage_merkle::merkle::{Bagging, Location, Proof, mmb, mmr};
 
 type Digest = FixedBytes<32>;
 
