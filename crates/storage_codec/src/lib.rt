@@ -5,7 +5,5 @@ pub mod codec;
 pub mod digest;
 pub mod laws;
 mod memory;
-#[cfg(test)]
-mod tests;
 
 pub use memory::NoMemory;

@@ -33,6 +33,3 @@ pub use storage::{Readable, Storage};
 
 /// The most leaves that a tree may have.
 pub const MAX_LEAVES: u64 = 0x4000_0000_0000_0000;
-
-#[cfg(test)]
-mod tests;

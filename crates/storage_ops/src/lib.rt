@@ -3,5 +3,3 @@
 
 pub mod laws;
 pub mod qmdb;
-#[cfg(test)]
-mod tests;

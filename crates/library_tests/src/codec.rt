@@ -4,14 +4,14 @@ ghost use Rattle.std.specs.Prelude.{ℕ, List, Ok};
 ghost use Rattle.storage_codec.specs.Codec.{Gives, front_at, varint_at};
 ghost use Rattle.storage_codec.specs.Faults.{◌>>=◌ as ◌and_then◌};
 
-use crate::codec::{
-    Buf, Codec, Decode, Encode, EncodeSize, Error, FixedBytes, FixedSize, RangeCfg, Read, U64,
-    UInt, small_size,
-};
-use crate::digest::{Digest, DigestOf, Hasher, Sha256};
 use bytes::Bytes;
 use std::alloc::Global;
 use std::test::Fail;
+use storage_codec::codec::{
+    Buf, Codec, Decode, Encode, EncodeSize, Error, FixedBytes, FixedSize, RangeCfg, Read, U64,
+    UInt, small_size,
+};
+use storage_codec::digest::{Digest, DigestOf, Hasher, Sha256};
 
 /// The bytes of a value, and what is read from a slice of them and from shared ones.
 fn through<T: Codec + EncodeSize>(

@@ -1,13 +1,13 @@
 //! A proof of one operation: built, written, read and checked.
 
-use crate::qmdb::current::proof::{constant, dynamic};
-use crate::qmdb::current::{OperationTree, Snapshot};
 use std::alloc::Global;
 use std::process::Abort;
 use std::test::Fail;
 use storage_bitmap::bitmap::Prunable;
 use storage_codec::codec::{Decode, Encode, FixedBytes};
 use storage_codec::digest::Sha256;
+use storage_current::qmdb::current::proof::{constant, dynamic};
+use storage_current::qmdb::current::{OperationTree, Snapshot};
 use storage_merkle::merkle::{ElementPlan, Location, mmr};
 
 type Digest = FixedBytes<32>;

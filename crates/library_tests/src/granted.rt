@@ -1,18 +1,10 @@
-//! Tables, bytes and text: what no clause says.
-
-mod greatest;
-mod mems;
-mod multi;
-mod proofs;
-mod shapes;
-mod stores;
-mod wire;
+//! Calls that are not to be refused.
 
 use std::fmt::Debug;
 use std::test::Fail;
 
 /// What a call answers that is not to be refused. A refusal fails the test by its name.
-fn granted<T, E: Debug + Drop>(answer: Result<T, E>) -> Result<T, Fail> {
+pub fn granted<T, E: Debug + Drop>(answer: Result<T, E>) -> Result<T, Fail> {
     match answer {
         Ok(value) => Ok(value),
         Err(refusal) => Err(Fail::from(refusal)),
@@ -20,6 +12,6 @@ fn granted<T, E: Debug + Drop>(answer: Result<T, E>) -> Result<T, Fail> {
 }
 
 /// The failure of a test whose call was refused, by the name of the refusal.
-fn told<E: Debug>(refusal: &E) -> Fail {
+pub fn told<E: Debug>(refusal: &E) -> Fail {
     Fail::new(format_args!("error: {refusal:?}"))
 }

@@ -1,13 +1,15 @@
 //! Where the nodes of small trees stand.
 ghost use Rattle.std.specs.Prelude.{◌^◌, ◌≤◌};
 
-use crate::merkle::family::{
+use std::alloc::{AllocError, Global};
+use std::test::Fail;
+use storage_merkle::merkle::family::{
     aligned_inactive, exact_inactive, graftable_chunks, grafted_to_ops_pos, node_at,
     ops_to_grafted_pos, up_and_down,
 };
-use crate::merkle::{Family, Graftable, Location, MAX_LEAVES, Position, mmb, mmr, peaks_ascending};
-use std::alloc::{AllocError, Global};
-use std::test::Fail;
+use storage_merkle::merkle::{
+    Family, Graftable, Location, MAX_LEAVES, Position, mmb, mmr, peaks_ascending,
+};
 
 fn heights<F: Family>(alloc: Global, leaves: u64) -> Result<Vec<u32>, AllocError>
     requires { leaves ≤ 2 ^ 62 }

@@ -1,11 +1,11 @@
 //! Multi proofs. The digests and roots are computed by an independent program over whole lists.
-use crate::merkle::hasher::{Hasher as _, Standard};
-use crate::merkle::tests::proofs::digest;
-use crate::merkle::{Bagging, Location, Proof, mmb, mmr};
+use super::proofs::digest;
 use std::alloc::{AllocError, Global};
 use std::test::Fail;
 use storage_codec::codec::FixedBytes;
 use storage_codec::digest::Sha256;
+use storage_merkle::merkle::hasher::{Hasher as _, Standard};
+use storage_merkle::merkle::{Bagging, Location, Proof, mmb, mmr};
 
 type Digest = FixedBytes<32>;
 

@@ -1,12 +1,12 @@
 //! Multi proofs over operations. The digests and the root are computed by an independent program over whole lists.
-use crate::qmdb;
-use crate::qmdb::verify::verify_multi_proof;
 use std::alloc::{AllocError, Global};
 use std::test::Fail;
 use storage_codec::codec::FixedBytes;
 use storage_codec::digest::Sha256;
 use storage_merkle::merkle::hasher::Hasher as _;
 use storage_merkle::merkle::{Location, Proof, mmb, mmr};
+use storage_ops::qmdb;
+use storage_ops::qmdb::verify::verify_multi_proof;
 
 type Digest = FixedBytes<32>;
 

@@ -1,8 +1,8 @@
 //! Places and pending slots as bytes and as text.
-use crate::merkle::{Graftable, Location, Position, mmb, mmr};
 use std::alloc::Global;
 use std::test::Fail;
 use storage_codec::codec::{Decode, Encode, EncodeSize, Error, FixedBytes};
+use storage_merkle::merkle::{Graftable, Location, Position, mmb, mmr};
 
 type Digest = FixedBytes<32>;
 

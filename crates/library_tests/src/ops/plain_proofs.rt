@@ -1,8 +1,6 @@
 //! Proofs over lists of numbers, each an operation of eight bytes.
 
-use super::{granted, told};
-use crate::qmdb::hasher;
-use crate::qmdb::verify::{create_proof_store, verify_proof, verify_proof_and_extract_digests};
+use crate::granted::{granted, told};
 use std::alloc::Global;
 use std::process::Abort;
 use std::test::Fail;
@@ -11,6 +9,10 @@ use storage_codec::digest::{DigestOf, Hasher, Sha256};
 use storage_merkle::merkle::hasher::Hasher as _;
 use storage_merkle::merkle::mem::Mem;
 use storage_merkle::merkle::{Error, Location, Position, Proof, mmr};
+use storage_ops::qmdb::hasher;
+use storage_ops::qmdb::verify::{
+    create_proof_store, verify_proof, verify_proof_and_extract_digests,
+};
 
 pub(super) type Tree = Mem<mmr::Family, DigestOf<Sha256>>;
 

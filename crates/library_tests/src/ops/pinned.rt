@@ -1,14 +1,14 @@
 //! Plain proofs of the end of a list, checked with the digests of the peaks over what comes before.
 
-use crate::qmdb::hasher;
-use crate::qmdb::verify::verify_proof_and_pinned_nodes;
-use crate::tests::plain_proofs::{RangeProof, Tree, proof, root, tree};
+use super::plain_proofs::{RangeProof, Tree, proof, root, tree};
 use std::alloc::Global;
 use std::test::Fail;
 use storage_codec::codec::U64;
 use storage_codec::digest::{DigestOf, Hasher, Sha256};
 use storage_merkle::merkle::hasher::Hasher as _;
 use storage_merkle::merkle::{Location, Position, mmr};
+use storage_ops::qmdb::hasher;
+use storage_ops::qmdb::verify::verify_proof_and_pinned_nodes;
 
 /// The tree over the numbers 0 to 10.
 fn eleven(alloc: Global) -> Result<Tree, Fail> {

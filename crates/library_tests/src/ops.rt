@@ -1,8 +1,5 @@
 //! Bytes and texts of single operations.
 
-use crate::qmdb::any::operation::{Operation, OperationCodec, Ordered, Unordered, Update, update};
-use crate::qmdb::any::value::{FixedEncoding, VariableEncoding};
-use crate::qmdb::operation::{Committable, Floored, Operation as _};
 use std::alloc::Global;
 use std::fmt::Debug;
 use std::process::Abort;
@@ -11,29 +8,22 @@ use storage_codec::codec::{
     Codec, Decode, Encode, EncodeSize, Error, FixedBytes, FixedSize, RangeCfg, Read, U64, Write,
 };
 use storage_merkle::merkle::{Family, Location, mmb, mmr};
+use storage_ops::qmdb::any::operation::{
+    Operation, OperationCodec, Ordered, Unordered, Update, update,
+};
+use storage_ops::qmdb::any::value::{FixedEncoding, VariableEncoding};
+use storage_ops::qmdb::operation::{Committable, Floored, Operation as _};
 
 mod multi;
 mod pinned;
 mod plain_proofs;
+mod proof_stores;
 
 type Fixed<const N: usize> = Ordered<mmr::Family, FixedBytes<N>, FixedEncoding<u64>>;
 
 type Variable = Ordered<mmr::Family, FixedBytes<4>, VariableEncoding<Vec<u8>>>;
 
 type Unlinked = Unordered<mmb::Family, FixedBytes<4>, FixedEncoding<u64>>;
-
-/// What a call answers that is not to be refused. A refusal fails the test by its name.
-fn granted<T, E: Debug + Drop>(answer: Result<T, E>) -> Result<T, Fail> {
-    match answer {
-        Ok(value) => Ok(value),
-        Err(refusal) => Err(Fail::from(refusal)),
-    }
-}
-
-/// The failure of a test whose call was refused, by the name of the refusal.
-fn told<E: Debug>(refusal: &E) -> Fail {
-    Fail::new(format_args!("error: {refusal:?}"))
-}
 
 /// Stops where the value is not written as these bytes, or another is read from them.
 fn assert_written<T: Codec + EncodeSize + PartialEq + Debug>(

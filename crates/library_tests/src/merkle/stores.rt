@@ -1,11 +1,11 @@
 //! Stores of accepted proofs: what they give is what the tree itself gives.
-use crate::merkle::hasher::Standard;
-use crate::merkle::mem::Mem;
-use crate::merkle::{Bagging, Family, Location, Proof, ProofStore, mmb, mmr};
 use std::alloc::Global;
 use std::test::Fail;
 use storage_codec::codec::FixedBytes;
 use storage_codec::digest::Sha256;
+use storage_merkle::merkle::hasher::Standard;
+use storage_merkle::merkle::mem::Mem;
+use storage_merkle::merkle::{Bagging, Family, Location, Proof, ProofStore, mmb, mmr};
 
 type Digest = FixedBytes<32>;
 

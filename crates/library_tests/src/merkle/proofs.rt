@@ -1,12 +1,14 @@
 //! Plans and range proofs. The digests and roots are computed by an independent program over whole lists.
-use super::granted;
-use crate::merkle::hasher::{Hasher as _, Standard};
-use crate::merkle::{Bagging, ElementPlan, Error, Location, Position, Proof, RangePlan, mmb, mmr};
+use crate::granted::granted;
 use std::alloc::Global;
 use std::process::Abort;
 use std::test::Fail;
 use storage_codec::codec::FixedBytes;
 use storage_codec::digest::Sha256;
+use storage_merkle::merkle::hasher::{Hasher as _, Standard};
+use storage_merkle::merkle::{
+    Bagging, ElementPlan, Error, Location, Position, Proof, RangePlan, mmb, mmr,
+};
 
 type Digest = FixedBytes<32>;
 

@@ -2,15 +2,17 @@
 ghost use Rattle.std.specs.Prelude.{◌+◌, ◌<◌, ◌^◌};
 
 use super::proofs::digest;
-use super::{granted, told};
-use crate::merkle::hasher::Standard;
-use crate::merkle::mem::Mem;
-use crate::merkle::{Bagging, Error, Family, Location, Position, Readable, Storage, mmb, mmr};
+use crate::granted::{granted, told};
 use std::alloc::Global;
 use std::test::Fail;
 use storage_codec::NoMemory;
 use storage_codec::codec::FixedBytes;
 use storage_codec::digest::Sha256;
+use storage_merkle::merkle::hasher::Standard;
+use storage_merkle::merkle::mem::Mem;
+use storage_merkle::merkle::{
+    Bagging, Error, Family, Location, Position, Readable, Storage, mmb, mmr,
+};
 
 type Digest = FixedBytes<32>;
 

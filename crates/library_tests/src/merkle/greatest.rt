@@ -3,13 +3,13 @@ ghost use Rattle.std.specs.Prelude.{◌≡◌, ◌++◌, [], refl};
 ghost use Rattle.storage_merkle.specs.Calc.{be8};
 ghost use Rattle.storage_merkle.specs.Trees.{ungrafted};
 
-use crate::merkle::hasher::{Hasher, Standard};
-use crate::merkle::{Bagging, Family, Location, MAX_LEAVES, Position, Proof, mmb, mmr};
 use std::alloc::{AllocError, Global};
 use std::cell::Cell;
 use std::test::Fail;
 use storage_codec::codec::FixedBytes;
 use storage_codec::digest::{self, Hasher as _, Sha256};
+use storage_merkle::merkle::hasher::{Hasher, Standard};
+use storage_merkle::merkle::{Bagging, Family, Location, MAX_LEAVES, Position, Proof, mmb, mmr};
 
 type Digest = FixedBytes<32>;
 

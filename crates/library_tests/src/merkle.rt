@@ -1,0 +1,9 @@
+//! Trees, bytes and text.
+
+mod greatest;
+mod mems;
+mod multi;
+mod proofs;
+mod shapes;
+mod stores;
+mod wire;
