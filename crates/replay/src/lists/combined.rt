@@ -6,7 +6,7 @@ ghost use Rattle.storage_bitmap.specs.Chunks.{IsChunkSize};
 mod lacking;
 
 use crate::columns::{Fault, number, strings};
-use crate::lists::refusals::database_refusal;
+use crate::lists::refusals::{database_fault, database_refusal, merkle_fault};
 use crate::lists::snapshots::bits_of;
 use commonware_storage::bitmap::{Prunable, Readable};
 use commonware_storage::codec::{Encode, FixedBytes};
@@ -99,7 +99,7 @@ fn proved<F: Graftable + Countable, const N: usize>(
     let floor = Location::new(case.floor);
     let snapshot = match Snapshot::<F, Sha256, N>::new(alloc, &case.operations, bits, floor) {
         Ok(snapshot) => snapshot,
-        Err(_) => return Err(Fault::Malformed),
+        Err(error) => return Err(database_fault(&error)),
     };
     let grafted = if case.whole {
         grafted_tree(alloc, &snapshot, height)?
@@ -152,8 +152,8 @@ fn operations_tree<F: Graftable>(
     let hasher = qmdb::hasher::<Sha256>();
     let mut tree = Mem::new(alloc);
     for operation in operations {
-        if tree.add(&hasher, operation.as_slice()).is_err() {
-            return Err(Fault::Malformed);
+        if let Err(error) = tree.add(&hasher, operation.as_slice()) {
+            return Err(merkle_fault(&error));
         }
     }
     Ok(tree)
@@ -195,7 +195,7 @@ fn add_chunk<F: Graftable>(tree: &mut Mem<F, FixedBytes<32>>, height: u32) -> Re
     }
     match tree.add(&hasher::<F>(height), &[]) {
         Ok(()) => Ok(()),
-        Err(_) => Err(Fault::Malformed),
+        Err(error) => Err(merkle_fault(&error)),
     }
 }
 
@@ -214,7 +214,7 @@ fn put<F: Graftable>(
     }
     match tree.update_leaves(&hasher::<F>(height), digests) {
         Ok(()) => Ok(()),
-        Err(_) => Err(Fault::Malformed),
+        Err(error) => Err(merkle_fault(&error)),
     }
 }
 

@@ -16,7 +16,11 @@ fn output_of(alloc: Global, line: &str, input: &str) -> Result<String, Fault> {
     let mut output = Vec::new(alloc);
     let mut errors = Vec::new(alloc);
     if run(alloc, &words, input.as_bytes(), &mut output, &mut errors) == 2 {
-        return Err(Fault::Malformed);
+        return Err(if errors.as_slice() == b"stateproof: memory\n".as_slice() {
+            Fault::Memory
+        } else {
+            Fault::Malformed
+        });
     }
     let output = String::from_utf8(output).map_err(|_| Fault::Malformed)?;
     unended(alloc, output.as_str())

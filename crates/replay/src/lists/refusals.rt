@@ -44,6 +44,23 @@ pub fn merkle_refusal<F>(alloc: Global, error: &merkle::Error<F>) -> Result<Stri
     }
 }
 
+/// The fault of a call over trees that no case of the list refuses: want of memory, or other columns than the list has.
+pub fn merkle_fault<F>(error: &merkle::Error<F>) -> Fault {
+    match error {
+        merkle::Error::Memory => Fault::Memory,
+        _ => Fault::Malformed,
+    }
+}
+
+/// The same of a call over a database.
+pub fn database_fault<F>(error: &qmdb::Error<F>) -> Fault {
+    match error {
+        qmdb::Error::Memory => Fault::Memory,
+        qmdb::Error::Merkle(error) => merkle_fault(error),
+        _ => Fault::Malformed,
+    }
+}
+
 /// The name of a refusal of a call over a database.
 pub fn database_refusal<F>(alloc: Global, error: &qmdb::Error<F>) -> Result<String, Fault> {
     match error {

@@ -5,6 +5,7 @@ ghost use Rattle.storage_bitmap.specs.Chunks.{IsChunkSize};
 
 use crate::columns::{Fault, bytes, digest, number, strings};
 use crate::lists::plain::{self, Own};
+use crate::lists::refusals::{database_fault, merkle_fault};
 use commonware_storage::bitmap::{Prunable, Readable};
 use commonware_storage::codec::{Decode, Encode, Error, FixedBytes};
 use commonware_storage::digest::Sha256;
@@ -165,7 +166,7 @@ impl<F: Graftable, const N: usize> Served<F, N> {
                     own,
                 })
             }
-            Err(_) => Err(Fault::Malformed),
+            Err(error) => Err(database_fault(&error)),
         }
     }
 
@@ -229,8 +230,9 @@ impl<F: Graftable, const N: usize> Served<F, N> {
         let end = start.checked_add(count).ok_or(Fault::Malformed)?;
         let leaves = Location::new(self.snapshot.status().len());
         let range = Location::new(start)..Location::new(end);
-        let Ok(plan) = RangePlan::new(alloc, leaves, range) else {
-            return Err(Fault::Malformed);
+        let plan = match RangePlan::new(alloc, leaves, range) {
+            Ok(plan) => plan,
+            Err(error) => return Err(merkle_fault(&error)),
         };
         match RangeProof::build::<Sha256, Prunable<N>, _, N>(
             alloc,
@@ -244,7 +246,7 @@ impl<F: Graftable, const N: usize> Served<F, N> {
                 self.compare(&proof)?;
                 Ok(proof)
             }
-            Err(_) => Err(Fault::Malformed),
+            Err(error) => Err(database_fault(&error)),
         }
     }
 
@@ -256,8 +258,9 @@ impl<F: Graftable, const N: usize> Served<F, N> {
         requires { IsChunkSize N }
     {
         let leaves = Location::new(self.snapshot.status().len());
-        let Ok(plan) = ElementPlan::new(alloc, leaves, Location::new(location)) else {
-            return Err(Fault::Malformed);
+        let plan = match ElementPlan::new(alloc, leaves, Location::new(location)) {
+            Ok(plan) => plan,
+            Err(error) => return Err(merkle_fault(&error)),
         };
         match OperationProof::build::<Sha256, Prunable<N>, _>(
             alloc,
@@ -276,7 +279,7 @@ impl<F: Graftable, const N: usize> Served<F, N> {
                 }
                 Ok(proof)
             }
-            Err(_) => Err(Fault::Malformed),
+            Err(error) => Err(database_fault(&error)),
         }
     }
 }
