@@ -1,7 +1,7 @@
 //! A proof of one operation: built, written, read and checked.
 
+use crate::granted::{granted, told};
 use std::alloc::Global;
-use std::process::Abort;
 use std::test::Fail;
 use storage_bitmap::bitmap::Prunable;
 use storage_codec::codec::{Decode, Encode, FixedBytes};
@@ -20,20 +20,14 @@ fn snapshot_of_one(alloc: Global) -> Result<Snapshot<mmr::Family, Sha256, 1>, Fa
     operation.push(0xab)?;
     let mut operations = Vec::new(alloc);
     operations.push(operation)?;
-    Ok(
-        Snapshot::new(alloc, &operations, bits, Location::new(0))
-            .ok()
-            .ok_or("no snapshot")?,
-    )
+    granted(Snapshot::new(alloc, &operations, bits, Location::new(0)))
 }
 
 #[test]
 fn one_operation(rt: HostRuntime) -> Result<(), Fail> {
     let alloc = rt.alloc();
     let snapshot = snapshot_of_one(alloc)?;
-    let plan = ElementPlan::new(alloc, Location::new(1), Location::new(0))
-        .ok()
-        .ok_or("no plan")?;
+    let plan = granted(ElementPlan::new(alloc, Location::new(1), Location::new(0)))?;
     let proof = constant::OperationProof::<mmr::Family, Digest, 1>::build::<Sha256, Prunable<1>, _>(
         alloc,
         snapshot.status(),
@@ -41,23 +35,23 @@ fn one_operation(rt: HostRuntime) -> Result<(), Fail> {
         |position| snapshot.get_node(position),
         Location::new(0),
         snapshot.ops_root(),
-    )
-    .ok()
-    .ok_or("no proof")?;
+    );
+    let proof = granted(proof)?;
     let root = snapshot.root();
     assert!(rt; proof.verify_encoded::<Sha256>(alloc, &[0xab], &root)?);
     let bytes = proof.encode(alloc)?;
     assert_eq!(rt; bytes.len(), 70);
-    let read = constant::OperationProof::<mmr::Family, Digest, 1>::decode_cfg(alloc, &bytes[..], &0)
-        .ok()
-        .ok_or("not read")?;
+    let read = constant::OperationProof::<mmr::Family, Digest, 1>::decode_cfg(
+        alloc,
+        &bytes[..],
+        &0,
+    )?;
     assert!(rt; read == proof);
     let shared = dynamic::OperationProof::<mmr::Family, Digest>::decode_cfg(
         alloc,
         &bytes[..],
         &(1, 0),
-    ).ok()
-        .ok_or("not read")?;
+    )?;
     assert!(rt; shared.verify_encoded::<Sha256>(alloc, &[0xab], &root)?);
     assert!(rt; !shared.verify_encoded::<Sha256>(alloc, &[0xac], &root)?);
     Ok(())
@@ -66,16 +60,12 @@ fn one_operation(rt: HostRuntime) -> Result<(), Fail> {
 /// The same snapshot, from a tree.
 fn snapshot_of_a_tree(alloc: Global) -> Result<Snapshot<mmr::Family, Sha256, 1>, Fail> {
     let mut tree = OperationTree::new(alloc);
-    if tree.add(&[0xab]).is_err() {
-        return Err("not added".into());
+    if let Err(refusal) = tree.add(&[0xab]) {
+        return Err(told(&refusal));
     }
     let mut bits = Prunable::new(alloc);
     bits.push(true)?;
-    Ok(
-        Snapshot::of_tree(alloc, tree, bits, Location::new(0))
-            .ok()
-            .ok_or("no snapshot")?,
-    )
+    granted(Snapshot::of_tree(alloc, tree, bits, Location::new(0)))
 }
 
 #[test]

@@ -1,5 +1,6 @@
 //! Stores of accepted proofs: what they give is what the tree itself gives.
-use std::alloc::Global;
+use crate::granted::{granted, told};
+use std::alloc::{AllocError, Global};
 use std::test::Fail;
 use storage_codec::codec::FixedBytes;
 use storage_codec::digest::Sha256;
@@ -10,12 +11,12 @@ use storage_merkle::merkle::{Bagging, Family, Location, Proof, ProofStore, mmb, 
 type Digest = FixedBytes<32>;
 
 /// 49 elements, each another one.
-fn elements(alloc: Global) -> Option<Vec<[u8; 1]>> {
+fn elements(alloc: Global) -> Result<Vec<[u8; 1]>, AllocError> {
     let mut elements = Vec::new(alloc);
     for number in 0..49 {
-        elements.push([number]).ok()?;
+        elements.push([number])?;
     }
-    Some(elements)
+    Ok(elements)
 }
 
 /// A tree over some elements.
@@ -23,14 +24,14 @@ fn tree<F: Family>(
     alloc: Global,
     hasher: &Standard<Sha256>,
     elements: &[[u8; 1]],
-) -> Option<Mem<F, Digest>> {
+) -> Result<Mem<F, Digest>, Fail> {
     let mut mem = Mem::new(alloc);
     for element in elements {
-        if mem.add(hasher, element).is_err() {
-            return None;
+        if let Err(refusal) = mem.add(hasher, element) {
+            return Err(told(&refusal));
         }
     }
-    Some(mem)
+    Ok(mem)
 }
 
 /// The tree's own proof of a range.
@@ -41,37 +42,34 @@ fn own<F: Family>(
     inactive: usize,
     start: u64,
     end: u64,
-) -> Option<Proof<F, Digest>> {
+) -> Result<Proof<F, Digest>, Fail> {
     let range = Location::new(start)..Location::new(end);
-    mem.range_proof(alloc, hasher, range, inactive).ok()
+    granted(mem.range_proof(alloc, hasher, range, inactive))
 }
 
 /// Whether a store of the tree's proof of leaves 17 to 40 gives the tree's own proof of each range among them.
-fn gives_own<F: Family>(alloc: Global, bagging: Bagging, inactive: usize) -> Option<bool> {
+fn gives_own<F: Family>(alloc: Global, bagging: Bagging, inactive: usize) -> Result<bool, Fail> {
     let hasher = Standard::<Sha256>::new(bagging);
     let elements = elements(alloc)?;
     let mem = tree::<F>(alloc, &hasher, &elements)?;
     let proof = own(alloc, &hasher, &mem, inactive, 17, 41)?;
-    let Ok(root) = mem.root(&hasher, inactive) else {
-        return None;
+    let root = match mem.root(&hasher, inactive) {
+        Ok(root) => root,
+        Err(refusal) => return Err(told(&refusal)),
     };
-    let proved = elements.get(17..41)?;
+    let proved = elements.get(17..41).ok_or("no elements")?;
     let first = Location::new(17);
-    let Ok(store) = ProofStore::new(alloc, &hasher, &proof, proved, first, &root) else {
-        return None;
-    };
+    let store = granted(ProofStore::new(alloc, &hasher, &proof, proved, first, &root))?;
     for start in 17..41 {
         for end in start + 1..42 {
             let range = Location::new(start)..Location::new(end);
-            let Ok(given) = store.range_proof(alloc, &hasher, range) else {
-                return None;
-            };
+            let given = granted(store.range_proof(alloc, &hasher, range))?;
             if own(alloc, &hasher, &mem, inactive, start, end)? != given {
-                return Some(false);
+                return Ok(false);
             }
         }
     }
-    Some(true)
+    Ok(true)
 }
 
 #[test]
@@ -79,11 +77,11 @@ fn proofs_from_a_store(rt: HostRuntime) -> Result<(), Fail> {
     let alloc = rt.alloc();
     let backward = Bagging::BackwardFold;
     let forward = Bagging::ForwardFold;
-    assert_eq!(rt; gives_own::<mmr::Family>(alloc, backward, 0), Some(true));
-    assert_eq!(rt; gives_own::<mmr::Family>(alloc, backward, 2), Some(true));
-    assert_eq!(rt; gives_own::<mmr::Family>(alloc, forward, 1), Some(true));
-    assert_eq!(rt; gives_own::<mmb::Family>(alloc, backward, 0), Some(true));
-    assert_eq!(rt; gives_own::<mmb::Family>(alloc, backward, 3), Some(true));
-    assert_eq!(rt; gives_own::<mmb::Family>(alloc, forward, 0), Some(true));
+    assert!(rt; gives_own::<mmr::Family>(alloc, backward, 0)?);
+    assert!(rt; gives_own::<mmr::Family>(alloc, backward, 2)?);
+    assert!(rt; gives_own::<mmr::Family>(alloc, forward, 1)?);
+    assert!(rt; gives_own::<mmb::Family>(alloc, backward, 0)?);
+    assert!(rt; gives_own::<mmb::Family>(alloc, backward, 3)?);
+    assert!(rt; gives_own::<mmb::Family>(alloc, forward, 0)?);
     Ok(())
 }

@@ -34,7 +34,7 @@ pub(super) fn tree(alloc: Global, numbers: &[u64]) -> Result<Tree, Fail> {
 pub(super) fn root(tree: &Tree) -> Result<DigestOf<Sha256>, Fail> {
     match tree.root(&hasher::<Sha256>(), 0) {
         Ok(root) => Ok(root),
-        Err(_) => Err("no root".into()),
+        Err(refusal) => Err(told(&refusal)),
     }
 }
 
@@ -120,15 +120,10 @@ fn proof_of_one_from_a_store(rt: HostRuntime) -> Result<(), Fail> {
     let tail = [U64::new(10), U64::new(11), U64::new(12)];
     let start = Location::new(5);
     let hash = hasher::<Sha256>();
-    let Ok(store) = create_proof_store::<Sha256, mmr::Family, U64>(
-        alloc, &wide, start, &tail, &root,
-    ) else {
-        return Err("no store".into());
-    };
+    let store = create_proof_store::<Sha256, mmr::Family, U64>(alloc, &wide, start, &tail, &root);
+    let store = granted(store)?;
     let one = Location::new(6)..Location::new(7);
-    let Ok(given) = store.range_proof(alloc, &hash, one) else {
-        return Err("no proof".into());
-    };
+    let given = granted(store.range_proof(alloc, &hash, one))?;
     assert!(rt; given == proof(alloc, &tree, 6, 7)?);
     let before = Location::new(4)..Location::new(7);
     let refused = store.range_proof(alloc, &hash, before).err();
