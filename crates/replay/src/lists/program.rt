@@ -16,7 +16,9 @@ fn output_of(alloc: Global, line: &str, input: &str) -> Result<String, Fault> {
     let mut output = Vec::new(alloc);
     let mut errors = Vec::new(alloc);
     if run(alloc, &words, input.as_bytes(), &mut output, &mut errors) == 2 {
-        return Err(if errors.as_slice() == b"stateproof: memory\n".as_slice() {
+        // a vector refuses what is written to it for memory alone
+        let wants = errors.is_empty() || errors.as_slice() == b"stateproof: memory\n".as_slice();
+        return Err(if wants {
             Fault::Memory
         } else {
             Fault::Malformed
