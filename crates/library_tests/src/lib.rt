@@ -13,3 +13,5 @@ mod granted;
 mod merkle;
 #[cfg(test)]
 mod ops;
+#[cfg(test)]
+mod refused;

@@ -3,7 +3,7 @@
 mod greatest;
 mod mems;
 mod multi;
-mod proofs;
+pub mod proofs;
 mod shapes;
 mod stores;
 mod wire;

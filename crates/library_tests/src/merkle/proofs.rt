@@ -22,7 +22,7 @@ fn digit(letter: u8) -> u8 {
 }
 
 /// The digest of 64 hexadecimal digits.
-pub(super) fn digest(text: &[u8; 64]) -> Digest {
+pub fn digest(text: &[u8; 64]) -> Digest {
     let mut bytes = [0; 32];
     for i in 0..32usize {
         let high = digit(text[2 * i]) as u16;
