@@ -9,7 +9,9 @@ all memory that it asks for, and must give the right answer. Then each of its re
 and once with all that come after it. Such a run must give the right answer too, or name want of memory, and write nothing else.
 
 Of a case with more than EACH requests the first EACH are refused, and SPREAD of the others, spread evenly up to the last; the line
-of the crate says of how many cases. The last line is 'N cases, M refusals, F faults'. A fault has a line of its own.
+of the crate says of how many cases. The last line is 'N cases, M refusals, F faults'. A fault has a line of its own. The status is 0
+where there is no fault, 1 where there is one, and 77 where nothing could be refused here, since there is no C compiler or a program
+is not given the shim.
 """
 import collections
 import concurrent.futures
@@ -28,6 +30,7 @@ EACH = 250
 SPREAD = 50
 LINES = 8
 SECONDS = 60
+NOT_RUN = 77
 LAST = 2**64 - 1
 
 # Want of memory as it is printed, alone or within the errors of the layers above.
@@ -179,13 +182,29 @@ def cases_of(shim, crate):
     return [*tests(shim, crate)] if any("#[test]" in it.read_text() for it in sources) else []
 
 
+def made_shim(room):
+    """The shim that refuses memory, built in a folder; None where it can't be built, or where a program runs without it."""
+    shim = pathlib.Path(room, "refuse_memory.so")
+    flags = ["-std=gnu11", "-O2", "-Wall", "-Wextra", "-shared", "-fPIC"]
+    words = [os.environ.get("CC", "cc"), *flags, "-o", shim, ROOT / "tools/refuse_memory.c", "-ldl"]
+    try:
+        subprocess.run(words, check=True)
+    except (OSError, subprocess.CalledProcessError) as error:
+        print(f"nothing is refused: {error}")
+        return None
+    if ended(shim, [built("stateproof"), "root", "mmr", "1", "0"], OPERATIONS).requests:
+        return shim
+    print("nothing is refused: the shim saw no request for memory")
+    return None
+
+
 def main():
     resource.setrlimit(resource.RLIMIT_CORE, (0, 0))
     total = [0, 0, 0]
     with tempfile.TemporaryDirectory() as room, concurrent.futures.ThreadPoolExecutor(os.cpu_count()) as pool:
-        shim = pathlib.Path(room, "refuse_memory.so")
-        flags = ["-std=gnu11", "-O2", "-Wall", "-Wextra", "-shared", "-fPIC"]
-        subprocess.run([os.environ.get("CC", "cc"), *flags, "-o", shim, ROOT / "tools/refuse_memory.c", "-ldl"], check=True)
+        shim = made_shim(room)
+        if shim is None:
+            return NOT_RUN
         for crate in sys.argv[1:] or sorted(it.name for it in (ROOT / "crates").iterdir()):
             cases = cases_of(shim, crate)
             if not cases:
