@@ -1,12 +1,13 @@
 //! What holds between the proofs that a server builds and the checks of a light client.
 
-ghost use Rattle.std.specs.Prelude.{◌≡◌, ℕ, ◌+◌, ◌-◌, ◌*◌, ◌/◌, ◌%◌, ◌^◌, ◌<◌, ◌≤◌, ◌⊎◌, IfOk, IfErr, MatchResult, length, true};
+ghost use Rattle.std.specs.Prelude.{◌≡◌, ℕ, ◌+◌, ◌-◌, ◌*◌, ◌/◌, ◌%◌, ◌^◌, ◌<◌, ◌≤◌, ◌⊎◌, ◌↔◌, IfOk, IfErr, IsTrue, MatchResult, length, true};
 ghost use Rattle.storage_bitmap.specs.Chunks.{IsChunkSize};
 ghost use Rattle.storage_current.specs.BuiltProofs.{ArePartsOf, IsNotBuilt};
+ghost use Rattle.storage_current.specs.CurrentWire.{operation_text};
 ghost use Rattle.storage_current.specs.KeptSnapshots.{KeptSnapshot};
-ghost use Rattle.storage_current.specs.Snapshots.{Grafting, IsActive, IsSnapshot, Snapshot as SnapshotOf, canonical_root, first_chunk};
+ghost use Rattle.storage_current.specs.Snapshots.{Grafting, IsActive, IsSnapshot, Snapshot as SnapshotOf, canonical_root, first_chunk, own_operation_proof};
 ghost use Rattle.commonware_storage.specs.Handed.{AreHandedOut};
-ghost use Rattle.commonware_storage.specs.Light.{OwnProofsAreAccepted};
+ghost use Rattle.commonware_storage.specs.Light.{IsAcceptedAt, OwnProofsAreAccepted};
 
 pub mod keys;
 
@@ -33,7 +34,8 @@ pub fn own_proofs_are_accepted()
 }
 
 /// Builds the proof of the planned operation, writes it, and answers what [`check_operation`] says of the bytes against
-/// `root`: yes wherever these are the parts of a snapshot and its canonical root, and the operation is active there. With
+/// `root`: where these are the parts of a snapshot, of what its own proof is written as. So it says yes wherever `root` is
+/// that snapshot's canonical root and the operation is active there. With
 /// the parts that a [`Snapshot`](crate::qmdb::current::Snapshot) hands out nothing is refused but for want of memory.
 ///
 /// # Errors
@@ -57,6 +59,7 @@ pub fn built_proofs_are_accepted<
 ) -> Result<bool, Error<F>>
     requires size { IsChunkSize N }
     requires callable { G.IsAlwaysCallable get_node }
+    ensures asked { let g : Grafting = record { shape = F.shape; bytes = N } in (s : SnapshotOf) → ArePartsOf H.Digest.text (G.post get_node) H.hash_of g plan (R.retained status.now) floor (H.Digest.text ops_root) s → IfOk result (λ yes. IsTrue yes ↔ IsAcceptedAt H.hash_of g F.has_pending H.Digest.size plan.start (operation_text F.has_pending (own_operation_proof H.hash_of g s plan.start)) operation.now (H.Digest.text root.now)) }
     ensures accepted { let g : Grafting = record { shape = F.shape; bytes = N } in (s : SnapshotOf) → IsSnapshot s → ArePartsOf H.Digest.text (G.post get_node) H.hash_of g plan (R.retained status.now) floor (H.Digest.text ops_root) s → H.Digest.text root.now ≡ canonical_root H.hash_of g s → IsActive s plan.start operation.now → IfOk result (λ yes. yes ≡ true) }
     ensures handed { let g : Grafting = record { shape = F.shape; bytes = N } in (kept : KeptSnapshot) (s : SnapshotOf) → IsSnapshot s → AreHandedOut H.Digest.text (G.post get_node) H.hash_of g plan (R.retained status.now) floor (H.Digest.text ops_root) (H.Digest.text root.now) kept s → IsActive s plan.start operation.now → MatchResult result (λ yes. yes ≡ true) (λ error. error ≡ Error.Memory) }
     ensures why { let g : Grafting = record { shape = F.shape; bytes = N } in IfErr result (λ error. ((first_chunk g plan.start < (R.retained status.now).pruned) × (error ≡ Error.OperationPruned plan.start)) ⊎ IsNotBuilt (G.post get_node) g plan (R.retained status.now) error) }
