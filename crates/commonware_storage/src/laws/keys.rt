@@ -1,15 +1,16 @@
 //! What holds between a snapshot's own proofs about keys and the checks of a light client.
 
-ghost use Rattle.std.specs.Prelude.{◌≡◌, ℕ, List, IfOk, true};
+ghost use Rattle.std.specs.Prelude.{◌≡◌, ℕ, List, ◌++◌, ◌↔◌, IfOk, IsTrue, true};
 ghost use Rattle.storage_bitmap.specs.Chunks.{IsChunkSize};
 ghost use Rattle.storage_ops.specs.Updates.{ordered_at};
+ghost use Rattle.storage_current.specs.CurrentWire.{operation_text};
 ghost use Rattle.storage_current.specs.Held.{operation_of};
 ghost use Rattle.storage_current.specs.HeldKeys.{exclusion_of};
 ghost use Rattle.storage_current.specs.KeyProofs.{Allows, Exclusion, proof_of, shown_text};
-ghost use Rattle.storage_current.specs.KeyWire.{IsAdmittedExclusion};
+ghost use Rattle.storage_current.specs.KeyWire.{IsAdmittedExclusion, exclusion_text};
 ghost use Rattle.storage_current.specs.Keys.{Keyed, Updates};
 ghost use Rattle.storage_current.specs.Snapshots.{Grafting, IsActive, IsSnapshot, Snapshot, canonical_root, own_operation_proof};
-ghost use Rattle.commonware_storage.specs.LightKeys.{OwnExclusionsAreAccepted, OwnValuesAreAccepted};
+ghost use Rattle.commonware_storage.specs.LightKeys.{IsAcceptedAbsence, IsAcceptedValue, OwnExclusionsAreAccepted, OwnValuesAreAccepted};
 
 use crate::light::{check_absence, check_value};
 use std::alloc::Global;
@@ -65,7 +66,8 @@ pub fn written_values_are_accepted<
     root: &H::Digest,
 ) -> Result<bool, NoMemory>
     requires size { IsChunkSize N }
-    ensures { let e : Keyed K V.Value = record { key = K.text; value = V.Value.text; operation = V.operation_text; cmp = K.cmp } in let g : Grafting = record { shape = F.shape; bytes = N } in (s : Snapshot) → IsSnapshot s → (location : ℕ) → operation_of H.Digest.text (λ c. c) proof.now.proof ≡ own_operation_proof H.hash_of g s location → Updates e s location key value proof.now.next_key → K.admits cfg.now proof.now.next_key → H.Digest.text root.now ≡ canonical_root H.hash_of g s → IfOk result (λ yes. yes ≡ true) }
+    ensures asked { let e : Keyed K V.Value = record { key = K.text; value = V.Value.text; operation = V.operation_text; cmp = K.cmp } in let g : Grafting = record { shape = F.shape; bytes = N } in IfOk result (λ yes. IsTrue yes ↔ IsAcceptedValue e K.view (K.parse cfg.now) H.hash_of g F.has_pending H.Digest.size (operation_text F.has_pending (operation_of H.Digest.text (λ c. c) proof.now.proof) ++ K.text proof.now.next_key) key value (H.Digest.text root.now)) }
+    ensures accepted { let e : Keyed K V.Value = record { key = K.text; value = V.Value.text; operation = V.operation_text; cmp = K.cmp } in let g : Grafting = record { shape = F.shape; bytes = N } in (s : Snapshot) → IsSnapshot s → (location : ℕ) → operation_of H.Digest.text (λ c. c) proof.now.proof ≡ own_operation_proof H.hash_of g s location → Updates e s location key value proof.now.next_key → K.admits cfg.now proof.now.next_key → H.Digest.text root.now ≡ canonical_root H.hash_of g s → IfOk result (λ yes. yes ≡ true) }
 {
     own_values_are_accepted::<F, K, V>();
     let mut bytes = Vec::new(alloc);
@@ -90,7 +92,8 @@ pub fn written_exclusions_are_accepted<
     root: &H::Digest,
 ) -> Result<bool, NoMemory>
     requires size { IsChunkSize N }
-    ensures { let e : Keyed K V.Value = record { key = K.text; value = V.Value.text; operation = V.operation_text; cmp = K.cmp } in let g : Grafting = record { shape = F.shape; bytes = N } in let x : Exclusion (K × V.Value × K) V.Value = exclusion_of H.Digest.text (λ c. c) proof.now in (s : Snapshot) → IsSnapshot s → proof_of x ≡ own_operation_proof H.hash_of g s (proof_of x).location → IsActive s (proof_of x).location (shown_text e x) → Allows e x key.now → IsAdmittedExclusion (λ _. Unit {0}) (λ u. K.admits (V.key_cfg cfgs.now.0) u.0 × V.Value.admits (V.value_cfg cfgs.now.0) u.1 × K.admits (V.key_cfg cfgs.now.0) u.2) (V.Value.admits cfgs.now.1) x → H.Digest.text root.now ≡ canonical_root H.hash_of g s → IfOk result (λ yes. yes ≡ true) }
+    ensures asked { let e : Keyed K V.Value = record { key = K.text; value = V.Value.text; operation = V.operation_text; cmp = K.cmp } in let g : Grafting = record { shape = F.shape; bytes = N } in let x : Exclusion (K × V.Value × K) V.Value = exclusion_of H.Digest.text (λ c. c) proof.now in IfOk result (λ yes. IsTrue yes ↔ IsAcceptedAbsence e K.view V.Value.view (ordered_at (K.parse (V.key_cfg cfgs.now.0)) (V.Value.parse (V.value_cfg cfgs.now.0))) (V.Value.parse cfgs.now.1) H.hash_of g F.has_pending H.Digest.size (exclusion_text F.has_pending (λ u. K.text u.0 ++ V.Value.text u.1 ++ K.text u.2) V.Value.text x) key.now (H.Digest.text root.now)) }
+    ensures accepted { let e : Keyed K V.Value = record { key = K.text; value = V.Value.text; operation = V.operation_text; cmp = K.cmp } in let g : Grafting = record { shape = F.shape; bytes = N } in let x : Exclusion (K × V.Value × K) V.Value = exclusion_of H.Digest.text (λ c. c) proof.now in (s : Snapshot) → IsSnapshot s → proof_of x ≡ own_operation_proof H.hash_of g s (proof_of x).location → IsActive s (proof_of x).location (shown_text e x) → Allows e x key.now → IsAdmittedExclusion (λ _. Unit {0}) (λ u. K.admits (V.key_cfg cfgs.now.0) u.0 × V.Value.admits (V.value_cfg cfgs.now.0) u.1 × K.admits (V.key_cfg cfgs.now.0) u.2) (V.Value.admits cfgs.now.1) x → H.Digest.text root.now ≡ canonical_root H.hash_of g s → IfOk result (λ yes. yes ≡ true) }
 {
     own_exclusions_are_accepted::<F, K, V>();
     let mut bytes = Vec::new(alloc);
