@@ -59,7 +59,10 @@ impl<F: Family, H: Hasher<F>> Hasher<F> for Counted<H> {
 
     fn node_digest(&self, position: Position<F>, left: &H::Digest, right: &H::Digest) -> H::Digest
         requires { H.takes self.now.hasher position }
-        ensures { (first height : ℕ) → IsNode F.shape position first height → H.Digest.text result ≡ join_digest H.hash_of (H.layout self.now.hasher) (H.chunk self.now.hasher) first height (H.Digest.text left.now) (H.Digest.text right.now) }
+        ensures { (first height : ℕ) → IsNode F.shape position first height
+            → H.Digest.text result ≡ join_digest H.hash_of (H.layout self.now.hasher)
+            (H.chunk self.now.hasher) first height (H.Digest.text left.now)
+            (H.Digest.text right.now) }
     {
         self.count();
         self.hasher.node_digest(position, left, right)

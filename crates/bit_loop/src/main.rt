@@ -1,11 +1,12 @@
-//! A bitmap of many bits, and what its root takes. The arguments are the size of a chunk (1, 4 or 32), how many bits are pushed,
-//! of which each third one is set, and how many of them, spread evenly, are turned one after another, with a new root each time.
+//! A bitmap of many bits, and what its root takes. The arguments are the size of a chunk (1, 4, 16 or 32), how many bits are pushed,
+//! of which each fourth one is set, and how many of them, spread evenly, are turned one after another, with a new root each time.
 //!
 //! It prints the last root, how many strings were hashed for the root of the pushed bits, and how many at most for the root after
 //! one of them was turned.
 #![tactic(auto)]
 
-ghost use Rattle.storage_bitmap.specs.Chunks.{IsChunkSize};
+ghost use Rattle.std.specs.Prelude.{◌≡◌, ℕ, ◌+◌, ◌^◌, ◌≤◌, IfSome};
+ghost use Rattle.storage_bitmap.specs.Chunks.{IsChunkSize, bit_count};
 
 mod counted;
 
@@ -39,10 +40,35 @@ fn empty<const N: usize>(alloc: Global, hasher: &Hasher) -> Result<UnmerkleizedB
     }
 }
 
-/// Appends so many bits, of which each third one is set; none where one is refused.
-fn push_all<const N: usize>(bitmap: &mut UnmerkleizedBitMap<Digest, N>, count: u64) -> Option<()> {
-    for bit in 0..count {
-        if bitmap.len() >= MAX_LEAVES || bitmap.push(bit % 3 == 0).is_err() {
+/// Appends four bits, of which the first one is set; none where there is no memory for one.
+fn push_four<const N: usize>(bitmap: &mut UnmerkleizedBitMap<Digest, N>) -> Option<()>
+    requires { bit_count N bitmap.old.retained + 4 ≤ 2 ^ 62 }
+    ensures { IfSome result (λ _.
+        bit_count N bitmap.new.retained ≡ bit_count N bitmap.old.retained + 4) }
+{
+    if bitmap.push(true).is_err()
+        || bitmap.push(false).is_err()
+        || bitmap.push(false).is_err()
+        || bitmap.push(false).is_err()
+    {
+        return None;
+    }
+    Some(())
+}
+
+/// Appends so many bits, of which each fourth one is set; none where there is no memory for one. Its code stands apart, so that
+/// what it takes does not depend on its caller.
+#[inline(never)]
+fn push_all<const N: usize>(bitmap: &mut UnmerkleizedBitMap<Digest, N>, count: u64) -> Option<()>
+    requires { bit_count N bitmap.old.retained + count ≤ 2 ^ 62 }
+{
+    let mut left = count;
+    while left >= 4 {
+        push_four(bitmap)?;
+        left -= 4;
+    }
+    for bit in 0..left {
+        if bitmap.push(bit == 0).is_err() {
             return None;
         }
     }
@@ -70,6 +96,9 @@ fn pushed<const N: usize>(
 {
     let mut bitmap = empty(alloc, hasher)?;
     let _root_of_none = hasher.take();
+    if bitmap.len().saturating_add(count) > MAX_LEAVES {
+        bail!("too many bits");
+    }
     if push_all(&mut bitmap, count).is_none() {
         bail!("not pushed");
     }
@@ -119,8 +148,9 @@ fn main(rt: HostRuntime) -> Result<()> {
     let lines = match size.as_str() {
         "1" => report::<1>(rt.alloc(), count, turns)?,
         "4" => report::<4>(rt.alloc(), count, turns)?,
+        "16" => report::<16>(rt.alloc(), count, turns)?,
         "32" => report::<32>(rt.alloc(), count, turns)?,
-        _ => bail!("a chunk has 1, 4 or 32 bytes"),
+        _ => bail!("a chunk has 1, 4, 16 or 32 bytes"),
     };
     println!(rt; "{lines}")?;
     Ok(())

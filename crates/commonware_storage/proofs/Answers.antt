@@ -1,5 +1,5 @@
 -- What bytes are read as, and what a check of them answers.
-use Rattle.std.proofs.Common.{◌≡◌, ℕ, ◌+◌, ◌<◌, ◌≤◌, ◌^◌, ◌%◌, ◌⊎◌, ◌↔◌, Bool, true, false, cond, leb, ltb, ◌&&◌, List, [], ◌∷◌, ◌++◌, length, take, drop, Result, Ok, Err, refl, sym, ap, subst, ◌∙◌, append-nil, arith, inl, inr}
+use Rattle.std.proofs.Common.{◌≡◌, ℕ, ◌^◌, ◌↔◌, Bool, true, false, cond, leb, ltb, ◌&&◌, List, [], length, take, drop, Result, Ok, Err, refl, sym, ap, subst, ◌∙◌, append-nil, arith, inl, inr}
 use Rattle.std.specs.Prelude.{codes}
 use Rattle.std.specs.Bool.{IsTrue}
 use Rattle.std.specs.Result.{IfOk}
@@ -7,7 +7,7 @@ use Rattle.std.proofs.lemmas.List.{length-take}
 use Rattle.std.proofs.lemmas.Bool.{ltb-false}
 use Rattle.storage_codec.specs.declared.codec.error.Error.{Error}
 use Rattle.storage_codec.specs.declared.codec.error.Error.TheVariants as code
-use Rattle.storage_codec.specs.Digests.{HashFunction, Cross}
+use Rattle.storage_codec.specs.Digests.{HashFunction}
 use Rattle.storage_codec.specs.Faults.{Fault, ◌>>=◌, Invalid, EndOfBuffer}
 use Rattle.storage_codec.specs.Parts.{IsBytes}
 use Rattle.storage_codec.specs.Codec.{Answer, MayFail, whole, front_at}
@@ -16,7 +16,7 @@ use Rattle.storage_codec.specs.Laws.{bind_ok, guard_ok, ok_is}
 use Rattle.storage_merkle.specs.Shape.{Shape}
 use Rattle.storage_merkle.specs.Wire.{location_at}
 use Rattle.storage_bitmap.specs.Chunks.{halves}
-use Rattle.storage_current.specs.Snapshots.{Grafting, Snapshot, IsSnapshot, CurrentProof, OperationProof, own_operation_proof, IsActive}
+use Rattle.storage_current.specs.Snapshots.{Grafting, CurrentProof, OperationProof, own_operation_proof, IsActive}
 use Rattle.storage_current.specs.CurrentProofs.{IsActiveCurrent}
 use Rattle.storage_current.specs.CurrentSoundness.{MeansActive}
 use Rattle.storage_current.specs.CurrentWire.{current_at, operation_text, operation_at, sized_operation_at}
@@ -32,28 +32,38 @@ front_length n bytes x e =
     let enough = ltb-false (length bytes) n g.0 in
     subst (λ (p : List ℕ × List ℕ). length p.0 ≡ n) g.1 (omega (arith, length-take n bytes))
 
-operation_chunk : (there : Bool) (d size most : ℕ) (bytes : List ℕ) (p : OperationProof) (rest : List ℕ) → operation_at there d size most bytes ≡ Ok (p, rest) → length p.chunk ≡ size
+operation_chunk : (there : Bool) (d size most : ℕ) (bytes : List ℕ) (p : OperationProof) (rest : List ℕ)
+    → operation_at there d size most bytes ≡ Ok (p, rest) → length p.chunk ≡ size
 operation_chunk there d size most bytes p rest e =
-    let a = bind_ok {B = OperationProof × List ℕ} (location_at bytes) (λ location. front_at size location.1 >>= λ chunk. current_at there d most chunk.1 >>= λ range. Ok (at_location location.0 chunk.0 range.0, range.1)) (p, rest) e in
-    let b = bind_ok {B = OperationProof × List ℕ} (front_at size a.0.1) (λ chunk. current_at there d most chunk.1 >>= λ range. Ok (at_location a.0.0 chunk.0 range.0, range.1)) (p, rest) a.2 in
-    let c = bind_ok {B = OperationProof × List ℕ} (current_at there d most b.0.1) (λ range. Ok (at_location a.0.0 b.0.0 range.0, range.1)) (p, rest) b.2 in
+    let a = bind_ok {B = OperationProof × List ℕ} (location_at bytes) (λ location. front_at size location.1 >>= λ chunk.
+    current_at there d most chunk.1 >>= λ range. Ok (at_location location.0 chunk.0 range.0, range.1))
+    (p, rest) e in
+    let b = bind_ok {B = OperationProof × List ℕ} (front_at size a.0.1) (λ chunk.
+    current_at there d most chunk.1 >>= λ range. Ok (at_location a.0.0 chunk.0 range.0, range.1)) (p, rest) a.2 in
+    let c = bind_ok {B = OperationProof × List ℕ} (current_at there d most b.0.1)
+    (λ range. Ok (at_location a.0.0 b.0.0 range.0, range.1)) (p, rest) b.2 in
     let range = c.0.0 in
     let tail = c.0.1 in
-    subst (λ (q : OperationProof × List ℕ). length q.0.chunk ≡ size) (ok_is (at_location a.0.0 b.0.0 range, tail) (p, rest) c.2) (front_length size a.0.1 b.0 b.1)
+    subst (λ (q : OperationProof × List ℕ). length q.0.chunk ≡ size)
+    (ok_is (at_location a.0.0 b.0.0 range, tail) (p, rest) c.2) (front_length size a.0.1 b.0 b.1)
 
 -- the chunk of a proof that was read has the size that the reader was told
-pub front_chunk : (there : Bool) (d size most : ℕ) (bytes : List ℕ) (p : OperationProof) (rest : List ℕ) → sized_operation_at there d size most bytes ≡ Ok (p, rest) → length p.chunk ≡ size
+pub front_chunk : (there : Bool) (d size most : ℕ) (bytes : List ℕ) (p : OperationProof) (rest : List ℕ)
+    → sized_operation_at there d size most bytes ≡ Ok (p, rest) → length p.chunk ≡ size
 front_chunk there d size most bytes p rest e =
     elim (halves size size && leb size (2 ^ 59)) as (λ b. cond b (operation_at there d size most bytes) (Err (Invalid (codes "current proof") (codes "invalid bitmap chunk size"))) ≡ Ok (p, rest) → length p.chunk ≡ size) [
       | true ↦ λ f. operation_chunk there d size most bytes p rest f
       | false ↦ λ f. absurd cc
     ] e
 
-pub chunk_is : (there : Bool) (d size most : ℕ) (bytes : List ℕ) (p : OperationProof) → whole (sized_operation_at there d size most bytes) ≡ Ok (p, []) → length p.chunk ≡ size
-chunk_is there d size most bytes p e = front_chunk there d size most bytes p [] (whole_ok (sized_operation_at there d size most bytes) p [] e).0
+pub chunk_is : (there : Bool) (d size most : ℕ) (bytes : List ℕ) (p : OperationProof)
+    → whole (sized_operation_at there d size most bytes) ≡ Ok (p, []) → length p.chunk ≡ size
+chunk_is there d size most bytes p e =
+    front_chunk there d size most bytes p [] (whole_ok (sized_operation_at there d size most bytes) p [] e).0
 
 -- bytes that are refused, and not for want of memory, are read as nothing
-pub nothing_read : {Y : Type 0} (e : Error) (answer : Result Y Fault) (y : Y) → MayFail e answer → (e ≡ code.Memory → ⊥) → answer ≡ Ok y → ⊥
+pub nothing_read : {Y : Type 0} (e : Error) (answer : Result Y Fault) (y : Y) → MayFail e answer → (e ≡ code.Memory → ⊥)
+    → answer ≡ Ok y → ⊥
 nothing_read code.Memory answer y m other e = other refl
 nothing_read code.EndOfBuffer answer y m other e = let f = sym m ∙ e in cc
 nothing_read code.InvalidBool answer y m other e = let f = sym m ∙ e in cc
@@ -64,7 +74,8 @@ nothing_read (code.Invalid a b) answer y m other e = let f = sym m ∙ e in cc
 nothing_read (code.ExtraData n) answer y m other e = let f = sym m ∙ e in cc
 
 same_proof : {answer : Answer OperationProof} {p q : OperationProof} → answer ≡ Ok (p, []) → answer ≡ Ok (q, []) → p ≡ q
-same_proof {answer} {p} {q} e f = let none : List ℕ = [] in ap (λ (x : OperationProof × List ℕ). x.0) (ok_is (p, none) (q, none) (sym e ∙ f))
+same_proof {answer} {p} {q} e f = let none : List ℕ = [] in
+    ap (λ (x : OperationProof × List ℕ). x.0) (ok_is (p, none) (q, none) (sym e ∙ f))
 
 module _ (h : HashFunction) (S : Shape) (size : ℕ) (there : Bool) (d location : ℕ) (bytes operation root : List ℕ) where
   abbrev grafting : ℕ → Grafting
@@ -74,7 +85,8 @@ module _ (h : HashFunction) (S : Shape) (size : ℕ) (there : Bool) (d location 
   Read p = whole (sized_operation_at there d size 128 bytes) ≡ Ok (p, [])
 
   -- a proof of another location is not accepted
-  pub elsewhere : (p : OperationProof) → Read p → (p.location ≡ location → ⊥) → IsAcceptedAt h (grafting size) there d location bytes operation root → ⊥
+  pub elsewhere : (p : OperationProof) → Read p → (p.location ≡ location → ⊥)
+      → IsAcceptedAt h (grafting size) there d location bytes operation root → ⊥
   elsewhere p read other a = other (ap (λ (q : OperationProof). q.location) (same_proof read a.read) ∙ a.at)
 
   module _ (p : OperationProof) (read : Read p) (at : p.location ≡ location) {E : Type 0} where
@@ -84,9 +96,11 @@ module _ (h : HashFunction) (S : Shape) (size : ℕ) (there : Bool) (d location 
         → IfOk answer (λ yes. IsTrue yes ↔ IsAcceptedAt h (grafting size) there d location bytes operation root)
     accepted_exactly (Err e) exact = tt
     accepted_exactly (Ok b) exact =
-        let on : IsTrue b ↔ IsActiveCurrent h (grafting size) p operation root = subst (λ (n : ℕ). IsTrue b ↔ IsActiveCurrent h (grafting n) p operation root) (chunk_is there d size 128 bytes p read) exact in (
+        let on : IsTrue b ↔ IsActiveCurrent h (grafting size) p operation root = subst (λ (n : ℕ). IsTrue b
+        ↔ IsActiveCurrent h (grafting n) p operation root) (chunk_is there d size 128 bytes p read) exact in (
           λ t. record { proof = p; read = read; at = at; accepted = on.0 t },
-          λ a. on.1 (subst (λ (q : OperationProof). IsActiveCurrent h (grafting size) q operation root) (same_proof a.read read) a.accepted),
+          λ a. on.1 (subst (λ (q : OperationProof). IsActiveCurrent h (grafting size) q operation root)
+              (same_proof a.read read) a.accepted),
         )
 
     -- and what its yes means
@@ -95,8 +109,10 @@ module _ (h : HashFunction) (S : Shape) (size : ℕ) (there : Bool) (d location 
         → IfOk answer (λ yes. IsTrue yes → IsTrueAt h (grafting size) there d location bytes operation root)
     true_of fits (Err e) meaning = tt
     true_of fits (Ok b) meaning = λ t.
-        let means : MeansActive h (grafting size) p operation root = subst (λ (n : ℕ). IsTrue b → MeansActive h (grafting n) p operation root) (chunk_is there d size 128 bytes p read) meaning t in
-        let text : bytes ≡ operation_text there p = sized_back there d size 128 bytes p [] fits (whole_ok (sized_operation_at there d size 128 bytes) p [] read).0 ∙ append-nil (operation_text there p) in
+        let means : MeansActive h (grafting size) p operation root = subst (λ (n : ℕ). IsTrue b
+        → MeansActive h (grafting n) p operation root) (chunk_is there d size 128 bytes p read) meaning t in
+        let text : bytes ≡ operation_text there p = sized_back there d size 128 bytes p [] fits
+        (whole_ok (sized_operation_at there d size 128 bytes) p [] read).0 ∙ append-nil (operation_text there p) in
         record {
           proof = p;
           read = read;

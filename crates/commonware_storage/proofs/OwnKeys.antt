@@ -17,22 +17,27 @@ use Rattle.storage_current.specs.KeyWireLaws.{pair_again, exclusion_again}
 use Rattle.commonware_storage.specs.LightKeys.{OwnValuesAreAccepted, OwnExclusionsAreAccepted}
 
 -- the reader of operation proofs reads the snapshot's own one of a location again
-own_read : OwnOperationProofsAreReadAgain → (d : ℕ) (h : HashFunction) → IsSized d h → (g : Grafting) → IsGrafting g → (has_pending : Bool) → IsPrompt has_pending g.shape
+own_read : OwnOperationProofsAreReadAgain → (d : ℕ) (h : HashFunction) → IsSized d h → (g : Grafting) → IsGrafting g
+    → (has_pending : Bool) → IsPrompt has_pending g.shape
     → (s : Snapshot) → IsSnapshot s → (location : ℕ) → location < length s.operations
-    → IsRead (operation_text has_pending) (λ q. q) (sized_operation_at has_pending d g.bytes 128) (λ q. q ≡ own_operation_proof h g s location)
+    → IsRead (operation_text has_pending) (λ q. q) (sized_operation_at has_pending d g.bytes 128)
+    (λ q. q ≡ own_operation_proof h g s location)
 own_read again d h sized g grafting has_pending prompt s snapshot location within = record {
   again = λ q rest own.
-      subst (λ (y : OperationProof). sized_operation_at has_pending d g.bytes 128 (operation_text has_pending y ++ rest) ≡ Ok (y, rest)) (sym own)
+      subst (λ (y : OperationProof). sized_operation_at has_pending d g.bytes 128 (operation_text has_pending y ++ rest)
+      ≡ Ok (y, rest)) (sym own)
       (again d h sized g grafting has_pending prompt s snapshot location within rest);
 }
 
 -- an exclusion proof whose operation proof is that one
-own_admitted : {U W : Type 0} (own : OperationProof) (update : U → Type 0) (value : W → Type 0) (x : Exclusion U W) → proof_of x ≡ own
+own_admitted : {U W : Type 0} (own : OperationProof) (update : U → Type 0) (value : W → Type 0) (x : Exclusion U W)
+    → proof_of x ≡ own
     → IsAdmittedExclusion (λ _. Unit {0}) update value x → IsAdmittedExclusion (λ q. q ≡ own) update value x
 own_admitted own update value (KeyValue p u) same ok = (same, ok.1)
 own_admitted own update value (Commit p v) same ok = (same, ok.1)
 
-module _ (accepted : OwnOperationProofsAreAccepted) (again : OwnOperationProofsAreReadAgain) {K V X : Type 0} (e : Keyed K V) (kview : K → X) (kparse : List ℕ → Answer X) (kadmits : K → Type 0)
+module _ (accepted : OwnOperationProofsAreAccepted) (again : OwnOperationProofsAreReadAgain) {K V X : Type 0}
+    (e : Keyed K V) (kview : K → X) (kparse : List ℕ → Answer X) (kadmits : K → Type 0)
     (kagain : (k : K) (rest : List ℕ) → kadmits k → kparse (e.key k ++ rest) ≡ Ok (kview k, rest)) where
   pub own_values : OwnValuesAreAccepted e kview kparse kadmits
   own_values d h sized g grafting has_pending prompt s snapshot location key value next active admitted =
@@ -41,9 +46,11 @@ module _ (accepted : OwnOperationProofsAreAccepted) (again : OwnOperationProofsA
       let none : List ℕ = [] in
       let proof_read = own_read again d h sized g grafting has_pending prompt s snapshot location active.within in
       let next_read : IsRead e.key kview kparse kadmits = record { again = kagain } in
-      let pair = pair_again (operation_text has_pending) e.key (λ q. q) kview parse kparse (λ q. q ≡ p) kadmits proof_read next_read p next none (refl, admitted) in
+      let pair = pair_again (operation_text has_pending) e.key (λ q. q) kview parse kparse
+      (λ q. q ≡ p) kadmits proof_read next_read p next none (refl, admitted) in
       let text = operation_text has_pending p ++ e.key next in
-      let read : pair_at parse kparse text ≡ Ok ((p, kview next), none) = ap (pair_at parse kparse) (sym (append-nil text)) ∙ pair in
+      let read : pair_at parse kparse text ≡ Ok ((p, kview next), none) =
+      ap (pair_at parse kparse) (sym (append-nil text)) ∙ pair in
       record {
         proof = p;
         next = next;
@@ -70,7 +77,10 @@ module _ (accepted : OwnOperationProofsAreAccepted) (again : OwnOperationProofsA
     value_read = record { again = vagain }
 
     update_read : IsRead written seen (ordered_at kparse vparse) UpdateAdmits
-    update_read = record { again = λ u rest ok. ordered_again e.key e.value kview vview kparse vparse kadmits vadmits key_read value_read u.0 u.1 u.2 rest ok }
+    update_read = record {
+      again = λ u rest ok.
+          ordered_again e.key e.value kview vview kparse vparse kadmits vadmits key_read value_read u.0 u.1 u.2 rest ok;
+    }
 
     commit_read : IsRead e.value vview wparse wadmits
     commit_read = record { again = wagain }
@@ -80,16 +90,21 @@ module _ (accepted : OwnOperationProofsAreAccepted) (again : OwnOperationProofsA
         let parse = sized_operation_at has_pending d g.bytes 128 in
         let none : List ℕ = [] in
         let p = own_operation_proof h g s (proof_of x).location in
-        let proof_read = own_read again d h sized g grafting has_pending prompt s snapshot (proof_of x).location active.within in
+        let proof_read =
+        own_read again d h sized g grafting has_pending prompt s snapshot (proof_of x).location active.within in
         let text = exclusion_text has_pending written e.value x in
-        let one = exclusion_again has_pending written e.value seen vview parse (ordered_at kparse vparse) wparse (λ q. q ≡ p) UpdateAdmits wadmits proof_read update_read commit_read x none (own_admitted p UpdateAdmits wadmits x own admitted) in
-        let read : exclusion_at parse (ordered_at kparse vparse) wparse text ≡ Ok (exclusion_map seen vview x, none) = ap (exclusion_at parse (ordered_at kparse vparse) wparse) (sym (append-nil text)) ∙ one in
+        let one = exclusion_again has_pending written e.value seen vview parse (ordered_at kparse vparse) wparse
+        (λ q. q ≡ p) UpdateAdmits wadmits proof_read update_read commit_read x none
+        (own_admitted p UpdateAdmits wadmits x own admitted) in
+        let read : exclusion_at parse (ordered_at kparse vparse) wparse text ≡ Ok (exclusion_map seen vview x, none) =
+        ap (exclusion_at parse (ordered_at kparse vparse) wparse) (sym (append-nil text)) ∙ one in
         record {
           proof = x;
           read = ap whole read;
           accepted = record {
             allowed = allowed;
-            accepted = subst (λ (q : OperationProof). IsActiveCurrent h g q (shown_text e x) (canonical_root h g s)) (sym own)
+            accepted =
+                subst (λ (q : OperationProof). IsActiveCurrent h g q (shown_text e x) (canonical_root h g s)) (sym own)
                 (accepted h g grafting s snapshot (proof_of x).location (shown_text e x) active);
           };
         }

@@ -9,7 +9,9 @@ use Rattle.storage_current.specs.Snapshots.{Grafting, Snapshot}
 
 -- these are the bits, the nodes, the operations root and the canonical root of one that stands for a snapshot, its floor, and a plan
 -- over its operations
-pub record AreHandedOut {D : Type 0} (text : D → List ℕ) (answers : ℕ → Option D → Type 0) (h : HashFunction) (g : Grafting) (plan : PlanOf) (status : Retained) (floor : ℕ) (ops_root root : List ℕ) (kept : KeptSnapshot) (s : Snapshot) : Type 0 where
+pub record AreHandedOut {D : Type 0} (text : D → List ℕ) (answers : ℕ → Option D → Type 0) (h : HashFunction)
+    (g : Grafting) (plan : PlanOf) (status : Retained) (floor : ℕ) (ops_root root : List ℕ) (kept : KeptSnapshot)
+    (s : Snapshot) : Type 0 where
   pub stands : StandsFor h g kept s
   pub count : plan.leaves ≡ length s.operations
   pub status_is : status ≡ kept.status

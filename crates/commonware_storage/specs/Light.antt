@@ -17,7 +17,8 @@ pub record IsProofAt (has_pending : Bool) (d size location : ℕ) (bytes : List 
   pub at : proof.location ≡ location
 
 -- the same, and the check of that proof says yes for an operation against a root
-pub record IsAcceptedAt (h : HashFunction) (g : Grafting) (has_pending : Bool) (d location : ℕ) (bytes operation root : List ℕ) : Type 0 where
+pub record IsAcceptedAt (h : HashFunction) (g : Grafting) (has_pending : Bool) (d location : ℕ)
+    (bytes operation root : List ℕ) : Type 0 where
   pub proof : OperationProof
   pub read : whole (sized_operation_at has_pending d g.bytes 128 bytes) ≡ Ok (proof, [])
   pub at : proof.location ≡ location
@@ -26,7 +27,8 @@ pub record IsAcceptedAt (h : HashFunction) (g : Grafting) (has_pending : Bool) (
 -- What a yes means, whatever the bytes are. Of each snapshot with that canonical root: the operation stands at the location and is
 -- active there, and the bytes are what the snapshot's own proof is written as, or a string that the check hashed and a different one
 -- of the root's calculation have one digest.
-pub record IsTrueAt (h : HashFunction) (g : Grafting) (has_pending : Bool) (d location : ℕ) (bytes operation root : List ℕ) : Type 0 where
+pub record IsTrueAt (h : HashFunction) (g : Grafting) (has_pending : Bool) (d location : ℕ)
+    (bytes operation root : List ℕ) : Type 0 where
   pub proof : OperationProof
   pub read : whole (sized_operation_at has_pending d g.bytes 128 bytes) ≡ Ok (proof, [])
   pub means : (s : Snapshot) → IsSnapshot s → canonical_root h g s ≡ root →
@@ -36,19 +38,23 @@ pub record IsTrueAt (h : HashFunction) (g : Grafting) (has_pending : Bool) (d lo
 -- The other half. What a snapshot's own proof of an active operation is written as is accepted at its location.
 abbrev pub OwnProofsAreAccepted : Type 0
 OwnProofsAreAccepted =
-    (d : ℕ) (h : HashFunction) → IsSized d h → (g : Grafting) → IsGrafting g → (has_pending : Bool) → IsPrompt has_pending g.shape →
+    (d : ℕ) (h : HashFunction) → IsSized d h → (g : Grafting) → IsGrafting g → (has_pending : Bool)
+    → IsPrompt has_pending g.shape →
     (s : Snapshot) → IsSnapshot s → (location : ℕ) (operation : List ℕ) → IsActive s location operation →
-    IsAcceptedAt h g has_pending d location (operation_text has_pending (own_operation_proof h g s location)) operation (canonical_root h g s)
+    IsAcceptedAt h g has_pending d location (operation_text has_pending (own_operation_proof h g s location)) operation
+    (canonical_root h g s)
 
 -- the same two of texts, which spell the proof's and the operation's bytes in hexadecimal
-pub record IsTextAcceptedAt (h : HashFunction) (g : Grafting) (has_pending : Bool) (d location : ℕ) (proof operation root : List ℕ) : Type 0 where
+pub record IsTextAcceptedAt (h : HashFunction) (g : Grafting) (has_pending : Bool) (d location : ℕ)
+    (proof operation root : List ℕ) : Type 0 where
   pub bytes : List ℕ
   pub spelled : decode_of proof ≡ Ok bytes
   pub operation_bytes : List ℕ
   pub operation_spelled : decode_of operation ≡ Ok operation_bytes
   pub accepted : IsAcceptedAt h g has_pending d location bytes operation_bytes root
 
-pub record IsTextTrueAt (h : HashFunction) (g : Grafting) (has_pending : Bool) (d location : ℕ) (proof operation root : List ℕ) : Type 0 where
+pub record IsTextTrueAt (h : HashFunction) (g : Grafting) (has_pending : Bool) (d location : ℕ)
+    (proof operation root : List ℕ) : Type 0 where
   pub bytes : List ℕ
   pub spelled : decode_of proof ≡ Ok bytes
   pub operation_bytes : List ℕ

@@ -5,7 +5,7 @@ ghost use Rattle.storage_bitmap.specs.Chunks.{IsChunkSize};
 ghost use Rattle.storage_current.specs.BuiltProofs.{ArePartsOf, IsNotBuilt};
 ghost use Rattle.storage_current.specs.CurrentWire.{operation_text};
 ghost use Rattle.storage_current.specs.KeptSnapshots.{KeptSnapshot};
-ghost use Rattle.storage_current.specs.Snapshots.{Grafting, IsActive, IsSnapshot, Snapshot as SnapshotOf, canonical_root, first_chunk, own_operation_proof};
+ghost use Rattle.storage_current.specs.Snapshots.{IsActive, IsSnapshot, Snapshot as SnapshotOf, canonical_root, first_chunk, own_operation_proof, grafting_of};
 ghost use Rattle.commonware_storage.specs.Handed.{AreHandedOut};
 ghost use Rattle.commonware_storage.specs.Light.{IsAcceptedAt, OwnProofsAreAccepted};
 
@@ -59,10 +59,29 @@ pub fn built_proofs_are_accepted<
 ) -> Result<bool, Error<F>>
     requires size { IsChunkSize N }
     requires callable { G.IsAlwaysCallable get_node }
-    ensures asked { let g : Grafting = record { shape = F.shape; bytes = N } in (s : SnapshotOf) → ArePartsOf H.Digest.text (G.post get_node) H.hash_of g plan (R.retained status.now) floor (H.Digest.text ops_root) s → IfOk result (λ yes. IsTrue yes ↔ IsAcceptedAt H.hash_of g F.has_pending H.Digest.size plan.start (operation_text F.has_pending (own_operation_proof H.hash_of g s plan.start)) operation.now (H.Digest.text root.now)) }
-    ensures accepted { let g : Grafting = record { shape = F.shape; bytes = N } in (s : SnapshotOf) → IsSnapshot s → ArePartsOf H.Digest.text (G.post get_node) H.hash_of g plan (R.retained status.now) floor (H.Digest.text ops_root) s → H.Digest.text root.now ≡ canonical_root H.hash_of g s → IsActive s plan.start operation.now → IfOk result (λ yes. yes ≡ true) }
-    ensures handed { let g : Grafting = record { shape = F.shape; bytes = N } in (kept : KeptSnapshot) (s : SnapshotOf) → IsSnapshot s → AreHandedOut H.Digest.text (G.post get_node) H.hash_of g plan (R.retained status.now) floor (H.Digest.text ops_root) (H.Digest.text root.now) kept s → IsActive s plan.start operation.now → MatchResult result (λ yes. yes ≡ true) (λ error. error ≡ Error.Memory) }
-    ensures why { let g : Grafting = record { shape = F.shape; bytes = N } in IfErr result (λ error. ((first_chunk g plan.start < (R.retained status.now).pruned) × (error ≡ Error.OperationPruned plan.start)) ⊎ IsNotBuilt (G.post get_node) g plan (R.retained status.now) error) }
+    ensures asked { let g = grafting_of F.shape N in
+        (s : SnapshotOf) → ArePartsOf H.Digest.text (G.post get_node) H.hash_of g plan
+        (R.retained status.now) floor (H.Digest.text ops_root) s
+        → IfOk result (λ yes. IsTrue yes ↔ IsAcceptedAt H.hash_of g F.has_pending H.Digest.size
+        plan.start (operation_text F.has_pending (own_operation_proof H.hash_of g s plan.start))
+        operation.now (H.Digest.text root.now)) }
+    ensures accepted { let g = grafting_of F.shape N in
+        (s : SnapshotOf) → IsSnapshot s
+        → ArePartsOf H.Digest.text (G.post get_node) H.hash_of g plan (R.retained status.now) floor
+        (H.Digest.text ops_root) s
+        → H.Digest.text root.now ≡ canonical_root H.hash_of g s
+        → IsActive s plan.start operation.now
+        → IfOk result (λ yes. yes ≡ true) }
+    ensures handed { let g = grafting_of F.shape N in
+        (kept : KeptSnapshot) (s : SnapshotOf) → IsSnapshot s
+        → AreHandedOut H.Digest.text (G.post get_node) H.hash_of g plan
+        (R.retained status.now) floor (H.Digest.text ops_root) (H.Digest.text root.now) kept s
+        → IsActive s plan.start operation.now
+        → MatchResult result (λ yes. yes ≡ true) (λ error. error ≡ Error.Memory) }
+    ensures why { let g = grafting_of F.shape N in
+        IfErr result (λ error. ((first_chunk g plan.start < (R.retained status.now).pruned)
+        × (error ≡ Error.OperationPruned plan.start))
+        ⊎ IsNotBuilt (G.post get_node) g plan (R.retained status.now) error) }
 {
     own_proofs_are_accepted();
     greatest_nodes_are_planned();

@@ -5,6 +5,7 @@ ghost use Rattle.hex.specs.Hex.{decode_of};
 ghost use Rattle.storage_bitmap.specs.Chunks.{IsChunkSize};
 ghost use Rattle.commonware_storage.specs.Light.{IsAcceptedAt, IsTrueAt, IsTextAcceptedAt, IsTextTrueAt, IsProofAt, IsProofTextAt, IsTextRefusal};
 ghost use Rattle.commonware_storage.specs.declared.light.text_error.TextError.TheVariants.{Memory};
+ghost use Rattle.storage_current.specs.Snapshots.{grafting_of};
 
 mod keys;
 mod text_error;
@@ -37,9 +38,14 @@ pub fn check_operation<F: Graftable, H: Hasher>(
     root: &H::Digest,
 ) -> Result<bool, NoMemory>
     ensures refused { ¬ IsChunkSize chunk_size → result ≡ Ok false }
-    ensures exact { IfOk result (λ yes. IsTrue yes ↔ IsAcceptedAt H.hash_of (record { shape = F.shape; bytes = chunk_size }) F.has_pending H.Digest.size loc proof.now operation.now (H.Digest.text root.now)) }
-    ensures meaning { (H.Digest.size ≡ 32) ⊎ (H.Digest.size ≡ 64) → IfOk result (λ yes. IsTrue yes → IsTrueAt H.hash_of (record { shape = F.shape; bytes = chunk_size }) F.has_pending H.Digest.size loc proof.now operation.now (H.Digest.text root.now)) }
-    ensures whole { IfOk result (λ yes. IsTrue yes → IsProofAt F.has_pending H.Digest.size chunk_size loc proof.now) }
+    ensures exact { IfOk result (λ yes.
+        IsTrue yes ↔ IsAcceptedAt H.hash_of (grafting_of F.shape chunk_size) F.has_pending
+        H.Digest.size loc proof.now operation.now (H.Digest.text root.now)) }
+    ensures meaning { (H.Digest.size ≡ 32) ⊎ (H.Digest.size ≡ 64)
+        → IfOk result (λ yes. IsTrue yes → IsTrueAt H.hash_of (grafting_of F.shape chunk_size)
+        F.has_pending H.Digest.size loc proof.now operation.now (H.Digest.text root.now)) }
+    ensures whole { IfOk result (λ yes. IsTrue yes
+        → IsProofAt F.has_pending H.Digest.size chunk_size loc proof.now) }
 {
     if grafting::chunk_height(chunk_size).is_none() {
         return Ok(false);
@@ -68,9 +74,14 @@ pub fn check_text<F: Graftable, H: Hasher>(
     root: &H::Digest,
 ) -> Result<bool, TextError>
     ensures refused { ¬ IsChunkSize chunk_size → IfOk result (λ yes. yes ≡ false) }
-    ensures exact { IfOk result (λ yes. IsTrue yes ↔ IsTextAcceptedAt H.hash_of (record { shape = F.shape; bytes = chunk_size }) F.has_pending H.Digest.size loc proof.now operation.now (H.Digest.text root.now)) }
-    ensures meaning { (H.Digest.size ≡ 32) ⊎ (H.Digest.size ≡ 64) → IfOk result (λ yes. IsTrue yes → IsTextTrueAt H.hash_of (record { shape = F.shape; bytes = chunk_size }) F.has_pending H.Digest.size loc proof.now operation.now (H.Digest.text root.now)) }
-    ensures whole { IfOk result (λ yes. IsTrue yes → IsProofTextAt F.has_pending H.Digest.size chunk_size loc proof.now) }
+    ensures exact { IfOk result (λ yes.
+        IsTrue yes ↔ IsTextAcceptedAt H.hash_of (grafting_of F.shape chunk_size) F.has_pending
+        H.Digest.size loc proof.now operation.now (H.Digest.text root.now)) }
+    ensures meaning { (H.Digest.size ≡ 32) ⊎ (H.Digest.size ≡ 64)
+        → IfOk result (λ yes. IsTrue yes → IsTextTrueAt H.hash_of (grafting_of F.shape chunk_size)
+        F.has_pending H.Digest.size loc proof.now operation.now (H.Digest.text root.now)) }
+    ensures whole { IfOk result (λ yes. IsTrue yes
+        → IsProofTextAt F.has_pending H.Digest.size chunk_size loc proof.now) }
     ensures spelled { OnOk result (IsOk (decode_of operation.now) × IsOk (decode_of proof.now)) }
     ensures why { IfErr result (λ error. IsTextRefusal error operation.now proof.now) }
 {
@@ -83,7 +94,8 @@ pub fn check_text<F: Graftable, H: Hasher>(
 /// The bytes that a text spells; this fault where it spells none.
 fn spelled(alloc: Global, text: &str, fault: TextError) -> Result<Vec<u8>, TextError>
     ensures bytes { IfOk result (λ bytes. decode_of text.now ≡ Ok bytes.items) }
-    ensures why { IfErr result (λ error. (error ≡ Memory) ⊎ ((error ≡ fault) × IsErr (decode_of text.now))) }
+    ensures why { IfErr result (λ error.
+        (error ≡ Memory) ⊎ ((error ≡ fault) × IsErr (decode_of text.now))) }
 {
     match hex::decode(alloc, text) {
         Ok(bytes) => Ok(bytes),

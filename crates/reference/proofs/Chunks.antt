@@ -13,7 +13,8 @@ unfolding number_of
 number_empty p places [] s e = rw s refl
 number_empty p places (b ∷ bs) s e = absurd (omega arith)
 
-pub number_more : (p places : ℕ) (bs rest : List Bool) (b : Bool) (d x : ℕ) → places ≡ suc p → bs ≡ b ∷ rest → d ≡ digit b → x ≡ number_of p rest → d + 2 * x ≡ number_of places bs
+pub number_more : (p places : ℕ) (bs rest : List Bool) (b : Bool) (d x : ℕ) → places ≡ suc p → bs ≡ b ∷ rest
+    → d ≡ digit b → x ≡ number_of p rest → d + 2 * x ≡ number_of places bs
 unfolding number_of
 number_more p places bs rest b d x s e one more = rw (s, e) (ap₂ (λ (y z : ℕ). y + 2 * z) one more)
 
@@ -24,11 +25,14 @@ pub bytes_none : (count : ℕ) (bs : List Bool) (xs : List ℕ) → count ≡ 0 
 unfolding bytes_of
 bytes_none count bs xs e = rw e (sym (append-nil xs))
 
-pub bytes_more : (k count x : ℕ) (bs rest : List Bool) (xs ys zs : List ℕ) → count ≡ suc k → x ≡ number_of 8 bs → ys ≡ xs ++ x ∷ [] → rest ≡ drop 8 bs → zs ≡ ys ++ bytes_of k rest → zs ≡ xs ++ bytes_of count bs
+pub bytes_more : (k count x : ℕ) (bs rest : List Bool) (xs ys zs : List ℕ) → count ≡ suc k → x ≡ number_of 8 bs
+    → ys ≡ xs ++ x ∷ [] → rest ≡ drop 8 bs → zs ≡ ys ++ bytes_of k rest → zs ≡ xs ++ bytes_of count bs
 unfolding bytes_of
 bytes_more k count x bs rest xs ys zs s one push skip more =
-    rw s (more ∙ ap₂ (λ (l : List ℕ) (r : List Bool). l ++ bytes_of k r) (push ∙ ap (λ (y : ℕ). xs ++ y ∷ []) one) skip ∙ append_assoc xs (number_of 8 bs ∷ []) (bytes_of k (drop 8 bs)))
+    rw s (more ∙ ap₂ (λ (l : List ℕ) (r : List Bool). l ++ bytes_of k r) (push ∙ ap (λ (y : ℕ). xs ++ y ∷ []) one) skip
+    ∙ append_assoc xs (number_of 8 bs ∷ []) (bytes_of k (drop 8 bs)))
 
-pub chunk_from : (n j : ℕ) (bits rest : List Bool) (xs ys : List ℕ) → xs ≡ [] → rest ≡ drop (j * (8 * n)) bits → ys ≡ xs ++ bytes_of n rest → ys ≡ chunk n bits j
+pub chunk_from : (n j : ℕ) (bits rest : List Bool) (xs ys : List ℕ) → xs ≡ [] → rest ≡ drop (j * (8 * n)) bits
+    → ys ≡ xs ++ bytes_of n rest → ys ≡ chunk n bits j
 unfolding chunk
 chunk_from n j bits rest xs ys none skip e = e ∙ ap₂ (λ (l : List ℕ) (r : List Bool). l ++ bytes_of n r) none skip

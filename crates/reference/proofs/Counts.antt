@@ -43,12 +43,14 @@ eight_some n size =
     let h = chunk_height (record { shape = mmr; bytes = n }) size in
     omega (arith, h.bits, pow_pos (height (record { shape = mmr; bytes = n })))
 
-pub height_from : (n r : ℕ) → IsChunkSize n → r ≡ floor_log2 (8 * n) → (S : Shape) → r ≡ height (record { shape = S; bytes = n })
+pub height_from : (n r : ℕ) → IsChunkSize n → r ≡ floor_log2 (8 * n) → (S : Shape)
+    → r ≡ height (record { shape = S; bytes = n })
 height_from n r size e S =
     let b = floor_log2_bounds (8 * n) (eight_some n size) in
     height_is (record { shape = S; bytes = n }) r (rw e b.0) (rw e b.1)
 
-pub height_bits : (n r : ℕ) → IsChunkSize n → r ≡ height (record { shape = mmr; bytes = n }) → (2 ^ r ≡ 8 * n) × (r ≤ 62)
+pub height_bits : (n r : ℕ) → IsChunkSize n → r ≡ height (record { shape = mmr; bytes = n })
+    → (2 ^ r ≡ 8 * n) × (r ≤ 62)
 height_bits n r size e =
     let h = chunk_height (record { shape = mmr; bytes = n }) size in
     (ap (λ (k : ℕ). 2 ^ k) e ∙ h.bits, rw e h.small)

@@ -10,16 +10,23 @@ use Rattle.storage_merkle.specs.declared.merkle.bagging.Bagging.{Bagging}
 
 module _ (h : HashFunction) (T : Layout) (cut : ℕ → ℕ → Bool) (v : Values) where
   -- a node from its halves
-  pub node_halves : (j k a m p : ℕ) (l r i d : List ℕ) → k ≡ suc j → cut a k ≡ false → m ≡ a + 2 ^ j → p ≡ T.shape.position a k → l ≡ eval h v (node_calc T cut j a) → r ≡ eval h v (node_calc T cut j m) → i ≡ h (be8 p ++ (l ++ r)) → d ≡ (if T.grafted a k then grafted_digest h (v.chunk a) i else i) → d ≡ eval h v (node_calc T cut k a)
+  pub node_halves : (j k a m p : ℕ) (l r i d : List ℕ) → k ≡ suc j → cut a k ≡ false → m ≡ a + 2 ^ j
+      → p ≡ T.shape.position a k → l ≡ eval h v (node_calc T cut j a) → r ≡ eval h v (node_calc T cut j m)
+      → i ≡ h (be8 p ++ (l ++ r)) → d ≡ (if T.grafted a k then grafted_digest h (v.chunk a) i else i)
+      → d ≡ eval h v (node_calc T cut k a)
   node_halves j zero a m p l r i d s c n e x y z w = absurd (omega arith)
   node_halves j (suc k) a m p l r i d s c n e x y z w =
       let same : j ≡ k = omega arith in
       let left : l ≡ eval h v (node_calc T cut k a) = x ∙ ap (λ (q : ℕ). eval h v (node_calc T cut q a)) same in
-      let right : r ≡ eval h v (node_calc T cut k (a + 2 ^ k)) = y ∙ ap₂ (λ (q o : ℕ). eval h v (node_calc T cut q o)) same (n ∙ ap (λ (q : ℕ). a + 2 ^ q) same) in
-      let inner : i ≡ h (be8 (T.shape.position a (suc k)) ++ (eval h v (node_calc T cut k a) ++ eval h v (node_calc T cut k (a + 2 ^ k)))) = z ∙ ap₂ (λ (q : ℕ) (o : List ℕ). h (be8 q ++ o)) e (ap₂ (λ (o u : List ℕ). o ++ u) left right) in
+      let right : r ≡ eval h v (node_calc T cut k (a + 2 ^ k)) =
+      y ∙ ap₂ (λ (q o : ℕ). eval h v (node_calc T cut q o)) same (n ∙ ap (λ (q : ℕ). a + 2 ^ q) same) in
+      let inner : i ≡ h (be8 (T.shape.position a (suc k))
+      ++ (eval h v (node_calc T cut k a) ++ eval h v (node_calc T cut k (a + 2 ^ k)))) =
+      z ∙ ap₂ (λ (q : ℕ) (o : List ℕ). h (be8 q ++ o)) e (ap₂ (λ (o u : List ℕ). o ++ u) left right) in
       w ∙ ap (λ (o : List ℕ). if T.grafted a (suc k) then grafted_digest h (v.chunk a) o else o) inner
       ∙ sym (eval-join h v T a (suc k) (node_calc T cut k a) (node_calc T cut k (a + 2 ^ k)))
-      ∙ ap (λ (b : Bool). eval h v (if b then given (node a (suc k)) else join_calc T a (suc k) (node_calc T cut k a) (node_calc T cut k (a + 2 ^ k)))) (sym c)
+      ∙ ap (λ (b : Bool). eval h v (if b then given (node a (suc k))
+      else join_calc T a (suc k) (node_calc T cut k a) (node_calc T cut k (a + 2 ^ k)))) (sym c)
 
 -- what side by side is
 pub leaves_cons : (xs rest : List ℕ) (k : ℕ) → xs ≡ k ∷ rest → leaves_of xs ≡ 2 ^ k + leaves_of rest
@@ -31,8 +38,12 @@ length-places a [] = refl
 length-places a (k ∷ ks) = ap suc (length-places (a + 2 ^ k) ks)
 
 -- the root from what a tree's peaks are bagged into
-pub root_from : (h : HashFunction) (T : Layout) (b : Bagging) (content : Content) (i n : ℕ) (r bag : List ℕ) (ds : List (List ℕ)) (ps : List Peak) → n ≡ length content.elements → ps ≡ peaks_of T n → ds ≡ map (λ p. tree_node h T content p.first p.height) ps → bag ≡ bagged_peaks h b i ds → r ≡ h (root_head T b n i ++ bag) → r ≡ tree_root h T b content i
+pub root_from : (h : HashFunction) (T : Layout) (b : Bagging) (content : Content) (i n : ℕ) (r bag : List ℕ)
+    (ds : List (List ℕ)) (ps : List Peak) → n ≡ length content.elements → ps ≡ peaks_of T n
+    → ds ≡ map (λ p. tree_node h T content p.first p.height) ps → bag ≡ bagged_peaks h b i ds
+    → r ≡ h (root_head T b n i ++ bag) → r ≡ tree_root h T b content i
 root_from h T b content i n r bag ds ps count peaks digests bagged root =
-    let all : ds ≡ map (λ p. tree_node h T content p.first p.height) (peaks_of T (length content.elements)) = digests ∙ ap (map (λ p. tree_node h T content p.first p.height)) (peaks ∙ ap (peaks_of T) count) in
+    let all : ds ≡ map (λ p. tree_node h T content p.first p.height) (peaks_of T (length content.elements)) =
+    digests ∙ ap (map (λ p. tree_node h T content p.first p.height)) (peaks ∙ ap (peaks_of T) count) in
     root ∙ ap₂ (λ (m : ℕ) (x : List ℕ). h (root_head T b m i ++ x)) count (bagged ∙ ap (bagged_peaks h b i) all)
     ∙ sym (tree_root-peaks h T b content i)

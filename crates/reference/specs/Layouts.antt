@@ -3,7 +3,7 @@ use Rattle.std.specs.Prelude.{ℕ, List, Bool}
 use Rattle.storage_merkle.specs.Shape.{Shape}
 use Rattle.storage_merkle.specs.Calc.{Site, Values}
 use Rattle.storage_merkle.specs.Trees.{Layout}
-use Rattle.storage_current.specs.Snapshots.{Grafting, Snapshot}
+use Rattle.storage_current.specs.Snapshots.{Snapshot}
 
 -- a family's layout with a chunk grafted over these nodes
 abbrev pub laid_out : Shape → (ℕ → ℕ → Bool) → Layout
@@ -13,9 +13,6 @@ laid_out S grafted = record { shape = S; grafted = grafted }
 abbrev pub valued : (Site → List ℕ) → (ℕ → List ℕ) → (ℕ → List ℕ) → Values
 valued digest element chunk = record { digest = digest; element = element; chunk = chunk }
 
--- a family with chunks of so many bytes, and operations with their bits and a floor
-abbrev pub grafting : Shape → ℕ → Grafting
-grafting S bytes = record { shape = S; bytes = bytes }
-
+-- operations with their bits and a floor
 abbrev pub snapshot : List (List ℕ) → List Bool → ℕ → Snapshot
 snapshot operations bits floor = record { operations = operations; bits = bits; floor = floor }

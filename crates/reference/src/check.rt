@@ -2,8 +2,9 @@
 ghost use Rattle.std.specs.Prelude.{◌≡◌, ◌↔◌, ℕ, ◌+◌, ◌-◌, ◌^◌, ◌<◌, ◌≤◌, ◌++◌, List, [], length, map, option_map, get_or, IfOk, OnOk, IsTrue};
 ghost use Rattle.storage_merkle.specs.Calc.{eval};
 ghost use Rattle.storage_merkle.specs.Hashers.{or_nothing};
-ghost use Rattle.storage_merkle.specs.Trees.{eval_bag};
+ghost use Rattle.storage_merkle.specs.Trees.{eval_bag, content_of};
 ghost use Rattle.storage_merkle.specs.Checks.{IsRecomputed};
+ghost use Rattle.storage_merkle.specs.Held.{range_of};
 ghost use Rattle.storage_merkle.specs.RangeProofs.{IsAccepted, apart, back_given, front_given, look_up};
 ghost use Rattle.reference.specs.Layouts.{laid_out, valued};
 ghost use Rattle.reference.specs.Sites.{claimed, site_of};
@@ -43,7 +44,8 @@ fn no_bytes<H: Hasher>() -> H::Digest
 
 /// The digest that stands for a site in a list; that of no bytes where none does.
 pub fn look_up<H: Hasher>(sites: &[Site], digests: &[H::Digest], site: Site) -> H::Digest
-    ensures { H.Digest.text result ≡ look_up (H.hash_of []) (map site_of sites.now) (map H.Digest.text digests.now) (site_of site) }
+    ensures { H.Digest.text result ≡ look_up (H.hash_of []) (map site_of sites.now)
+        (map H.Digest.text digests.now) (site_of site) }
 {
     match (sites.split_first(), digests.split_first()) {
         (Some((place, other_places)), Some((digest, other_digests))) => {
@@ -61,7 +63,8 @@ pub fn look_up<H: Hasher>(sites: &[Site], digests: &[H::Digest], site: Site) -> 
 impl<H: Hasher, E: AsSlice<u8>> Source<H> for Claim<'_, H::Digest, E> {
     ghost cut = { λ s. apart s.low s.high };
 
-    ghost digest = { λ s. look_up (H.hash_of []) (map site_of s.sites.now) (map H.Digest.text s.digests.now) };
+    ghost digest = { λ s.
+        look_up (H.hash_of []) (map site_of s.sites.now) (map H.Digest.text s.digests.now) };
 
     ghost item = { λ s j. get_or (map E.items s.elements.now) (j - s.low) [] };
 
@@ -90,7 +93,10 @@ fn push_front<H: Hasher, E: AsSlice<u8>>(
     claim: &Claim<'_, H::Digest, E>,
     peaks: &[Node],
 ) -> Result<(), AllocError>
-    ensures { OnOk result ((item chunk : ℕ → List ℕ) → map H.Digest.text digests.new.items ≡ map H.Digest.text digests.old.items ++ map (eval H.hash_of (valued (look_up (H.hash_of []) (map site_of claim.now.sites.now) (map H.Digest.text claim.now.digests.now)) item chunk)) (front_given peaks.now)) }
+    ensures { OnOk result ((item chunk : ℕ → List ℕ)
+        → map H.Digest.text digests.new.items ≡ map H.Digest.text digests.old.items
+        ++ map (eval H.hash_of (valued (look_up (H.hash_of []) (map site_of claim.now.sites.now)
+        (map H.Digest.text claim.now.digests.now)) item chunk)) (front_given peaks.now)) }
 {
     if !peaks.is_empty() {
         digests.push(look_up::<H>(claim.sites, claim.digests, Site::Front))?;
@@ -104,7 +110,10 @@ fn push_back<H: Hasher, E: AsSlice<u8>>(
     claim: &Claim<'_, H::Digest, E>,
     peaks: &[Node],
 ) -> Result<(), AllocError>
-    ensures { OnOk result ((item chunk : ℕ → List ℕ) → map H.Digest.text digests.new.items ≡ map H.Digest.text digests.old.items ++ map (eval H.hash_of (valued (look_up (H.hash_of []) (map site_of claim.now.sites.now) (map H.Digest.text claim.now.digests.now)) item chunk)) (back_given peaks.now)) }
+    ensures { OnOk result ((item chunk : ℕ → List ℕ)
+        → map H.Digest.text digests.new.items ≡ map H.Digest.text digests.old.items
+        ++ map (eval H.hash_of (valued (look_up (H.hash_of []) (map site_of claim.now.sites.now)
+        (map H.Digest.text claim.now.digests.now)) item chunk)) (back_given peaks.now)) }
 {
     if !peaks.is_empty() {
         digests.push(look_up::<H>(claim.sites, claim.digests, Site::Back))?;
@@ -122,7 +131,9 @@ pub fn recomputed_root<F: Digits, H: Hasher, G: Grafts<H>, E: AsSlice<u8>>(
     start: u64,
     elements: &[E],
 ) -> Result<Option<H::Digest>, AllocError>
-    ensures { IfOk result (λ root. IsRecomputed H.hash_of (laid_out F.shape (G.grafted grafts.now)) bagging (record { leaves = proof.now.leaves; inactive = proof.now.inactive_peaks; digests = map H.Digest.text proof.now.digests.items }) start (record { elements = map E.items elements.now; chunk = G.chunk grafts.now }) (option_map H.Digest.text root)) }
+    ensures { IfOk result (λ root. IsRecomputed H.hash_of (laid_out F.shape (G.grafted grafts.now))
+        bagging (range_of H.Digest.text proof.now) start (content_of (map E.items elements.now)
+        (G.chunk grafts.now)) (option_map H.Digest.text root)) }
 {
     let leaves = proof.leaves.as_u64();
     let Some(end) = start.checked_add(elements.len() as u64) else {
@@ -160,7 +171,12 @@ fn claimed_bag<F: Digits, H: Hasher, G: Grafts<H>, E: AsSlice<u8>>(
     left: &[Node],
     right: &[Node],
 ) -> Result<Option<H::Digest>, AllocError>
-    ensures { let T = laid_out F.shape (G.grafted grafts.now) in let v = valued (look_up (H.hash_of []) (map site_of claim.now.sites.now) (map H.Digest.text claim.now.digests.now)) (λ j. get_or (map E.items claim.now.elements.now) (j - claim.now.low) []) (G.chunk grafts.now) in IfOk result (λ found. or_nothing (option_map H.Digest.text found) ≡ eval_bag H.hash_of v (claimed T claim.now.low claim.now.high left.now right.now)) }
+    ensures { let T = laid_out F.shape (G.grafted grafts.now) in
+        let v = valued (look_up (H.hash_of []) (map site_of claim.now.sites.now)
+        (map H.Digest.text claim.now.digests.now)) (λ j. get_or (map E.items claim.now.elements.now)
+        (j - claim.now.low) []) (G.chunk grafts.now) in
+        IfOk result (λ found. or_nothing (option_map H.Digest.text found)
+        ≡ eval_bag H.hash_of v (claimed T claim.now.low claim.now.high left.now right.now)) }
 {
     let (before, others) = split_leading(claim.low, left);
     let (reached, past) = split_up_to(claim.high, right);
@@ -185,7 +201,9 @@ pub fn is_accepted<F: Digits, H: Hasher, G: Grafts<H>, E: AsSlice<u8>>(
     elements: &[E],
     root: &H::Digest,
 ) -> Result<bool, AllocError>
-    ensures { IfOk result (λ accepted. IsTrue accepted ↔ IsAccepted H.hash_of (laid_out F.shape (G.grafted grafts.now)) bagging (record { leaves = proof.now.leaves; inactive = proof.now.inactive_peaks; digests = map H.Digest.text proof.now.digests.items }) start (record { elements = map E.items elements.now; chunk = G.chunk grafts.now }) (H.Digest.text root.now)) }
+    ensures { IfOk result (λ accepted. IsTrue accepted ↔ IsAccepted H.hash_of
+        (laid_out F.shape (G.grafted grafts.now)) bagging (range_of H.Digest.text proof.now) start
+        (content_of (map E.items elements.now) (G.chunk grafts.now)) (H.Digest.text root.now)) }
 {
     if elements.is_empty() {
         let empty = root_over::<F, H>(bagging, 0, 0, None);
@@ -199,7 +217,8 @@ pub fn is_accepted<F: Digits, H: Hasher, G: Grafts<H>, E: AsSlice<u8>>(
 
 /// Whether a proof of the elements from `start` on is the one of the empty tree.
 fn is_empty<F: Digits, D: Digest>(proof: &Proof<F, D>, start: u64) -> bool
-    ensures { IsTrue result ↔ ((proof.now.leaves ≡ 0) × (proof.now.inactive_peaks ≡ 0) × (start ≡ 0) × (map D.text proof.now.digests.items ≡ [])) }
+    ensures { IsTrue result ↔ ((proof.now.leaves ≡ 0) × (proof.now.inactive_peaks ≡ 0) × (start ≡ 0)
+        × (map D.text proof.now.digests.items ≡ [])) }
 {
     proof.leaves.as_u64() == 0
         && proof.inactive_peaks == 0

@@ -2,7 +2,7 @@
 ghost use Rattle.std.specs.Prelude.{◌≡◌, ℕ, ◌+◌, ◌*◌, ◌%◌, ◌^◌, ◌≤◌, ◌<◌, ◌&&◌, List, length, take, leb, eqb, IfOk};
 ghost use Rattle.storage_bitmap.specs.Chunks.{IsChunkSize};
 ghost use Rattle.storage_merkle.specs.Shape.{Shape, leaves_of};
-ghost use Rattle.storage_current.specs.Snapshots.{aligned, exact, graftable_at, greatest, height};
+ghost use Rattle.storage_current.specs.Snapshots.{aligned, exact, graftable_at, greatest, height, grafting_of};
 
 use crate::shape::{Digits, highest_place, power};
 use std::alloc::{AllocError, Global};
@@ -10,7 +10,7 @@ use std::alloc::{AllocError, Global};
 /// The height of a node over as many operations as a chunk of so many bytes has bits.
 pub fn height(chunk_size: usize) -> u32
     requires { IsChunkSize chunk_size }
-    ensures value { (S : Shape) → result ≡ height (record { shape = S; bytes = chunk_size }) }
+    ensures value { (S : Shape) → result ≡ height (grafting_of S chunk_size) }
     ensures bits { 2 ^ result ≡ 8 * chunk_size }
     ensures small { result ≤ 62 }
 {
@@ -77,7 +77,8 @@ fn most_aligned(heights: &[u32], floor: u64, height: u32, bound: usize) -> usize
     requires few { leaves_of heights.now ≤ 2 ^ 62 }
     requires within { bound ≤ length heights.now }
     requires small { height ≤ 62 }
-    ensures { result ≡ greatest (λ r. leb (leaves_of (take r heights.now)) floor && eqb (leaves_of (take r heights.now) % 2 ^ height) 0) bound }
+    ensures { result ≡ greatest (λ r. leb (leaves_of (take r heights.now)) floor && eqb
+        (leaves_of (take r heights.now) % 2 ^ height) 0) bound }
 {
     if bound == 0 {
         return 0;

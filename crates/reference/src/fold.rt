@@ -9,7 +9,8 @@ use storage_merkle::merkle::{Bagging, Family};
 
 /// An item and others folded from the left.
 pub fn fold_forward<H: Hasher>(first: H::Digest, others: &[H::Digest]) -> H::Digest
-    ensures { H.Digest.text result ≡ folded_forward H.hash_of (H.Digest.text first) (map H.Digest.text others.now) }
+    ensures { H.Digest.text result
+        ≡ folded_forward H.hash_of (H.Digest.text first) (map H.Digest.text others.now) }
 {
     match others.split_first() {
         None => first,
@@ -19,7 +20,8 @@ pub fn fold_forward<H: Hasher>(first: H::Digest, others: &[H::Digest]) -> H::Dig
 
 /// An item and others folded from the right.
 pub fn fold_backward<H: Hasher>(first: H::Digest, others: &[H::Digest]) -> H::Digest
-    ensures { H.Digest.text result ≡ folded_backward H.hash_of (H.Digest.text first) (map H.Digest.text others.now) }
+    ensures { H.Digest.text result
+        ≡ folded_backward H.hash_of (H.Digest.text first) (map H.Digest.text others.now) }
 {
     match others.split_first() {
         None => first,
@@ -39,7 +41,8 @@ fn fold_two<H: Hasher>(left: &H::Digest, right: &H::Digest) -> H::Digest
 
 /// The first items folded from the left into one, and that and the others from the right; none for no items.
 pub fn bag<H: Hasher>(front: &[H::Digest], rest: &[H::Digest]) -> Option<H::Digest>
-    ensures { or_nothing (option_map H.Digest.text result) ≡ bagged H.hash_of (map H.Digest.text front.now) (map H.Digest.text rest.now) }
+    ensures { or_nothing (option_map H.Digest.text result)
+        ≡ bagged H.hash_of (map H.Digest.text front.now) (map H.Digest.text rest.now) }
 {
     match front.split_first() {
         None => {
@@ -60,7 +63,8 @@ pub fn bag_peaks<H: Hasher>(
     peaks: &[H::Digest],
 ) -> Option<H::Digest>
     requires { inactive ≤ length peaks.now }
-    ensures { or_nothing (option_map H.Digest.text result) ≡ bagged_peaks H.hash_of bagging inactive (map H.Digest.text peaks.now) }
+    ensures { or_nothing (option_map H.Digest.text result)
+        ≡ bagged_peaks H.hash_of bagging inactive (map H.Digest.text peaks.now) }
 {
     match bagging {
         Bagging::ForwardFold => bag::<H>(peaks, &[]),
@@ -80,7 +84,8 @@ pub fn root_over<F: Family, H: Hasher>(
     inactive: u64,
     bag: Option<H::Digest>,
 ) -> H::Digest
-    ensures { H.Digest.text result ≡ H.hash_of (root_head (ungrafted F.shape) bagging leaves inactive ++ or_nothing (option_map H.Digest.text bag)) }
+    ensures { H.Digest.text result ≡ H.hash_of (root_head
+        (ungrafted F.shape) bagging leaves inactive ++ or_nothing (option_map H.Digest.text bag)) }
 {
     let head = [F::byte(), bagging.byte()];
     let leaves = leaves.to_be_bytes();
@@ -100,7 +105,8 @@ fn bag_bytes<D: Digest>(bag: &Option<D>) -> &[u8]
 
 /// The digest of four parts.
 fn hash_four<H: Hasher>(first: &[u8], second: &[u8], third: &[u8], fourth: &[u8]) -> H::Digest
-    ensures { H.Digest.text result ≡ H.hash_of (first.now ++ (second.now ++ (third.now ++ fourth.now))) }
+    ensures { H.Digest.text result
+        ≡ H.hash_of (first.now ++ (second.now ++ (third.now ++ fourth.now))) }
 {
     H::hash(&[first, second, third, fourth])
 }

@@ -77,7 +77,10 @@ impl Node {
     /// Its right half, where its height is at least 1.
     pub fn right(&self) -> Self
         requires { 0 < self.now.height }
-        ensures { result ≡ record { first = self.now.first + 2 ^ (self.now.height - 1); height = self.now.height - 1 } }
+        ensures { result ≡ record {
+          first = self.now.first + 2 ^ (self.now.height - 1);
+          height = self.now.height - 1;
+        } }
     {
         Node {
             first: self.first + power(self.height - 1),
@@ -99,7 +102,9 @@ pub trait Source<H: Hasher> {
 
     /// The digest of a node where it is given.
     fn given(&self, place: Node) -> Option<H::Digest>
-        ensures { MatchOption result (cut self.now place.first place.height ≡ false) (λ d. (cut self.now place.first place.height ≡ true) × (H.Digest.text d ≡ digest self.now (node place.first place.height))) };
+        ensures { MatchOption result (cut self.now place.first place.height ≡ false) (λ d.
+            (cut self.now place.first place.height ≡ true)
+            × (H.Digest.text d ≡ digest self.now (node place.first place.height))) };
 
     /// The element at a location; no bytes where there is none.
     fn element(&self, location: u64) -> &[u8]
@@ -117,7 +122,9 @@ pub trait Grafts<H: Hasher> {
     /// The digest of a node from the one that it has with no chunk: as it is where none is grafted or the chunk is all
     /// zero, else that of the chunk and it. Fails only where memory runs out.
     fn graft(&self, alloc: Global, place: Node, inner: H::Digest) -> Result<H::Digest, AllocError>
-        ensures { IfOk result (λ d. H.Digest.text d ≡ if grafted self.now place.first place.height then grafted_digest H.hash_of (chunk self.now place.first) (H.Digest.text inner) else H.Digest.text inner) };
+        ensures { IfOk result (λ d. H.Digest.text d ≡ if grafted self.now place.first place.height
+            then grafted_digest H.hash_of (chunk self.now place.first) (H.Digest.text inner)
+            else H.Digest.text inner) };
 }
 
 /// No node has a chunk grafted.
@@ -174,7 +181,9 @@ pub fn node_digest<F: Digits, H: Hasher, S: Source<H>, G: Grafts<H>>(
     grafts: &G,
     place: Node,
 ) -> Result<H::Digest, AllocError>
-    ensures { IfOk result (λ d. H.Digest.text d ≡ eval H.hash_of (valued (S.digest source.now) (S.item source.now) (G.chunk grafts.now)) (part (laid_out F.shape (G.grafted grafts.now)) (S.cut source.now) place)) }
+    ensures { IfOk result (λ d. H.Digest.text d
+        ≡ eval H.hash_of (valued (S.digest source.now) (S.item source.now) (G.chunk grafts.now))
+        (part (laid_out F.shape (G.grafted grafts.now)) (S.cut source.now) place)) }
 {
     if let Some(digest) = source.given(place) {
         return Ok(digest);
@@ -203,7 +212,8 @@ fn leaf_digest<H: Hasher>(position: u64, element: &[u8]) -> H::Digest
 /// The digest of a position in eight bytes and two digests.
 #[tactic(auto, unfolding(storage_merkle::specs::Calc::be8))]
 fn pair_digest<H: Hasher>(position: u64, left: &H::Digest, right: &H::Digest) -> H::Digest
-    ensures { H.Digest.text result ≡ H.hash_of (be8 position ++ (H.Digest.text left.now ++ H.Digest.text right.now)) }
+    ensures { H.Digest.text result
+        ≡ H.hash_of (be8 position ++ (H.Digest.text left.now ++ H.Digest.text right.now)) }
 {
     H::hash(&[&position.to_be_bytes(), left.bytes(), right.bytes()])
 }
@@ -215,7 +225,10 @@ pub fn push_digests<F: Digits, H: Hasher, S: Source<H>, G: Grafts<H>>(
     grafts: &G,
     nodes: &[Node],
 ) -> Result<(), AllocError>
-    ensures { OnOk result (map H.Digest.text digests.new.items ≡ map H.Digest.text digests.old.items ++ map (λ p. eval H.hash_of (valued (S.digest source.now) (S.item source.now) (G.chunk grafts.now)) (part (laid_out F.shape (G.grafted grafts.now)) (S.cut source.now) p)) nodes.now) }
+    ensures { OnOk result
+        (map H.Digest.text digests.new.items ≡ map H.Digest.text digests.old.items ++ map
+        (λ p. eval H.hash_of (valued (S.digest source.now) (S.item source.now) (G.chunk grafts.now))
+        (part (laid_out F.shape (G.grafted grafts.now)) (S.cut source.now) p)) nodes.now) }
 {
     let Some((node, rest)) = nodes.split_first() else {
         return Ok(());

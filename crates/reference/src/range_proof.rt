@@ -1,8 +1,9 @@
 //! A tree's own range proofs, and the check of a range proof.
 ghost use Rattle.std.specs.Prelude.{◌≡◌, ℕ, ◌+◌, ◌-◌, ◌^◌, ◌≤◌, ◌++◌, List, [], length, map, option_map, get_or, IfOk, OnOk};
 ghost use Rattle.storage_merkle.specs.Checks.{IsRecomputed};
+ghost use Rattle.storage_merkle.specs.Held.{range_of};
 ghost use Rattle.storage_merkle.specs.RangeProofs.{apart, look_up, own_digest, own_proof};
-ghost use Rattle.storage_merkle.specs.Trees.{Content, part};
+ghost use Rattle.storage_merkle.specs.Trees.{Content, part, content_of};
 ghost use Rattle.reference.specs.Layouts.{laid_out};
 ghost use Rattle.reference.specs.Sites.{backward_digest, forward_digest, site_of};
 
@@ -60,7 +61,10 @@ pub fn own_digest<F: Digits, H: Hasher, G: Grafts<H>, E: AsSlice<u8>>(
 ) -> Result<H::Digest, AllocError>
     requires few { length tree.now.elements.now ≤ 2 ^ 62 }
     requires inactive { tree.now.inactive ≤ length (F.shape.peaks (length tree.now.elements.now)) }
-    ensures { IfOk result (λ d. H.Digest.text d ≡ own_digest H.hash_of (laid_out F.shape (G.grafted tree.now.grafts.now)) tree.now.bagging (record { elements = map E.items tree.now.elements.now; chunk = G.chunk tree.now.grafts.now }) (length tree.now.elements.now) tree.now.inactive low high (site_of site)) }
+    ensures { IfOk result (λ d. H.Digest.text d
+        ≡ own_digest H.hash_of (laid_out F.shape (G.grafted tree.now.grafts.now)) tree.now.bagging
+        (content_of (map E.items tree.now.elements.now) (G.chunk tree.now.grafts.now))
+        (length tree.now.elements.now) tree.now.inactive low high (site_of site)) }
 {
     let source = Whole {
         elements: tree.elements,
@@ -97,7 +101,11 @@ fn push_own<F: Digits, H: Hasher, G: Grafts<H>, E: AsSlice<u8>>(
 ) -> Result<(), AllocError>
     requires few { length tree.now.elements.now ≤ 2 ^ 62 }
     requires inactive { tree.now.inactive ≤ length (F.shape.peaks (length tree.now.elements.now)) }
-    ensures { OnOk result (map H.Digest.text digests.new.items ≡ map H.Digest.text digests.old.items ++ map (own_digest H.hash_of (laid_out F.shape (G.grafted tree.now.grafts.now)) tree.now.bagging (record { elements = map E.items tree.now.elements.now; chunk = G.chunk tree.now.grafts.now }) (length tree.now.elements.now) tree.now.inactive low high) (map site_of sites.now)) }
+    ensures { OnOk result
+        (map H.Digest.text digests.new.items ≡ map H.Digest.text digests.old.items ++ map
+        (own_digest H.hash_of (laid_out F.shape (G.grafted tree.now.grafts.now)) tree.now.bagging
+        (content_of (map E.items tree.now.elements.now) (G.chunk tree.now.grafts.now))
+        (length tree.now.elements.now) tree.now.inactive low high) (map site_of sites.now)) }
 {
     let Some((site, rest)) = sites.split_first() else {
         return Ok(());
@@ -118,7 +126,10 @@ pub fn own_proof<F: Digits, H: Hasher, G: Grafts<H>, E: AsSlice<u8>>(
 ) -> Result<Proof<F, H::Digest>, AllocError>
     requires few { length tree.now.elements.now ≤ 2 ^ 62 }
     requires inactive { tree.now.inactive ≤ length (F.shape.peaks (length tree.now.elements.now)) }
-    ensures { IfOk result (λ p. record { leaves = p.leaves; inactive = p.inactive_peaks; digests = map H.Digest.text p.digests.items } ≡ own_proof H.hash_of (laid_out F.shape (G.grafted tree.now.grafts.now)) tree.now.bagging (record { elements = map E.items tree.now.elements.now; chunk = G.chunk tree.now.grafts.now }) tree.now.inactive low high) }
+    ensures { IfOk result (λ p. range_of H.Digest.text p
+        ≡ own_proof H.hash_of (laid_out F.shape (G.grafted tree.now.grafts.now)) tree.now.bagging
+        (content_of (map E.items tree.now.elements.now) (G.chunk tree.now.grafts.now))
+        tree.now.inactive low high) }
 {
     let leaves = tree.elements.len() as u64;
     let sites = sites::<F>(alloc, low, high, tree.bagging, leaves, tree.inactive)?;

@@ -97,7 +97,8 @@ fn up_to_count(high: u64, peaks: &[Node]) -> usize
 
 /// Appends the greatest nodes inside a node with no leaf of the range, by their leaves.
 fn push_sites(sites: &mut Vec<Site>, low: u64, high: u64, place: Node) -> Result<(), AllocError>
-    ensures { OnOk result ((T : Layout) → map site_of sites.new.items ≡ map site_of sites.old.items ++ sites_of (part T (apart low high) place)) }
+    ensures { OnOk result ((T : Layout) → map site_of sites.new.items
+        ≡ map site_of sites.old.items ++ sites_of (part T (apart low high) place)) }
 {
     if is_apart(low, high, place) {
         sites.push(Site::Inner(place))?;
@@ -118,7 +119,8 @@ fn push_sites_in(
     high: u64,
     peaks: &[Node],
 ) -> Result<(), AllocError>
-    ensures { OnOk result ((T : Layout) → map site_of sites.new.items ≡ map site_of sites.old.items ++ sites_in T (apart low high) peaks.now) }
+    ensures { OnOk result ((T : Layout) → map site_of sites.new.items
+        ≡ map site_of sites.old.items ++ sites_in T (apart low high) peaks.now) }
 {
     let Some((peak, rest)) = peaks.split_first() else {
         return Ok(());
@@ -130,7 +132,8 @@ fn push_sites_in(
 
 /// The position of a node; 0 for a fold.
 fn position_of<F: Digits>(alloc: Global, site: Site) -> Result<u64, AllocError>
-    ensures { IfOk result (λ position. (grafted : ℕ → ℕ → Bool) → position ≡ position_of (laid_out F.shape grafted) (site_of site)) }
+    ensures { IfOk result (λ position. (grafted : ℕ → ℕ → Bool)
+        → position ≡ position_of (laid_out F.shape grafted) (site_of site)) }
 {
     match site {
         Site::Front | Site::Back => Ok(0),
@@ -144,7 +147,9 @@ fn push_placed<F: Digits>(
     site: Site,
     sorted: &[Site],
 ) -> Result<(), AllocError>
-    ensures { OnOk result ((grafted : ℕ → ℕ → Bool) → map site_of sites.new.items ≡ map site_of sites.old.items ++ place_in (laid_out F.shape grafted) (site_of site) (map site_of sorted.now)) }
+    ensures { OnOk result ((grafted : ℕ → ℕ → Bool)
+        → map site_of sites.new.items ≡ map site_of sites.old.items
+        ++ place_in (laid_out F.shape grafted) (site_of site) (map site_of sorted.now)) }
 {
     let Some((first, rest)) = sorted.split_first() else {
         sites.push(site)?;
@@ -163,7 +168,8 @@ fn push_placed<F: Digits>(
 
 /// Sites in ascending order of their positions.
 fn by_position<F: Digits>(alloc: Global, sites: &[Site]) -> Result<Vec<Site>, AllocError>
-    ensures { IfOk result (λ sorted. (grafted : ℕ → ℕ → Bool) → map site_of sorted.items ≡ by_position (laid_out F.shape grafted) (map site_of sites.now)) }
+    ensures { IfOk result (λ sorted. (grafted : ℕ → ℕ → Bool) → map site_of sorted.items
+        ≡ by_position (laid_out F.shape grafted) (map site_of sites.now)) }
 {
     let Some((first, rest)) = sites.split_first() else {
         return Ok(Vec::new(alloc));
@@ -176,7 +182,8 @@ fn by_position<F: Digits>(alloc: Global, sites: &[Site]) -> Result<Vec<Site>, Al
 
 /// Appends one fold before the range for some peaks, none for none.
 fn push_front(sites: &mut Vec<Site>, peaks: &[Node]) -> Result<(), AllocError>
-    ensures { OnOk result (map site_of sites.new.items ≡ map site_of sites.old.items ++ front_sites peaks.now) }
+    ensures { OnOk result
+        (map site_of sites.new.items ≡ map site_of sites.old.items ++ front_sites peaks.now) }
 {
     if !peaks.is_empty() {
         sites.push(Site::Front)?;
@@ -186,7 +193,8 @@ fn push_front(sites: &mut Vec<Site>, peaks: &[Node]) -> Result<(), AllocError>
 
 /// Appends one fold past the range for some peaks, none for none.
 fn push_back(sites: &mut Vec<Site>, peaks: &[Node]) -> Result<(), AllocError>
-    ensures { OnOk result (map site_of sites.new.items ≡ map site_of sites.old.items ++ back_sites peaks.now) }
+    ensures { OnOk result
+        (map site_of sites.new.items ≡ map site_of sites.old.items ++ back_sites peaks.now) }
 {
     if !peaks.is_empty() {
         sites.push(Site::Back)?;
@@ -207,7 +215,8 @@ pub fn sites<F: Digits>(
 ) -> Result<Vec<Site>, AllocError>
     requires few { leaves ≤ 2 ^ 62 }
     requires inactive { inactive ≤ length (F.shape.peaks leaves) }
-    ensures { IfOk result (λ v. (grafted : ℕ → ℕ → Bool) → map site_of v.items ≡ sites (laid_out F.shape grafted) low high bagging leaves inactive) }
+    ensures { IfOk result (λ v. (grafted : ℕ → ℕ → Bool)
+        → map site_of v.items ≡ sites (laid_out F.shape grafted) low high bagging leaves inactive) }
 {
     let peaks = peaks::<F>(alloc, leaves)?;
     let (left, right) = split_folded(bagging, inactive, &peaks);
@@ -222,7 +231,8 @@ fn sites_over<F: Digits>(
     left: &[Node],
     right: &[Node],
 ) -> Result<Vec<Site>, AllocError>
-    ensures { IfOk result (λ v. (grafted : ℕ → ℕ → Bool) → map site_of v.items ≡ sites_over (laid_out F.shape grafted) low high left.now right.now) }
+    ensures { IfOk result (λ v. (grafted : ℕ → ℕ → Bool)
+        → map site_of v.items ≡ sites_over (laid_out F.shape grafted) low high left.now right.now) }
 {
     let (left_front, left_others) = split_leading(low, left);
     let (right_front, right_others) = split_leading(low, right);
@@ -247,7 +257,9 @@ fn siblings<F: Digits>(
     left: &[Node],
     right: &[Node],
 ) -> Result<Vec<Site>, AllocError>
-    ensures { IfOk result (λ v. (grafted : ℕ → ℕ → Bool) → map site_of v.items ≡ by_position (laid_out F.shape grafted) (sites_in (laid_out F.shape grafted) (apart low high) left.now ++ sites_in (laid_out F.shape grafted) (apart low high) right.now)) }
+    ensures { IfOk result (λ v. (grafted : ℕ → ℕ → Bool) → map site_of v.items ≡ by_position
+        (laid_out F.shape grafted) (sites_in (laid_out F.shape grafted) (apart low high) left.now
+        ++ sites_in (laid_out F.shape grafted) (apart low high) right.now)) }
 {
     let mut siblings = Vec::new(alloc);
     push_sites_in(&mut siblings, low, high, left)?;

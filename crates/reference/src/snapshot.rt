@@ -2,8 +2,9 @@
 ghost use Rattle.std.specs.Prelude.{◌≡◌, ℕ, ◌+◌, ◌*◌, ◌/◌, ◌%◌, ◌^◌, ◌≤◌, ◌<◌, ◌++◌, List, [], length, map, option_map, Option, Some, None, ltb, eqb, if◌then◌else◌, IfOk};
 ghost use Rattle.storage_bitmap.specs.Chunks.{IsChunkSize, chunk};
 ghost use Rattle.storage_current.specs.Held.{current_of};
-ghost use Rattle.storage_current.specs.Snapshots.{canonical_root, canonical_string, grafted_root_of, ops_root_of, own_current_proof, slot};
-ghost use Rattle.reference.specs.Layouts.{grafting, snapshot};
+ghost use Rattle.storage_current.specs.Snapshots.{canonical_root, canonical_string, grafted_root_of, ops_root_of, own_current_proof, slot, grafting_of};
+ghost use Rattle.reference.specs.Layouts.{snapshot};
+ghost use Rattle.storage_merkle.specs.Held.{range_of};
 
 use crate::chunk::{Chunks, chunk};
 use crate::count::{aligned, exact, graftable, height};
@@ -37,7 +38,9 @@ pub fn ops_root<F: Digits, H: Hasher, E: AsSlice<u8>>(
     of: &Snapshot<'_, E>,
 ) -> Result<H::Digest, AllocError>
     requires { length of.now.operations.now ≤ 2 ^ 62 }
-    ensures { IfOk result (λ root. H.Digest.text root ≡ ops_root_of H.hash_of (grafting F.shape of.now.chunk_size) (snapshot (map E.items of.now.operations.now) of.now.bits.now of.now.floor)) }
+    ensures { IfOk result (λ root.
+        H.Digest.text root ≡ ops_root_of H.hash_of (grafting_of F.shape of.now.chunk_size)
+        (snapshot (map E.items of.now.operations.now) of.now.bits.now of.now.floor)) }
 {
     let inactive = exact::<F>(alloc, of.operations.len() as u64, of.floor)?;
     let root = tree_root::<F, H, Ungrafted, E>(
@@ -57,7 +60,9 @@ pub fn grafted_root<F: Digits, H: Hasher, E: AsSlice<u8>>(
 ) -> Result<H::Digest, AllocError>
     requires few { length of.now.operations.now ≤ 2 ^ 62 }
     requires size { IsChunkSize of.now.chunk_size }
-    ensures { IfOk result (λ root. H.Digest.text root ≡ grafted_root_of H.hash_of (grafting F.shape of.now.chunk_size) (snapshot (map E.items of.now.operations.now) of.now.bits.now of.now.floor)) }
+    ensures { IfOk result (λ root.
+        H.Digest.text root ≡ grafted_root_of H.hash_of (grafting_of F.shape of.now.chunk_size)
+        (snapshot (map E.items of.now.operations.now) of.now.bits.now of.now.floor)) }
 {
     let leaves = of.operations.len() as u64;
     let height = height(of.chunk_size);
@@ -89,7 +94,9 @@ pub fn own_range<F: Digits, H: Hasher, E: AsSlice<u8>>(
 ) -> Result<Proof<F, H::Digest>, AllocError>
     requires few { length of.now.operations.now ≤ 2 ^ 62 }
     requires size { IsChunkSize of.now.chunk_size }
-    ensures { IfOk result (λ p. record { leaves = p.leaves; inactive = p.inactive_peaks; digests = map H.Digest.text p.digests.items } ≡ (own_current_proof H.hash_of (grafting F.shape of.now.chunk_size) (snapshot (map E.items of.now.operations.now) of.now.bits.now of.now.floor) low high).range) }
+    ensures { IfOk result (λ p. range_of H.Digest.text p
+        ≡ (own_current_proof H.hash_of (grafting_of F.shape of.now.chunk_size) (snapshot
+        (map E.items of.now.operations.now) of.now.bits.now of.now.floor) low high).range) }
 {
     let leaves = of.operations.len() as u64;
     let height = height(of.chunk_size);
@@ -120,7 +127,9 @@ pub fn own_current<F: Digits, H: Hasher, E: AsSlice<u8>>(
 ) -> Result<RangeProof<F, H::Digest>, AllocError>
     requires few { length of.now.operations.now ≤ 2 ^ 62 }
     requires size { IsChunkSize of.now.chunk_size }
-    ensures { IfOk result (λ p. current_of H.Digest.text p ≡ own_current_proof H.hash_of (grafting F.shape of.now.chunk_size) (snapshot (map E.items of.now.operations.now) of.now.bits.now of.now.floor) low high) }
+    ensures { IfOk result (λ p. current_of H.Digest.text p
+        ≡ own_current_proof H.hash_of (grafting_of F.shape of.now.chunk_size)
+        (snapshot (map E.items of.now.operations.now) of.now.bits.now of.now.floor) low high) }
 {
     let leaves = of.operations.len() as u64;
     let height = height(of.chunk_size);
@@ -148,7 +157,8 @@ fn pending<H: Hasher>(
 ) -> Result<Option<H::Digest>, AllocError>
     requires each { 8 * size < 2 ^ 64 }
     requires within { complete * (8 * size) < 2 ^ 64 }
-    ensures { IfOk result (λ digest. option_map H.Digest.text digest ≡ option_map H.hash_of (if ltb graftable complete then Some (chunk size bits.now graftable) else None)) }
+    ensures { IfOk result (λ digest. option_map H.Digest.text digest ≡ option_map H.hash_of
+        (if ltb graftable complete then Some (chunk size bits.now graftable) else None)) }
 {
     if graftable < complete {
         let bytes = chunk(alloc, size, bits, graftable)?;
@@ -167,7 +177,8 @@ fn partial<H: Hasher>(
 ) -> Result<Option<H::Digest>, AllocError>
     requires each { 8 * size < 2 ^ 64 }
     requires within { complete * (8 * size) < 2 ^ 64 }
-    ensures { IfOk result (λ digest. option_map H.Digest.text digest ≡ option_map H.hash_of (if eqb next_bit 0 then None else Some (chunk size bits.now complete))) }
+    ensures { IfOk result (λ digest. option_map H.Digest.text digest ≡ option_map H.hash_of
+        (if eqb next_bit 0 then None else Some (chunk size bits.now complete))) }
 {
     if next_bit == 0 {
         return Ok(None);
@@ -190,7 +201,9 @@ pub fn canonical_root<F: Digits, H: Hasher, E: AsSlice<u8>>(
 ) -> Result<H::Digest, AllocError>
     requires few { length of.now.operations.now ≤ 2 ^ 62 }
     requires size { IsChunkSize of.now.chunk_size }
-    ensures { IfOk result (λ root. H.Digest.text root ≡ canonical_root H.hash_of (grafting F.shape of.now.chunk_size) (snapshot (map E.items of.now.operations.now) of.now.bits.now of.now.floor)) }
+    ensures { IfOk result (λ root.
+        H.Digest.text root ≡ canonical_root H.hash_of (grafting_of F.shape of.now.chunk_size)
+        (snapshot (map E.items of.now.operations.now) of.now.bits.now of.now.floor)) }
 {
     let leaves = of.operations.len() as u64;
     let height = height(of.chunk_size);
@@ -214,7 +227,9 @@ fn joined_root<H: Hasher>(
     next_bit: u64,
     partial: &Option<H::Digest>,
 ) -> H::Digest
-    ensures { H.Digest.text result ≡ H.hash_of (canonical_string (H.Digest.text ops_root.now) (H.Digest.text grafted_root.now) (option_map H.Digest.text pending.now) next_bit (option_map H.Digest.text partial.now)) }
+    ensures { H.Digest.text result
+        ≡ H.hash_of (canonical_string (H.Digest.text ops_root.now) (H.Digest.text grafted_root.now)
+        (option_map H.Digest.text pending.now) next_bit (option_map H.Digest.text partial.now)) }
 {
     let pending = slot_bytes(pending);
     match partial {
@@ -240,7 +255,8 @@ fn hash_five<H: Hasher>(
     fourth: &[u8],
     fifth: &[u8],
 ) -> H::Digest
-    ensures { H.Digest.text result ≡ H.hash_of (first.now ++ (second.now ++ (third.now ++ (fourth.now ++ fifth.now)))) }
+    ensures { H.Digest.text result
+        ≡ H.hash_of (first.now ++ (second.now ++ (third.now ++ (fourth.now ++ fifth.now)))) }
 {
     H::hash(&[first, second, third, fourth, fifth])
 }

@@ -1,7 +1,7 @@
 //! Peaks and roots of whole trees.
 ghost use Rattle.std.specs.Prelude.{◌≡◌, ◌+◌, ◌^◌, ◌≤◌, ◌++◌, length, map, IfOk, OnOk};
 ghost use Rattle.storage_merkle.specs.Shape.{leaves_of};
-ghost use Rattle.storage_merkle.specs.Trees.{places, tree_root};
+ghost use Rattle.storage_merkle.specs.Trees.{places, tree_root, content_of};
 ghost use Rattle.reference.specs.Layouts.{laid_out};
 
 use crate::fold::{bag_peaks, root_over};
@@ -46,7 +46,9 @@ pub fn tree_root<F: Digits, H: Hasher, G: Grafts<H>, E: AsSlice<u8>>(
 ) -> Result<H::Digest, AllocError>
     requires few { length elements.now ≤ 2 ^ 62 }
     requires inactive { inactive ≤ length (F.shape.peaks (length elements.now)) }
-    ensures { IfOk result (λ root. H.Digest.text root ≡ tree_root H.hash_of (laid_out F.shape (G.grafted grafts.now)) bagging (record { elements = map E.items elements.now; chunk = G.chunk grafts.now }) inactive) }
+    ensures { IfOk result (λ root.
+        H.Digest.text root ≡ tree_root H.hash_of (laid_out F.shape (G.grafted grafts.now)) bagging
+        (content_of (map E.items elements.now) (G.chunk grafts.now)) inactive) }
 {
     let leaves = elements.len() as u64;
     let peaks = peaks::<F>(alloc, leaves)?;

@@ -11,7 +11,8 @@ early_position S L n p a k node h =
     omega arith
 
 -- so does the node that covers the same leaves as another
-pub covers_early : (S : Shape) → Laws S → (n g q a k : ℕ) → IsNode S q a k → S.birth (a * 2 ^ g) (k + g) ≤ n → (p : ℕ) → CoversSame S g q p → p ≤ size S n
+pub covers_early : (S : Shape) → Laws S → (n g q a k : ℕ) → IsNode S q a k → S.birth (a * 2 ^ g) (k + g) ≤ n → (p : ℕ)
+    → CoversSame S g q p → p ≤ size S n
 covers_early S L n g q a k node h p c =
     let same = L.injective a k c.first c.height node.aligned c.grafted.aligned (node.at ∙ sym c.grafted.at) in
     early_position S L n p (c.first * 2 ^ g) (c.height + g) c.node (rw (← same.0, ← same.1) h)

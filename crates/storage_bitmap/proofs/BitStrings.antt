@@ -13,10 +13,12 @@ use Rattle.storage_bitmap.specs.Chunks.{chunk, chunks_from}
 use Rattle.storage_bitmap.specs.BitRoots.{partial_string}
 
 pub neq-eqb : (a b : ℕ) → a ≢ b → eqb a b ≡ false
-neq-eqb a b ne = ⊎_elim (λ (x : (eqb a b ≡ true) × (a ≡ b)). absurd (ne x.1)) (λ (y : (eqb a b ≡ false) × (a ≢ b)). y.0) (eqb_tells a b)
+neq-eqb a b ne = ⊎_elim (λ (x : (eqb a b ≡ true) × (a ≡ b)). absurd (ne x.1)) (λ (y : (eqb a b ≡ false) × (a ≢ b)). y.0)
+    (eqb_tells a b)
 
 pub eqb-neq : (a b : ℕ) → eqb a b ≡ false → a ≢ b
-eqb-neq a b e = ⊎_elim (λ (x : (eqb a b ≡ true) × (a ≡ b)). absurd (let f : true ≡ false = sym x.0 ∙ e in cc)) (λ (y : (eqb a b ≡ false) × (a ≢ b)). y.1) (eqb_tells a b)
+eqb-neq a b e = ⊎_elim (λ (x : (eqb a b ≡ true) × (a ≡ b)). absurd (let f : true ≡ false = sym x.0 ∙ e in cc))
+    (λ (y : (eqb a b ≡ false) × (a ≢ b)). y.1) (eqb_tells a b)
 
 -- ---- chunks
 
@@ -25,15 +27,18 @@ unfolding chunks_from
 length_chunks n bits zero j = refl
 length_chunks n bits (suc c) j = ap suc (length_chunks n bits c (suc j))
 
-pub chunks_at : (n : ℕ) (bits : List Bool) (c j i : ℕ) → i < c → get_or (chunks_from n bits c j) i [] ≡ chunk n bits (j + i)
+pub chunks_at : (n : ℕ) (bits : List Bool) (c j i : ℕ) → i < c
+    → get_or (chunks_from n bits c j) i [] ≡ chunk n bits (j + i)
 unfolding chunks_from
 chunks_at n bits zero j i l = absurd (omega arith)
 chunks_at n bits (suc c) j zero l = ap (chunk n bits) (let e : j ≡ j + 0 = omega arith in e)
-chunks_at n bits (suc c) j (suc i) l = chunks_at n bits c (suc j) i (omega arith) ∙ ap (chunk n bits) (let e : suc j + i ≡ j + suc i = omega arith in e)
+chunks_at n bits (suc c) j (suc i) l =
+    chunks_at n bits c (suc j) i (omega arith) ∙ ap (chunk n bits) (let e : suc j + i ≡ j + suc i = omega arith in e)
 
 -- ---- lengths of strings
 
-pub look_up-wide : (d : ℕ) (none : List ℕ) → length none ≡ d → (ss : List Site) (ds : List (List ℕ)) → AreDigests d ds → (s : Site) → length (look_up none ss ds s) ≡ d
+pub look_up-wide : (d : ℕ) (none : List ℕ) → length none ≡ d → (ss : List Site) (ds : List (List ℕ)) → AreDigests d ds
+    → (s : Site) → length (look_up none ss ds s) ≡ d
 look_up-wide d none e [] ds a s = e
 look_up-wide d none e (t ∷ ts) [] a s = e
 look_up-wide d none e (t ∷ ts) (x ∷ ds) a s =
@@ -42,20 +47,31 @@ look_up-wide d none e (t ∷ ts) (x ∷ ds) a s =
       | false ↦ look_up-wide d none e ts ds a.1 s
     ]
 
-bag_length : (d : ℕ) (h : HashFunction) (v : Values) → IsSized d h → IsWide d v → (t : Option Calc) → (length (eval_bag h v t) ≡ 0) ⊎ (length (eval_bag h v t) ≡ d)
+bag_length : (d : ℕ) (h : HashFunction) (v : Values) → IsSized d h → IsWide d v → (t : Option Calc)
+    → (length (eval_bag h v t) ≡ 0) ⊎ (length (eval_bag h v t) ≡ d)
 bag_length d h v sized wide None = inl refl
 bag_length d h v sized wide (Some t) = inr (eval_length d h v sized wide t)
 
-pub root_length : (d : ℕ) (h : HashFunction) (v : Values) (T : Layout) (b : Bagging) (n i : ℕ) (t : Option Calc) → IsSized d h → IsWide d v → (length (root_string h v T b n i t) ≡ 18) ⊎ (length (root_string h v T b n i t) ≡ 18 + d)
+pub root_length : (d : ℕ) (h : HashFunction) (v : Values) (T : Layout) (b : Bagging) (n i : ℕ) (t : Option Calc)
+    → IsSized d h → IsWide d v
+    → (length (root_string h v T b n i t) ≡ 18) ⊎ (length (root_string h v T b n i t) ≡ 18 + d)
 root_length d h v T b n i t sized wide =
-    let e : length ((be8 n ++ be8 i) ++ eval_bag h v t) ≡ 16 + length (eval_bag h v t) = omega (arith, length-append (be8 n ++ be8 i) (eval_bag h v t), length-append (be8 n) (be8 i), be8_length n, be8_length i) in
+    let e : length ((be8 n ++ be8 i) ++ eval_bag h v t) ≡ 16 + length (eval_bag h v t) = omega (
+      arith,
+      length-append (be8 n ++ be8 i) (eval_bag h v t),
+      length-append (be8 n) (be8 i),
+      be8_length n,
+      be8_length i,
+    ) in
     ⊎_elim
     (λ (z : length (eval_bag h v t) ≡ 0). inl (omega arith))
     (λ (z : length (eval_bag h v t) ≡ d). inr (omega arith))
     (bag_length d h v sized wide t)
 
-pub partial_length : (root : List ℕ) (len : ℕ) (last : List ℕ) → length (partial_string root len last) ≡ length root + 8 + length last
-partial_length root len last = omega (arith, length-append root (be8 len ++ last), length-append (be8 len) last, be8_length len)
+pub partial_length : (root : List ℕ) (len : ℕ) (last : List ℕ)
+    → length (partial_string root len last) ≡ length root + 8 + length last
+partial_length root len last =
+    omega (arith, length-append root (be8 len ++ last), length-append (be8 len) last, be8_length len)
 
 -- root strings and partial strings are not of one length
 pub apart_lengths : (d x y : ℕ) → (d ≡ 32) ⊎ (d ≡ 64) → (x ≡ 18) ⊎ (x ≡ 18 + d) → y ≡ d + 8 + d → x ≡ y → ⊥
@@ -87,7 +103,8 @@ split_at_last zero (x ∷ []) e = refl
 split_at_last zero (x ∷ (y ∷ ds)) e = absurd (omega arith)
 split_at_last (suc k) (x ∷ ds) e = ap (λ r. x ∷ r) (split_at_last k ds (omega arith))
 
-pub front_last : (ds : List (List ℕ)) → 0 < length ds → ds ≡ take (length ds - 1) ds ++ get_or ds (length ds - 1) [] ∷ []
+pub front_last : (ds : List (List ℕ)) → 0 < length ds
+    → ds ≡ take (length ds - 1) ds ++ get_or ds (length ds - 1) [] ∷ []
 front_last ds l = split_at_last (length ds - 1) ds (omega arith)
 
 pub lone : (ds : List (List ℕ)) → length ds ≡ 1 → ds ≡ get_or ds (length ds - 1) [] ∷ []
@@ -115,7 +132,8 @@ get_last ds x = ap (λ k. get_or (ds ++ x ∷ []) k []) (front_length ds x) ∙ 
 -- ---- numbers
 
 pub same_multiple : (x y m : ℕ) → x / m ≡ y / m → x % m ≡ y % m → x ≡ y
-same_multiple x y m q r = sym (div-add-mod' x m) ∙ ap (λ z. z * m + x % m) q ∙ ap (λ z. y / m * m + z) r ∙ div-add-mod' y m
+same_multiple x y m q r =
+    sym (div-add-mod' x m) ∙ ap (λ z. z * m + x % m) q ∙ ap (λ z. y / m * m + z) r ∙ div-add-mod' y m
 
 -- a bit of whole chunks is in one of them
 pub before_end : (x y m : ℕ) → x < y → y % m ≡ 0 → x / m ≢ y / m

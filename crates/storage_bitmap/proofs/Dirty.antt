@@ -24,12 +24,14 @@ pub keys_grow : (ks : List ℕ) (k j : ℕ) → Contains ks j → Contains (inse
 keys_grow [] k j m = contains_tail k j [] m
 keys_grow (x ∷ xs) k j m = go (nat_cmp k x) (λ r. keys_grow xs k j r)
   where
-    go : (o : Ordering) → (Contains xs j → Contains (insert_key nat_cmp xs k) j) → Contains (match_ordering o (k ∷ x ∷ xs) (x ∷ xs) (x ∷ insert_key nat_cmp xs k)) j
+    go : (o : Ordering) → (Contains xs j → Contains (insert_key nat_cmp xs k) j)
+        → Contains (match_ordering o (k ∷ x ∷ xs) (x ∷ xs) (x ∷ insert_key nat_cmp xs k)) j
     go Less rest = contains_tail k j (x ∷ xs) m
     go Equal rest = m
     go Greater rest =
         ⊎_elim
-        (λ (e : x ≡ j). subst (λ y. Contains (y ∷ insert_key nat_cmp xs k) j) (sym e) (contains_head j (insert_key nat_cmp xs k)))
+        (λ (e : x ≡ j).
+        subst (λ y. Contains (y ∷ insert_key nat_cmp xs k) j) (sym e) (contains_head j (insert_key nat_cmp xs k)))
         (λ (r : Contains xs j). contains_tail x j (insert_key nat_cmp xs k) (rest r))
         (contains_either x j xs m)
 
@@ -38,22 +40,28 @@ pub keys_have : (ks : List ℕ) (k : ℕ) → Contains (insert_key nat_cmp ks k)
 keys_have [] k = contains_head k []
 keys_have (x ∷ xs) k = go (nat_cmp k x) refl (keys_have xs k)
   where
-    go : (o : Ordering) → nat_cmp k x ≡ o → Contains (insert_key nat_cmp xs k) k → Contains (match_ordering o (k ∷ x ∷ xs) (x ∷ xs) (x ∷ insert_key nat_cmp xs k)) k
+    go : (o : Ordering) → nat_cmp k x ≡ o → Contains (insert_key nat_cmp xs k) k
+        → Contains (match_ordering o (k ∷ x ∷ xs) (x ∷ xs) (x ∷ insert_key nat_cmp xs k)) k
     go Less e rest = contains_head k (x ∷ xs)
     go Equal e rest = subst (λ y. Contains (y ∷ xs) k) (rw e at (ranks k x)) (contains_head k xs)
     go Greater e rest = contains_tail x k (insert_key nat_cmp xs k) rest
 
 -- a marked chunk that is a leaf is there, and what was there stays
-pub marked : (old new : List ℕ) (chunk leaves : ℕ) → (chunk < leaves → new ≡ insert_key nat_cmp old chunk) → (leaves ≤ chunk → new ≡ old)
+pub marked : (old new : List ℕ) (chunk leaves : ℕ) → (chunk < leaves → new ≡ insert_key nat_cmp old chunk)
+    → (leaves ≤ chunk → new ≡ old)
     → ((j : ℕ) → Contains old j → Contains new j) × (chunk < leaves → Contains new chunk)
 marked old new chunk leaves is same =
     ⊎_elim
-    (λ (l : chunk < leaves). ((λ j m. subst (λ ks. Contains ks j) (sym (is l)) (keys_grow old chunk j m)), (λ l. subst (λ ks. Contains ks chunk) (sym (is l)) (keys_have old chunk))))
+    (λ (l : chunk < leaves). (
+      (λ j m. subst (λ ks. Contains ks j) (sym (is l)) (keys_grow old chunk j m)),
+      (λ l. subst (λ ks. Contains ks chunk) (sym (is l)) (keys_have old chunk)),
+    ))
     (λ (l : leaves ≤ chunk). ((λ j m. subst (λ ks. Contains ks j) (sym (same l)) m), (λ q. absurd (omega arith))))
     (cases_lt chunk leaves)
 
 -- each stays within these bounds
-pub marked_within : (old new : List ℕ) (chunk pruned leaves : ℕ) → (chunk < leaves → new ≡ insert_key nat_cmp old chunk) → (leaves ≤ chunk → new ≡ old)
+pub marked_within : (old new : List ℕ) (chunk pruned leaves : ℕ) → (chunk < leaves → new ≡ insert_key nat_cmp old chunk)
+    → (leaves ≤ chunk → new ≡ old)
     → pruned ≤ chunk → All (λ c. (pruned ≤ c) × (c < leaves)) old → All (λ c. (pruned ≤ c) × (c < leaves)) new
 marked_within old new chunk pruned leaves is same low all =
     let P : ℕ → Type 0 = λ c. (pruned ≤ c) × (c < leaves) in

@@ -35,7 +35,8 @@ module _ (h : HashFunction) (b : Bagging) (n : ℕ) (proof : RangeProof) (bytes 
 
   -- the string of the root that the check computes where the bits do not fill their chunks
   abbrev pub computed_string : List ℕ
-  computed_string = if in_partial then partial_string last_digest proof.leaves (h bytes) else partial_string recomputed_chunks_root proof.leaves last_digest
+  computed_string = if in_partial then partial_string last_digest proof.leaves (h bytes)
+      else partial_string recomputed_chunks_root proof.leaves last_digest
 
   -- the root that the check computes
   abbrev pub computed_bit_root : List ℕ
@@ -43,7 +44,8 @@ module _ (h : HashFunction) (b : Bagging) (n : ℕ) (proof : RangeProof) (bytes 
 
   -- each string given to the digest function by the check
   abbrev pub bit_check_strings : List (List ℕ)
-  bit_check_strings = if is_aligned n proof.leaves then chunk_strings else computed_string ∷ (if in_partial then bytes ∷ [] else chunk_strings)
+  bit_check_strings = if is_aligned n proof.leaves then chunk_strings
+      else computed_string ∷ (if in_partial then bytes ∷ [] else chunk_strings)
 
   -- where the check says yes
   pub record IsBitAccepted (root : List ℕ) : Type 0 where
@@ -63,10 +65,15 @@ own_bit_digests h b n bits place =
 
 -- the proof that a list of bits itself has of a bit
 abbrev pub own_bit_proof : HashFunction → Bagging → ℕ → List Bool → ℕ → RangeProof
-own_bit_proof h b n bits bit = record { leaves = length bits; inactive = 0; digests = own_bit_digests h b n bits (bit / (8 * n)) }
+own_bit_proof h b n bits bit = record {
+  leaves = length bits;
+  inactive = 0;
+  digests = own_bit_digests h b n bits (bit / (8 * n));
+}
 
 -- the proof is the list's own, field for field, of a bit that it has, and the chunk is the list's
-pub record IsOwnBit (h : HashFunction) (b : Bagging) (n : ℕ) (proof : RangeProof) (bytes : List ℕ) (bit : ℕ) (bits : List Bool) : Type 0 where
+pub record IsOwnBit (h : HashFunction) (b : Bagging) (n : ℕ) (proof : RangeProof) (bytes : List ℕ) (bit : ℕ)
+    (bits : List Bool) : Type 0 where
   pub proof_is : proof ≡ own_bit_proof h b n bits bit
   pub within : bit < length bits
   pub chunk_is : bytes ≡ chunk n bits (bit / (8 * n))
@@ -82,11 +89,13 @@ IsBitProved d h b n proof bytes bit root =
 abbrev pub BitProofsAreSound : Type 0
 BitProofsAreSound =
     (d : ℕ) (h : HashFunction) → IsSized d h → (b : Bagging) (n : ℕ) → 0 < n →
-    (proof : RangeProof) (bytes : List ℕ) (bit : ℕ) (root : List ℕ) → AreDigests d proof.digests → proof.leaves < 2 ^ 64 →
+    (proof : RangeProof) (bytes : List ℕ) (bit : ℕ) (root : List ℕ) → AreDigests d proof.digests
+    → proof.leaves < 2 ^ 64 →
     IsBitAccepted h b n proof bytes bit root → IsBitProved d h b n proof bytes bit root
 
 -- The own proof of a bit is accepted against the root of the bits.
 abbrev pub OwnBitProofsAreAccepted : Type 0
 OwnBitProofsAreAccepted =
-    (h : HashFunction) (b : Bagging) (n : ℕ) → 0 < n → (proof : RangeProof) (bytes : List ℕ) (bit : ℕ) (bits : List Bool) → length bits ≤ 2 ^ 62 →
+    (h : HashFunction) (b : Bagging) (n : ℕ) → 0 < n
+    → (proof : RangeProof) (bytes : List ℕ) (bit : ℕ) (bits : List Bool) → length bits ≤ 2 ^ 62 →
     IsOwnBit h b n proof bytes bit bits → IsBitAccepted h b n proof bytes bit (bit_root h b n bits)

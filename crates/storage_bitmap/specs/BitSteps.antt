@@ -9,12 +9,15 @@ use Rattle.storage_bitmap.specs.BitRoots.{is_aligned}
 use Rattle.storage_bitmap.specs.BitProofs.{in_partial, chunk_proof, computed_bit_root}
 
 -- the counts of a proof of a bit fit together
-pub record BitCountsFit (h : HashFunction) (b : Bagging) (n : ℕ) (proof : RangeProof) (bytes : List ℕ) (bit : ℕ) : Type 0 where
+pub record BitCountsFit (h : HashFunction) (b : Bagging) (n : ℕ) (proof : RangeProof) (bytes : List ℕ)
+    (bit : ℕ) : Type 0 where
   pub some : is_aligned n proof.leaves ≡ false → proof.digests ≢ []
   pub one : in_partial h b n proof bytes bit ≡ true → length proof.digests ≡ 1
-  pub counts : in_partial h b n proof bytes bit ≡ false → CountsFit h (ungrafted mmr) b (chunk_proof h b n proof bytes bit) (bit / (8 * n)) (listed (bytes ∷ []))
+  pub counts : in_partial h b n proof bytes bit ≡ false
+      → CountsFit h (ungrafted mmr) b (chunk_proof h b n proof bytes bit) (bit / (8 * n)) (listed (bytes ∷ []))
 
 -- the root that a check of a bit computes where the counts fit, and none where they don't
 abbrev pub IsBitComputed : HashFunction → Bagging → ℕ → RangeProof → List ℕ → ℕ → Option (List ℕ) → Type 0
 IsBitComputed h b n proof bytes bit None = BitCountsFit h b n proof bytes bit → ⊥
-IsBitComputed h b n proof bytes bit (Some root) = BitCountsFit h b n proof bytes bit × (root ≡ computed_bit_root h b n proof bytes bit)
+IsBitComputed h b n proof bytes bit (Some root) =
+    BitCountsFit h b n proof bytes bit × (root ≡ computed_bit_root h b n proof bytes bit)

@@ -51,7 +51,10 @@ bit_count n r = r.pruned * (8 * n) + length r.bits
 
 -- the bits once moreover the chunks below that of a bit are pruned
 abbrev pub pruned_to : ℕ → Retained → ℕ → Retained
-pruned_to n r chunks = record { pruned = r.pruned + (chunks - r.pruned); bits = drop ((chunks - r.pruned) * (8 * n)) r.bits }
+pruned_to n r chunks = record {
+  pruned = r.pruned + (chunks - r.pruned);
+  bits = drop ((chunks - r.pruned) * (8 * n)) r.bits;
+}
 
 -- what is left of these bits
 pub record IsRest (n : ℕ) (r : Retained) (bits : List Bool) : Type 0 where

@@ -8,7 +8,7 @@ use Rattle.storage_merkle.specs.Kept.{Kept, NodesOver, StandsBut, at_peaks, pins
 use Rattle.storage_merkle.specs.declared.merkle.bagging.Bagging.{Bagging}
 use Rattle.storage_merkle.specs.declared.merkle.error.Error.{Error}
 use Rattle.storage_merkle.specs.declared.merkle.error.Error.TheVariants.{MissingNode, DataCorrupted, Memory}
-use Rattle.storage_bitmap.specs.Chunks.{IsChunkSize, Retained, IsRest, bit_count, chunks_from, complete}
+use Rattle.storage_bitmap.specs.Chunks.{IsChunkSize, Retained, IsRest, bit_count, chunks_from}
 use Rattle.storage_bitmap.specs.BitRoots.{bit_root}
 
 pub record Authenticated (D M : Type 0) : Type 0 where
@@ -19,7 +19,8 @@ pub record Authenticated (D M : Type 0) : Type 0 where
   pub state : M
 
 -- true of every bitmap, also of one that stands for no list; `fits` tells what its state asks of the pruned chunks, of the tree's leaves, and of the complete chunks
-pub record IsWholeMap {D : Type 0} (n : ℕ) (retained : Retained) (tree : Kept D) (fits : ℕ → ℕ → ℕ → Type 0) : Type 0 where
+pub record IsWholeMap {D : Type 0} (n : ℕ) (retained : Retained) (tree : Kept D)
+    (fits : ℕ → ℕ → ℕ → Type 0) : Type 0 where
   pub size : IsChunkSize n
   pub few : bit_count n retained ≤ 2 ^ 62
   pub boundary : tree.boundary ≡ retained.pruned
@@ -36,20 +37,24 @@ abbrev pub chunk_nodes : HashFunction → NodesOver
 chunk_nodes h = node_over h (ungrafted mmr) (λ a. [])
 
 -- the retained bits are these bits' rest, and the digests of the tree are those over their chunks, save over dirty chunks; a digest's bytes are told by `text`
-pub record StandsForBits {D M : Type 0} (text : D → List ℕ) (h : HashFunction) (n : ℕ) (b : Authenticated D M) (dirty : List ℕ) (bits : List Bool) : Type 0 where
+pub record StandsForBits {D M : Type 0} (text : D → List ℕ) (h : HashFunction) (n : ℕ) (b : Authenticated D M)
+    (dirty : List ℕ) (bits : List Bool) : Type 0 where
   pub rest : IsRest n b.retained bits
   pub digests : StandsBut text mmr (chunk_nodes h) dirty b.tree (chunk_digests h n bits b.tree.leaves)
 
 -- no chunk is dirty, each complete chunk is in the tree, and the root is that of these bits
-pub record StandsMerkleized {D M : Type 0} (text : D → List ℕ) (h : HashFunction) (bagging : Bagging) (n : ℕ) (b : Authenticated D M) (root : D) (bits : List Bool) : Type 0 where
+pub record StandsMerkleized {D M : Type 0} (text : D → List ℕ) (h : HashFunction) (bagging : Bagging) (n : ℕ)
+    (b : Authenticated D M) (root : D) (bits : List Bool) : Type 0 where
   pub stands : StandsForBits text h n b [] bits
   pub whole : b.tree.leaves ≡ length bits / (8 * n)
   pub root_is : text root ≡ bit_root h bagging n bits
 
 -- the digests are those of the peaks over so many chunks, which these bits fill; digests past those say nothing
-pub record IsPrunedState {D : Type 0} (text : D → List ℕ) (h : HashFunction) (n count : ℕ) (pinned : List D) (bits : List Bool) : Type 0 where
+pub record IsPrunedState {D : Type 0} (text : D → List ℕ) (h : HashFunction) (n count : ℕ) (pinned : List D)
+    (bits : List Bool) : Type 0 where
   pub filled : length bits ≡ count * (8 * n)
-  pub peaks : map text (take (length (mmr.peaks count)) pinned) ≡ at_peaks (chunk_nodes h (chunk_digests h n bits count)) 0 (mmr.peaks count)
+  pub peaks : map text (take (length (mmr.peaks count)) pinned)
+      ≡ at_peaks (chunk_nodes h (chunk_digests h n bits count)) 0 (mmr.peaks count)
 
 -- the text of the refusal is not told
 abbrev pub IsCorrupted : {F : Type 0} → Error F → Type 0
@@ -60,5 +65,6 @@ IsCorrupted _ = ⊥
 abbrev pub IsRefused : {F : Type 0} → ℕ → ℕ → ℕ → Error F → Type 0
 IsRefused n count given error =
     ((2 ^ 62 < count * (8 * n)) × IsCorrupted error)
-    ⊎ ((count * (8 * n) ≤ 2 ^ 62) × (given < length (mmr.peaks count)) × (error ≡ MissingNode (slice_index (pins mmr count) given)))
+    ⊎ ((count * (8 * n) ≤ 2 ^ 62) × (given < length (mmr.peaks count))
+    × (error ≡ MissingNode (slice_index (pins mmr count) given)))
     ⊎ ((count * (8 * n) ≤ 2 ^ 62) × (length (mmr.peaks count) ≤ given) × (error ≡ Memory))

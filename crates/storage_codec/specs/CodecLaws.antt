@@ -6,19 +6,24 @@ use Rattle.storage_codec.specs.Codec.{Answer, whole}
 use Rattle.storage_codec.specs.Laws.{answer_of, ok_is, fst_is, snd_is}
 
 -- One answer names one value and one rest.
-pub one_answer : {V : Type 0} (answer : Answer V) (v w : V) (r s : List ℕ) → answer ≡ Ok (v, r) → answer ≡ Ok (w, s) → (v ≡ w) × (r ≡ s)
+pub one_answer : {V : Type 0} (answer : Answer V) (v w : V) (r s : List ℕ) → answer ≡ Ok (v, r) → answer ≡ Ok (w, s)
+    → (v ≡ w) × (r ≡ s)
 one_answer {V} answer v w r s e f =
     let p = ok_is {A = V × List ℕ} (v, r) (w, s) (sym e ∙ f) in (fst_is _ _ p, snd_is _ _ p)
 
 -- Two encodings in front of the same bytes are of one value.
 pub one_front : {X V : Type 0} (text : X → List ℕ) (view : X → V) (parse : List ℕ → Answer V) (x y : X) (r s : List ℕ)
-    → parse (text x ++ r) ≡ Ok (view x, r) → parse (text y ++ s) ≡ Ok (view y, s) → text x ++ r ≡ text y ++ s → (view x ≡ view y) × (r ≡ s)
+    → parse (text x ++ r) ≡ Ok (view x, r) → parse (text y ++ s) ≡ Ok (view y, s) → text x ++ r ≡ text y ++ s
+    → (view x ≡ view y) × (r ≡ s)
 one_front {X} {V} text view parse x y r s again_x again_y e =
-    one_answer (parse (text y ++ s)) (view x) (view y) r s (subst (λ (t : List ℕ). parse t ≡ Ok (view x, r)) e again_x) again_y
+    one_answer (parse (text y ++ s)) (view x) (view y) r s
+    (subst (λ (t : List ℕ). parse t ≡ Ok (view x, r)) e again_x) again_y
 
 -- An encoding that begins another is of the same value.
-pub front_is_whole : {X V : Type 0} (text : X → List ℕ) (view : X → V) (parse : List ℕ → Answer V) (x y : X) (rest : List ℕ)
-    → parse (text x ++ rest) ≡ Ok (view x, rest) → parse (text y ++ []) ≡ Ok (view y, []) → text y ≡ text x ++ rest → (view x ≡ view y) × (rest ≡ [])
+pub front_is_whole : {X V : Type 0} (text : X → List ℕ) (view : X → V) (parse : List ℕ → Answer V) (x y : X)
+    (rest : List ℕ)
+    → parse (text x ++ rest) ≡ Ok (view x, rest) → parse (text y ++ []) ≡ Ok (view y, []) → text y ≡ text x ++ rest
+    → (view x ≡ view y) × (rest ≡ [])
 front_is_whole text view parse x y rest again_x again_y e =
     one_front text view parse x y rest [] again_x again_y (sym e ∙ sym (append-nil (text y)))
 
@@ -28,7 +33,8 @@ without_nil xs ys e = sym (append-nil xs) ∙ e ∙ append-nil ys
 
 -- Values that are seen alike are written alike.
 pub equal_views : {X V : Type 0} (text : X → List ℕ) (view : X → V) (parse : List ℕ → Answer V) (x y : X)
-    → parse (text x ++ []) ≡ Ok (view x, []) → (parse (text x ++ []) ≡ Ok (view y, []) → text x ++ [] ≡ text y ++ []) → view x ≡ view y → text x ≡ text y
+    → parse (text x ++ []) ≡ Ok (view x, []) → (parse (text x ++ []) ≡ Ok (view y, []) → text x ++ [] ≡ text y ++ [])
+    → view x ≡ view y → text x ≡ text y
 equal_views text view parse x y again back e =
     without_nil (text x) (text y) (back (again ∙ ap (λ v. answer_of v []) e))
 
@@ -41,7 +47,8 @@ no_bytes [] e = refl
 no_bytes (b ∷ bytes) e = absurd (let f : eqb (length (b ∷ bytes)) 0 ≡ false = grind arith in cc)
 
 -- Bytes that decode whole were read with nothing after the value.
-pub whole_ok : {V : Type 0} (answer : Answer V) (v : V) (rest : List ℕ) → whole answer ≡ Ok (v, rest) → (answer ≡ Ok (v, [])) × (rest ≡ [])
+pub whole_ok : {V : Type 0} (answer : Answer V) (v : V) (rest : List ℕ) → whole answer ≡ Ok (v, rest)
+    → (answer ≡ Ok (v, [])) × (rest ≡ [])
 whole_ok {V} (Ok x) v rest e =
     let g = passed {A = V × List ℕ} (eqb (length x.1) 0) (ExtraData (length x.1)) x (v, rest) e in
     let nothing : x.1 ≡ [] = no_bytes x.1 g.0 in

@@ -9,7 +9,8 @@ pub sha256_sized : IsSized 32 sha256
 unfolding sha256 digest_bytes
 sha256_sized x = refl
 
-same_front : (b : Bool) (x : List ℕ × List ℕ) → mapped {V = List ℕ} {W = List ℕ} (λ y. y) (cond b (Err EndOfBuffer) (Ok x)) ≡ cond b (Err EndOfBuffer) (Ok x)
+same_front : (b : Bool) (x : List ℕ × List ℕ)
+    → mapped {V = List ℕ} {W = List ℕ} (λ y. y) (cond b (Err EndOfBuffer) (Ok x)) ≡ cond b (Err EndOfBuffer) (Ok x)
 same_front true x = refl
 same_front false x = refl
 

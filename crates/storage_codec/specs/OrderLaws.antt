@@ -27,7 +27,8 @@ number_below : (xs : List ℕ) → IsBytes xs → number_of xs < 256 ^ length xs
 number_below [] h = lit< tt
 number_below (x ∷ xs) h =
     let rest = number_below xs (bytes_rest x xs h) in
-    let up : x * 256 ^ length xs + number_of xs < 256 * 256 ^ length xs + 0 = outweighs (256 ^ length xs) x 256 (number_of xs) 0 rest (h 0) in
+    let up : x * 256 ^ length xs + number_of xs < 256 * 256 ^ length xs + 0 =
+    outweighs (256 ^ length xs) x 256 (number_of xs) 0 rest (h 0) in
     let power : 256 ^ suc (length xs) ≡ 256 * 256 ^ length xs = pow-succ' 256 (length xs) in
     omega arith
 
@@ -43,7 +44,8 @@ is_greater m n lt = grind (arith, nat_tests)
 same_plus : (w m n : ℕ) → nat_cmp (w + m) (w + n) ≡ nat_cmp m n
 same_plus w m n = grind (arith, nat_tests)
 
-cmp_by_number : (xs ys : List ℕ) → length xs ≡ length ys → IsBytes xs → IsBytes ys → slice_cmp nat_cmp xs ys ≡ nat_cmp (number_of xs) (number_of ys)
+cmp_by_number : (xs ys : List ℕ) → length xs ≡ length ys → IsBytes xs → IsBytes ys
+    → slice_cmp nat_cmp xs ys ≡ nat_cmp (number_of xs) (number_of ys)
 cmp_by_number [] [] len fx fy = refl
 cmp_by_number [] (y ∷ ys) len fx fy = absurd (let l : 0 ≡ suc (length ys) = len in omega arith)
 cmp_by_number (x ∷ xs) [] len fx fy = absurd (let l : suc (length xs) ≡ 0 = len in omega arith)
@@ -54,9 +56,17 @@ cmp_by_number (x ∷ xs) (y ∷ ys) len fx fy =
     let below_x : number_of xs < 256 ^ length ys = rw (← same) (number_below xs (bytes_rest x xs fx)) in
     let below_y = number_below ys (bytes_rest y ys fy) in
     elim (cases_lt x y) [
-      | inl lt ↦ rw (is_less x y lt, same, is_less _ _ (outweighs (256 ^ length ys) x y (number_of xs) (number_of ys) below_x lt)) refl
+      | inl lt ↦ rw (
+        is_less x y lt,
+        same,
+        is_less _ _ (outweighs (256 ^ length ys) x y (number_of xs) (number_of ys) below_x lt),
+      ) refl
       | inr le ↦ elim (cases_lt y x) [
-        | inl gt ↦ rw (is_greater x y gt, same, is_greater _ _ (outweighs (256 ^ length ys) y x (number_of ys) (number_of xs) below_y gt)) refl
+        | inl gt ↦ rw (
+          is_greater x y gt,
+          same,
+          is_greater _ _ (outweighs (256 ^ length ys) y x (number_of ys) (number_of xs) below_y gt),
+        ) refl
         | inr ge ↦
             let e : x ≡ y = omega arith in
             rw (is_equal x y e, more, same, e) (sym (same_plus (y * 256 ^ length ys) (number_of xs) (number_of ys)))
@@ -68,7 +78,8 @@ from_number (a ∷ b ∷ c ∷ d ∷ e ∷ f ∷ g ∷ h ∷ []) len = omega ari
 from_number _ len = absurd (omega arith)
 
 -- Eight bytes, highest first, are ordered as their numbers are.
-pub cmp_by_number_8 : (xs ys : List ℕ) → length xs ≡ 8 → length ys ≡ 8 → IsBytes xs → IsBytes ys → slice_cmp nat_cmp xs ys ≡ nat_cmp (from_be_bytes w64 xs) (from_be_bytes w64 ys)
+pub cmp_by_number_8 : (xs ys : List ℕ) → length xs ≡ 8 → length ys ≡ 8 → IsBytes xs → IsBytes ys
+    → slice_cmp nat_cmp xs ys ≡ nat_cmp (from_be_bytes w64 xs) (from_be_bytes w64 ys)
 cmp_by_number_8 xs ys eight_x eight_y fx fy =
     let same : length xs ≡ length ys = omega arith in
     rw (from_number xs eight_x, from_number ys eight_y) (cmp_by_number xs ys same fx fy)

@@ -10,10 +10,15 @@ pub ends_drop : (n : ℕ) (a : List ℕ) → IsEnding a (drop n a)
 ends_drop n a = record { front = take n a; parts = sym (take-append-drop n a) }
 
 pub ends_then : {a b c : List ℕ} → IsEnding a b → IsEnding b c → IsEnding a c
-ends_then {a} {b} {c} p q = record { front = p.front ++ q.front; parts = p.parts ∙ ap (λ (t : List ℕ). p.front ++ t) q.parts ∙ sym (append_assoc p.front q.front c) }
+ends_then {a} {b} {c} p q = record {
+  front = p.front ++ q.front;
+  parts = p.parts
+      ∙ ap (λ (t : List ℕ). p.front ++ t) q.parts ∙ sym (append_assoc p.front q.front c);
+}
 
 -- a beginning of the second part, after the whole first one
-pub starts_then : {old mid new : List ℕ} (first second : List ℕ) → mid ≡ old ++ first → AppendsStart mid new second → AppendsStart old new (first ++ second)
+pub starts_then : {old mid new : List ℕ} (first second : List ℕ) → mid ≡ old ++ first → AppendsStart mid new second
+    → AppendsStart old new (first ++ second)
 starts_then {old} {mid} {new} first second e s = record {
   done = first ++ s.done;
   left = s.left;
@@ -22,7 +27,8 @@ starts_then {old} {mid} {new} first second e s = record {
 }
 
 -- a beginning of the first part
-pub starts_first : {old new first : List ℕ} (second : List ℕ) → AppendsStart old new first → AppendsStart old new (first ++ second)
+pub starts_first : {old new first : List ℕ} (second : List ℕ) → AppendsStart old new first
+    → AppendsStart old new (first ++ second)
 starts_first {old} {new} {first} second s = record {
   done = s.done;
   left = s.left ++ second;
@@ -31,5 +37,6 @@ starts_first {old} {new} {first} second s = record {
 }
 
 -- a beginning of what follows the first byte
-pub starts_cons : {old mid new : List ℕ} (x : ℕ) (text : List ℕ) → mid ≡ old ++ x ∷ [] → AppendsStart mid new text → AppendsStart old new (x ∷ text)
+pub starts_cons : {old mid new : List ℕ} (x : ℕ) (text : List ℕ) → mid ≡ old ++ x ∷ [] → AppendsStart mid new text
+    → AppendsStart old new (x ∷ text)
 starts_cons x text e s = starts_then (x ∷ []) text e s

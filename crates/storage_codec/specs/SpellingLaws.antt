@@ -21,17 +21,20 @@ groups_same (suc left) m n xs ys e =
       | inl low_m ↦ elim (cases_lt n 128) [
         | inl low_n ↦ let f : m ∷ xs ≡ n ∷ ys = rw (lt-ltb m 128 low_m, lt-ltb n 128 low_n) at e in (cc, cc)
         | inr high_n ↦
-            let f : m ∷ xs ≡ (n % 128 + 128) ∷ (groups left (n / 128) ++ ys) = rw (lt-ltb m 128 low_m, le-ltb n 128 high_n) at e in
+            let f : m ∷ xs ≡ (n % 128 + 128) ∷ (groups left (n / 128) ++ ys) =
+            rw (lt-ltb m 128 low_m, le-ltb n 128 high_n) at e in
             let head : m ≡ n % 128 + 128 = cc in
             absurd (omega arith)
       ]
       | inr high_m ↦ elim (cases_lt n 128) [
         | inl low_n ↦
-            let f : (m % 128 + 128) ∷ (groups left (m / 128) ++ xs) ≡ n ∷ ys = rw (le-ltb m 128 high_m, lt-ltb n 128 low_n) at e in
+            let f : (m % 128 + 128) ∷ (groups left (m / 128) ++ xs) ≡ n ∷ ys =
+            rw (le-ltb m 128 high_m, lt-ltb n 128 low_n) at e in
             let head : m % 128 + 128 ≡ n = cc in
             absurd (omega arith)
         | inr high_n ↦
-            let f : (m % 128 + 128) ∷ (groups left (m / 128) ++ xs) ≡ (n % 128 + 128) ∷ (groups left (n / 128) ++ ys) = rw (le-ltb m 128 high_m, le-ltb n 128 high_n) at e in
+            let f : (m % 128 + 128) ∷ (groups left (m / 128) ++ xs) ≡ (n % 128 + 128) ∷ (groups left (n / 128) ++ ys) =
+            rw (le-ltb m 128 high_m, le-ltb n 128 high_n) at e in
             let head : m % 128 + 128 ≡ n % 128 + 128 = cc in
             let tail : groups left (m / 128) ++ xs ≡ groups left (n / 128) ++ ys = cc in
             let more = groups_same left (m / 128) (n / 128) xs ys tail in
@@ -46,7 +49,8 @@ unfolding varint_text
 varint_one m n xs ys e = groups_same 9 m n xs ys e
 
 -- Byte vectors are equal exactly where their encodings are.
-pub vector_same : (xs ys : List ℕ) → (bytes_eq xs ys ≡ true → vector_text xs ≡ vector_text ys) × (vector_text xs ≡ vector_text ys → bytes_eq xs ys ≡ true)
+pub vector_same : (xs ys : List ℕ) → (bytes_eq xs ys ≡ true → vector_text xs ≡ vector_text ys)
+    × (vector_text xs ≡ vector_text ys → bytes_eq xs ys ≡ true)
 unfolding varint_text
 vector_same xs ys = (
   λ e. ap vector_text ((bytes_eq-Decides xs ys).0 e),
@@ -55,7 +59,8 @@ vector_same xs ys = (
 
 -- A varint is read exactly where it stands in front.
 pub varint_exact : (bytes : List ℕ) (n : ℕ) (rest : List ℕ) → IsBytes bytes
-    → (varint_at bytes ≡ Ok (n, rest) → (n < 2 ^ 64) × (bytes ≡ varint_text n ++ rest)) × ((n < 2 ^ 64) × (bytes ≡ varint_text n ++ rest) → varint_at bytes ≡ Ok (n, rest))
+    → (varint_at bytes ≡ Ok (n, rest) → (n < 2 ^ 64) × (bytes ≡ varint_text n ++ rest))
+    × ((n < 2 ^ 64) × (bytes ≡ varint_text n ++ rest) → varint_at bytes ≡ Ok (n, rest))
 varint_exact bytes n rest fits = (
   λ e. (varint_below bytes n rest fits e, varint_back bytes n rest fits e),
   λ h. subst (λ (t : List ℕ). varint_at t ≡ Ok (n, rest)) (sym h.1) (varint_again n rest h.0),
@@ -68,7 +73,8 @@ Goes bytes = All (λ b. 128 ≤ b) bytes
 abbrev cut : {V : Type 0} → Answer V
 cut = Err EndOfBuffer
 
-mapped_cut : {V W : Type 0} (f : V → W) (answer : Answer V) → (mapped f answer ≡ cut → answer ≡ cut) × (answer ≡ cut → mapped f answer ≡ cut)
+mapped_cut : {V W : Type 0} (f : V → W) (answer : Answer V)
+    → (mapped f answer ≡ cut → answer ≡ cut) × (answer ≡ cut → mapped f answer ≡ cut)
 mapped_cut f (Ok x) = (λ e. absurd cc, λ e. absurd cc)
 mapped_cut f (Err d) = (λ e. cc, λ e. cc)
 
@@ -86,27 +92,34 @@ last_not_cut b bytes e =
     ]
 
 -- A group that is not the last asks for the next ones.
-goes_on : (b : ℕ) (bytes : List ℕ) (more : Answer ℕ) → cond (ltb b 128) (answer_of b bytes) (mapped (λ high. b - 128 + 128 * high) more) ≡ cut → (128 ≤ b) × (more ≡ cut)
+goes_on : (b : ℕ) (bytes : List ℕ) (more : Answer ℕ)
+    → cond (ltb b 128) (answer_of b bytes) (mapped (λ high. b - 128 + 128 * high) more) ≡ cut → (128 ≤ b) × (more ≡ cut)
 goes_on b bytes more e =
     elim (chosen (ltb b 128) (answer_of b bytes) (mapped (λ high. b - 128 + 128 * high) more) cut e) [
       | inl h ↦ absurd (not_cut (b, bytes) h.1)
       | inr h ↦ (ltb-false b 128 h.0, (mapped_cut (λ high. b - 128 + 128 * high) more).0 h.1)
     ]
 
-more_cut : (left : ℕ) (bytes : List ℕ) → (more_at left bytes ≡ cut → (length bytes ≤ left) × Goes bytes) × ((length bytes ≤ left) × Goes bytes → more_at left bytes ≡ cut)
+more_cut : (left : ℕ) (bytes : List ℕ) → (more_at left bytes ≡ cut → (length bytes ≤ left) × Goes bytes)
+    × ((length bytes ≤ left) × Goes bytes → more_at left bytes ≡ cut)
 unfolding more_at
 more_cut zero [] = (λ e. (lit≤ tt, All-nil (λ b. 128 ≤ b)), λ h. refl)
-more_cut zero (b ∷ bytes) = (λ e. absurd (last_not_cut b bytes e), λ h. let len : suc (length bytes) ≤ 0 = h.0 in absurd (omega arith))
+more_cut zero (b ∷ bytes) = (
+  λ e. absurd (last_not_cut b bytes e),
+  λ h. let len : suc (length bytes) ≤ 0 = h.0 in
+      absurd (omega arith),
+)
 more_cut (suc left) [] = (λ e. (omega arith, All-nil (λ b. 128 ≤ b)), λ h. refl)
 more_cut (suc left) (b ∷ bytes) = (
-  λ e. elim (chosen (eqb b 0) (Err InvalidVarint) (cond (ltb b 128) (answer_of b bytes) (mapped (λ high. b - 128 + 128 * high) (more_at left bytes))) cut e) [
-    | inl h ↦ absurd (not_invalid h.1)
-    | inr h ↦
-        let goes = goes_on b bytes (more_at left bytes) h.1 in
-        let rest = (more_cut left bytes).0 goes.1 in
-        let len : length bytes ≤ left = rest.0 in
-        (omega arith, All-cons (λ c. 128 ≤ c) b bytes goes.0 rest.1)
-  ],
+  λ e. elim (chosen (eqb b 0) (Err InvalidVarint)
+      (cond (ltb b 128) (answer_of b bytes) (mapped (λ high. b - 128 + 128 * high) (more_at left bytes))) cut e) [
+        | inl h ↦ absurd (not_invalid h.1)
+        | inr h ↦
+            let goes = goes_on b bytes (more_at left bytes) h.1 in
+            let rest = (more_cut left bytes).0 goes.1 in
+            let len : length bytes ≤ left = rest.0 in
+            (omega arith, All-cons (λ c. 128 ≤ c) b bytes goes.0 rest.1)
+      ],
   λ h.
       let high : 128 ≤ b = All-head (λ c. 128 ≤ c) b bytes h.1 in
       let len : suc (length bytes) ≤ suc left = h.0 in
@@ -117,7 +130,8 @@ more_cut (suc left) (b ∷ bytes) = (
 )
 
 -- The bytes end before a varint does exactly where each asks for another and they are fewer than ten.
-pub varint_cut : (bytes : List ℕ) → (varint_at bytes ≡ Err EndOfBuffer → (length bytes < 10) × All (λ b. 128 ≤ b) bytes) × ((length bytes < 10) × All (λ b. 128 ≤ b) bytes → varint_at bytes ≡ Err EndOfBuffer)
+pub varint_cut : (bytes : List ℕ) → (varint_at bytes ≡ Err EndOfBuffer → (length bytes < 10) × All (λ b. 128 ≤ b) bytes)
+    × ((length bytes < 10) × All (λ b. 128 ≤ b) bytes → varint_at bytes ≡ Err EndOfBuffer)
 unfolding varint_at
 varint_cut [] = (λ e. (lit< tt, All-nil (λ b. 128 ≤ b)), λ h. refl)
 varint_cut (b ∷ bytes) = (
@@ -157,7 +171,8 @@ power_pos zero = lit< tt
 power_pos (suc k) = omega (arith, power_pos k, pow-succ' 128 k)
 
 -- So many groups suffice exactly where the number is below that power of 128.
-groups_fewest : (left k n : ℕ) → 0 < k → k ≤ left → (length (groups left n) ≤ k → n < 128 ^ k) × (n < 128 ^ k → length (groups left n) ≤ k)
+groups_fewest : (left k n : ℕ) → 0 < k → k ≤ left
+    → (length (groups left n) ≤ k → n < 128 ^ k) × (n < 128 ^ k → length (groups left n) ≤ k)
 unfolding groups
 groups_fewest left zero n some most = absurd (omega arith)
 groups_fewest zero (suc k) n some most = absurd (omega arith)
@@ -190,7 +205,8 @@ groups_fewest (suc left) (suc (suc k)) n some most =
           )
     ]
 
-pub varint_fewest : (n k : ℕ) → 0 < k → k < 10 → (length (varint_text n) ≤ k → n < 128 ^ k) × (n < 128 ^ k → length (varint_text n) ≤ k)
+pub varint_fewest : (n k : ℕ) → 0 < k → k < 10
+    → (length (varint_text n) ≤ k → n < 128 ^ k) × (n < 128 ^ k → length (varint_text n) ≤ k)
 unfolding varint_text
 varint_fewest n k some most = groups_fewest 9 k n some (omega arith)
 

@@ -13,31 +13,39 @@ use crate::codec::{Canonical, Codec, FixedBytes, U64, Write};
 
 /// Bytes that begin with an encoding begin with one only, and what follows it is settled.
 pub fn one_encoding_in_front<T: Codec>()
-    ensures { (cfg : T.Cfg) (x y : T) (r s : List ℕ) → T.admits cfg x → T.admits cfg y
-        → T.text x ++ r ≡ T.text y ++ s → (T.view x ≡ T.view y) × (r ≡ s) }
+    ensures { (cfg : T.Cfg) (x y : T) (r s : List ℕ) → T.admits cfg x
+        → T.admits cfg y
+        → T.text x ++ r ≡ T.text y ++ s
+        → (T.view x ≡ T.view y) × (r ≡ s) }
 {}
 
 /// No encoding begins another: where one does, they are of one value.
 pub fn prefix_free<T: Codec>()
-    ensures { (cfg : T.Cfg) (x y : T) (rest : List ℕ) → T.admits cfg x → T.admits cfg y
-        → T.text y ≡ T.text x ++ rest → (T.view x ≡ T.view y) × (rest ≡ []) }
+    ensures { (cfg : T.Cfg) (x y : T) (rest : List ℕ) → T.admits cfg x
+        → T.admits cfg y
+        → T.text y ≡ T.text x ++ rest
+        → (T.view x ≡ T.view y) × (rest ≡ []) }
 {}
 
 /// Values are seen alike exactly where their encodings are equal.
 pub fn equal_encodings_of_equal_views<T: Canonical>()
-    ensures { (cfg : T.Cfg) (x y : T) → T.admits cfg x → T.admits cfg y → IsBytes (T.text x)
+    ensures { (cfg : T.Cfg) (x y : T) → T.admits cfg x
+        → T.admits cfg y
+        → IsBytes (T.text x)
         → (T.view x ≡ T.view y) ↔ (T.text x ≡ T.text y) }
 {}
 
 /// What is read in front of other bytes is exactly what was written there.
 pub fn read_exactly_where_written<T: Canonical>()
-    ensures { (cfg : T.Cfg) (bytes : List ℕ) (x : T) (rest : List ℕ) → T.admits cfg x → IsBytes bytes
+    ensures { (cfg : T.Cfg) (bytes : List ℕ) (x : T) (rest : List ℕ) → T.admits cfg x
+        → IsBytes bytes
         → (T.parse cfg bytes ≡ Ok (T.view x, rest)) ↔ (bytes ≡ T.text x ++ rest) }
 {}
 
 /// Bytes decode whole to a value exactly where they are its encoding.
 pub fn whole_encoding<T: Canonical>()
-    ensures { (cfg : T.Cfg) (bytes : List ℕ) (x : T) → T.admits cfg x → IsBytes bytes
+    ensures { (cfg : T.Cfg) (bytes : List ℕ) (x : T) → T.admits cfg x
+        → IsBytes bytes
         → (whole (T.parse cfg bytes) ≡ Ok (T.view x, [])) ↔ (bytes ≡ T.text x) }
 {}
 
@@ -60,7 +68,9 @@ pub fn equal_vectors_by_encoding()
 
 /// Integer keys are ordered as their numbers are.
 pub fn integer_keys_by_number()
-    ensures { (x y : U64) → IsBytes x.0.bytes → IsBytes y.0.bytes → ⟦<U64 as Ord>⟧.cmp x y
+    ensures { (x y : U64) → IsBytes x.0.bytes
+        → IsBytes y.0.bytes
+        → ⟦<U64 as Ord>⟧.cmp x y
         ≡ nat_cmp (from_be_bytes w64 x.0.bytes) (from_be_bytes w64 y.0.bytes) }
 {}
 
@@ -73,8 +83,8 @@ pub fn varint_read_exactly_where_spelled()
 /// The bytes end before a varint does exactly where they are fewer than ten, and each asks for
 /// another and is none of a longer spelling than the shortest.
 pub fn varint_cut_short()
-    ensures { (bytes : List ℕ) → (varint_at bytes ≡ Err EndOfBuffer)
-        ↔ ((length bytes < 10) × All (λ b. 128 ≤ b) bytes) }
+    ensures { (bytes : List ℕ)
+        → (varint_at bytes ≡ Err EndOfBuffer) ↔ ((length bytes < 10) × All (λ b. 128 ≤ b) bytes) }
 {}
 
 /// A varint has as few groups of seven bits as hold its number, and at most ten.

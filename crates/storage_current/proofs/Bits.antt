@@ -19,37 +19,46 @@ bit_at-number_of zero i bs h = absurd (omega arith)
 bit_at-number_of (suc k) i [] h = bit_at-zero i
 bit_at-number_of (suc k) zero (b ∷ bs) h = bit_at_lowest (digit b + 2 * number_of k bs) ∙ omega (arith, digit-below b)
 bit_at-number_of (suc k) (suc i) (b ∷ bs) h =
-    bit_at-suc (digit b + 2 * number_of k bs) i ∙ (ap (λ (x : ℕ). bit_at x i) (halved (digit b) (number_of k bs) (digit-below b)) ∙ bit_at-number_of k i bs (omega arith))
+    bit_at-suc (digit b + 2 * number_of k bs) i ∙ (ap (λ (x : ℕ). bit_at x i)
+    (halved (digit b) (number_of k bs) (digit-below b)) ∙ bit_at-number_of k i bs (omega arith))
 
 get_or-bytes_of : (n m : ℕ) (bs : List Bool) → m < n → get_or (bytes_of n bs) m 0 ≡ number_of 8 (drop (8 * m) bs)
 unfolding bytes_of
 get_or-bytes_of zero m bs h = absurd (omega arith)
 get_or-bytes_of (suc n) zero bs h = refl
 get_or-bytes_of (suc n) (suc m) bs h =
-    get_or-bytes_of n m (drop 8 bs) (omega arith) ∙ ap (number_of 8) (drop-drop (8 * m) 8 bs ∙ ap (λ (x : ℕ). drop x bs) (let e : 8 + 8 * m ≡ 8 * suc m = omega arith in e))
+    get_or-bytes_of n m (drop 8 bs) (omega arith) ∙ ap (number_of 8) (drop-drop (8 * m) 8 bs
+    ∙ ap (λ (x : ℕ). drop x bs) (let e : 8 + 8 * m ≡ 8 * suc m = omega arith in e))
 
 eqb-digit : (b : Bool) → eqb (digit b) 1 ≡ b
 eqb-digit true = refl
 eqb-digit false = refl
 
 -- bit i of chunk j is the bit that stands so far into the list
-pub bit_in-chunk : (n : ℕ) (bits : List Bool) (j i : ℕ) → i < 8 * n → bit_in (chunk n bits j) i ≡ get_or bits (j * (8 * n) + i) false
+pub bit_in-chunk : (n : ℕ) (bits : List Bool) (j i : ℕ) → i < 8 * n
+    → bit_in (chunk n bits j) i ≡ get_or bits (j * (8 * n) + i) false
 unfolding bit_in chunk
 bit_in-chunk n bits j i l =
     let from : List Bool = drop (j * (8 * n)) bits in
     let m : ℕ = i / 8 in
-    let byte : get_or (bytes_of n from) (i / 8) 0 ≡ number_of 8 (drop (8 * m) from) = get_or-bytes_of n m from (omega arith) in
-    let bit : bit_at (number_of 8 (drop (8 * m) from)) (i % 8) ≡ digit (get_or (drop (8 * m) from) (i % 8) false) = bit_at-number_of 8 (i % 8) (drop (8 * m) from) (omega arith) in
+    let byte : get_or (bytes_of n from) (i / 8) 0 ≡ number_of 8 (drop (8 * m) from) =
+    get_or-bytes_of n m from (omega arith) in
+    let bit : bit_at (number_of 8 (drop (8 * m) from)) (i % 8) ≡ digit (get_or (drop (8 * m) from) (i % 8) false) =
+    bit_at-number_of 8 (i % 8) (drop (8 * m) from) (omega arith) in
     let there : get_or (drop (8 * m) from) (i % 8) false ≡ get_or bits (j * (8 * n) + i) false =
-    get_or-drop (8 * m) from (i % 8) false ∙ get_or-drop (j * (8 * n)) bits (8 * m + i % 8) false ∙ ap (λ (x : ℕ). get_or bits (j * (8 * n) + x) false) (let e : 8 * (i / 8) + i % 8 ≡ i = omega arith in e) in
-    ap (λ (x : ℕ). eqb (bit_at x (i % 8)) 1) byte ∙ ap (λ (x : ℕ). eqb x 1) bit ∙ eqb-digit (get_or (drop (8 * m) from) (i % 8) false) ∙ there
+    get_or-drop (8 * m) from (i % 8) false ∙ get_or-drop (j * (8 * n)) bits (8 * m + i % 8) false
+    ∙ ap (λ (x : ℕ). get_or bits (j * (8 * n) + x) false) (let e : 8 * (i / 8) + i % 8 ≡ i = omega arith in e) in
+    ap (λ (x : ℕ). eqb (bit_at x (i % 8)) 1) byte ∙ ap (λ (x : ℕ). eqb x 1) bit
+    ∙ eqb-digit (get_or (drop (8 * m) from) (i % 8) false) ∙ there
 
 -- the chunks of a list of chunks
-pub get_or-chunks_from : (n : ℕ) (bits : List Bool) (none : List ℕ) (count j i : ℕ) → i < count → get_or (chunks_from n bits count j) i none ≡ chunk n bits (j + i)
+pub get_or-chunks_from : (n : ℕ) (bits : List Bool) (none : List ℕ) (count j i : ℕ) → i < count
+    → get_or (chunks_from n bits count j) i none ≡ chunk n bits (j + i)
 unfolding chunks_from
 get_or-chunks_from n bits none zero j i l = absurd (omega arith)
 get_or-chunks_from n bits none (suc count) j zero l = ap (chunk n bits) (let e : j ≡ j + 0 = omega arith in e)
-get_or-chunks_from n bits none (suc count) j (suc i) l = get_or-chunks_from n bits none count (suc j) i (omega arith) ∙ ap (chunk n bits) (let e : suc j + i ≡ j + suc i = omega arith in e)
+get_or-chunks_from n bits none (suc count) j (suc i) l = get_or-chunks_from n bits none count (suc j) i (omega arith)
+    ∙ ap (chunk n bits) (let e : suc j + i ≡ j + suc i = omega arith in e)
 
 pub length-chunks_from : (n : ℕ) (bits : List Bool) (count j : ℕ) → length (chunks_from n bits count j) ≡ count
 unfolding chunks_from

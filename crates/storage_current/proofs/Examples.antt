@@ -13,10 +13,12 @@ unfolding chunk bytes_of number_of
 nine_bits = refl
 
 -- chunks of 8 operations: the second one of an MMB is graftable from 19 operations on, of an MMR from 16
-graftable_mmb : graftable_at mmb 3 10 ∷ graftable_at mmb 3 11 ∷ graftable_at mmb 3 18 ∷ graftable_at mmb 3 19 ∷ [] ≡ 0 ∷ 1 ∷ 1 ∷ 2 ∷ []
+graftable_mmb : graftable_at mmb 3 10 ∷ graftable_at mmb 3 11 ∷ graftable_at mmb 3 18 ∷ graftable_at mmb 3 19 ∷ []
+    ≡ 0 ∷ 1 ∷ 1 ∷ 2 ∷ []
 graftable_mmb = refl
 
-graftable_mmr : graftable_at mmr 3 7 ∷ graftable_at mmr 3 8 ∷ graftable_at mmr 3 15 ∷ graftable_at mmr 3 16 ∷ [] ≡ 0 ∷ 1 ∷ 1 ∷ 2 ∷ []
+graftable_mmr : graftable_at mmr 3 7 ∷ graftable_at mmr 3 8 ∷ graftable_at mmr 3 15 ∷ graftable_at mmr 3 16 ∷ []
+    ≡ 0 ∷ 1 ∷ 1 ∷ 2 ∷ []
 graftable_mmr = refl
 
 -- the number of bits in the partial chunk, highest byte first
@@ -28,6 +30,8 @@ next_bit = refl
 digest : List ℕ
 digest = replicate 32 7
 
-lengths : length (canonical_string digest digest None 0 None) ∷ length (canonical_string digest digest (Some digest) 0 None) ∷ length (canonical_string digest digest None 3 (Some digest)) ∷ length (canonical_string digest digest (Some digest) 3 (Some digest)) ∷ [] ≡ 64 ∷ 96 ∷ 104 ∷ 136 ∷ []
+lengths : length (canonical_string digest digest None 0 None) ∷ length
+    (canonical_string digest digest (Some digest) 0 None) ∷ length (canonical_string digest digest None 3 (Some digest))
+    ∷ length (canonical_string digest digest (Some digest) 3 (Some digest)) ∷ [] ≡ 64 ∷ 96 ∷ 104 ∷ 136 ∷ []
 unfolding digest be8
 lengths = refl

@@ -31,6 +31,7 @@ none_pending k n =
           rw (lt-ltb n (0 + 2 ^ k) few) (omega arith)
       | inr enough ↦
           let parts : n ≡ (n - (0 + 2 ^ k)) + 2 ^ k = omega arith in
-          let e : n / 2 ^ k ≡ (n - (0 + 2 ^ k)) / 2 ^ k + 1 = ap (λ (x : ℕ). x / 2 ^ k) parts ∙ add-div_right (n - (0 + 2 ^ k)) positive in
+          let e : n / 2 ^ k ≡ (n - (0 + 2 ^ k)) / 2 ^ k + 1 =
+          ap (λ (x : ℕ). x / 2 ^ k) parts ∙ add-div_right (n - (0 + 2 ^ k)) positive in
           rw (le-ltb n (0 + 2 ^ k) enough) e
     ]

@@ -32,10 +32,12 @@ power_of_log n r size low high =
 -- eight times a power of two, the other way
 pub log_of_power : (n r : ℕ) → 2 ^ r ≤ n → n < 2 * 2 ^ r → (g : ℕ) → g ≤ 62 → 8 * n ≡ 2 ^ g → (n ≡ 2 ^ r) × (r < 60)
 log_of_power n r low high g small e =
-    let same : 3 + r ≡ g = log_unique (8 * n) (3 + r) g (rw pow-add (omega arith)) (rw pow-add (omega arith)) (omega (arith, e)) (omega (arith, e, pow_pos g)) in
+    let same : 3 + r ≡ g = log_unique (8 * n) (3 + r) g (rw pow-add (omega arith)) (rw pow-add (omega arith))
+    (omega (arith, e)) (omega (arith, e, pow_pos g)) in
     (back n r g same e, omega arith) where
       back : (n r g : ℕ) → 3 + r ≡ g → 8 * n ≡ 2 ^ g → n ≡ 2 ^ r
-      back n r g same e = let f : 8 * n ≡ 2 ^ (3 + r) = rw same e in let s : 8 * n ≡ 2 ^ 3 * 2 ^ r = rw pow-add at f in omega arith
+      back n r g same e = let f : 8 * n ≡ 2 ^ (3 + r) = rw same e in
+          let s : 8 * n ≡ 2 ^ 3 * 2 ^ r = rw pow-add at f in omega arith
 
 pub eight_powers : (n r : ℕ) → n ≡ 2 ^ r → 8 * n ≡ 2 ^ (3 + r)
 eight_powers n r e = rw (pow-add, e) (omega arith)
@@ -51,7 +53,8 @@ below_product a b m c h w some = omega (arith, mul-le (a + 1) m b m (omega arith
   added a m = grind arith
 
 -- the chunk of a location begins at or before it
-pub chunk_of : (n h location leaves count : ℕ) → 8 * n ≡ 2 ^ h → location < leaves → count ≡ leaves → location / 2 ^ h * (8 * n) < count
+pub chunk_of : (n h location leaves count : ℕ) → 8 * n ≡ 2 ^ h → location < leaves → count ≡ leaves
+    → location / 2 ^ h * (8 * n) < count
 chunk_of n h location leaves count e below same = rw e (omega (arith, shr_split location h))
 
 -- ---- which sizes chunks may have
@@ -71,8 +74,11 @@ halves_of (suc k) (suc times) n e l =
 
 -- a power of two up to 2 ^ 59
 pub size_of_power : (n r : ℕ) → n ≡ 2 ^ r → r < 60 → IsChunkSize n
-size_of_power n r e small =
-    (halves_of r n n e (omega (arith, e, below_pow r)), let up : 2 ^ r ≤ 2 ^ 59 = pow_le r 59 (omega arith) in omega arith)
+size_of_power n r e small = (
+  halves_of r n n e (omega (arith, e, below_pow r)),
+  let up : 2 ^ r ≤ 2 ^ 59 =
+      pow_le r 59 (omega arith) in omega arith,
+)
 
 -- the test of a size finds none that chunks may not have
 pub no_size : (n : ℕ) → (IsChunkSize n → ⊥) → (halves n n && leb n (2 ^ 59)) ≡ false
@@ -89,8 +95,10 @@ some_size n size = rw (size.0, le-leb n (2 ^ 59) size.1) refl
 
 -- ---- the bits of the complete chunks, and of the one after them
 
-pub whole_within : (n h leaves whole count : ℕ) → 8 * n ≡ 2 ^ h → whole ≡ leaves / 2 ^ h → leaves ≡ count → whole * (8 * n) ≤ count
+pub whole_within : (n h leaves whole count : ℕ) → 8 * n ≡ 2 ^ h → whole ≡ leaves / 2 ^ h → leaves ≡ count
+    → whole * (8 * n) ≤ count
 whole_within n h leaves whole count e w same = rw (e, w) (omega (arith, same, div-mul-le_self leaves (2 ^ h)))
 
-pub rest_within : (n h leaves whole next count : ℕ) → 8 * n ≡ 2 ^ h → whole ≡ leaves / 2 ^ h → next ≡ leaves % 2 ^ h → leaves ≡ count → whole * (8 * n) + next ≤ count
+pub rest_within : (n h leaves whole next count : ℕ) → 8 * n ≡ 2 ^ h → whole ≡ leaves / 2 ^ h → next ≡ leaves % 2 ^ h
+    → leaves ≡ count → whole * (8 * n) + next ≤ count
 rest_within n h leaves whole next count e w r same = rw (e, w, r) (omega (arith, same, div-add-mod' leaves (2 ^ h)))

@@ -1,19 +1,21 @@
 -- What a well-formed snapshot says of keys.
-use Rattle.std.proofs.Common.{◌≡◌, ℕ, ◌+◌, ◌-◌, ◌<◌, ◌≤◌, ◌^◌, Bool, true, false, cond, not, ◌&&◌, ◌||◌, List, ◌++◌, length, Some, None, Option, Ordering, Less, Equal, Greater, is_lt, inl, inr, refl, sym, ap, ◌∙◌, subst, arith}
-use Rattle.std.specs.Prelude.{IfSome, option_map}
+use Rattle.std.proofs.Common.{◌≡◌, ℕ, ◌+◌, ◌-◌, ◌<◌, ◌≤◌, ◌^◌, Bool, true, false, List, ◌++◌, length, Option, Ordering, Less, Equal, Greater, is_lt, inl, inr, refl, sym, ap, ◌∙◌, subst, arith}
+use Rattle.std.specs.Prelude.{IfSome}
 use Rattle.std.specs.Cmp.{IsTotalOrder}
 use Rattle.std.specs.Ordering.{is_eq, ordering_reverse}
 use Rattle.std.proofs.lemmas.Bool.{false≢true}
 use Rattle.storage_ops.specs.Operations.{OperationView, Update, CommitFloor, operation_map, operation_floor}
 use Rattle.storage_ops.specs.PrefixFree.{IsPrefixFree}
 use Rattle.storage_ops.specs.PrefixFreeLaws.{three_parts}
-use Rattle.storage_current.specs.Snapshots.{Snapshot, IsSnapshot, IsActive}
-use Rattle.storage_current.specs.Keys.{Keyed, update_text, commit_text, before, in_span, Excludes, Updates, HasKey, IsAbsent, IsValue, IsWellFormed, UpdatesAreValues, ExcludedAreAbsent, NoneAtItsFloor}
+use Rattle.storage_current.specs.Snapshots.{Snapshot, IsActive}
+use Rattle.storage_current.specs.Keys.{Keyed, update_text, commit_text, before, UpdatesAreValues, ExcludedAreAbsent, NoneAtItsFloor}
 
 -- what the bytes of an operation settle, and that exactly those keys compare alike which are written alike
 pub record IsKeyed {K V : Type 0} (e : Keyed K V) : Type 0 where
-  pub one : (a b : K) (v w : V) (m n : K) → update_text e a v m ≡ update_text e b w n → (e.key a ≡ e.key b) × (e.value v ≡ e.value w) × (e.key m ≡ e.key n)
-  pub apart : (a : K) (v : V) (m : K) (o : Option V) (floor : ℕ) → floor < 2 ^ 64 → update_text e a v m ≡ commit_text e o floor → ⊥
+  pub one : (a b : K) (v w : V) (m n : K) → update_text e a v m ≡ update_text e b w n
+      → (e.key a ≡ e.key b) × (e.value v ≡ e.value w) × (e.key m ≡ e.key n)
+  pub apart : (a : K) (v : V) (m : K) (o : Option V) (floor : ℕ) → floor < 2 ^ 64
+      → update_text e a v m ≡ commit_text e o floor → ⊥
   pub floors : (o p : Option V) (m n : ℕ) → m < 2 ^ 64 → n < 2 ^ 64 → commit_text e o m ≡ commit_text e p n → m ≡ n
   pub total : IsTotalOrder e.cmp
   pub exact : (a b : K) → e.cmp a b ≡ Equal → e.key a ≡ e.key b
@@ -37,20 +39,28 @@ tested Equal h = refl
 tested Greater h = absurd (false≢true h)
 
 -- Codecs of keys and values, and of operations whose updates are written as their parts, give them.
-pub keyed_of : {K V U X Y : Type 0} (key : K → List ℕ) (value : V → List ℕ) (operation : OperationView (List ℕ) (List ℕ) (List ℕ) → List ℕ) (cmp : K → K → Ordering)
-    (kview : K → X) (vview : V → Y) (update : U → List ℕ) (make : K → V → K → U) → ((k : K) (v : V) (n : K) → update (make k v n) ≡ key k ++ value v ++ key n)
-    → ((x y : OperationView K U V) → IfSome (operation_floor x) (λ n. n < 2 ^ 64) → IfSome (operation_floor y) (λ n. n < 2 ^ 64)
-    → operation (operation_map key update value x) ≡ operation (operation_map key update value y) → operation_map key update value x ≡ operation_map key update value y)
+pub keyed_of : {K V U X Y : Type 0} (key : K → List ℕ) (value : V → List ℕ)
+    (operation : OperationView (List ℕ) (List ℕ) (List ℕ) → List ℕ) (cmp : K → K → Ordering)
+    (kview : K → X) (vview : V → Y) (update : U → List ℕ) (make : K → V → K → U)
+    → ((k : K) (v : V) (n : K) → update (make k v n) ≡ key k ++ value v ++ key n)
+    → ((x y : OperationView K U V) → IfSome (operation_floor x) (λ n. n < 2 ^ 64)
+    → IfSome (operation_floor y) (λ n. n < 2 ^ 64)
+    → operation (operation_map key update value x) ≡ operation (operation_map key update value y)
+    → operation_map key update value x ≡ operation_map key update value y)
     → IsPrefixFree key kview → IsPrefixFree value vview → IsTotalOrder cmp
-    → (eq : K → K → Bool) → ((a b : K) → eq a b ≡ is_eq (cmp a b)) → ((a b : K) → (eq a b ≡ true → key a ≡ key b) × (key a ≡ key b → eq a b ≡ true))
+    → (eq : K → K → Bool) → ((a b : K) → eq a b ≡ is_eq (cmp a b))
+    → ((a b : K) → (eq a b ≡ true → key a ≡ key b) × (key a ≡ key b → eq a b ≡ true))
     → IsKeyed (record { key = key; value = value; operation = operation; cmp = cmp })
 keyed_of {K} {V} key value operation cmp kview vview update make made parts kis vis total eq eq_is same =
     let text : K → V → K → OperationView (List ℕ) (List ℕ) (List ℕ) = λ k v n. Update (key k ++ value v ++ key n) in
-    let seen : (k : K) (v : V) (n : K) → operation_map {K = K} {V = V} key update value (Update (make k v n)) ≡ text k v n = λ k v n. ap (λ t. Update t) (made k v n) in
+    let seen : (k : K) (v : V) (n : K) → operation_map {K = K} {V = V} key update value (Update (make k v n))
+    ≡ text k v n = λ k v n. ap (λ t. Update t) (made k v n) in
     record {
       one = λ a b v w m n e.
-          let whole = parts (Update (make a v m)) (Update (make b w n)) tt tt (ap operation (seen a v m) ∙ e ∙ sym (ap operation (seen b w n))) in
-          three_parts key value kview vview kis vis a b v w m n (updates_same _ _ (sym (seen a v m) ∙ whole ∙ seen b w n));
+          let whole = parts (Update (make a v m)) (Update (make b w n)) tt tt (ap operation (seen a v m) ∙ e
+          ∙ sym (ap operation (seen b w n))) in
+          three_parts key value kview vview kis vis a b v w m n
+          (updates_same _ _ (sym (seen a v m) ∙ whole ∙ seen b w n));
       apart = λ a v m o floor small e.
           let whole = parts (Update (make a v m)) (CommitFloor o floor) tt small (ap operation (seen a v m) ∙ e) in
           update_no_commit _ _ _ (sym (seen a v m) ∙ whole);
@@ -91,7 +101,8 @@ module _ {K V : Type 0} (e : Keyed K V) (is : IsKeyed e) where
   absent s well location start value next u key excluded i v n w =
       let r = well.ring location start value next u in
       let inside = excluded.spanned in
-      let other : before e key start ≡ false → before e start key ≡ false → ⊥ = λ p q. excluded.other (before_not key start p q) in
+      let other : before e key start ≡ false → before e start key ≡ false → ⊥ =
+      λ p q. excluded.other (before_not key start p q) in
       elim r.1 [
         | inl (up, none) ↦
             let far = none key (i, v, n, w) in
@@ -115,8 +126,10 @@ module _ {K V : Type 0} (e : Keyed K V) (is : IsKeyed e) where
       is.apart r.0 r.1 r.2 value location small (sym r.3) in
       let final : length s.operations - 1 ≡ location = grind (arith, last) in
       let at_end = subst (λ j. IsActive s j (commit_text e well.committed.0 s.floor)) final well.committed.1 in
-      let floors : location ≡ s.floor = is.floors value well.committed.0 location s.floor small (omega arith) (same_active s location _ _ c at_end) in
+      let floors : location ≡ s.floor =
+      is.floors value well.committed.0 location s.floor small (omega arith) (same_active s location _ _ c at_end) in
       let here : i ≡ location → ⊥ = λ same.
-      is.apart key v n value location small (same_active s location _ _ (subst (λ j. IsActive s j (update_text e key v n)) same u) c) in
+      is.apart key v n value location small
+      (same_active s location _ _ (subst (λ j. IsActive s j (update_text e key v n)) same u) c) in
       let past : i + 1 < length s.operations → s.floor ≤ i = λ h. (well.updates i _ u h).0 in
       grind (arith, here, past)

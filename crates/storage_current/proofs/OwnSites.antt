@@ -1,5 +1,5 @@
 -- How many digests the proof of one leaf has.
-use Rattle.std.proofs.Common.{◌≡◌, ℕ, zero, suc, ◌+◌, ◌*◌, ◌<◌, ◌≤◌, ◌^◌, List, [], ◌∷◌, ◌++◌, length, take, drop, Bool, true, false, if◌then◌else◌, ◌||◌, leb, le-leb, ◌⊎◌, inl, inr, refl, sym, ap, ◌∙◌, subst, arith, length-append}
+use Rattle.std.proofs.Common.{◌≡◌, ℕ, zero, suc, ◌+◌, ◌<◌, ◌≤◌, ◌^◌, List, [], ◌∷◌, ◌++◌, length, take, drop, Bool, true, false, if◌then◌else◌, ◌||◌, leb, le-leb, ◌⊎◌, inl, inr, refl, ap, ◌∙◌, arith, length-append}
 use Rattle.std.proofs.lemmas.Bool.{cases_lt, lt-leb}
 use Rattle.storage_merkle.specs.Shape.{Laws, leaves_of}
 use Rattle.storage_merkle.specs.Multiples.{pow_two, pow_order}
@@ -12,7 +12,8 @@ use Rattle.storage_merkle.specs.RangeProofs.{apart, leading, not_leading, up_to,
 length-place_in : (T : Layout) (s : Site) (ss : List Site) → length (place_in T s ss) ≡ suc (length ss)
 length-place_in T s [] = refl
 length-place_in T s (t ∷ ts) =
-    elim (leb (position_of T s) (position_of T t)) as (λ b. length (if b then s ∷ t ∷ ts else t ∷ place_in T s ts) ≡ suc (suc (length ts))) [
+    elim (leb (position_of T s) (position_of T t)) as (λ b. length (if b then s ∷ t ∷ ts else t ∷ place_in T s ts)
+    ≡ suc (suc (length ts))) [
       | true ↦ refl
       | false ↦ ap suc (length-place_in T s ts)
     ]
@@ -32,7 +33,11 @@ module _ (T : Layout) (low : ℕ) where
 
   outside_is : (k a : ℕ) → (a + 2 ^ k ≤ low) ⊎ (low < a) → cut a k ≡ true
   outside_is k a (inl before) = rw (le-leb (a + 2 ^ k) low before) refl
-  outside_is k a (inr past) = elim (leb (a + 2 ^ k) low) as (λ b. (b || leb (low + 1) a) ≡ true) [ true ↦ refl | false ↦ le-leb (low + 1) a (omega arith) ]
+  outside_is k a (inr past) = elim (leb (a + 2 ^ k) low) as (λ b. (b || leb (low + 1) a) ≡ true) [
+    | true ↦ refl
+    | false ↦
+        le-leb (low + 1) a (omega arith)
+  ]
 
   inside_is : (k a : ℕ) → a ≤ low → low < a + 2 ^ k → cut a k ≡ false
   inside_is k a l u = rw (lt-leb (a + 2 ^ k) low u, lt-leb (low + 1) a (omega arith)) refl
@@ -43,7 +48,8 @@ module _ (T : Layout) (low : ℕ) where
 
   joined : (k a : ℕ) (l r : Calc) → length (sites_of (join_calc T a k l r)) ≡ length (sites_of l) + length (sites_of r)
   joined k a l r =
-      elim (T.grafted a k) as (λ b. length (sites_of (if b then graft a (T.shape.position a k) l r else pair (be8 (T.shape.position a k)) l r)) ≡ length (sites_of l) + length (sites_of r)) [
+      elim (T.grafted a k) as (λ b. length (sites_of (if b then graft a (T.shape.position a k) l r
+      else pair (be8 (T.shape.position a k)) l r)) ≡ length (sites_of l) + length (sites_of r)) [
         | true ↦ length-append (sites_of l) (sites_of r)
         | false ↦ length-append (sites_of l) (sites_of r)
       ]
@@ -55,8 +61,10 @@ module _ (T : Layout) (low : ℕ) where
       let right = node_calc T cut k (a + 2 ^ k) in
       let both = joined (suc k) a left right in
       rw (inside_is (suc k) a l u) (elim (cases_lt low (a + 2 ^ k)) [
-        | inl first ↦ let one = inside k a l first in let other = outside k (a + 2 ^ k) (inr first) in omega (arith, both, one, other)
-        | inr second ↦ let one = outside k a (inl second) in let other = inside k (a + 2 ^ k) second (omega (arith, pow_two k)) in omega (arith, both, one, other)
+        | inl first ↦ let one = inside k a l first in let other = outside k (a + 2 ^ k) (inr first) in
+            omega (arith, both, one, other)
+        | inr second ↦ let one = outside k a (inl second) in
+            let other = inside k (a + 2 ^ k) second (omega (arith, pow_two k)) in omega (arith, both, one, other)
       ])
 
   -- ---- in peaks side by side
@@ -66,20 +74,24 @@ module _ (T : Layout) (low : ℕ) where
   past_all (k ∷ hs) s past =
       let here = outside k s (inr past) in
       let rest = past_all hs (s + 2 ^ k) (omega arith) in
-      let both = length-append (sites_of (part T cut (record { first = s; height = k }))) (sites_in T cut (places (s + 2 ^ k) hs)) in
+      let both = length-append (sites_of (part T cut (record { first = s; height = k })))
+      (sites_in T cut (places (s + 2 ^ k) hs)) in
       omega (arith, here, rest, both)
 
   counted : (hs : List ℕ) (s : ℕ) → leaves_of hs ≤ 2 ^ 62 → count (places s hs) ≤ length hs + 62
   unfolding leaves_of
   counted [] s few = omega arith
   counted (k ∷ hs) s few =
-      let both = length-append (sites_of (part T cut (record { first = s; height = k }))) (sites_in T cut (places (s + 2 ^ k) hs)) in
+      let both = length-append (sites_of (part T cut (record { first = s; height = k })))
+      (sites_in T cut (places (s + 2 ^ k) hs)) in
       let small : k ≤ 62 = pow_order k 62 (omega arith) in
       elim (cases_lt low s) [
         | inl past ↦ let e = past_all (k ∷ hs) s past in omega (arith, e)
         | inr from ↦ elim (cases_lt low (s + 2 ^ k)) [
-          | inl within ↦ let here = inside k s from within in let rest = past_all hs (s + 2 ^ k) within in omega (arith, both, here, rest)
-          | inr before ↦ let here = outside k s (inl before) in let rest = counted hs (s + 2 ^ k) (omega arith) in omega (arith, both, here, rest)
+          | inl within ↦ let here = inside k s from within in let rest = past_all hs (s + 2 ^ k) within in
+              omega (arith, both, here, rest)
+          | inr before ↦ let here = outside k s (inl before) in let rest = counted hs (s + 2 ^ k) (omega arith) in
+              omega (arith, both, here, rest)
         ]
       ]
 
@@ -88,7 +100,8 @@ module _ (T : Layout) (low : ℕ) where
   led : (ps : List Peak) → count (leading low ps) + count (not_leading low ps) ≡ count ps
   led [] = refl
   led (p ∷ ps) =
-      elim (leb (p.first + 2 ^ p.height) low) as (λ b. count (if b then p ∷ leading low ps else []) + count (if b then not_leading low ps else p ∷ ps) ≡ count (p ∷ ps)) [
+      elim (leb (p.first + 2 ^ p.height) low) as (λ b. count (if b then p ∷ leading low ps else [])
+      + count (if b then not_leading low ps else p ∷ ps) ≡ count (p ∷ ps)) [
         | true ↦
             let here = sites_of (part T cut p) in
             let more = led ps in
@@ -101,7 +114,8 @@ module _ (T : Layout) (low : ℕ) where
   upped : (ps : List Peak) → count (up_to (low + 1) ps) + count (trailing (low + 1) ps) ≡ count ps
   upped [] = refl
   upped (p ∷ ps) =
-      elim (leb (low + 1) p.first) as (λ b. count (if b then [] else p ∷ up_to (low + 1) ps) + count (if b then p ∷ ps else trailing (low + 1) ps) ≡ count (p ∷ ps)) [
+      elim (leb (low + 1) p.first) as (λ b. count (if b then [] else p ∷ up_to (low + 1) ps)
+      + count (if b then p ∷ ps else trailing (low + 1) ps) ≡ count (p ∷ ps)) [
         | true ↦ omega arith
         | false ↦
             let here = sites_of (part T cut p) in

@@ -17,11 +17,15 @@ AreBelow m (p ∷ ps) = (p.0 < m) × AreBelow m ps
 pub peaks_below : (S : Shape) (L : Laws S) (n : ℕ) → AreBelow (size S n) (placed S 0 (S.peaks n))
 unfolding AreAligned Inside
 peaks_below S L n = below S L n 0 (S.peaks n) (L.aligned n) (λ a k i. i) where
-  below : (S : Shape) (L : Laws S) (n s : ℕ) (hs : List ℕ) → AreAligned hs s → ((a k : ℕ) → Inside hs s a k → Inside (S.peaks n) 0 a k) → AreBelow (size S n) (placed S s hs)
+  below : (S : Shape) (L : Laws S) (n s : ℕ) (hs : List ℕ) → AreAligned hs s
+      → ((a k : ℕ) → Inside hs s a k → Inside (S.peaks n) 0 a k) → AreBelow (size S n) (placed S s hs)
   below S L n s [] al within = tt
-  below S L n s (h ∷ hs) al within =
-      (inside_before S L n s h al.0 (within s h (inl (omega arith, omega arith))), below S L n (s + 2 ^ h) hs al.1 (λ a k i. within a k (inr i)))
+  below S L n s (h ∷ hs) al within = (
+    inside_before S L n s h al.0 (within s h (inl (omega arith, omega arith))),
+    below S L n (s + 2 ^ h) hs al.1 (λ a k i. within a k (inr i)),
+  )
 
-pub child_before : (S : Shape) (L : Laws S) (a k : ℕ) → 1 ≤ k → a % 2 ^ k ≡ 0 → (S.position a (k - 1) < S.position a k) × (S.position (a + 2 ^ (k - 1)) (k - 1) < S.position a k)
+pub child_before : (S : Shape) (L : Laws S) (a k : ℕ) → 1 ≤ k → a % 2 ^ k ≡ 0
+    → (S.position a (k - 1) < S.position a k) × (S.position (a + 2 ^ (k - 1)) (k - 1) < S.position a k)
 child_before S L a zero one al = absurd (omega arith)
 child_before S L a (suc k) one al = let e : suc k - 1 ≡ k = omega arith in rw e (L.children a k al)

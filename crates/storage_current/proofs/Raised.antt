@@ -15,7 +15,8 @@ module _ (S : Shape) (L : Laws S) where
 
   room : (a k g n : ℕ) → a + 2 ^ k ≤ n → n * (2 * 2 ^ g) ≤ 2 ^ 62 → a * 2 ^ g + 2 * 2 ^ (k + g) ≤ 2 ^ 62
   room a k g n inside few =
-      let most : (a + 2 ^ k) * (2 * 2 ^ g) ≤ n * (2 * 2 ^ g) = mul-le (a + 2 ^ k) (2 * 2 ^ g) n (2 * 2 ^ g) inside (omega arith) in
+      let most : (a + 2 ^ k) * (2 * 2 ^ g) ≤ n * (2 * 2 ^ g) =
+      mul-le (a + 2 ^ k) (2 * 2 ^ g) n (2 * 2 ^ g) inside (omega arith) in
       let power : 2 ^ (k + g) ≡ 2 ^ k * 2 ^ g = pow-add 2 k g in
       omega arith
 
@@ -25,11 +26,14 @@ module _ (S : Shape) (L : Laws S) where
       let here : S.position c.first c.height < size S n = omega (arith, c.grafted.at) in
       let born : S.birth c.first c.height ≤ n = (L.born n c.first c.height c.grafted.aligned).0 here in
       let inside : c.first + 2 ^ c.height ≤ n = omega (arith, L.late c.first c.height) in
-      let soon : S.birth (c.first * 2 ^ g) (c.height + g) ≤ 2 ^ 62 = omega (arith, L.soon (c.first * 2 ^ g) (c.height + g), room c.first c.height g n inside few) in
-      let there : S.position (c.first * 2 ^ g) (c.height + g) < size S (2 ^ 62) = (L.born (2 ^ 62) (c.first * 2 ^ g) (c.height + g) c.node.aligned).1 soon in
+      let soon : S.birth (c.first * 2 ^ g) (c.height + g) ≤ 2 ^ 62 =
+      omega (arith, L.soon (c.first * 2 ^ g) (c.height + g), room c.first c.height g n inside few) in
+      let there : S.position (c.first * 2 ^ g) (c.height + g) < size S (2 ^ 62) =
+      (L.born (2 ^ 62) (c.first * 2 ^ g) (c.height + g) c.node.aligned).1 soon in
       omega (arith, c.node.at)
 
-  pub few_raised : (takes : ℕ → Type 0) (n g p : ℕ) → 1 ≤ g → n * (2 * 2 ^ g) ≤ 2 ^ 62 → p < size S n → ((q : ℕ) → CoversSame S g p q → takes q) → IsRaised S takes g p
+  pub few_raised : (takes : ℕ → Type 0) (n g p : ℕ) → 1 ≤ g → n * (2 * 2 ^ g) ≤ 2 ^ 62 → p < size S n
+      → ((q : ℕ) → CoversSame S g p q → takes q) → IsRaised S takes g p
   few_raised takes n g p low few below taken =
       let positive : 0 < 2 ^ g = pow_pos g in
       let least : n * 1 ≤ n * (2 * 2 ^ g) = mul-le n 1 n (2 * 2 ^ g) (omega arith) (omega arith) in

@@ -30,11 +30,13 @@ some_unless : (h : HashFunction) (b : Bool) (x : List ℕ) → is_some (option_m
 some_unless h true x = refl
 some_unless h false x = refl
 
-given_if : (h : HashFunction) (b : Bool) (x y : List ℕ) → b ≡ true → y ≡ x → option_map h (if b then Some x else None) ≡ Some (h y)
+given_if : (h : HashFunction) (b : Bool) (x y : List ℕ) → b ≡ true → y ≡ x
+    → option_map h (if b then Some x else None) ≡ Some (h y)
 given_if h true x y e f = ap (λ z. Some (h z)) (sym f)
 given_if h false x y e f = cc
 
-given_unless : (h : HashFunction) (b : Bool) (x y : List ℕ) → b ≡ false → y ≡ x → option_map h (if b then None else Some x) ≡ Some (h y)
+given_unless : (h : HashFunction) (b : Bool) (x y : List ℕ) → b ≡ false → y ≡ x
+    → option_map h (if b then None else Some x) ≡ Some (h y)
 given_unless h true x y e f = cc
 given_unless h false x y e f = ap (λ z. Some (h z)) (sym f)
 
@@ -43,21 +45,26 @@ unfolding chunks_from
 chunk_lengths n bits zero j = tt
 chunk_lengths n bits (suc count) j = (chunk-length n bits j, chunk_lengths n bits count (suc j))
 
-module _ (accepted : OwnRangeProofsAreAccepted) (h : HashFunction) (g : Grafting) (grafting : IsGrafting g) (s : Snapshot) (snapshot : IsSnapshot s) (start : ℕ) (operations chunks : List (List ℕ)) (holds : Holds g s start operations chunks) where
+module _ (accepted : OwnRangeProofsAreAccepted) (h : HashFunction) (g : Grafting) (grafting : IsGrafting g)
+    (s : Snapshot) (snapshot : IsSnapshot s) (start : ℕ) (operations chunks : List (List ℕ))
+    (holds : Holds g s start operations chunks) where
   abbrev own : CurrentProof
   own = own_current_proof h g s start (start + length operations)
 
-  there : (j : ℕ) → first_chunk g start ≤ j → j ≤ last_chunk g start (length operations) → claimed h g own start operations chunks j ≡ chunk g.bytes s.bits j
+  there : (j : ℕ) → first_chunk g start ≤ j → j ≤ last_chunk g start (length operations)
+      → claimed h g own start operations chunks j ≡ chunk g.bytes s.bits j
   there j l u =
       let f = first_chunk g start in
       let count : ℕ = last_chunk g start (length operations) - first_chunk g start + 1 in
       let back : f + (j - f) ≡ j = omega arith in
-      supplied-get f chunks j l ∙ ap (λ cs. get_or cs (j - f) []) holds.chunks_are ∙ get_or-chunks_from g.bytes s.bits [] count f (j - f) (omega arith) ∙ ap (chunk g.bytes s.bits) back
+      supplied-get f chunks j l ∙ ap (λ cs. get_or cs (j - f) []) holds.chunks_are
+      ∙ get_or-chunks_from g.bytes s.bits [] count f (j - f) (omega arith) ∙ ap (chunk g.bytes s.bits) back
 
   abbrev v : Layout
   v = view g (length s.operations)
 
-  range_own : IsOwn h v BackwardFold own.range start (claim h g own start operations chunks) (content h g s) (aligned_of h g s)
+  range_own : IsOwn h v BackwardFold own.range start (claim h g own start operations chunks) (content h g s)
+      (aligned_of h g s)
   range_own = record {
     proof_is = refl;
     elements_are = holds.there;
@@ -78,9 +85,12 @@ module _ (accepted : OwnRangeProofsAreAccepted) (h : HashFunction) (g : Grafting
         there (a / P) (omega arith) top;
   }
 
-  fits : CountsFit h v BackwardFold own.range start (claim h g own start operations chunks) × (recomputed_root h v BackwardFold own.range start (claim h g own start operations chunks) ≡ grafted_root_of h g s)
+  fits : CountsFit h v BackwardFold own.range start (claim h g own start operations chunks) × (recomputed_root h v
+      BackwardFold own.range start (claim h g own start operations chunks) ≡ grafted_root_of h g s)
   fits =
-      elim (accepted h v grafting.laws BackwardFold own.range start (claim h g own start operations chunks) (content h g s) (aligned_of h g s) snapshot.few (aligned-le g.shape (length s.operations) s.floor (height g)) holds.some range_own) [
+      elim (accepted h v grafting.laws BackwardFold own.range start (claim h g own start operations chunks)
+      (content h g s) (aligned_of h g s) snapshot.few
+      (aligned-le g.shape (length s.operations) s.floor (height g)) holds.some range_own) [
         | inl ok ↦ ok
         | inr empty ↦ absurd (let some = holds.some in omega (arith, ap length empty.0.none))
       ]
@@ -104,12 +114,14 @@ module _ (accepted : OwnRangeProofsAreAccepted) (h : HashFunction) (g : Grafting
         pending_is = λ t.
             let one = and-true (leb (start / P) (graftable g n)) _ t in
             let two = and-true (leb (graftable g n) ((high - 1) / P)) _ one.1 in
-            given_if h _ _ _ two.1 (there (graftable g n) (leb-true (start / P) (graftable g n) one.0) (leb-true (graftable g n) ((high - 1) / P) two.0));
+            given_if h _ _ _ two.1 (there (graftable g n) (leb-true (start / P) (graftable g n) one.0)
+            (leb-true (graftable g n) ((high - 1) / P) two.0));
         partial_is = λ t.
             let top : n / P ≤ (high - 1) / P = leb-true (n / P) ((high - 1) / P) t in
             let m : n / P * P ≤ high - 1 = (le-div_iff_mul-le positive).0 top in
             let some' : n % P ≢ 0 = omega (arith, div-add-mod' n P) in
             let low : start / P ≤ n / P = (le-div_iff_mul-le positive).1 (omega (arith, div-add-mod' start P)) in
             given_unless h _ _ _ (ne_eqb (n % P) 0 some') (there (n / P) low top);
-        root_is = ap (λ x. h (canonical_string (ops_root_of h g s) x (option_map h (pending_of h g s)) (n % P) (option_map h (partial_of h g s)))) fits.1;
+        root_is = ap (λ x. h (canonical_string (ops_root_of h g s) x (option_map h (pending_of h g s)) (n % P)
+            (option_map h (partial_of h g s)))) fits.1;
       }

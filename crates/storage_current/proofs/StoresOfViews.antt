@@ -12,24 +12,30 @@ use Rattle.storage_current.specs.Served.{held_at, plan_over}
 use Rattle.storage_current.specs.Snapshots.{Grafting, Snapshot, view_node}
 
 -- where a digest is answered there is one
-some_of : {D : Type 0} (text : D → List ℕ) (o : Option D) (x : List ℕ) → option_map text o ≡ Some x → (d : D) × (Some d ≡ o)
+some_of : {D : Type 0} (text : D → List ℕ) (o : Option D) (x : List ℕ) → option_map text o ≡ Some x
+    → (d : D) × (Some d ≡ o)
 some_of text None x e = cc
 some_of text (Some d) x e = (d, refl)
 
-text_of : {D : Type 0} (text : D → List ℕ) (o : Option D) (x : List ℕ) (d : D) → option_map text o ≡ Some x → Some d ≡ o → text d ≡ x
+text_of : {D : Type 0} (text : D → List ℕ) (o : Option D) (x : List ℕ) (d : D) → option_map text o ≡ Some x
+    → Some d ≡ o → text d ≡ x
 text_of text None x d e f = cc
 text_of text (Some d') x d e f = cc
 
-module _ {D : Type 0} (text : D → List ℕ) (h : HashFunction) (g : Grafting) (laws : Laws g.shape) (greatest : GreatestNodesArePlanned) (s : Snapshot) (node : ℕ → Option D) (are : AreAnswersOf text g.shape (length s.operations) (view_node h g s) node) where
+module _ {D : Type 0} (text : D → List ℕ) (h : HashFunction) (g : Grafting) (laws : Laws g.shape)
+    (greatest : GreatestNodesArePlanned) (s : Snapshot) (node : ℕ → Option D)
+    (are : AreAnswersOf text g.shape (length s.operations) (view_node h g s) node) where
   -- a planned position is one of the tree
-  inside : (low high p : ℕ) → Contains (planned g.shape (length s.operations) low high) p → (a : ℕ) × (k : ℕ) × IsNode g.shape p a k × (p < size g.shape (length s.operations))
+  inside : (low high p : ℕ) → Contains (planned g.shape (length s.operations) low high) p
+      → (a : ℕ) × (k : ℕ) × IsNode g.shape p a k × (p < size g.shape (length s.operations))
   inside low high p has =
       let site = (greatest g.shape laws (length s.operations) low high p).0 has in
       let within = site.3.tree.inside in
       let at = site.2.at in
       (site.0, site.1, site.2, omega (arith, within, at))
 
-  found : (low high p : ℕ) → Contains (planned g.shape (length s.operations) low high) p → (d : D) × held_at node p (Some d)
+  found : (low high p : ℕ) → Contains (planned g.shape (length s.operations) low high) p
+      → (d : D) × held_at node p (Some d)
   found low high p has =
       let i = inside low high p has in
       some_of text (node p) (view_node h g s i.0 i.1) (are p i.0 i.1 i.3 i.2)
@@ -49,7 +55,8 @@ module _ {D : Type 0} (text : D → List ℕ) (h : HashFunction) (g : Grafting) 
         bits = rest;
         floor_is = floor_is;
         ops_root_is = root_is;
-        nodes = λ p a k d has is held. text_of text (node p) (view_node h g s a k) d (are p a k (inside low high p has).3 is) held;
+        nodes = λ p a k d has is held.
+            text_of text (node p) (view_node h g s a k) d (are p a k (inside low high p has).3 is) held;
       };
     },
   )

@@ -19,7 +19,8 @@ module _ {K V : Type 0} (e : Keyed K V) (is : IsKeyed e) where
       record { bit_each = refl; floor_within = omega arith; few = omega arith },
       record {
         committed = (value, record { within = omega arith; there = refl; bit = refl });
-        updates = λ location operation active further. let far : location + 1 < 1 = further in absurd (omega (arith, far));
+        updates = λ location operation active further. let far : location + 1 < 1 = further in
+            absurd (omega (arith, far));
         distinct = λ i j k m n v w u x. absurd (none_updated i k v m u);
         ring = λ location k v n u. absurd (none_updated location k v n u);
       },
@@ -27,9 +28,14 @@ module _ {K V : Type 0} (e : Keyed K V) (is : IsKeyed e) where
 
   module _ (key : K) (value : V) (committed : Option V) where
     abbrev lone : Snapshot
-    lone = record { operations = update_text e key value key ∷ commit_text e committed 0 ∷ []; bits = true ∷ true ∷ []; floor = 0 }
+    lone = record {
+      operations = update_text e key value key ∷ commit_text e committed 0 ∷ [];
+      bits = true ∷ true ∷ [];
+      floor = 0;
+    }
 
-    only : (location : ℕ) (k : K) (v : V) (n : K) → Updates e lone location k v n → (location ≡ 0) × (e.key k ≡ e.key key) × (e.key n ≡ e.key key)
+    only : (location : ℕ) (k : K) (v : V) (n : K) → Updates e lone location k v n
+        → (location ≡ 0) × (e.key k ≡ e.key key) × (e.key n ≡ e.key key)
     only zero k v n u = let same = is.one key k value v key n u.there in (refl, sym same.0, sym same.2)
     only (suc zero) k v n u = absurd (is.apart k v n committed 0 (omega arith) (sym u.there))
     only (suc (suc i)) k v n u = let within : suc (suc i) < 2 = u.within in absurd (omega (arith, within))
@@ -65,7 +71,9 @@ module _ {K V : Type 0} (e : Keyed K V) (is : IsKeyed e) where
         updates = updated;
         distinct = λ i j k m n v w u x. (only i k v m u).0 ∙ sym (only j k w n x).0;
         ring = λ location k v n u.
-            let is_key = only location k v n u in
-            (has n is_key.2, inr (λ a h. not_before k a is_key.1 (key_is a h), λ a h. not_before a n (key_is a h) is_key.2));
+            let is_key = only location k v n u in (
+              has n is_key.2,
+              inr (λ a h. not_before k a is_key.1 (key_is a h), λ a h. not_before a n (key_is a h) is_key.2),
+            );
       },
     )

@@ -17,7 +17,8 @@ pub graftable_within : (S : Shape) → Laws S → (k n : ℕ) → graftable_at S
 graftable_within S L k n =
     let positive : 0 < 2 ^ k = pow_pos k in
     let late = L.late 0 k in
-    elim (ltb n (S.birth 0 k)) as (λ b. ltb n (S.birth 0 k) ≡ b → (if b then 0 else (n - S.birth 0 k) / 2 ^ k + 1) ≤ n / 2 ^ k) [
+    elim (ltb n (S.birth 0 k)) as (λ b. ltb n (S.birth 0 k) ≡ b
+    → (if b then 0 else (n - S.birth 0 k) / 2 ^ k + 1) ≤ n / 2 ^ k) [
       | true ↦ λ e. omega arith
       | false ↦ λ e.
           let enough : S.birth 0 k ≤ n = ltb-false n (S.birth 0 k) e in
@@ -37,10 +38,12 @@ module _ (h : HashFunction) (g : Grafting) (proof : CurrentProof) (start : ℕ) 
   count = length operations
 
   abbrev pub Pending : Type 0
-  Pending = IsMatched h proof.pending (ltb (graftable g leaves) (complete g leaves)) (first_chunk g start) (last_chunk g start count) (graftable g leaves) chunks
+  Pending = IsMatched h proof.pending (ltb (graftable g leaves) (complete g leaves)) (first_chunk g start)
+      (last_chunk g start count) (graftable g leaves) chunks
 
   abbrev pub Partial : Type 0
-  Partial = IsMatched h proof.partial (not (eqb (leaves % 2 ^ height g) 0)) (first_chunk g start) (last_chunk g start count) (complete g leaves) chunks
+  Partial = IsMatched h proof.partial (not (eqb (leaves % 2 ^ height g) 0)) (first_chunk g start)
+      (last_chunk g start count) (complete g leaves) chunks
 
   abbrev Fits : Type 0
   Fits = CountsFit h (view g leaves) BackwardFold proof.range start (claim h g proof start operations chunks)
@@ -49,7 +52,8 @@ module _ (h : HashFunction) (g : Grafting) (proof : CurrentProof) (start : ℕ) 
   computed = recomputed_root h (view g leaves) BackwardFold proof.range start (claim h g proof start operations chunks)
 
   -- a claimed chunk from the first on
-  claimed_at : (j : ℕ) → first_chunk g start ≤ j → claimed h g proof start operations chunks j ≡ get_or chunks (j - first_chunk g start) []
+  claimed_at : (j : ℕ) → first_chunk g start ≤ j
+      → claimed h g proof start operations chunks j ≡ get_or chunks (j - first_chunk g start) []
   claimed_at j from = rw (le-ltb j (first_chunk g start) from) refl
 
   -- the last chunk of a range among the leaves is no later than the one after the complete ones, and where it is that one, some
@@ -66,16 +70,21 @@ module _ (h : HashFunction) (g : Grafting) (proof : CurrentProof) (start : ℕ) 
       let low = div-mul-le_self start (2 ^ height g) in
       (le-div_iff_mul-le {x = first_chunk g start} positive).1 (omega arith)
 
-  partial_there : 0 < count → start + count ≤ leaves → complete g leaves ≤ last_chunk g start count → not (eqb (leaves % 2 ^ height g) 0) ≡ true
+  partial_there : 0 < count → start + count ≤ leaves → complete g leaves ≤ last_chunk g start count
+      → not (eqb (leaves % 2 ^ height g) 0) ≡ true
   partial_there some within reached =
       let positive : 0 < 2 ^ height g = pow_pos (height g) in
-      let up : complete g leaves * 2 ^ height g ≤ start + count - 1 = (le-div_iff_mul-le {x = complete g leaves} positive).0 reached in
-      let parts : leaves ≡ leaves / 2 ^ height g * 2 ^ height g + leaves % 2 ^ height g = sym (div-add-mod' leaves (2 ^ height g)) in
+      let up : complete g leaves * 2 ^ height g ≤ start + count - 1 =
+      (le-div_iff_mul-le {x = complete g leaves} positive).0 reached in
+      let parts : leaves ≡ leaves / 2 ^ height g * 2 ^ height g + leaves % 2 ^ height g =
+      sym (div-add-mod' leaves (2 ^ height g)) in
       let e : eqb (leaves % 2 ^ height g) 0 ≡ false = ne_eqb (leaves % 2 ^ height g) 0 (λ z. omega arith) in
       rw e refl
 
-  pub current_from : IsWindow g leaves start count (length chunks) → AreDigests g.bytes chunks → Partial × Pending → Fits → {root : List ℕ}
-      → h (canonical_string proof.ops_root computed proof.pending (leaves % 2 ^ height g) proof.partial) ≡ root → IsCurrent h g proof start operations chunks root
+  pub current_from : IsWindow g leaves start count (length chunks) → AreDigests g.bytes chunks → Partial × Pending
+      → Fits → {root : List ℕ}
+      → h (canonical_string proof.ops_root computed proof.pending (leaves % 2 ^ height g) proof.partial) ≡ root
+      → IsCurrent h g proof start operations chunks root
   current_from w sized both fits e = record {
     size = w.size;
     counts = fits;
@@ -98,10 +107,24 @@ module _ (h : HashFunction) (g : Grafting) (proof : CurrentProof) (start : ℕ) 
 
   module _ (root : List ℕ) (c : IsCurrent h g proof start operations chunks root) where
     pub current_window : IsWindow g leaves start count (length chunks)
-    current_window = record { size = c.size; some = c.counts.some; few = c.counts.few; within = c.counts.within; chunk_count = c.chunk_count; one_pending = c.one_pending }
+    current_window = record {
+      size = c.size;
+      some = c.counts.some;
+      few = c.counts.few;
+      within = c.counts.within;
+      chunk_count = c.chunk_count;
+      one_pending = c.one_pending;
+    }
 
     pub current_slots : Partial × Pending
     current_slots = (
-      record { has = c.has_partial; is = λ there from to. rw (claimed_at (complete g leaves) from) at (c.partial_is (le-leb _ _ to)) },
-      record { has = c.has_pending; is = λ there from to. rw (claimed_at (graftable g leaves) from) at (c.pending_is (rw (le-leb _ _ from, le-leb _ _ to, there) refl)) },
+      record {
+        has = c.has_partial;
+        is = λ there from to. rw (claimed_at (complete g leaves) from) at (c.partial_is (le-leb _ _ to));
+      },
+      record {
+        has = c.has_pending;
+        is = λ there from to. rw (claimed_at (graftable g leaves) from) at
+            (c.pending_is (rw (le-leb _ _ from, le-leb _ _ to, there) refl));
+      },
     )

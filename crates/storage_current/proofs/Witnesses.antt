@@ -39,7 +39,9 @@ some_none : {P : Type 0} (x : List ℕ) → Some x ≡ (let o : Option (List ℕ
 some_none x e = absurd (cc)
 
 -- the number of bits and the digest of the partial chunk
-partial_is : (d : ℕ) (h : HashFunction) (m : ℕ) → m < 2 ^ 64 → (p : Option (ℕ × List ℕ)) (o : Option (List ℕ)) → AreSmall d p → digest p ≡ option_map h o → counted p ≡ counted_slot m (option_map h o) → p ≡ option_map (λ c. (m, h c)) o
+partial_is : (d : ℕ) (h : HashFunction) (m : ℕ) → m < 2 ^ 64 → (p : Option (ℕ × List ℕ)) (o : Option (List ℕ))
+    → AreSmall d p → digest p ≡ option_map h o → counted p ≡ counted_slot m (option_map h o)
+    → p ≡ option_map (λ c. (m, h c)) o
 unfolding digest AreSmall
 partial_is d h m mb None None small e f = refl
 partial_is d h m mb None (Some c) small e f = none_some _ e
@@ -57,22 +59,37 @@ witness_sound d h pos sized g w ops_root lg lo lp small s snapshot e =
     elim (heads h (witness_string w ops_root) own [] _ e) [
       | inr c ↦ inr c
       | inl same ↦
-          let same' = ap (λ x. ops_root ++ (w.grafted_root ++ (slot w.pending ++ x))) (sym (counted_is w.partial)) ∙ same in
-          let parts = same_canonical d (number w.partial) m pos _ _ _ _ w.pending _ (digest w.partial) _ lo lg (sized _) (sized _) lp (mapped-slot d h sized (pending_of h g s)) (digest_slot d w.partial small) (mapped-slot d h sized (partial_of h g s)) same' in
+          let same' =
+          ap (λ x. ops_root ++ (w.grafted_root ++ (slot w.pending ++ x))) (sym (counted_is w.partial)) ∙ same in
+          let parts = same_canonical d (number w.partial) m pos _ _ _ _ w.pending _ (digest w.partial) _ lo lg (sized _)
+          (sized _) lp (mapped-slot d h sized (pending_of h g s)) (digest_slot d w.partial small)
+          (mapped-slot d h sized (partial_of h g s)) same' in
           let one = split_append ops_root _ (ops_root_of h g s) _ (lo ∙ sym (sized _)) same in
           let two = split_append w.grafted_root _ (grafted_root_of h g s) _ (lg ∙ sym (sized _)) one.1 in
-          let rest : slot (option_map h (pending_of h g s)) ++ counted w.partial ≡ slot (option_map h (pending_of h g s)) ++ counted_slot m (option_map h (partial_of h g s)) = ap (λ x. slot x ++ counted w.partial) (sym parts.pending) ∙ two.1 in
+          let rest : slot (option_map h (pending_of h g s)) ++ counted w.partial
+          ≡ slot (option_map h (pending_of h g s)) ++ counted_slot m (option_map h (partial_of h g s)) =
+          ap (λ x. slot x ++ counted w.partial) (sym parts.pending) ∙ two.1 in
           let three = append_cancel_left (slot (option_map h (pending_of h g s))) _ _ rest in
           let few = snapshot.few in
           let bound : m < 2 ^ 64 = omega (arith, div-add-mod' (length s.operations) (2 ^ height g)) in
           let partial = partial_is d h m bound w.partial (partial_of h g s) small parts.partial three in
-          let G : List ℕ → Option (List ℕ) → Option (ℕ × List ℕ) → Witness = λ x y z. record { grafted_root = x; pending = y; partial = z } in
-          inl (ap (λ x. G x w.pending w.partial) parts.grafted ∙ ap (λ y. G (grafted_root_of h g s) y w.partial) parts.pending ∙ ap (λ z. G (grafted_root_of h g s) (option_map h (pending_of h g s)) z) partial, parts.ops)
+          let G : List ℕ → Option (List ℕ) → Option (ℕ × List ℕ) → Witness =
+          λ x y z. record { grafted_root = x; pending = y; partial = z } in
+          inl (
+            ap (λ x. G x w.pending w.partial) parts.grafted
+                ∙ ap (λ y. G (grafted_root_of h g s) y w.partial) parts.pending
+                ∙ ap (λ z. G (grafted_root_of h g s) (option_map h (pending_of h g s)) z) partial,
+            parts.ops,
+          )
     ]
 
-counted_own : (h : HashFunction) (m : ℕ) (o : Option (List ℕ)) → counted (option_map (λ c. (m, h c)) o) ≡ counted_slot m (option_map h o)
+counted_own : (h : HashFunction) (m : ℕ) (o : Option (List ℕ))
+    → counted (option_map (λ c. (m, h c)) o) ≡ counted_slot m (option_map h o)
 counted_own h m None = refl
 counted_own h m (Some c) = refl
 
-pub witness_accepted : (h : HashFunction) (g : Grafting) (s : Snapshot) → h (witness_string (own_witness h g s) (ops_root_of h g s)) ≡ canonical_root h g s
-witness_accepted h g s = ap (λ x. h (ops_root_of h g s ++ (grafted_root_of h g s ++ (slot (option_map h (pending_of h g s)) ++ x)))) (counted_own h (length s.operations % 2 ^ height g) (partial_of h g s))
+pub witness_accepted : (h : HashFunction) (g : Grafting) (s : Snapshot)
+    → h (witness_string (own_witness h g s) (ops_root_of h g s)) ≡ canonical_root h g s
+witness_accepted h g s =
+    ap (λ x. h (ops_root_of h g s ++ (grafted_root_of h g s ++ (slot (option_map h (pending_of h g s)) ++ x))))
+    (counted_own h (length s.operations % 2 ^ height g) (partial_of h g s))

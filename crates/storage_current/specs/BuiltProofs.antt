@@ -1,5 +1,5 @@
 -- Proofs that are built: from which parts, and why there is none.
-use Rattle.std.specs.Prelude.{◌≡◌, ℕ, ◌<◌, ◌≤◌, ◌⊎◌, List, length, Option, Some, min}
+use Rattle.std.specs.Prelude.{◌≡◌, ℕ, ◌≤◌, ◌⊎◌, List, length, Option, Some, min}
 use Rattle.std.specs.List.{All}
 use Rattle.storage_codec.specs.Digests.{HashFunction}
 use Rattle.storage_merkle.specs.declared.merkle.error.Error.TheVariants.{ElementPruned}
@@ -13,12 +13,14 @@ use Rattle.storage_current.specs.Snapshots.{Grafting, Snapshot, graftable, view,
 
 -- these are a snapshot's: its length, what is left of its bits, its floor (one past the length counts as the length), its operations
 -- root, and for each planned position the digest of its grafted view's node
-pub record ArePartsOf {D : Type 0} (text : D → List ℕ) (answers : ℕ → Option D → Type 0) (h : HashFunction) (g : Grafting) (plan : PlanOf) (status : Retained) (floor : ℕ) (ops_root : List ℕ) (s : Snapshot) : Type 0 where
+pub record ArePartsOf {D : Type 0} (text : D → List ℕ) (answers : ℕ → Option D → Type 0) (h : HashFunction)
+    (g : Grafting) (plan : PlanOf) (status : Retained) (floor : ℕ) (ops_root : List ℕ) (s : Snapshot) : Type 0 where
   pub count : length s.operations ≡ plan.leaves
   pub bits : IsRest g.bytes status s.bits
   pub floor_is : s.floor ≡ min floor plan.leaves
   pub ops_root_is : ops_root ≡ ops_root_of h g s
-  pub nodes : AnswersAre text answers (planned g.shape plan.leaves plan.start plan.end) h (view g (length s.operations)) (content h g s)
+  pub nodes : AnswersAre text answers (planned g.shape plan.leaves plan.start plan.end) h (view g (length s.operations))
+      (content h g s)
 
 -- there is a bit for each leaf, and no chunk is pruned that is not graftable
 pub record AreBitsOf (g : Grafting) (leaves : ℕ) (status : Retained) : Type 0 where
@@ -32,6 +34,7 @@ AreAnswered {D} answers S plan = All (λ p. (d : D) × answers p (Some d)) (plan
 -- why no proof of a planned range is built: the first reason that holds, else want of memory
 abbrev pub IsNotBuilt : {F D : Type 0} → (ℕ → Option D → Type 0) → Grafting → PlanOf → Retained → Error F → Type 0
 IsNotBuilt answers g plan status error =
-    ((p : ℕ) × IsFirstAbsent answers (planned g.shape plan.leaves plan.start plan.end) p × (error ≡ Merkle (ElementPruned p)))
+    ((p : ℕ) × IsFirstAbsent answers (planned g.shape plan.leaves plan.start plan.end) p
+    × (error ≡ Merkle (ElementPruned p)))
     ⊎ (AreAnswered answers g.shape plan × (AreBitsOf g plan.leaves status → ⊥) × IsCorrupted error)
     ⊎ (error ≡ Memory)

@@ -19,18 +19,24 @@ module _ (h : HashFunction) (g : Grafting) (proof : CurrentProof) (start : ℕ) 
 
   -- whether the range touches the pending chunk, or the partial one
   abbrev pub touches_pending : Bool
-  touches_pending = leb (first_chunk g start) (graftable g proof.range.leaves) && (leb (graftable g proof.range.leaves) (last_chunk g start (length operations)) && ltb (graftable g proof.range.leaves) (complete g proof.range.leaves))
+  touches_pending =
+      leb (first_chunk g start) (graftable g proof.range.leaves)
+      && (leb (graftable g proof.range.leaves) (last_chunk g start (length operations))
+      && ltb (graftable g proof.range.leaves) (complete g proof.range.leaves))
 
   abbrev pub touches_partial : Bool
   touches_partial = leb (complete g proof.range.leaves) (last_chunk g start (length operations))
 
   abbrev pub current_string : List ℕ
-  current_string = canonical_string proof.ops_root (recomputed_root h (view g proof.range.leaves) BackwardFold proof.range start claim) proof.pending (proof.range.leaves % 2 ^ height g) proof.partial
+  current_string =
+      canonical_string proof.ops_root (recomputed_root h (view g proof.range.leaves) BackwardFold proof.range start claim)
+      proof.pending (proof.range.leaves % 2 ^ height g) proof.partial
 
   -- each string given to the digest function by the check
   abbrev pub current_strings : List (List ℕ)
   current_strings = current_string ∷ (check_strings h (view g proof.range.leaves) BackwardFold proof.range start claim
-      ++ ((if touches_pending then claimed (graftable g proof.range.leaves) ∷ [] else []) ++ (if touches_partial then claimed (complete g proof.range.leaves) ∷ [] else [])))
+      ++ ((if touches_pending then claimed (graftable g proof.range.leaves) ∷ [] else [])
+      ++ (if touches_partial then claimed (complete g proof.range.leaves) ∷ [] else [])))
 
   -- where the check of a range of operations and the chunks that it touches says yes
   pub record IsCurrent (root : List ℕ) : Type 0 where
@@ -46,12 +52,14 @@ module _ (h : HashFunction) (g : Grafting) (proof : CurrentProof) (start : ℕ) 
     pub root_is : h current_string ≡ root
 
 -- where the check of an operation says yes: the bit of its location is set in the chunk, and the check of that range says yes
-pub record IsActiveCurrent (h : HashFunction) (g : Grafting) (proof : OperationProof) (operation root : List ℕ) : Type 0 where
+pub record IsActiveCurrent (h : HashFunction) (g : Grafting) (proof : OperationProof)
+    (operation root : List ℕ) : Type 0 where
   pub bit : bit_in proof.chunk (proof.location % 2 ^ height g) ≡ true
   pub current : IsCurrent h g proof.range proof.location (operation ∷ []) (proof.chunk ∷ []) root
 
 abbrev pub operation_strings : HashFunction → Grafting → OperationProof → List ℕ → List (List ℕ)
-operation_strings h g proof operation = current_strings h g proof.range proof.location (operation ∷ []) (proof.chunk ∷ [])
+operation_strings h g proof operation = current_strings h g proof.range proof.location (operation ∷ [])
+    (proof.chunk ∷ [])
 
 -- the string of a witness, whose digest is compared with the root
 abbrev pub counted : Option (ℕ × List ℕ) → List ℕ

@@ -65,7 +65,8 @@ abbrev pub OwnCurrentProofsAreAccepted : Type 0
 OwnCurrentProofsAreAccepted =
     (h : HashFunction) (g : Grafting) → IsGrafting g → (s : Snapshot) → IsSnapshot s →
     (start : ℕ) (operations chunks : List (List ℕ)) → Holds g s start operations chunks →
-    IsCurrent h g (own_current_proof h g s start (start + length operations)) start operations chunks (canonical_root h g s)
+    IsCurrent h g (own_current_proof h g s start (start + length operations)) start operations chunks
+    (canonical_root h g s)
 
 -- A snapshot's own proof of an active operation is accepted.
 abbrev pub OwnOperationProofsAreAccepted : Type 0
@@ -76,7 +77,8 @@ OwnOperationProofsAreAccepted =
 
 -- A snapshot's own witness gives its canonical root.
 abbrev pub OwnWitnessesAreAccepted : Type 0
-OwnWitnessesAreAccepted = (h : HashFunction) (g : Grafting) (s : Snapshot) → h (witness_string (own_witness h g s) (ops_root_of h g s)) ≡ canonical_root h g s
+OwnWitnessesAreAccepted = (h : HashFunction) (g : Grafting) (s : Snapshot)
+    → h (witness_string (own_witness h g s) (ops_root_of h g s)) ≡ canonical_root h g s
 
 -- At each height, the graftable chunks are those with all their operations inside one peak, and at most one complete chunk is
 -- not graftable; in an MMR there is none.

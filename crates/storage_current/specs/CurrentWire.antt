@@ -14,7 +14,8 @@ as_is digest = digest
 
 -- the range proof, the slot of the pending chunk's digest, the digest of the partial chunk or none, the operations root
 abbrev pub current_text : Bool → CurrentProof → List ℕ
-current_text has_pending p = proof_text p.range ++ (slot_text has_pending as_is p.pending ++ (option_text as_is p.partial ++ p.ops_root))
+current_text has_pending p = proof_text p.range
+    ++ (slot_text has_pending as_is p.pending ++ (option_text as_is p.partial ++ p.ops_root))
 
 -- the same with digests of d bytes, at most so many of them in the range proof
 abbrev pub current_at : Bool → ℕ → ℕ → List ℕ → Answer CurrentProof
@@ -30,7 +31,8 @@ operation_text has_pending p = varint_text p.location ++ (p.chunk ++ current_tex
 -- the same with a chunk of so many bytes
 abbrev pub operation_at : Bool → ℕ → ℕ → ℕ → List ℕ → Answer OperationProof
 operation_at has_pending d size most bytes =
-    location_at bytes >>= λ location. front_at size location.1 >>= λ chunk. current_at has_pending d most chunk.1 >>= λ range.
+    location_at bytes >>= λ location. front_at size location.1 >>= λ chunk.
+    current_at has_pending d most chunk.1 >>= λ range.
     Ok (record { location = location.0; chunk = chunk.0; range = range.0 }, range.1)
 
 -- the same for a size that is known at run time: another size than chunks may have is refused first

@@ -23,16 +23,19 @@ use Rattle.storage_current.specs.CurrentWire.{as_is, current_text, current_at, o
 
 -- ---- slots of digests, by their bytes
 
-pub slot_bytes : {A : Type 0} (text : A → List ℕ) (there : Bool) (slot : Option A) → slot_text there text slot ≡ slot_text there as_is (option_map text slot)
+pub slot_bytes : {A : Type 0} (text : A → List ℕ) (there : Bool) (slot : Option A)
+    → slot_text there text slot ≡ slot_text there as_is (option_map text slot)
 slot_bytes text false slot = refl
 slot_bytes text true None = refl
 slot_bytes text true (Some x) = refl
 
-pub option_bytes : {A : Type 0} (text : A → List ℕ) (slot : Option A) → option_text text slot ≡ option_text as_is (option_map text slot)
+pub option_bytes : {A : Type 0} (text : A → List ℕ) (slot : Option A)
+    → option_text text slot ≡ option_text as_is (option_map text slot)
 option_bytes text None = refl
 option_bytes text (Some x) = refl
 
-pub slot_there : {A B : Type 0} (f : A → B) (there : Bool) (slot : Option A) → IsSlot there slot → IsSlot there (option_map f slot)
+pub slot_there : {A B : Type 0} (f : A → B) (there : Bool) (slot : Option A) → IsSlot there slot
+    → IsSlot there (option_map f slot)
 slot_there f false None s = refl
 slot_there f false (Some x) s = absurd cc
 slot_there f true slot s = tt
@@ -51,7 +54,8 @@ sized_slot d (Some x) s = s
 digest_again : (d : ℕ) (x rest : List ℕ) → Sized d x → front_at d (as_is x ++ rest) ≡ Ok (as_is x, rest)
 digest_again d x rest s = front_again d x rest s
 
-pub pending_again : (there : Bool) (d : ℕ) (slot : Option (List ℕ)) (rest : List ℕ) → IsSlot there slot → check.IsSlot d slot
+pub pending_again : (there : Bool) (d : ℕ) (slot : Option (List ℕ)) (rest : List ℕ) → IsSlot there slot
+    → check.IsSlot d slot
     → slot_at there (front_at d) (slot_text there as_is slot ++ rest) ≡ Ok (slot, rest)
 pending_again there d slot rest s z =
     let e = slot_again as_is as_is (front_at d) (Sized d) (digest_again d) there slot rest s (sized_slot d slot z) in
@@ -63,12 +67,14 @@ partial_again d slot rest z =
     let e = option_again as_is as_is (front_at d) (Sized d) (digest_again d) slot rest (sized_slot d slot z) in
     e ∙ ap (λ (x : Option (List ℕ)). Ok (x, rest)) (same_slot slot)
 
-pub held_slot : {D : Type 0} (text : D → List ℕ) (d : ℕ) → ((x : D) → length (text x) ≡ d) → (slot : Option D) → check.IsSlot d (option_map text slot)
+pub held_slot : {D : Type 0} (text : D → List ℕ) (d : ℕ) → ((x : D) → length (text x) ≡ d) → (slot : Option D)
+    → check.IsSlot d (option_map text slot)
 held_slot text d sized None = tt
 held_slot text d sized (Some x) = sized x
 
 -- the digests of a proof value have the size of its digests
-pub held_digests : {F D : Type 0} (text : D → List ℕ) (d : ℕ) → ((x : D) → length (text x) ≡ d) → (p : Held F D) → HasDigests d (current_of text p)
+pub held_digests : {F D : Type 0} (text : D → List ℕ) (d : ℕ) → ((x : D) → length (text x) ≡ d) → (p : Held F D)
+    → HasDigests d (current_of text p)
 held_digests text d sized p = record {
   range = all_digests text d sized p.proof.digests.items;
   ops_root = sized p.ops_root;
@@ -78,14 +84,18 @@ held_digests text d sized p = record {
 
 -- ---- how long they are
 
-pub current_length : (there : Bool) (p : CurrentProof) → length (proof_text p.range) + (length (slot_text there as_is p.pending) + (length (option_text as_is p.partial) + length p.ops_root)) ≡ length (current_text there p)
+pub current_length : (there : Bool) (p : CurrentProof) → length (proof_text p.range)
+    + (length (slot_text there as_is p.pending) + (length (option_text as_is p.partial) + length p.ops_root))
+    ≡ length (current_text there p)
 current_length there p =
     let partial = length-append (option_text as_is p.partial) p.ops_root in
     let pending = length-append (slot_text there as_is p.pending) (option_text as_is p.partial ++ p.ops_root) in
-    let range = length-append (proof_text p.range) (slot_text there as_is p.pending ++ (option_text as_is p.partial ++ p.ops_root)) in
+    let range = length-append (proof_text p.range)
+    (slot_text there as_is p.pending ++ (option_text as_is p.partial ++ p.ops_root)) in
     omega (arith, partial, pending, range)
 
-pub operation_length : (there : Bool) (p : OperationProof) → length (varint_text p.location) + (length p.chunk + length (current_text there p.range)) ≡ length (operation_text there p)
+pub operation_length : (there : Bool) (p : OperationProof) → length (varint_text p.location)
+    + (length p.chunk + length (current_text there p.range)) ≡ length (operation_text there p)
 operation_length there p =
     let chunk = length-append p.chunk (current_text there p.range) in
     let location = length-append (varint_text p.location) (p.chunk ++ current_text there p.range) in
@@ -93,12 +103,14 @@ operation_length there p =
 
 -- ---- what was written is read again
 
-pub current_again : (there : Bool) (d most : ℕ) (p : CurrentProof) (rest : List ℕ) → HasDigests d p → IsAdmittedCurrent there most p
+pub current_again : (there : Bool) (d most : ℕ) (p : CurrentProof) (rest : List ℕ) → HasDigests d p
+    → IsAdmittedCurrent there most p
     → current_at there d most (current_text there p ++ rest) ≡ Ok (p, rest)
 current_again there d most p rest has ok =
     let slot = slot_text there as_is p.pending in
     let partial = option_text as_is p.partial in
-    let parts : current_text there p ++ rest ≡ proof_text p.range ++ (slot ++ (partial ++ (p.ops_root ++ rest))) = simp append_assoc in
+    let parts : current_text there p ++ rest ≡ proof_text p.range ++ (slot ++ (partial ++ (p.ops_root ++ rest))) =
+    simp append_assoc in
     rw (
       parts,
       proof_again d most p.range (slot ++ (partial ++ (p.ops_root ++ rest))) has.range ok.range,
@@ -107,11 +119,13 @@ current_again there d most p rest has ok =
       front_again d p.ops_root rest has.ops_root,
     ) refl
 
-pub operation_again : (there : Bool) (d size most : ℕ) (p : OperationProof) (rest : List ℕ) → HasDigests d p.range → length p.chunk ≡ size
+pub operation_again : (there : Bool) (d size most : ℕ) (p : OperationProof) (rest : List ℕ) → HasDigests d p.range
+    → length p.chunk ≡ size
     → IsAdmittedOperation there most p → operation_at there d size most (operation_text there p ++ rest) ≡ Ok (p, rest)
 operation_again there d size most p rest has len ok =
     let text = current_text there p.range in
-    let parts : operation_text there p ++ rest ≡ varint_text p.location ++ (p.chunk ++ (text ++ rest)) = simp append_assoc in
+    let parts : operation_text there p ++ rest ≡ varint_text p.location ++ (p.chunk ++ (text ++ rest)) =
+    simp append_assoc in
     rw (
       parts,
       location_again p.location (p.chunk ++ (text ++ rest)) ok.location,
@@ -120,9 +134,11 @@ operation_again there d size most p rest has len ok =
     ) refl
 
 pub sized_again : (there : Bool) (d size most : ℕ) (p : OperationProof) (rest : List ℕ) → HasDigests d p.range
-    → IsAdmittedSized there size most p → sized_operation_at there d size most (operation_text there p ++ rest) ≡ Ok (p, rest)
+    → IsAdmittedSized there size most p
+    → sized_operation_at there d size most (operation_text there p ++ rest) ≡ Ok (p, rest)
 sized_again there d size most p rest has ok =
-    rw (ok.size_is.0, le-leb size (2 ^ 59) ok.size_is.1) (operation_again there d size most p rest has ok.array.chunk ok.array.proof)
+    rw (ok.size_is.0, le-leb size (2 ^ 59) ok.size_is.1)
+    (operation_again there d size most p rest has ok.array.chunk ok.array.proof)
 
 -- ---- what is read was written so
 
@@ -130,24 +146,32 @@ digests_back : (d n : ℕ) (bytes : List ℕ) (ds : List (List ℕ)) (rest : Lis
     → (bytes ≡ joined_text ds ++ rest) × (length ds ≡ n)
 digests_back d zero bytes ds rest e =
     let none : List (List ℕ) = [] in
-    subst (λ (q : List (List ℕ) × List ℕ). (bytes ≡ joined_text q.0 ++ q.1) × (length q.0 ≡ zero)) (ok_is (none, bytes) (ds, rest) e) (refl, refl)
+    subst (λ (q : List (List ℕ) × List ℕ). (bytes ≡ joined_text q.0 ++ q.1) × (length q.0 ≡ zero))
+    (ok_is (none, bytes) (ds, rest) e) (refl, refl)
 digests_back d (suc n) bytes ds rest e =
-    let b = bind_ok {B = List (List ℕ) × List ℕ} (front_at d bytes) (λ x. mapped (λ ys. x.0 ∷ ys) (digests_at d n x.1)) (ds, rest) e in
+    let b = bind_ok {B = List (List ℕ) × List ℕ} (front_at d bytes) (λ x. mapped (λ ys. x.0 ∷ ys) (digests_at d n x.1))
+    (ds, rest) e in
     let m = mapped_ok (λ ys. b.0.0 ∷ ys) (digests_at d n b.0.1) ds rest b.2 in
     let r = digests_back d n b.0.1 m.0 rest m.1 in
     let f = front_back d bytes b.0.0 b.0.1 b.1 in
-    let whole : bytes ≡ (b.0.0 ++ joined_text m.0) ++ rest = f ∙ ap (λ (t : List ℕ). b.0.0 ++ t) r.0 ∙ sym (append_assoc b.0.0 (joined_text m.0) rest) in
+    let whole : bytes ≡ (b.0.0 ++ joined_text m.0) ++ rest =
+    f ∙ ap (λ (t : List ℕ). b.0.0 ++ t) r.0 ∙ sym (append_assoc b.0.0 (joined_text m.0) rest) in
     subst (λ (q : List (List ℕ)). (bytes ≡ joined_text q ++ rest) × (length q ≡ suc n)) m.2 (whole, ap suc r.1)
 
 abbrev range_of : ℕ → ℕ → List (List ℕ) → RangeProof
 range_of n i ds = record { leaves = n; inactive = i; digests = ds }
 
-proof_back : (d most : ℕ) (bytes : List ℕ) (p : RangeProof) (rest : List ℕ) → IsBytes bytes → proof_at d most bytes ≡ Ok (p, rest) → bytes ≡ proof_text p ++ rest
+proof_back : (d most : ℕ) (bytes : List ℕ) (p : RangeProof) (rest : List ℕ) → IsBytes bytes
+    → proof_at d most bytes ≡ Ok (p, rest) → bytes ≡ proof_text p ++ rest
 proof_back d most bytes p rest fits e =
-    let a = bind_ok {B = RangeProof × List ℕ} (location_at bytes) (λ n. varint_at n.1 >>= λ i. varint_at i.1 >>= λ c. cond (ltb most c.0) (Err (InvalidLength c.0)) (mapped (range_of n.0 i.0) (digests_at d c.0 c.1))) (p, rest) e in
-    let b = bind_ok {B = RangeProof × List ℕ} (varint_at a.0.1) (λ i. varint_at i.1 >>= λ c. cond (ltb most c.0) (Err (InvalidLength c.0)) (mapped (range_of a.0.0 i.0) (digests_at d c.0 c.1))) (p, rest) a.2 in
-    let c = bind_ok {B = RangeProof × List ℕ} (varint_at b.0.1) (λ c. cond (ltb most c.0) (Err (InvalidLength c.0)) (mapped (range_of a.0.0 b.0.0) (digests_at d c.0 c.1))) (p, rest) b.2 in
-    let g = not_fault (ltb most c.0.0) (InvalidLength c.0.0) (mapped (range_of a.0.0 b.0.0) (digests_at d c.0.0 c.0.1)) (p, rest) c.2 in
+    let a = bind_ok {B = RangeProof × List ℕ} (location_at bytes) (λ n. varint_at n.1 >>= λ i. varint_at i.1 >>= λ c.
+    cond (ltb most c.0) (Err (InvalidLength c.0)) (mapped (range_of n.0 i.0) (digests_at d c.0 c.1))) (p, rest) e in
+    let b = bind_ok {B = RangeProof × List ℕ} (varint_at a.0.1) (λ i. varint_at i.1 >>= λ c. cond (ltb most c.0)
+    (Err (InvalidLength c.0)) (mapped (range_of a.0.0 i.0) (digests_at d c.0 c.1))) (p, rest) a.2 in
+    let c = bind_ok {B = RangeProof × List ℕ} (varint_at b.0.1) (λ c. cond (ltb most c.0) (Err (InvalidLength c.0))
+    (mapped (range_of a.0.0 b.0.0) (digests_at d c.0 c.1))) (p, rest) b.2 in
+    let g = not_fault (ltb most c.0.0) (InvalidLength c.0.0) (mapped (range_of a.0.0 b.0.0) (digests_at d c.0.0 c.0.1))
+    (p, rest) c.2 in
     let m = mapped_ok (range_of a.0.0 b.0.0) (digests_at d c.0.0 c.0.1) p rest g in
     let r = digests_back d c.0.0 c.0.1 m.0 rest m.1 in
     let x = location_back bytes a.0.0 a.0.1 fits a.1 in
@@ -155,13 +179,17 @@ proof_back d most bytes p rest fits e =
     let y = varint_back a.0.1 b.0.0 b.0.1 fits2 b.1 in
     let fits3 = tail_bytes (varint_text b.0.0) b.0.1 (along _ _ y fits2) in
     let z = varint_back b.0.1 c.0.0 c.0.1 fits3 c.1 in
-    let z2 : b.0.1 ≡ varint_text (length m.0) ++ (joined_text m.0 ++ rest) = z ∙ ap (λ (t : List ℕ). varint_text c.0.0 ++ t) r.0 ∙ ap (λ (n : ℕ). varint_text n ++ (joined_text m.0 ++ rest)) (sym r.1) in
+    let z2 : b.0.1 ≡ varint_text (length m.0) ++ (joined_text m.0 ++ rest) =
+    z ∙ ap (λ (t : List ℕ). varint_text c.0.0 ++ t) r.0
+    ∙ ap (λ (n : ℕ). varint_text n ++ (joined_text m.0 ++ rest)) (sym r.1) in
     let y2 = y ∙ ap (λ (t : List ℕ). varint_text b.0.0 ++ t) z2 in
     let x2 = x ∙ ap (λ (t : List ℕ). varint_text a.0.0 ++ t) y2 in
-    let parts : proof_text (range_of a.0.0 b.0.0 m.0) ++ rest ≡ varint_text a.0.0 ++ (varint_text b.0.0 ++ (varint_text (length m.0) ++ (joined_text m.0 ++ rest))) = simp append_assoc in
+    let parts : proof_text (range_of a.0.0 b.0.0 m.0) ++ rest ≡ varint_text a.0.0
+    ++ (varint_text b.0.0 ++ (varint_text (length m.0) ++ (joined_text m.0 ++ rest))) = simp append_assoc in
     subst (λ (q : RangeProof). bytes ≡ proof_text q ++ rest) m.2 (x2 ∙ sym parts)
 
-pub digest_back : (d : ℕ) (bytes x rest : List ℕ) → IsBytes bytes → front_at d bytes ≡ Ok (as_is x, rest) → bytes ≡ as_is x ++ rest
+pub digest_back : (d : ℕ) (bytes x rest : List ℕ) → IsBytes bytes → front_at d bytes ≡ Ok (as_is x, rest)
+    → bytes ≡ as_is x ++ rest
 digest_back d bytes x rest fits e = front_back d bytes x rest e
 
 abbrev with_root : RangeProof → Option (List ℕ) → Option (List ℕ) → List ℕ → CurrentProof
@@ -170,16 +198,24 @@ with_root range pending partial root = record { range = range; pending = pending
 pub current_back : (there : Bool) (d most : ℕ) (bytes : List ℕ) (p : CurrentProof) (rest : List ℕ) → IsBytes bytes
     → current_at there d most bytes ≡ Ok (p, rest) → bytes ≡ current_text there p ++ rest
 current_back there d most bytes p rest fits e =
-    let a = bind_ok {B = CurrentProof × List ℕ} (proof_at d most bytes) (λ range. slot_at there (front_at d) range.1 >>= λ pending. option_at (front_at d) pending.1 >>= λ partial. front_at d partial.1 >>= λ root. Ok (with_root range.0 pending.0 partial.0 root.0, root.1)) (p, rest) e in
-    let b = bind_ok {B = CurrentProof × List ℕ} (slot_at there (front_at d) a.0.1) (λ pending. option_at (front_at d) pending.1 >>= λ partial. front_at d partial.1 >>= λ root. Ok (with_root a.0.0 pending.0 partial.0 root.0, root.1)) (p, rest) a.2 in
-    let c = bind_ok {B = CurrentProof × List ℕ} (option_at (front_at d) b.0.1) (λ partial. front_at d partial.1 >>= λ root. Ok (with_root a.0.0 b.0.0 partial.0 root.0, root.1)) (p, rest) b.2 in
-    let f = bind_ok {B = CurrentProof × List ℕ} (front_at d c.0.1) (λ root. Ok (with_root a.0.0 b.0.0 c.0.0 root.0, root.1)) (p, rest) c.2 in
+    let a = bind_ok {B = CurrentProof × List ℕ} (proof_at d most bytes)
+    (λ range. slot_at there (front_at d) range.1 >>= λ pending. option_at (front_at d) pending.1 >>= λ partial.
+    front_at d partial.1 >>= λ root. Ok (with_root range.0 pending.0 partial.0 root.0, root.1)) (p, rest) e in
+    let b = bind_ok {B = CurrentProof × List ℕ} (slot_at there (front_at d) a.0.1)
+    (λ pending. option_at (front_at d) pending.1 >>= λ partial. front_at d partial.1 >>= λ root.
+    Ok (with_root a.0.0 pending.0 partial.0 root.0, root.1)) (p, rest) a.2 in
+    let c = bind_ok {B = CurrentProof × List ℕ} (option_at (front_at d) b.0.1) (λ partial.
+    front_at d partial.1 >>= λ root. Ok (with_root a.0.0 b.0.0 partial.0 root.0, root.1)) (p, rest) b.2 in
+    let f = bind_ok {B = CurrentProof × List ℕ} (front_at d c.0.1)
+    (λ root. Ok (with_root a.0.0 b.0.0 c.0.0 root.0, root.1)) (p, rest) c.2 in
     let x = proof_back d most bytes a.0.0 a.0.1 fits a.1 in
     let fits2 = tail_bytes (proof_text a.0.0) a.0.1 (along _ _ x fits) in
-    let pending_is : slot_at there (front_at d) a.0.1 ≡ Ok (option_map as_is b.0.0, b.0.1) = b.1 ∙ ap (λ (o : Option (List ℕ)). Ok (o, b.0.1)) (sym (same_slot b.0.0)) in
+    let pending_is : slot_at there (front_at d) a.0.1 ≡ Ok (option_map as_is b.0.0, b.0.1) =
+    b.1 ∙ ap (λ (o : Option (List ℕ)). Ok (o, b.0.1)) (sym (same_slot b.0.0)) in
     let y = slot_back as_is as_is (front_at d) (digest_back d) there a.0.1 b.0.0 b.0.1 fits2 pending_is in
     let fits3 = tail_bytes (slot_text there as_is b.0.0) b.0.1 (along _ _ y fits2) in
-    let partial_is : option_at (front_at d) b.0.1 ≡ Ok (option_map as_is c.0.0, c.0.1) = c.1 ∙ ap (λ (o : Option (List ℕ)). Ok (o, c.0.1)) (sym (same_slot c.0.0)) in
+    let partial_is : option_at (front_at d) b.0.1 ≡ Ok (option_map as_is c.0.0, c.0.1) =
+    c.1 ∙ ap (λ (o : Option (List ℕ)). Ok (o, c.0.1)) (sym (same_slot c.0.0)) in
     let z = option_back as_is as_is (front_at d) (digest_back d) b.0.1 c.0.0 c.0.1 fits3 partial_is in
     let w = front_back d c.0.1 f.0.0 f.0.1 f.1 in
     let root = f.0.0 in
@@ -187,19 +223,25 @@ current_back there d most bytes p rest fits e =
     let z2 = z ∙ ap (λ (t : List ℕ). option_text as_is c.0.0 ++ t) w in
     let y2 = y ∙ ap (λ (t : List ℕ). slot_text there as_is b.0.0 ++ t) z2 in
     let x2 = x ∙ ap (λ (t : List ℕ). proof_text a.0.0 ++ t) y2 in
-    let parts : current_text there (with_root a.0.0 b.0.0 c.0.0 root) ++ tail ≡ proof_text a.0.0 ++ (slot_text there as_is b.0.0 ++ (option_text as_is c.0.0 ++ (root ++ tail))) = simp append_assoc in
+    let parts : current_text there (with_root a.0.0 b.0.0 c.0.0 root) ++ tail ≡ proof_text a.0.0
+    ++ (slot_text there as_is b.0.0 ++ (option_text as_is c.0.0 ++ (root ++ tail))) = simp append_assoc in
     let pair = ok_is (with_root a.0.0 b.0.0 c.0.0 root, tail) (p, rest) f.2 in
     subst (λ (q : CurrentProof × List ℕ). bytes ≡ current_text there q.0 ++ q.1) pair (x2 ∙ sym parts)
 
 abbrev at_location : ℕ → List ℕ → CurrentProof → OperationProof
 at_location location chunk range = record { location = location; chunk = chunk; range = range }
 
-pub operation_back : (there : Bool) (d size most : ℕ) (bytes : List ℕ) (p : OperationProof) (rest : List ℕ) → IsBytes bytes
+pub operation_back : (there : Bool) (d size most : ℕ) (bytes : List ℕ) (p : OperationProof) (rest : List ℕ)
+    → IsBytes bytes
     → operation_at there d size most bytes ≡ Ok (p, rest) → bytes ≡ operation_text there p ++ rest
 operation_back there d size most bytes p rest fits e =
-    let a = bind_ok {B = OperationProof × List ℕ} (location_at bytes) (λ location. front_at size location.1 >>= λ chunk. current_at there d most chunk.1 >>= λ range. Ok (at_location location.0 chunk.0 range.0, range.1)) (p, rest) e in
-    let b = bind_ok {B = OperationProof × List ℕ} (front_at size a.0.1) (λ chunk. current_at there d most chunk.1 >>= λ range. Ok (at_location a.0.0 chunk.0 range.0, range.1)) (p, rest) a.2 in
-    let c = bind_ok {B = OperationProof × List ℕ} (current_at there d most b.0.1) (λ range. Ok (at_location a.0.0 b.0.0 range.0, range.1)) (p, rest) b.2 in
+    let a = bind_ok {B = OperationProof × List ℕ} (location_at bytes) (λ location. front_at size location.1 >>= λ chunk.
+    current_at there d most chunk.1 >>= λ range. Ok (at_location location.0 chunk.0 range.0, range.1))
+    (p, rest) e in
+    let b = bind_ok {B = OperationProof × List ℕ} (front_at size a.0.1) (λ chunk.
+    current_at there d most chunk.1 >>= λ range. Ok (at_location a.0.0 chunk.0 range.0, range.1)) (p, rest) a.2 in
+    let c = bind_ok {B = OperationProof × List ℕ} (current_at there d most b.0.1)
+    (λ range. Ok (at_location a.0.0 b.0.0 range.0, range.1)) (p, rest) b.2 in
     let x = location_back bytes a.0.0 a.0.1 fits a.1 in
     let fits2 = tail_bytes (varint_text a.0.0) a.0.1 (along _ _ x fits) in
     let y = front_back size a.0.1 b.0.0 b.0.1 b.1 in
@@ -209,7 +251,8 @@ operation_back there d size most bytes p rest fits e =
     let tail = c.0.1 in
     let y2 = y ∙ ap (λ (t : List ℕ). b.0.0 ++ t) z in
     let x2 = x ∙ ap (λ (t : List ℕ). varint_text a.0.0 ++ t) y2 in
-    let parts : operation_text there (at_location a.0.0 b.0.0 range) ++ tail ≡ varint_text a.0.0 ++ (b.0.0 ++ (current_text there range ++ tail)) = simp append_assoc in
+    let parts : operation_text there (at_location a.0.0 b.0.0 range) ++ tail
+    ≡ varint_text a.0.0 ++ (b.0.0 ++ (current_text there range ++ tail)) = simp append_assoc in
     let pair = ok_is (at_location a.0.0 b.0.0 range, tail) (p, rest) c.2 in
     subst (λ (q : OperationProof × List ℕ). bytes ≡ operation_text there q.0 ++ q.1) pair (x2 ∙ sym parts)
 

@@ -19,7 +19,8 @@ view_entries h g s low high = tree_entries h (view g (length s.operations)) (con
 module _ (h : HashFunction) (g : Grafting) (proof : CurrentProof) (start : ℕ) (operations chunks : List (List ℕ)) where
   -- what a check has there
   abbrev pub extracted_current : List (ℕ × List ℕ)
-  extracted_current = extracted h (view g proof.range.leaves) BackwardFold proof.range start (claim h g proof start operations chunks)
+  extracted_current = extracted h (view g proof.range.leaves) BackwardFold proof.range start
+      (claim h g proof start operations chunks)
 
   -- the check computes a root: it says yes for some root
   abbrev pub ComputesRoot : Type 0

@@ -11,8 +11,10 @@ supplied start chunks j = if ltb j start then [] else get_or chunks (j - start) 
 
 -- no chunk is supplied for the node, or it is grafted with none
 abbrev pub IsUngrafted : ℕ → ℕ → List (List ℕ) → ℕ → ℕ → ℕ → Type 0
-IsUngrafted height start chunks r a k = (grafted_over height r a k ≡ false) ⊎ (supplied start chunks (a / 2 ^ height) ≡ [])
+IsUngrafted height start chunks r a k =
+    (grafted_over height r a k ≡ false) ⊎ (supplied start chunks (a / 2 ^ height) ≡ [])
 
 -- the node is grafted with this chunk
 abbrev pub IsGraftedWith : ℕ → ℕ → List (List ℕ) → ℕ → ℕ → ℕ → List ℕ → Type 0
-IsGraftedWith height start chunks r a k chunk = (grafted_over height r a k ≡ true) × (supplied start chunks (a / 2 ^ height) ≡ chunk)
+IsGraftedWith height start chunks r a k chunk =
+    (grafted_over height r a k ≡ true) × (supplied start chunks (a / 2 ^ height) ≡ chunk)

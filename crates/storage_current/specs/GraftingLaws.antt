@@ -27,7 +27,11 @@ or-true false false e = cc
 pub greatest-le : (P : ℕ → Bool) (b : ℕ) → greatest P b ≤ b
 unfolding greatest
 greatest-le P zero = omega arith
-greatest-le P (suc b) = elim (P (suc b)) as (λ t. (if t then suc b else greatest P b) ≤ suc b) [ true ↦ omega arith | false ↦ omega (arith, greatest-le P b) ]
+greatest-le P (suc b) = elim (P (suc b)) as (λ t. (if t then suc b else greatest P b) ≤ suc b) [
+  | true ↦
+      omega arith
+  | false ↦ omega (arith, greatest-le P b)
+]
 
 pub greatest-most : (P : ℕ → Bool) (b k : ℕ) → k ≤ b → P k ≡ true → k ≤ greatest P b
 unfolding greatest
@@ -46,16 +50,19 @@ unfolding greatest
 greatest-meets P zero l = absurd (omega arith)
 greatest-meets P (suc b) l = go (P (suc b)) refl (greatest-meets P b) l
   where
-    go : (t : Bool) → P (suc b) ≡ t → (0 < greatest P b → P (greatest P b) ≡ true) → 0 < (if t then suc b else greatest P b) → P (if t then suc b else greatest P b) ≡ true
+    go : (t : Bool) → P (suc b) ≡ t → (0 < greatest P b → P (greatest P b) ≡ true)
+        → 0 < (if t then suc b else greatest P b) → P (if t then suc b else greatest P b) ≡ true
     go true f below l = f
     go false f below l = below l
 
 -- a number that meets a test, and to which each other that does is less or equal, is the greatest
-pub greatest-is : (P : ℕ → Bool) (b r : ℕ) → r ≤ b → P r ≡ true → ((k : ℕ) → k ≤ b → P k ≡ true → k ≤ r) → r ≡ greatest P b
+pub greatest-is : (P : ℕ → Bool) (b r : ℕ) → r ≤ b → P r ≡ true → ((k : ℕ) → k ≤ b → P k ≡ true → k ≤ r)
+    → r ≡ greatest P b
 greatest-is P b r l e most =
     let up : r ≤ greatest P b = greatest-most P b r l e in
     elim (cases_lt r (greatest P b)) [
-      | inl less ↦ let down : greatest P b ≤ r = most (greatest P b) (greatest-le P b) (greatest-meets P b (omega arith)) in omega arith
+      | inl less ↦ let down : greatest P b ≤ r =
+          most (greatest P b) (greatest-le P b) (greatest-meets P b (omega arith)) in omega arith
       | inr more ↦ omega arith
     ]
 
@@ -68,8 +75,11 @@ power_of (suc times) n t =
       | inl one ↦ (0, eqb-true n 1 one)
       | inr more ↦
           let both = and-true (eqb (n % 2) 0) _ more in
-          let r = power_of times (n / 2) both.1 in
-          (suc r.0, let even : n % 2 ≡ 0 = eqb-true (n % 2) 0 both.0 in let half : n / 2 ≡ 2 ^ r.0 = r.1 in omega (arith, pow_two r.0))
+          let r = power_of times (n / 2) both.1 in (
+            suc r.0,
+            let even : n % 2 ≡ 0 = eqb-true (n % 2) 0 both.0 in let half : n / 2 ≡ 2 ^ r.0 = r.1 in
+                omega (arith, pow_two r.0),
+          )
     ]
 
 -- a chunk size is a power of two
@@ -79,7 +89,8 @@ chunk_power n c = power_of n n c.0
 pub height_is : (g : Grafting) (r : ℕ) → 2 ^ r ≤ 8 * g.bytes → 8 * g.bytes < 2 * 2 ^ r → r ≡ height g
 unfolding height
 height_is g r l u =
-    greatest-is (λ k. leb (2 ^ k) (8 * g.bytes)) (8 * g.bytes) r (omega (arith, below_pow r)) (le-leb (2 ^ r) (8 * g.bytes) l)
+    greatest-is (λ k. leb (2 ^ k) (8 * g.bytes)) (8 * g.bytes) r (omega (arith, below_pow r))
+    (le-leb (2 ^ r) (8 * g.bytes) l)
     (λ k b e. let m : 2 ^ k ≤ 8 * g.bytes = leb-true (2 ^ k) (8 * g.bytes) e in
     elim (cases_lt r k) [
       | inl less ↦ absurd (let p : 2 ^ suc r ≤ 2 ^ k = pow_le (suc r) k less in omega (arith, pow_two r))
@@ -88,7 +99,8 @@ height_is g r l u =
 
 -- the height is the one whose power the number of bits is
 pub height_of_power : (S : Shape) (n r : ℕ) → 8 * n ≡ 2 ^ r → height (record { shape = S; bytes = n }) ≡ r
-height_of_power S n r e = sym (height_is (record { shape = S; bytes = n }) r (omega (arith, e)) (omega (arith, e, pow_pos r)))
+height_of_power S n r e =
+    sym (height_is (record { shape = S; bytes = n }) r (omega (arith, e)) (omega (arith, e, pow_pos r)))
 
 pub record Height (g : Grafting) : Type 0 where
   pub exponent : ℕ
@@ -107,7 +119,13 @@ chunk_height g c =
     let bits : 2 ^ height g ≡ 8 * g.bytes = ap (λ k. 2 ^ k) (sym same) ∙ omega arith in
     let few : g.bytes ≤ 2 ^ 59 = c.1 in
     let small : 2 ^ height g ≤ 2 ^ 62 = omega arith in
-    record { exponent = p.0; power = power; is = sym same; bits = bits; small = pow_order (height g) 62 (let s : 2 ^ height g ≤ 2 ^ 62 = small in omega arith) }
+    record {
+      exponent = p.0;
+      power = power;
+      is = sym same;
+      bits = bits;
+      small = pow_order (height g) 62 (let s : 2 ^ height g ≤ 2 ^ 62 = small in omega arith);
+    }
 
 -- no chunk is as long as a node's digest behind a position
 pub chunk_apart : (g : Grafting) → IsChunkSize g.bytes → (d : ℕ) → (d ≡ 32) ⊎ (d ≡ 64) → g.bytes ≢ 8 + d
@@ -153,25 +171,31 @@ one_pending S L k n =
     elim (cases_lt n (S.birth 0 k)) [
       | inl few ↦
           let less : n / 2 ^ k < 2 = (div-lt_iff_lt-mul positive).1 (omega arith) in
-          subst (λ b. n / 2 ^ k ≤ (if b then 0 else (n - S.birth 0 k) / 2 ^ k + 1) + 1) (sym (lt-ltb n (S.birth 0 k) few)) (omega arith)
+          subst (λ b. n / 2 ^ k ≤ (if b then 0 else (n - S.birth 0 k) / 2 ^ k + 1) + 1)
+          (sym (lt-ltb n (S.birth 0 k) few)) (omega arith)
       | inr enough ↦
           let q : ℕ = (n - S.birth 0 k) / 2 ^ k in
           let near : n - S.birth 0 k < suc q * 2 ^ k = (div-lt_iff_lt-mul positive).0 (omega arith) in
-          let less : n / 2 ^ k < suc (suc (suc q)) = (div-lt_iff_lt-mul positive).1 (omega (arith, suc-mul q (2 ^ k), suc-mul (suc q) (2 ^ k), suc-mul (suc (suc q)) (2 ^ k))) in
-          subst (λ b. n / 2 ^ k ≤ (if b then 0 else (n - S.birth 0 k) / 2 ^ k + 1) + 1) (sym (le-ltb n (S.birth 0 k) enough)) (omega arith)
+          let less : n / 2 ^ k < suc (suc (suc q)) = (div-lt_iff_lt-mul positive).1
+          (omega (arith, suc-mul q (2 ^ k), suc-mul (suc q) (2 ^ k), suc-mul (suc (suc q)) (2 ^ k))) in
+          subst (λ b. n / 2 ^ k ≤ (if b then 0 else (n - S.birth 0 k) / 2 ^ k + 1) + 1)
+          (sym (le-ltb n (S.birth 0 k) enough)) (omega arith)
     ]
 
 -- ---- inactive counts
 
 pub exact_is : (S : Shape) (n floor r : ℕ) → IsExact S n floor r → r ≡ exact S n floor
 exact_is S n floor r x =
-    greatest-is (λ r. leb (leaves_of (take r (S.peaks n))) floor) (length (S.peaks n)) r x.within (le-leb _ floor x.ends)
+    greatest-is (λ r. leb (leaves_of (take r (S.peaks n))) floor) (length (S.peaks n)) r x.within
+    (le-leb _ floor x.ends)
     (λ k b e. x.most k b (leb-true (leaves_of (take k (S.peaks n))) floor e))
 
 pub aligned_is : (S : Shape) (n floor g r : ℕ) → IsAligned S n floor g r → r ≡ aligned S n floor g
 aligned_is S n floor g r x =
-    greatest-is (λ r. leb (leaves_of (take r (S.peaks n))) floor && eqb (leaves_of (take r (S.peaks n)) % 2 ^ g) 0) (length (S.peaks n)) r x.within (rw (le-leb _ floor x.ends, eq-eqb _ 0 x.whole) refl)
-    (λ k b e. let p = and-true (leb (leaves_of (take k (S.peaks n))) floor) _ e in x.most k b (leb-true (leaves_of (take k (S.peaks n))) floor p.0) (eqb-true (leaves_of (take k (S.peaks n)) % 2 ^ g) 0 p.1))
+    greatest-is (λ r. leb (leaves_of (take r (S.peaks n))) floor && eqb (leaves_of (take r (S.peaks n)) % 2 ^ g) 0)
+    (length (S.peaks n)) r x.within (rw (le-leb _ floor x.ends, eq-eqb _ 0 x.whole) refl)
+    (λ k b e. let p = and-true (leb (leaves_of (take k (S.peaks n))) floor) _ e in x.most k b
+    (leb-true (leaves_of (take k (S.peaks n))) floor p.0) (eqb-true (leaves_of (take k (S.peaks n)) % 2 ^ g) 0 p.1))
 
 pub aligned-le : (S : Shape) (n floor g : ℕ) → aligned S n floor g ≤ length (S.peaks n)
 aligned-le S n floor g = greatest-le _ (length (S.peaks n))

@@ -1,17 +1,18 @@
 -- The proofs of the definitions that proof values hold.
-use Rattle.std.specs.Prelude.{◌≡◌, ℕ, List, map, option_map}
-use Rattle.storage_merkle.specs.RangeProofs.{RangeProof as Range}
-use Rattle.storage_merkle.specs.declared.merkle.proof.Proof.{Proof}
+use Rattle.std.specs.Prelude.{◌≡◌, ℕ, List, option_map}
+use Rattle.storage_merkle.specs.Held.{range_of}
 use Rattle.storage_current.specs.Snapshots.{CurrentProof, OperationProof}
 use Rattle.storage_current.specs.declared.qmdb.current.proof.RangeProof.{RangeProof}
 use Rattle.storage_current.specs.declared.qmdb.current.proof.operation.Proof.{Proof as OneProof}
 
--- a range proof, its digests by their bytes
-abbrev pub range_of : {F D : Type 0} → (D → List ℕ) → Proof F D → Range
-range_of text p = record { leaves = p.leaves; inactive = p.inactive_peaks; digests = map text p.digests.items }
-
+-- a proof of current operations, its digests by their bytes
 abbrev pub current_of : {F D : Type 0} → (D → List ℕ) → RangeProof F D → CurrentProof
-current_of text p = record { range = range_of text p.proof; pending = option_map text p.pending_chunk_digest; partial = option_map text p.partial_chunk_digest; ops_root = text p.ops_root }
+current_of text p = record {
+  range = range_of text p.proof;
+  pending = option_map text p.pending_chunk_digest;
+  partial = option_map text p.partial_chunk_digest;
+  ops_root = text p.ops_root;
+}
 
 -- an operation proof, its chunk by its bytes
 abbrev pub operation_of : {F D C : Type 0} → (D → List ℕ) → (C → List ℕ) → OneProof F D C → OperationProof

@@ -1,6 +1,5 @@
 -- The proofs about keys of the definitions that proof values hold.
 use Rattle.std.specs.Prelude.{ℕ, List, option_map}
-use Rattle.storage_ops.specs.declared.qmdb.any.operation.update.ordered.Update.{Update}
 use Rattle.storage_current.specs.Held.{operation_of}
 use Rattle.storage_current.specs.KeyProofs.{Exclusion}
 use Rattle.storage_current.specs.KeyProofs as of
@@ -8,8 +7,10 @@ use Rattle.storage_current.specs.declared.qmdb.current.ordered.exclusion.Exclusi
 use Rattle.storage_current.specs.declared.qmdb.current.ordered.exclusion.ExclusionProof.TheVariants as code
 
 -- an exclusion proof, its operation proof by its bytes
-abbrev pub exclusion_of : {F K V D C A W B : Type 0} → (D → List ℕ) → (C → List ℕ) → ExclusionProof F K V D C A W B → Exclusion (K × W × K) W
-exclusion_of text bytes (code.KeyValue proof update) = of.KeyValue (operation_of text bytes proof) (update.key, update.value, update.next_key)
+abbrev pub exclusion_of : {F K V D C A W B : Type 0} → (D → List ℕ) → (C → List ℕ) → ExclusionProof F K V D C A W B
+    → Exclusion (K × W × K) W
+exclusion_of text bytes (code.KeyValue proof update) = of.KeyValue (operation_of text bytes proof)
+    (update.key, update.value, update.next_key)
 exclusion_of text bytes (code.Commit proof value) = of.Commit (operation_of text bytes proof) value
 
 -- an exclusion as its keys and values are seen

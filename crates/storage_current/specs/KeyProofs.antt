@@ -33,13 +33,15 @@ module _ {K V : Type 0} (e : Keyed K V) where
   Allows (Commit proof value) key = Unit {0}
 
   -- where the check of an exclusion says yes
-  pub record IsExcluded (h : HashFunction) (g : Grafting) (x : Exclusion (K × V × K) V) (key : K) (root : List ℕ) : Type 0 where
+  pub record IsExcluded (h : HashFunction) (g : Grafting) (x : Exclusion (K × V × K) V) (key : K)
+      (root : List ℕ) : Type 0 where
     pub allowed : Allows x key
     pub accepted : IsActiveCurrent h g (proof_of x) (shown_text x) root
 
   -- an update of the key to the value, which of a well-formed snapshot is its value
   abbrev pub MeansValue : HashFunction → Grafting → OperationProof → K → V → K → List ℕ → Type 0
-  MeansValue h g proof key value next root = Means h g proof (update_text e key value next) root (λ s. IsWellFormed e s → IsValue e s key value)
+  MeansValue h g proof key value next root =
+      Means h g proof (update_text e key value next) root (λ s. IsWellFormed e s → IsValue e s key value)
 
   -- an operation of an exclusion of the key, which of a well-formed snapshot is absent
   abbrev pub MeansAbsent : HashFunction → Grafting → Exclusion (K × V × K) V → K → List ℕ → Type 0

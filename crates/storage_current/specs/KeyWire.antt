@@ -1,5 +1,5 @@
 -- What proofs about keys are written as, and what reading answers.
-use Rattle.std.specs.Prelude.{ℕ, ◌==◌, Bool, List, ◌∷◌, ◌++◌, Option, Err, IfSome, option_map, if◌then◌else◌}
+use Rattle.std.specs.Prelude.{ℕ, ◌==◌, Bool, List, ◌∷◌, ◌++◌, Err, IfSome, option_map, if◌then◌else◌}
 use Rattle.storage_codec.specs.Codec.{Answer, byte_at, mapped, option_at}
 use Rattle.storage_codec.specs.Faults.{◌>>=◌, InvalidEnum}
 use Rattle.storage_codec.specs.Parts.{option_text}
@@ -16,7 +16,8 @@ abbrev pub exclusion_text : {U V : Type 0} → Bool → (U → List ℕ) → (V 
 exclusion_text has_pending update value (KeyValue proof u) = 0 ∷ (operation_text has_pending proof ++ update u)
 exclusion_text has_pending update value (Commit proof v) = 1 ∷ (operation_text has_pending proof ++ option_text value v)
 
-abbrev pub exclusion_at : {U V : Type 0} → (List ℕ → Answer OperationProof) → (List ℕ → Answer U) → (List ℕ → Answer V) → List ℕ → Answer (Exclusion U V)
+abbrev pub exclusion_at : {U V : Type 0} → (List ℕ → Answer OperationProof) → (List ℕ → Answer U) → (List ℕ → Answer V)
+    → List ℕ → Answer (Exclusion U V)
 exclusion_at proof update value bytes = byte_at bytes >>= λ tag.
     if tag.0 == 0 then mapped (λ x. KeyValue x.0 x.1) (pair_at proof update tag.1)
     else if tag.0 == 1 then mapped (λ x. Commit x.0 x.1) (pair_at proof (option_at value) tag.1)
@@ -28,6 +29,7 @@ exclusion_map update value (KeyValue proof u) = KeyValue proof (update u)
 exclusion_map update value (Commit proof v) = Commit proof (option_map value v)
 
 -- an exclusion whose parts a reader admits
-abbrev pub IsAdmittedExclusion : {U V : Type 0} → (OperationProof → Type 0) → (U → Type 0) → (V → Type 0) → Exclusion U V → Type 0
+abbrev pub IsAdmittedExclusion : {U V : Type 0} → (OperationProof → Type 0) → (U → Type 0) → (V → Type 0)
+    → Exclusion U V → Type 0
 IsAdmittedExclusion proof update value (KeyValue p u) = proof p × update u
 IsAdmittedExclusion proof update value (Commit p v) = proof p × IfSome v value

@@ -12,6 +12,10 @@ pub record Keyed (K V : Type 0) : Type 0 where
   pub operation : OperationView (List ℕ) (List ℕ) (List ℕ) → List ℕ
   pub cmp : K → K → Ordering
 
+abbrev pub keyed_by : {K V : Type 0} → (K → List ℕ) → (V → List ℕ) → (OperationView (List ℕ) (List ℕ) (List ℕ) → List ℕ)
+    → (K → K → Ordering) → Keyed K V
+keyed_by key value operation cmp = record { key = key; value = value; operation = operation; cmp = cmp }
+
 module _ {K V : Type 0} (e : Keyed K V) where
   -- what an update is written as, and a commit
   abbrev pub update_text : K → V → K → List ℕ
@@ -25,7 +29,8 @@ module _ {K V : Type 0} (e : Keyed K V) where
 
   -- from start on and before end, around past the greatest key where start is not before end
   abbrev pub in_span : K → K → K → Bool
-  in_span start end key = if before start end then not (before key start) && before key end else not (before key start) || before key end
+  in_span start end key = if before start end then not (before key start) && before key end
+      else not (before key start) || before key end
 
   -- the update of a key that names the next one excludes each other key of its span
   pub record Excludes (start next key : K) : Type 0 where
@@ -59,25 +64,30 @@ module _ {K V : Type 0} (e : Keyed K V) where
       -- the last operation is an active commit with the floor
       pub committed : (value : Option V) × IsActive s (length s.operations - 1) (commit_text value s.floor)
       -- each other active operation is an update that stands at or past the floor
-      pub updates : (location : ℕ) (operation : List ℕ) → IsActive s location operation → location + 1 < length s.operations
+      pub updates : (location : ℕ) (operation : List ℕ) → IsActive s location operation
+          → location + 1 < length s.operations
           → (s.floor ≤ location) × ((key : K) × (value : V) × (next : K) × (operation ≡ update_text key value next))
       -- no two are of one key
       pub distinct : (i j : ℕ) (key m n : K) (v w : V) → Updates i key v m → Updates j key w n → i ≡ j
       -- each names the next greater of their keys, and that of the greatest the least
-      pub ring : (location : ℕ) (key : K) (value : V) (next : K) → Updates location key value next → HasKey next × Adjoin HasKey key next
+      pub ring : (location : ℕ) (key : K) (value : V) (next : K) → Updates location key value next
+          → HasKey next × Adjoin HasKey key next
 
   -- Each active update of a well-formed snapshot is to its key's value.
   abbrev pub UpdatesAreValues : Type 0
-  UpdatesAreValues = (s : Snapshot) → IsWellFormed s → (location : ℕ) (key : K) (value : V) (next : K) → Updates s location key value next → IsValue s key value
+  UpdatesAreValues = (s : Snapshot) → IsWellFormed s → (location : ℕ) (key : K) (value : V) (next : K)
+      → Updates s location key value next → IsValue s key value
 
   -- A key that an active update excludes is absent.
   abbrev pub ExcludedAreAbsent : Type 0
   ExcludedAreAbsent =
-      (s : Snapshot) → IsWellFormed s → (location : ℕ) (start : K) (value : V) (next : K) → Updates s location start value next
+      (s : Snapshot) → IsWellFormed s → (location : ℕ) (start : K) (value : V) (next : K)
+      → Updates s location start value next
       → (key : K) → Excludes start next key → IsAbsent s key
 
   -- Where an active commit stands at its own floor, every key is absent.
   abbrev pub NoneAtItsFloor : Type 0
   NoneAtItsFloor =
-      (s : Snapshot) → IsSnapshot s → IsWellFormed s → (location : ℕ) (value : Option V) → IsActive s location (commit_text value location)
+      (s : Snapshot) → IsSnapshot s → IsWellFormed s → (location : ℕ) (value : Option V)
+      → IsActive s location (commit_text value location)
       → (key : K) → IsAbsent s key

@@ -18,10 +18,14 @@ abbrev pub seen_node : HashFunction → Grafting → List (List ℕ) → List Bo
 seen_node h g operations bits a k = view_node h g (record { operations = operations; bits = bits; floor = 0 }) a k
 
 -- the nodes at the positions of the flags are as the grafted view has them, and the others plain; a clear flag says that the view has the plain digest
-pub record AreTurned (h : HashFunction) (g : Grafting) (operations : List (List ℕ)) (bits : List Bool) (digests : List (List ℕ)) (flags : List Bool) : Type 0 where
-  pub seen : (p a k : ℕ) → IsNode g.shape p a k → p < length flags → get_or digests p [] ≡ seen_node h g operations bits a k
-  pub same : (p a k : ℕ) → IsNode g.shape p a k → p < length flags → get_or flags p false ≡ false → seen_node h g operations bits a k ≡ plain_node h g.shape operations a k
-  pub plain : (p a k : ℕ) → IsNode g.shape p a k → length flags ≤ p → p < length digests → get_or digests p [] ≡ plain_node h g.shape operations a k
+pub record AreTurned (h : HashFunction) (g : Grafting) (operations : List (List ℕ)) (bits : List Bool)
+    (digests : List (List ℕ)) (flags : List Bool) : Type 0 where
+  pub seen : (p a k : ℕ) → IsNode g.shape p a k → p < length flags
+      → get_or digests p [] ≡ seen_node h g operations bits a k
+  pub same : (p a k : ℕ) → IsNode g.shape p a k → p < length flags → get_or flags p false ≡ false
+      → seen_node h g operations bits a k ≡ plain_node h g.shape operations a k
+  pub plain : (p a k : ℕ) → IsNode g.shape p a k → length flags ≤ p → p < length digests
+      → get_or digests p [] ≡ plain_node h g.shape operations a k
 
 -- a tree over operations in memory: how many there are, and the digests of its nodes by position
 pub record KeptTree : Type 0 where

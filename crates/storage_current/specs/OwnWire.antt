@@ -12,13 +12,18 @@ IsPrompt has_pending S = has_pending ≡ false → (a k : ℕ) → S.birth a k �
 -- What a snapshot's own operation proof is written as is read again, by a reader of at most 128 digests, and what follows is left.
 abbrev pub OwnOperationProofsAreReadAgain : Type 0
 OwnOperationProofsAreReadAgain =
-    (d : ℕ) (h : HashFunction) → IsSized d h → (g : Grafting) → IsGrafting g → (has_pending : Bool) → IsPrompt has_pending g.shape →
+    (d : ℕ) (h : HashFunction) → IsSized d h → (g : Grafting) → IsGrafting g → (has_pending : Bool)
+    → IsPrompt has_pending g.shape →
     (s : Snapshot) → IsSnapshot s → (location : ℕ) → location < length s.operations → (rest : List ℕ) →
-    sized_operation_at has_pending d g.bytes 128 (operation_text has_pending (own_operation_proof h g s location) ++ rest) ≡ Ok (own_operation_proof h g s location, rest)
+    sized_operation_at has_pending d g.bytes 128 (operation_text has_pending (own_operation_proof h g s location)
+    ++ rest) ≡ Ok (own_operation_proof h g s location, rest)
 
 -- What its own range proof is written as is read again, by a reader of at least as many digests as it has.
 abbrev pub OwnCurrentProofsAreReadAgain : Type 0
 OwnCurrentProofsAreReadAgain =
-    (d : ℕ) (h : HashFunction) → IsSized d h → (g : Grafting) → IsGrafting g → (has_pending : Bool) → IsPrompt has_pending g.shape →
-    (s : Snapshot) → IsSnapshot s → (low high most : ℕ) → length (own_current_proof h g s low high).range.digests ≤ most → most < 2 ^ 64 → (rest : List ℕ) →
-    current_at has_pending d most (current_text has_pending (own_current_proof h g s low high) ++ rest) ≡ Ok (own_current_proof h g s low high, rest)
+    (d : ℕ) (h : HashFunction) → IsSized d h → (g : Grafting) → IsGrafting g → (has_pending : Bool)
+    → IsPrompt has_pending g.shape →
+    (s : Snapshot) → IsSnapshot s → (low high most : ℕ) → length (own_current_proof h g s low high).range.digests ≤ most
+    → most < 2 ^ 64 → (rest : List ℕ) →
+    current_at has_pending d most (current_text has_pending (own_current_proof h g s low high) ++ rest)
+    ≡ Ok (own_current_proof h g s low high, rest)

@@ -1,5 +1,5 @@
 -- Proofs from stores and logs that may fail.
-use Rattle.std.specs.Prelude.{◌≡◌, ℕ, ◌+◌, ◌-◌, ◌<◌, ◌≤◌, ◌⊎◌, ◌↔◌, List, [], length, map, min, get_or, Option, Some, None, Result, Err}
+use Rattle.std.specs.Prelude.{◌≡◌, ℕ, ◌+◌, ◌<◌, ◌≤◌, ◌⊎◌, ◌↔◌, List, length, min, Option, Some, None, Result, Err}
 use Rattle.storage_codec.specs.Digests.{HashFunction}
 use Rattle.storage_merkle.specs.declared.merkle.error.Error.{Error as Refusal}
 use Rattle.storage_merkle.specs.declared.merkle.error.Error.TheVariants as tree
@@ -46,7 +46,8 @@ IsUnread held positions error =
 
 -- why no proof of a planned range is read from a store: the first reason that holds, else want of memory
 abbrev pub IsNotRead : {F D : Type 0} → (ℕ → Option D) → Grafting → PlanOf → Retained → Error F → Type 0
-IsNotRead node g plan status error = ((code : ℕ) × (error ≡ Merkle (tree.Source code))) ⊎ IsNotBuilt (held_at node) g plan status error
+IsNotRead node g plan status error =
+    ((code : ℕ) × (error ≡ Merkle (tree.Source code))) ⊎ IsNotBuilt (held_at node) g plan status error
 
 module _ {D : Type 0} (nodes : ℕ) (node : ℕ → Option D) (g : Grafting) (low high : ℕ) (status : Retained) where
   -- a store with so many nodes has what a proof of the leaves from low to before high is made from
@@ -66,7 +67,8 @@ module _ {D : Type 0} (nodes : ℕ) (node : ℕ → Option D) (g : Grafting) (lo
       ⊎ (error ≡ Memory)
 
   -- the store is a snapshot's, and the other parts are its own
-  pub record AreServedOf (text : D → List ℕ) (h : HashFunction) (floor : ℕ) (ops_root : List ℕ) (s : Snapshot) : Type 0 where
+  pub record AreServedOf (text : D → List ℕ) (h : HashFunction) (floor : ℕ) (ops_root : List ℕ)
+      (s : Snapshot) : Type 0 where
     pub tree : size g.shape (length s.operations) ≡ nodes
     pub parts : ArePartsOf text (held_at node) h g (plan_over (length s.operations) low high) status floor ops_root s
 
@@ -92,16 +94,20 @@ abbrev pub HoldsRange : (first past low high : ℕ) → Type 0
 HoldsRange first past low high = (first ≤ low) × (high ≤ past)
 
 -- why no proof with its operations is made from a store and a log: the first reason that holds, else want of memory
-abbrev pub IsNotAnswered : {F D : Type 0} → (nodes : ℕ) (node : ℕ → Option D) (first past : ℕ) → Grafting → (start high : ℕ) → Retained → Error F → Type 0
+abbrev pub IsNotAnswered : {F D : Type 0} → (nodes : ℕ) (node : ℕ → Option D) (first past : ℕ) → Grafting
+    → (start high : ℕ) → Retained → Error F → Type 0
 IsNotAnswered {F} nodes node first past g start high status error =
     IsGone g start status error
     ⊎ (IsKept g start status × IsNotMade nodes node g start high status error)
-    ⊎ (IsKept g start status × IsServable nodes node g start high status F × (HoldsRange first past start high → ⊥) × IsCorrupted error)
-    ⊎ (IsKept g start status × IsServable nodes node g start high status F × HoldsRange first past start high × ((code : ℕ) × (error ≡ Log code)))
+    ⊎ (IsKept g start status × IsServable nodes node g start high status F × (HoldsRange first past start high → ⊥)
+    × IsCorrupted error)
+    ⊎ (IsKept g start status × IsServable nodes node g start high status F × HoldsRange first past start high
+    × ((code : ℕ) × (error ≡ Log code)))
     ⊎ (error ≡ Memory)
 
 -- a store and a log have what a proof with its operations is made from
-pub record IsAnswerable {D : Type 0} (nodes : ℕ) (node : ℕ → Option D) (first past : ℕ) (g : Grafting) (start high : ℕ) (status : Retained) (F : Type 0) : Type 0 where
+pub record IsAnswerable {D : Type 0} (nodes : ℕ) (node : ℕ → Option D) (first past : ℕ) (g : Grafting) (start high : ℕ)
+    (status : Retained) (F : Type 0) : Type 0 where
   pub start_is : IsKept g start status
   pub store : IsServable nodes node g start high status F
   pub log : HoldsRange first past start high

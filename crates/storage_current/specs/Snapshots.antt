@@ -22,6 +22,9 @@ pub record Grafting : Type 0 where
   pub shape : Shape
   pub bytes : ℕ
 
+abbrev pub grafting_of : Shape → ℕ → Grafting
+grafting_of S n = record { shape = S; bytes = n }
+
 pub record IsGrafting (g : Grafting) : Type 0 where
   pub laws : Laws g.shape
   pub size : IsChunkSize g.bytes
@@ -50,7 +53,9 @@ abbrev pub exact : Shape → ℕ → ℕ → ℕ
 exact S n floor = greatest (λ r. leb (leaves_of (take r (S.peaks n))) floor) (length (S.peaks n))
 
 abbrev pub aligned : Shape → ℕ → ℕ → ℕ → ℕ
-aligned S n floor k = greatest (λ r. leb (leaves_of (take r (S.peaks n))) floor && eqb (leaves_of (take r (S.peaks n)) % 2 ^ k) 0) (length (S.peaks n))
+aligned S n floor k =
+    greatest (λ r. leb (leaves_of (take r (S.peaks n))) floor && eqb (leaves_of (take r (S.peaks n)) % 2 ^ k) 0)
+    (length (S.peaks n))
 
 -- ---- snapshots
 
@@ -74,7 +79,8 @@ counted_slot next_bit None = []
 counted_slot next_bit (Some digest) = be8 next_bit ++ digest
 
 abbrev pub canonical_string : List ℕ → List ℕ → Option (List ℕ) → ℕ → Option (List ℕ) → List ℕ
-canonical_string ops_root grafted_root pending next_bit partial = ops_root ++ (grafted_root ++ (slot pending ++ counted_slot next_bit partial))
+canonical_string ops_root grafted_root pending next_bit partial =
+    ops_root ++ (grafted_root ++ (slot pending ++ counted_slot next_bit partial))
 
 module _ (h : HashFunction) (g : Grafting) (s : Snapshot) where
   -- the operations, and over each node of a chunk's height the chunk
@@ -95,13 +101,16 @@ module _ (h : HashFunction) (g : Grafting) (s : Snapshot) where
 
   -- the complete chunk that isn't graftable, and the chunk after the complete ones
   abbrev pub pending_of : Option (List ℕ)
-  pending_of = if ltb (graftable g (length s.operations)) (complete g (length s.operations)) then Some (chunk g.bytes s.bits (graftable g (length s.operations))) else None
+  pending_of = if ltb (graftable g (length s.operations)) (complete g (length s.operations))
+      then Some (chunk g.bytes s.bits (graftable g (length s.operations))) else None
 
   abbrev pub partial_of : Option (List ℕ)
-  partial_of = if eqb (length s.operations % 2 ^ height g) 0 then None else Some (chunk g.bytes s.bits (complete g (length s.operations)))
+  partial_of = if eqb (length s.operations % 2 ^ height g) 0 then None
+      else Some (chunk g.bytes s.bits (complete g (length s.operations)))
 
   abbrev pub snapshot_string : List ℕ
-  snapshot_string = canonical_string ops_root_of grafted_root_of (option_map h pending_of) (length s.operations % 2 ^ height g) (option_map h partial_of)
+  snapshot_string = canonical_string ops_root_of grafted_root_of (option_map h pending_of)
+      (length s.operations % 2 ^ height g) (option_map h partial_of)
 
   abbrev pub canonical_root : List ℕ
   canonical_root = h snapshot_string
@@ -109,7 +118,8 @@ module _ (h : HashFunction) (g : Grafting) (s : Snapshot) where
   -- each string given to the digest function for the canonical root
   abbrev pub snapshot_strings : List (List ℕ)
   snapshot_strings = snapshot_string ∷ (tree_strings h (view g (length s.operations)) BackwardFold content aligned_of
-      ++ (tree_strings h (ungrafted g.shape) BackwardFold (listed s.operations) exact_of ++ (option_to_list pending_of ++ option_to_list partial_of)))
+      ++ (tree_strings h (ungrafted g.shape) BackwardFold (listed s.operations) exact_of
+      ++ (option_to_list pending_of ++ option_to_list partial_of)))
 
   -- the digest of a node of the grafted view; some function answers it at a position
   abbrev pub view_node : ℕ → ℕ → List ℕ
@@ -131,7 +141,8 @@ last_chunk g start count = (start + count - 1) / 2 ^ height g
 pub record Holds (g : Grafting) (s : Snapshot) (start : ℕ) (operations chunks : List (List ℕ)) : Type 0 where
   pub some : 0 < length operations
   pub there : StandAt s.operations start operations
-  pub chunks_are : chunks ≡ chunks_from g.bytes s.bits (last_chunk g start (length operations) - first_chunk g start + 1) (first_chunk g start)
+  pub chunks_are : chunks ≡ chunks_from g.bytes s.bits
+      (last_chunk g start (length operations) - first_chunk g start + 1) (first_chunk g start)
 
 -- an operation stands at a location, and is active
 pub record IsActive (s : Snapshot) (location : ℕ) (operation : List ℕ) : Type 0 where
@@ -171,7 +182,11 @@ module _ (h : HashFunction) (g : Grafting) (s : Snapshot) where
   }
 
   abbrev pub own_operation_proof : ℕ → OperationProof
-  own_operation_proof location = record { location = location; chunk = chunk g.bytes s.bits (first_chunk g location); range = own_current_proof location (location + 1) }
+  own_operation_proof location = record {
+    location = location;
+    chunk = chunk g.bytes s.bits (first_chunk g location);
+    range = own_current_proof location (location + 1);
+  }
 
   abbrev pub own_witness : Witness
   own_witness = record {

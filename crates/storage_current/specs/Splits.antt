@@ -10,7 +10,8 @@ IsLook node later p Below = node p ≡ later p
 IsLook node later p (Found d) = node p ≡ Some d
 
 -- of the positions before the rest, each digest that is found, and the positions where `later` has what `node` has
-abbrev pub IsSplit : {D : Type 0} → (ℕ → Option D) → (ℕ → Option D) → List ℕ → List (Option D) → List ℕ → List ℕ → Type 0
+abbrev pub IsSplit : {D : Type 0} → (ℕ → Option D) → (ℕ → Option D) → List ℕ → List (Option D) → List ℕ
+    → List ℕ → Type 0
 IsSplit node later rest [] ps os = (ps ≡ rest) × (os ≡ [])
 IsSplit node later rest (Some d ∷ ds) (p ∷ ps) os = (node p ≡ Some d) × IsSplit node later rest ds ps os
 IsSplit node later rest (None ∷ ds) (p ∷ ps) (o ∷ os) = (o ≡ p) × (node p ≡ later p) × IsSplit node later rest ds ps os

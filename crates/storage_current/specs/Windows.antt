@@ -26,6 +26,7 @@ pub record IsWindowOf (g : Grafting) (leaves start count chunks : ℕ) (w : Wind
 
 -- a slot has a digest just where its chunk is there, and it is the claimed chunk's where one of the claimed chunks, from `first`
 -- to `last`, is this one
-pub record IsMatched (h : HashFunction) (slot : Option (List ℕ)) (there : Bool) (first last index : ℕ) (chunks : List (List ℕ)) : Type 0 where
+pub record IsMatched (h : HashFunction) (slot : Option (List ℕ)) (there : Bool) (first last index : ℕ)
+    (chunks : List (List ℕ)) : Type 0 where
   pub has : is_some slot ≡ there
   pub is : there ≡ true → first ≤ index → index ≤ last → slot ≡ Some (h (get_or chunks (index - first) []))

@@ -12,11 +12,19 @@ use Rattle.storage_current.specs.declared.qmdb.current.proof.witness.OpsRootWitn
 
 -- the witness that a value holds, its digests by their bytes
 abbrev pub witness_of : {F D : Type 0} → (D → List ℕ) → OpsRootWitness F D → Witness
-witness_of text w = record { grafted_root = text w.grafted_root; pending = option_map text w.pending_chunk_digest; partial = option_map (λ p. (p.0, text p.1)) w.partial_chunk }
+witness_of text w = record {
+  grafted_root = text w.grafted_root;
+  pending = option_map text w.pending_chunk_digest;
+  partial = option_map (λ p. (p.0, text p.1)) w.partial_chunk;
+}
 
 -- that of these parts: with the digest of the partial chunk goes how many bits it has
 abbrev pub witness_with : List ℕ → Option (List ℕ) → ℕ → Option (List ℕ) → Witness
-witness_with grafted_root pending next_bit partial = record { grafted_root = grafted_root; pending = pending; partial = option_map (λ digest. (next_bit, digest)) partial }
+witness_with grafted_root pending next_bit partial = record {
+  grafted_root = grafted_root;
+  pending = pending;
+  partial = option_map (λ digest. (next_bit, digest)) partial;
+}
 
 -- What a yes of its check against a root means: of each snapshot with that root, whatever its chunks' size, the witness is the
 -- snapshot's own, field for field, and the operations root is the snapshot's, or two strings cross.
@@ -36,11 +44,13 @@ counted_at d bytes = varint_at bytes >>= λ bits. front_at d bits.1 >>= λ diges
 
 -- the grafted root, the slot of the pending chunk's digest, the partial chunk or none
 abbrev pub witness_text : Bool → Witness → List ℕ
-witness_text has_pending w = w.grafted_root ++ (slot_text has_pending as_is w.pending ++ option_text counted_text w.partial)
+witness_text has_pending w = w.grafted_root
+    ++ (slot_text has_pending as_is w.pending ++ option_text counted_text w.partial)
 
 abbrev pub witness_at : Bool → ℕ → List ℕ → Answer Witness
 witness_at has_pending d bytes =
-    front_at d bytes >>= λ root. slot_at has_pending (front_at d) root.1 >>= λ pending. option_at (counted_at d) pending.1 >>= λ partial.
+    front_at d bytes >>= λ root. slot_at has_pending (front_at d) root.1 >>= λ pending.
+    option_at (counted_at d) pending.1 >>= λ partial.
     Ok (record { grafted_root = root.0; pending = pending.0; partial = partial.0 }, partial.1)
 
 -- a witness that can be read again: a family without pending chunks has none, and the number of bits is a u64

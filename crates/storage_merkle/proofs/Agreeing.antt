@@ -46,27 +46,32 @@ module _ (v w : Values) where
   agree_append (t ∷ ts) us a = let r = agree_append ts us a.1 in ((a.0, r.0), r.1)
 
   pub agree_join : (T : Layout) (a k : ℕ) (l r : Calc) → Agree v w (join_calc T a k l r) → Agree v w l × Agree v w r
-  agree_join T a k l r = elim (T.grafted a k) as (λ b. Agree v w (if b then graft a (T.shape.position a k) l r else pair (be8 (T.shape.position a k)) l r) → Agree v w l × Agree v w r) [ true ↦ λ g. g.1 | false ↦ λ g. g ]
+  agree_join T a k l r = elim (T.grafted a k) as (λ b. Agree v w (if b then graft a (T.shape.position a k) l r
+      else pair (be8 (T.shape.position a k)) l r) → Agree v w l × Agree v w r) [ true ↦ λ g. g.1 | false ↦ λ g. g ]
 
   -- at a leaf over which nothing is cut
   module _ (T : Layout) (cut : ℕ → ℕ → Bool) (j : ℕ) (out : (a k : ℕ) → a ≤ j → j < a + 2 ^ k → cut a k ≡ false) where
     pub agree_leaf : (k a : ℕ) → a ≤ j → j < a + 2 ^ k → Agree v w (node_calc T cut k a) → v.element j ≡ w.element j
     agree_leaf zero a l u g =
-        let f : v.element a ≡ w.element a = subst (λ b. Agree v w (if b then given (node a zero) else leaf (be8 (T.shape.position a zero)) a)) (out a zero l u) g in
+        let f : v.element a ≡ w.element a = subst (λ b.
+        Agree v w (if b then given (node a zero) else leaf (be8 (T.shape.position a zero)) a)) (out a zero l u) g in
         let e : a ≡ j = omega arith in
         subst (λ i. v.element i ≡ w.element i) e f
     agree_leaf (suc k) a l u g =
-        let f = agree_join T a (suc k) _ _ (subst (λ b. Agree v w (if b then given (node a (suc k)) else join_calc T a (suc k) (node_calc T cut k a) (node_calc T cut k (a + 2 ^ k)))) (out a (suc k) l u) g) in
+        let f = agree_join T a (suc k) _ _ (subst (λ b. Agree v w (if b then given (node a (suc k))
+        else join_calc T a (suc k) (node_calc T cut k a) (node_calc T cut k (a + 2 ^ k)))) (out a (suc k) l u) g) in
         elim (cases_lt j (a + 2 ^ k)) [
           | inl here ↦ agree_leaf k a l here f.0
           | inr later ↦ agree_leaf k (a + 2 ^ k) later (omega (arith, pow-suc 2 k)) f.1
         ]
 
     -- the chunk of a grafted node over j
-    pub agree_chunk : (G a : ℕ) → T.grafted a G ≡ true → 1 ≤ G → a ≤ j → j < a + 2 ^ G → (k c m : ℕ) → G ≤ k → a ≡ c + m * 2 ^ G → c ≤ j → j < c + 2 ^ k → Agree v w (node_calc T cut k c) → v.chunk a ≡ w.chunk a
+    pub agree_chunk : (G a : ℕ) → T.grafted a G ≡ true → 1 ≤ G → a ≤ j → j < a + 2 ^ G → (k c m : ℕ) → G ≤ k
+        → a ≡ c + m * 2 ^ G → c ≤ j → j < c + 2 ^ k → Agree v w (node_calc T cut k c) → v.chunk a ≡ w.chunk a
     agree_chunk G a t g al au zero c m gk e l u f = absurd (omega arith)
     agree_chunk G a t g al au (suc k) c m gk e l u f =
-        let f' = subst (λ b. Agree v w (if b then given (node c (suc k)) else join_calc T c (suc k) (node_calc T cut k c) (node_calc T cut k (c + 2 ^ k)))) (out c (suc k) l u) f in
+        let f' = subst (λ b. Agree v w (if b then given (node c (suc k))
+        else join_calc T c (suc k) (node_calc T cut k c) (node_calc T cut k (c + 2 ^ k)))) (out c (suc k) l u) f in
         elim (cases_lt k G) [
           | inl here ↦
               let same : G ≡ suc k = omega arith in
@@ -74,8 +79,11 @@ module _ (v w : Values) where
               let bound : m * 2 ^ G < 1 * 2 ^ G = omega arith in
               let none : m < 1 = lt_of_mul-lt-mul_right (2 ^ G) bound in
               let ac : a ≡ c = omega (arith, ap (λ n. n * 2 ^ G) (le_zero m (omega arith))) in
-              let t' : T.grafted c (suc k) ≡ true = subst (λ x. T.grafted x (suc k) ≡ true) ac (subst (λ x. T.grafted a x ≡ true) same t) in
-              let here' = subst (λ b. Agree v w (if b then graft c (T.shape.position c (suc k)) (node_calc T cut k c) (node_calc T cut k (c + 2 ^ k)) else pair (be8 (T.shape.position c (suc k))) (node_calc T cut k c) (node_calc T cut k (c + 2 ^ k)))) t' f' in
+              let t' : T.grafted c (suc k) ≡ true =
+              subst (λ x. T.grafted x (suc k) ≡ true) ac (subst (λ x. T.grafted a x ≡ true) same t) in
+              let here' = subst (λ b. Agree v w (if b then graft c (T.shape.position c (suc k)) (node_calc T cut k c)
+              (node_calc T cut k (c + 2 ^ k)) else pair (be8 (T.shape.position c (suc k))) (node_calc T cut k c)
+              (node_calc T cut k (c + 2 ^ k)))) t' f' in
               subst (λ x. v.chunk x ≡ w.chunk x) (sym ac) here'.0
           | inr below' ↦
               let halves = agree_join T c (suc k) _ _ f' in
@@ -88,14 +96,17 @@ module _ (v w : Values) where
                     let least : q < suc m = lt_of_mul-lt-mul_right (2 ^ G) less in
                     let parts : m ≡ q + (m - q) = omega arith in
                     let scaled : m * 2 ^ G ≡ (q + (m - q)) * 2 ^ G = ap (λ n. n * 2 ^ G) parts in
-                    agree_chunk G a t g al au k (c + 2 ^ k) (m - q) below' (omega arith) right (omega (arith, pow-suc 2 k)) halves.1
+                    agree_chunk G a t g al au k (c + 2 ^ k) (m - q) below' (omega arith) right
+                    (omega (arith, pow-suc 2 k)) halves.1
               ]
         ]
 
   -- at the peak over a leaf
-  module _ (T : Layout) (cut : ℕ → ℕ → Bool) (j : ℕ) (P : Type 0) (Q : Peak → Type 0) (found : (p : Peak) → Q p → p.first ≤ j → j < p.first + 2 ^ p.height → Agree v w (part T cut p) → P) where
+  module _ (T : Layout) (cut : ℕ → ℕ → Bool) (j : ℕ) (P : Type 0) (Q : Peak → Type 0)
+      (found : (p : Peak) → Q p → p.first ≤ j → j < p.first + 2 ^ p.height → Agree v w (part T cut p) → P) where
     -- in all of the peaks
-    pub agree_parts : (a : ℕ) (ks : List ℕ) → AllPeaks Q (places a ks) → a ≤ j → j < a + leaves_of ks → AgreeAll (map (part T cut) (places a ks)) → P
+    pub agree_parts : (a : ℕ) (ks : List ℕ) → AllPeaks Q (places a ks) → a ≤ j → j < a + leaves_of ks
+        → AgreeAll (map (part T cut) (places a ks)) → P
     unfolding leaves_of
     agree_parts a [] q l u g = absurd (omega arith)
     agree_parts a (k ∷ ks) q l u g =
@@ -104,7 +115,8 @@ module _ (v w : Values) where
           | inr later ↦ agree_parts (a + 2 ^ k) ks q.1 later (omega arith) g.1
         ]
 
-    pub agree_front : (low : ℕ) → low ≤ j → (a : ℕ) (ks : List ℕ) → AllPeaks Q (places a ks) → a ≤ j → j < a + leaves_of ks → AgreeAll (map (part T cut) (not_leading low (places a ks))) → P
+    pub agree_front : (low : ℕ) → low ≤ j → (a : ℕ) (ks : List ℕ) → AllPeaks Q (places a ks) → a ≤ j
+        → j < a + leaves_of ks → AgreeAll (map (part T cut) (not_leading low (places a ks))) → P
     unfolding leaves_of
     agree_front low above a [] q l u g = absurd (omega arith)
     agree_front low above a (k ∷ ks) q l u g =
@@ -112,11 +124,13 @@ module _ (v w : Values) where
         let rest : List Peak = places (a + 2 ^ k) ks in
         let F : Bool → Type 0 = λ b. AgreeAll (map (part T cut) (if b then not_leading low rest else p ∷ rest)) in
         elim (cases_lt low (a + 2 ^ k)) [
-          | inr past ↦ agree_front low above (a + 2 ^ k) ks q.1 (omega arith) (omega arith) (subst F (le-leb (a + 2 ^ k) low past) g)
+          | inr past ↦ agree_front low above (a + 2 ^ k) ks q.1 (omega arith) (omega arith)
+              (subst F (le-leb (a + 2 ^ k) low past) g)
           | inl here ↦ agree_parts a (k ∷ ks) q l u (subst F (lt-leb (a + 2 ^ k) low here) g)
         ]
 
-    pub agree_back : (high : ℕ) → j < high → (a : ℕ) (ks : List ℕ) → AllPeaks Q (places a ks) → a ≤ j → j < a + leaves_of ks → AgreeAll (map (part T cut) (up_to high (places a ks))) → P
+    pub agree_back : (high : ℕ) → j < high → (a : ℕ) (ks : List ℕ) → AllPeaks Q (places a ks) → a ≤ j
+        → j < a + leaves_of ks → AgreeAll (map (part T cut) (up_to high (places a ks))) → P
     unfolding leaves_of
     agree_back high below a [] q l u g = absurd (omega arith)
     agree_back high below a (k ∷ ks) q l u g =
@@ -138,7 +152,8 @@ module _ (v w : Values) where
   agree_at_append [] ts a b = b
   agree_at_append (s ∷ ss) ts a b = (a.0, agree_at_append ss ts a.1 b)
 
-  agree_place_in : (T : Layout) (s : Site) (ss : List Site) → v.digest s ≡ w.digest s → AgreeAt ss → AgreeAt (place_in T s ss)
+  agree_place_in : (T : Layout) (s : Site) (ss : List Site) → v.digest s ≡ w.digest s → AgreeAt ss
+      → AgreeAt (place_in T s ss)
   agree_place_in T s [] e a = (e, tt)
   agree_place_in T s (t ∷ ts) e a =
       elim (leb (position_of T s) (position_of T t)) as (λ b. AgreeAt (if b then s ∷ t ∷ ts else t ∷ place_in T s ts)) [
@@ -220,5 +235,7 @@ module _ (a k j : ℕ) (from : a ≤ j) (to : j < a + 2 ^ k) (multiple : a % 2 ^
   pub holds_inside : (hs : List ℕ) (s : ℕ) → AreAligned hs s → Inside hs s a k → AllPeaks Holds (places s hs)
   unfolding AreAligned Inside
   holds_inside [] s al i = absurd i
-  holds_inside (x ∷ hs) s al (inl i) = (λ l u. holds_here s x al.0 i.0 i.1, holds_later (s + 2 ^ x) hs (omega (arith, i)))
-  holds_inside (x ∷ hs) s al (inr i) = (λ l u. absurd (omega (arith, inside_between hs (s + 2 ^ x) a k i)), holds_inside hs (s + 2 ^ x) al.1 i)
+  holds_inside (x ∷ hs) s al (inl i) =
+      (λ l u. holds_here s x al.0 i.0 i.1, holds_later (s + 2 ^ x) hs (omega (arith, i)))
+  holds_inside (x ∷ hs) s al (inr i) =
+      (λ l u. absurd (omega (arith, inside_between hs (s + 2 ^ x) a k i)), holds_inside hs (s + 2 ^ x) al.1 i)

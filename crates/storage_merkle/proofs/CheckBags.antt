@@ -32,7 +32,8 @@ module _ (h : HashFunction) where
   bagged_both (x ∷ xs) ys = joined_none h (folded_forward h x xs) ys
 
   module _ (item : Peak → List ℕ) (fold : List ℕ) (high : ℕ) where
-    bag_onto-both : (before : Option (List ℕ)) (ps : List Peak) (f : ℕ) → bag_onto h item fold high before ps f ≡ both h (forward_onto before (map item (take f ps))) (right_of h item fold high (drop f ps))
+    bag_onto-both : (before : Option (List ℕ)) (ps : List Peak) (f : ℕ) → bag_onto h item fold high before ps f
+        ≡ both h (forward_onto before (map item (take f ps))) (right_of h item fold high (drop f ps))
     bag_onto-both before [] zero = refl
     bag_onto-both before [] (suc f) = refl
     bag_onto-both before (p ∷ ps) zero = refl
@@ -43,30 +44,40 @@ module _ (h : HashFunction) where
     fold_for [] = []
     fold_for (p ∷ ps) = fold ∷ []
 
-    pub right_of-folded : (ps : List Peak) → right_of h item fold high ps ≡ folded_onto h (map item (up_to high ps) ++ fold_for (trailing high ps)) None
+    pub right_of-folded : (ps : List Peak)
+        → right_of h item fold high ps ≡ folded_onto h (map item (up_to high ps) ++ fold_for (trailing high ps)) None
     right_of-folded [] = refl
     right_of-folded (p ∷ ps) =
-        elim (leb high p.first) as (λ b. (if b then Some fold else Some (joined h (item p) (right_of h item fold high ps))) ≡ folded_onto h (map item (if b then [] else p ∷ up_to high ps) ++ fold_for (if b then p ∷ ps else trailing high ps)) None) [
+        elim (leb high p.first) as (λ b.
+        (if b then Some fold else Some (joined h (item p) (right_of h item fold high ps))) ≡ folded_onto h (map item
+        (if b then [] else p ∷ up_to high ps) ++ fold_for (if b then p ∷ ps else trailing high ps)) None) [
           | true ↦ refl
           | false ↦ ap (λ o. Some (joined h (item p) o)) (right_of-folded ps)
         ]
 
 -- what stands in front
-front_values : (h : HashFunction) (v : Values) (ps : List Peak) (a : ℕ) (items : List (List ℕ)) → IsPast 0 a ps → forward_onto h (folded_before (v.digest front) a) items ≡ forward_of h (map (eval h v) (front_given ps) ++ items)
-front_values h v [] a items e = ap (λ b. forward_onto h (folded_before (v.digest front) b) items) e ∙ forward_none h items
+front_values : (h : HashFunction) (v : Values) (ps : List Peak) (a : ℕ) (items : List (List ℕ)) → IsPast 0 a ps
+    → forward_onto h (folded_before (v.digest front) a) items ≡ forward_of h (map (eval h v) (front_given ps) ++ items)
+front_values h v [] a items e =
+    ap (λ b. forward_onto h (folded_before (v.digest front) b) items) e ∙ forward_none h items
 front_values h v (p ∷ ps) zero items l = absurd (omega arith)
 front_values h v (p ∷ ps) (suc a) items l = forward_some h (v.digest front) items
 
-back_values : (h : HashFunction) (v : Values) (item : Peak → List ℕ) (high : ℕ) (ps : List Peak) → fold_for h item (v.digest back) high ps ≡ map (eval h v) (back_given ps)
+back_values : (h : HashFunction) (v : Values) (item : Peak → List ℕ) (high : ℕ) (ps : List Peak)
+    → fold_for h item (v.digest back) high ps ≡ map (eval h v) (back_given ps)
 back_values h v item high [] = refl
 back_values h v item high (p ∷ ps) = refl
 
-parts_values : (h : HashFunction) (v : Values) (T : Layout) (low high : ℕ) (ps : List Peak) → map (λ p. eval h v (part T (apart low high) p)) ps ≡ map (eval h v) (map (part T (apart low high)) ps)
+parts_values : (h : HashFunction) (v : Values) (T : Layout) (low high : ℕ) (ps : List Peak)
+    → map (λ p. eval h v (part T (apart low high) p)) ps ≡ map (eval h v) (map (part T (apart low high)) ps)
 parts_values h v T low high [] = refl
-parts_values h v T low high (p ∷ ps) = ap (λ xs. eval h v (part T (apart low high) p) ∷ xs) (parts_values h v T low high ps)
+parts_values h v T low high (p ∷ ps) =
+    ap (λ xs. eval h v (part T (apart low high) p) ∷ xs) (parts_values h v T low high ps)
 
-module _ (h : HashFunction) (T : Layout) (v : Values) (low high : ℕ) (b : Bagging) (n i f a r g : ℕ) (parts : AreFolded T.shape b i n f) (after : AreAfterLeading T.shape low 0 n f a r g) where
-  pub bag_is : or_nothing (bag_onto h (λ p. eval h v (part T (apart low high) p)) (v.digest back) high (folded_before (v.digest front) a) (peaks_from T.shape a r) g) ≡ eval_bag h v (check_bag T low high b n i)
+module _ (h : HashFunction) (T : Layout) (v : Values) (low high : ℕ) (b : Bagging) (n i f a r g : ℕ)
+    (parts : AreFolded T.shape b i n f) (after : AreAfterLeading T.shape low 0 n f a r g) where
+  pub bag_is : or_nothing (bag_onto h (λ p. eval h v (part T (apart low high) p)) (v.digest back) high
+      (folded_before (v.digest front) a) (peaks_from T.shape a r) g) ≡ eval_bag h v (check_bag T low high b n i)
   bag_is =
       let item : Peak → List ℕ = λ p. eval h v (part T (apart low high) p) in
       let xs = folded b i (peaks_of T n) in
@@ -82,13 +93,16 @@ module _ (h : HashFunction) (T : Layout) (v : Values) (low high : ℕ) (b : Bagg
       let one : forward_onto h before (map item (take g Q)) ≡ forward_of h (map E X) =
       ap (λ ps. forward_onto h before (map item ps)) lefts
       ∙ front_values h v (leading low xs) a (map item (not_leading low xs)) past
-      ∙ ap (λ ds. forward_of h (map E (front_given (leading low xs)) ++ ds)) (parts_values h v T low high (not_leading low xs))
-      ∙ ap (forward_of h) (sym (map-append E (front_given (leading low xs)) (map (part T (apart low high)) (not_leading low xs)))) in
+      ∙ ap (λ ds. forward_of h (map E (front_given (leading low xs)) ++ ds))
+      (parts_values h v T low high (not_leading low xs))
+      ∙ ap (forward_of h)
+      (sym (map-append E (front_given (leading low xs)) (map (part T (apart low high)) (not_leading low xs)))) in
       let two : right_of h item (v.digest back) high (drop g Q) ≡ folded_onto h (map E Y) None =
       ap (right_of h item (v.digest back) high) rights
       ∙ right_of-folded h item (v.digest back) high ys
       ∙ ap (λ ds. folded_onto h ds None) (
-      ap₂ (λ ds es. ds ++ es) (parts_values h v T low high (up_to high ys)) (back_values h v item high (trailing high ys))
+      ap₂ (λ ds es. ds ++ es) (parts_values h v T low high (up_to high ys))
+      (back_values h v item high (trailing high ys))
       ∙ sym (map-append E (map (part T (apart low high)) (up_to high ys)) (back_given (trailing high ys)))
       ) in
       ap or_nothing (bag_onto-both h item (v.digest back) high before Q g ∙ ap₂ (both h) one two)

@@ -1,5 +1,5 @@
 -- The greatest trees whose nodes are counted by 64 bits, and the tree between two sizes.
-use Rattle.std.proofs.Common.{◌≡◌, ℕ, ◌+◌, ◌-◌, ◌*◌, ◌%◌, ◌<◌, ◌≤◌, ◌^◌, ◌⊎◌, length, refl, sym, ap, ◌∙◌, inl, inr, arith}
+use Rattle.std.proofs.Common.{◌≡◌, ℕ, ◌+◌, ◌*◌, ◌<◌, ◌≤◌, ◌^◌, ap, ◌∙◌, inl, inr, arith}
 use Rattle.std.proofs.lemmas.Bool.{cases_lt}
 use Rattle.std.proofs.lemmas.Nat.{pow_pos, ones_cat}
 use lib.Count.{ones, ones-ones}
@@ -11,10 +11,12 @@ use Rattle.storage_merkle.specs.Mmb.{mmb}
 use Rattle.storage_merkle.specs.MmbLaws.{mmb_size_sum}
 
 -- where no number between two neighbours has a size, none has
-pub no_tree : (S : Shape) → Laws S → (low high nodes : ℕ) → high ≤ low + 1 → size S low < nodes → nodes < size S high → (n : ℕ) → size S n ≡ nodes → ⊥
+pub no_tree : (S : Shape) → Laws S → (low high nodes : ℕ) → high ≤ low + 1 → size S low < nodes → nodes < size S high
+    → (n : ℕ) → size S n ≡ nodes → ⊥
 no_tree S L low high nodes near below above n same =
     elim (cases_lt low n) [
-      | inl more ↦ let up : size S high ≤ size S n = size_order S L high n (omega arith) in omega (arith, up, above, same)
+      | inl more ↦ let up : size S high ≤ size S n = size_order S L high n (omega arith) in
+          omega (arith, up, above, same)
       | inr less ↦ let up : size S n ≤ size S low = size_order S L n low less in omega (arith, up, below, same)
     ]
 

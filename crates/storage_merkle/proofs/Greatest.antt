@@ -19,12 +19,14 @@ use Rattle.storage_merkle.proofs.PlanSites.{AllSites, all_both}
 use Rattle.storage_merkle.proofs.PlanAmong.{site_has, all_have, times_among}
 
 -- a node that covers a half of another node, and is not that half, covers the other node
-covers_left : (a k b j : ℕ) → a % 2 ^ suc k ≡ 0 → b % 2 ^ j ≡ 0 → b ≤ a → a + 2 ^ k ≤ b + 2 ^ j → ((b ≡ a) × (j ≡ k)) ⊎ (a + 2 ^ suc k ≤ b + 2 ^ j)
+covers_left : (a k b j : ℕ) → a % 2 ^ suc k ≡ 0 → b % 2 ^ j ≡ 0 → b ≤ a → a + 2 ^ k ≤ b + 2 ^ j
+    → ((b ≡ a) × (j ≡ k)) ⊎ (a + 2 ^ suc k ≤ b + 2 ^ j)
 covers_left a k b j ha hb l u =
     elim (cases_lt k j) [
       | inl above ↦
           let mb : b % 2 ^ suc k ≡ 0 = multiple_down b (suc k) j (omega arith) hb in
-          let me : (b + 2 ^ j) % 2 ^ suc k ≡ 0 = multiple_add b (2 ^ j) (2 ^ suc k) (pow_pos (suc k)) mb (power_multiple j (suc k) (omega arith)) in
+          let me : (b + 2 ^ j) % 2 ^ suc k ≡ 0 =
+          multiple_add b (2 ^ j) (2 ^ suc k) (pow_pos (suc k)) mb (power_multiple j (suc k) (omega arith)) in
           inr (next a (b + 2 ^ j) (2 ^ suc k) ha me (omega (arith, pow_pos k)))
       | inr below ↦
           let less : 2 ^ j ≤ 2 ^ k = pow_le j k below in
@@ -33,13 +35,15 @@ covers_left a k b j ha hb l u =
           inl (omega arith, omega arith)
     ]
 
-covers_right : (a k b j : ℕ) → a % 2 ^ suc k ≡ 0 → b % 2 ^ j ≡ 0 → b ≤ a + 2 ^ k → (a + 2 ^ k) + 2 ^ k ≤ b + 2 ^ j → ((b ≡ a + 2 ^ k) × (j ≡ k)) ⊎ (b ≤ a)
+covers_right : (a k b j : ℕ) → a % 2 ^ suc k ≡ 0 → b % 2 ^ j ≡ 0 → b ≤ a + 2 ^ k → (a + 2 ^ k) + 2 ^ k ≤ b + 2 ^ j
+    → ((b ≡ a + 2 ^ k) × (j ≡ k)) ⊎ (b ≤ a)
 covers_right a k b j ha hb l u =
     elim (cases_lt k j) [
       | inl above ↦
           let mb : b % 2 ^ suc k ≡ 0 = multiple_down b (suc k) j (omega arith) hb in
           elim (cases_lt a b) [
-            | inl after ↦ absurd (let far : a + 2 ^ suc k ≤ b = next a b (2 ^ suc k) ha mb after in omega (arith, pow_two k, pow_pos k))
+            | inl after ↦
+                absurd (let far : a + 2 ^ suc k ≤ b = next a b (2 ^ suc k) ha mb after in omega (arith, pow_two k, pow_pos k))
             | inr before ↦ inr before
           ]
       | inr below ↦
@@ -50,7 +54,8 @@ covers_right a k b j ha hb l u =
     ]
 
 -- a lower node in another lies in one of its halves
-in_half : (a k b j : ℕ) → a % 2 ^ suc k ≡ 0 → b % 2 ^ j ≡ 0 → j ≤ k → a ≤ b → b + 2 ^ j ≤ a + 2 ^ suc k → (b + 2 ^ j ≤ a + 2 ^ k) ⊎ (a + 2 ^ k ≤ b)
+in_half : (a k b j : ℕ) → a % 2 ^ suc k ≡ 0 → b % 2 ^ j ≡ 0 → j ≤ k → a ≤ b → b + 2 ^ j ≤ a + 2 ^ suc k
+    → (b + 2 ^ j ≤ a + 2 ^ k) ⊎ (a + 2 ^ k ≤ b)
 in_half a k b j ha hb l lo hi =
     elim (cases_lt b (a + 2 ^ k)) [
       | inl left ↦
@@ -81,22 +86,30 @@ module _ (T : Layout) (ks : List ℕ) (cut : ℕ → ℕ → Bool) where
   right_top a k ha e top b j under l u c =
       elim (covers_right a k b j ha under.0 l u) [
         | inl same ↦ same
-        | inr less ↦ absurd (let s = top b j under less (omega (arith, pow_two k)) c in let f : cut b j ≡ false = ap₂ cut s.0 s.1 ∙ e in cc)
+        | inr less ↦ absurd (let s = top b j under less (omega (arith, pow_two k)) c in
+            let f : cut b j ≡ false = ap₂ cut s.0 s.1 ∙ e in cc)
       ]
 
   tops_under : (k a : ℕ) → IsUnder ks a k → Top a k → AllSites IsTop (sites_of (node_calc T cut k a))
   tops_under zero a under top = go (cut a zero) refl
     where
-      go : (c : Bool) → cut a zero ≡ c → AllSites IsTop (sites_of (if c then given (node a zero) else leaf (be8 (T.shape.position a zero)) a))
+      go : (c : Bool) → cut a zero ≡ c
+          → AllSites IsTop (sites_of (if c then given (node a zero) else leaf (be8 (T.shape.position a zero)) a))
       go true e = ((under, e, top), tt)
       go false e = tt
-  tops_under (suc k) a under top = go (cut a (suc k)) refl (λ t. tops_under k a (under_halves ks a k under).0 t) (λ t. tops_under k (a + 2 ^ k) (under_halves ks a k under).1 t)
+  tops_under (suc k) a under top = go (cut a (suc k)) refl (λ t. tops_under k a (under_halves ks a k under).0 t)
+      (λ t. tops_under k (a + 2 ^ k) (under_halves ks a k under).1 t)
     where
-      go : (c : Bool) → cut a (suc k) ≡ c → (Top a k → AllSites IsTop (sites_of (node_calc T cut k a))) → (Top (a + 2 ^ k) k → AllSites IsTop (sites_of (node_calc T cut k (a + 2 ^ k)))) → AllSites IsTop (sites_of (if c then given (node a (suc k)) else join_calc T a (suc k) (node_calc T cut k a) (node_calc T cut k (a + 2 ^ k))))
+      go : (c : Bool) → cut a (suc k) ≡ c → (Top a k → AllSites IsTop (sites_of (node_calc T cut k a)))
+          → (Top (a + 2 ^ k) k → AllSites IsTop (sites_of (node_calc T cut k (a + 2 ^ k))))
+          → AllSites IsTop (sites_of (if c then given (node a (suc k))
+          else join_calc T a (suc k) (node_calc T cut k a) (node_calc T cut k (a + 2 ^ k))))
       go true e f g = ((under, e, top), tt)
-      go false e f g = rw (sites-join T a (suc k) (node_calc T cut k a) (node_calc T cut k (a + 2 ^ k))) (all_both IsTop _ _ (f (left_top a k under.0 e top)) (g (right_top a k under.0 e top)))
+      go false e f g = rw (sites-join T a (suc k) (node_calc T cut k a) (node_calc T cut k (a + 2 ^ k)))
+          (all_both IsTop _ _ (f (left_top a k under.0 e top)) (g (right_top a k under.0 e top)))
 
-  tops_in : (s : ℕ) (hs : List ℕ) → ((a k : ℕ) → HasPeak hs s a k → IsUnder ks a k × Top a k) → AllSites IsTop (sites_in T cut (places s hs))
+  tops_in : (s : ℕ) (hs : List ℕ) → ((a k : ℕ) → HasPeak hs s a k → IsUnder ks a k × Top a k)
+      → AllSites IsTop (sites_in T cut (places s hs))
   unfolding HasPeak
   tops_in s [] f = tt
   tops_in s (x ∷ hs) f =
@@ -104,21 +117,28 @@ module _ (T : Layout) (ks : List ℕ) (cut : ℕ → ℕ → Bool) where
       all_both IsTop _ _ (tops_under x s first.0 first.1) (tops_in (s + 2 ^ x) hs (λ a k p. f a k (inr p)))
 
   -- a node that is cut, and that no other such node covers, stands below each node that covers it
-  found_under : (b m : ℕ) → IsUnder ks b m → cut b m ≡ true → Top b m → (k a : ℕ) → IsUnder ks a k → a ≤ b → b + 2 ^ m ≤ a + 2 ^ k → 1 ≤ times (node b m) (sites_of (node_calc T cut k a))
+  found_under : (b m : ℕ) → IsUnder ks b m → cut b m ≡ true → Top b m → (k a : ℕ) → IsUnder ks a k → a ≤ b
+      → b + 2 ^ m ≤ a + 2 ^ k → 1 ≤ times (node b m) (sites_of (node_calc T cut k a))
   found_under b m under c top zero a over l u =
       let low : 2 ^ m ≤ 2 ^ 0 = omega arith in
       let flat : m ≤ 0 = pow_order m 0 low in
       let em : m ≡ 0 = omega arith in
       let eb : b ≡ a = omega (arith, pow_pos m) in
       let here : cut a zero ≡ true = ap₂ cut (sym eb) (sym em) ∙ c in
-      let one : one_if (same_site (node a zero) (node b m)) ≡ 1 = ap one_if (ap₂ (λ x y. same_site (node a zero) (node x y)) eb em ∙ same_itself (node a zero)) in
+      let one : one_if (same_site (node a zero) (node b m)) ≡ 1 =
+      ap one_if (ap₂ (λ x y. same_site (node a zero) (node x y)) eb em ∙ same_itself (node a zero)) in
       rw here (omega arith)
-  found_under b m under c top (suc k) a over l u = go (cut a (suc k)) refl (found_under b m under c top k a (under_halves ks a k over).0 l) (found_under b m under c top k (a + 2 ^ k) (under_halves ks a k over).1)
+  found_under b m under c top (suc k) a over l u = go (cut a (suc k)) refl (found_under b m under c top k a
+      (under_halves ks a k over).0 l) (found_under b m under c top k (a + 2 ^ k) (under_halves ks a k over).1)
     where
-      go : (d : Bool) → cut a (suc k) ≡ d → (b + 2 ^ m ≤ a + 2 ^ k → 1 ≤ times (node b m) (sites_of (node_calc T cut k a))) → (a + 2 ^ k ≤ b → b + 2 ^ m ≤ (a + 2 ^ k) + 2 ^ k → 1 ≤ times (node b m) (sites_of (node_calc T cut k (a + 2 ^ k)))) → 1 ≤ times (node b m) (sites_of (if d then given (node a (suc k)) else join_calc T a (suc k) (node_calc T cut k a) (node_calc T cut k (a + 2 ^ k))))
+      go : (d : Bool) → cut a (suc k) ≡ d → (b + 2 ^ m ≤ a + 2 ^ k
+          → 1 ≤ times (node b m) (sites_of (node_calc T cut k a))) → (a + 2 ^ k ≤ b → b + 2 ^ m ≤ (a + 2 ^ k) + 2 ^ k
+          → 1 ≤ times (node b m) (sites_of (node_calc T cut k (a + 2 ^ k)))) → 1 ≤ times (node b m) (sites_of (if d
+          then given (node a (suc k)) else join_calc T a (suc k) (node_calc T cut k a) (node_calc T cut k (a + 2 ^ k))))
       go true e f g =
           let s = top a (suc k) over l u e in
-          let one : one_if (same_site (node a (suc k)) (node b m)) ≡ 1 = ap one_if (ap₂ (λ x y. same_site (node x y) (node b m)) s.0 s.1 ∙ same_itself (node b m)) in
+          let one : one_if (same_site (node a (suc k)) (node b m)) ≡ 1 =
+          ap one_if (ap₂ (λ x y. same_site (node x y) (node b m)) s.0 s.1 ∙ same_itself (node b m)) in
           omega arith
       go false e f g =
           let both = times-join (node b m) T a (suc k) (node_calc T cut k a) (node_calc T cut k (a + 2 ^ k)) in
@@ -137,11 +157,22 @@ module _ (T : Layout) (ks : List ℕ) (cut : ℕ → ℕ → Bool) where
             | inr right ↦ omega (arith, both, g right (omega (arith, pow_two k)))
           ]
 
-  found_in : (b m : ℕ) → IsUnder ks b m → cut b m ≡ true → Top b m → (s : ℕ) (hs : List ℕ) → ((a k : ℕ) → HasPeak hs s a k → IsUnder ks a k) → Inside hs s b m → 1 ≤ times (node b m) (sites_in T cut (places s hs))
+  found_in : (b m : ℕ) → IsUnder ks b m → cut b m ≡ true → Top b m → (s : ℕ) (hs : List ℕ) → ((a k : ℕ)
+      → HasPeak hs s a k → IsUnder ks a k) → Inside hs s b m → 1 ≤ times (node b m) (sites_in T cut (places s hs))
   unfolding Inside HasPeak
   found_in b m under c top s [] f i = absurd i
-  found_in b m under c top s (x ∷ hs) f (inl i) = omega (arith, times-append (node b m) (sites_of (node_calc T cut x s)) (sites_in T cut (places (s + 2 ^ x) hs)), found_under b m under c top x s (f s x (inl (refl, refl))) i.0 i.1)
-  found_in b m under c top s (x ∷ hs) f (inr i) = omega (arith, times-append (node b m) (sites_of (node_calc T cut x s)) (sites_in T cut (places (s + 2 ^ x) hs)), found_in b m under c top (s + 2 ^ x) hs (λ a k p. f a k (inr p)) i)
+  found_in b m under c top s (x ∷ hs) f (inl i) = omega (
+    arith,
+    times-append (node b m) (sites_of (node_calc T cut x s))
+        (sites_in T cut (places (s + 2 ^ x) hs)),
+    found_under b m under c top x s (f s x (inl (refl, refl))) i.0 i.1,
+  )
+  found_in b m under c top s (x ∷ hs) f (inr i) = omega (
+    arith,
+    times-append (node b m) (sites_of (node_calc T cut x s))
+        (sites_in T cut (places (s + 2 ^ x) hs)),
+    found_in b m under c top (s + 2 ^ x) hs (λ a k p. f a k (inr p)) i,
+  )
 
 module _ (S : Shape) (L : Laws S) (n : ℕ) where
   from_tree : (a k : ℕ) → InTree S n a k → IsUnder (S.peaks n) a k
@@ -156,7 +187,8 @@ module _ (S : Shape) (L : Laws S) (n : ℕ) where
   -- no other node of the tree covers a peak
   peak_top : (cut : ℕ → ℕ → Bool) (a k : ℕ) → HasPeak (S.peaks n) 0 a k → Top (ungrafted S) (S.peaks n) cut a k
   peak_top cut a k p b j under l u c =
-      let i = inside_of_peak (S.peaks n) 0 b j a k a under.1 p l (omega (arith, pow_pos k)) (omega arith) (omega (arith, pow_pos k)) in
+      let i = inside_of_peak (S.peaks n) 0 b j a k a under.1 p l (omega (arith, pow_pos k)) (omega arith)
+      (omega (arith, pow_pos k)) in
       let eb : b ≡ a = omega (arith, i) in
       let up : 2 ^ j ≤ 2 ^ k = omega (arith, i) in
       let down : 2 ^ k ≤ 2 ^ j = omega arith in
@@ -164,7 +196,8 @@ module _ (S : Shape) (L : Laws S) (n : ℕ) where
       let y : k ≤ j = pow_order k j down in
       (eb, omega arith)
 
-named : (T : Layout) (Q : Site → Type 0) (ss : List Site) → AllSites Q ss → (k : ℕ) (p : ℕ) → k < length (positions T ss) → get_or (positions T ss) k p ≡ p → (s : Site) × Q s × (position_of T s ≡ p)
+named : (T : Layout) (Q : Site → Type 0) (ss : List Site) → AllSites Q ss → (k : ℕ) (p : ℕ)
+    → k < length (positions T ss) → get_or (positions T ss) k p ≡ p → (s : Site) × Q s × (position_of T s ≡ p)
 named T Q [] a k p l e = absurd (omega arith)
 named T Q (s ∷ ss) a zero p l e = (s, a.0, e)
 named T Q (s ∷ ss) a (suc k) p l e = named T Q ss a.1 k p (omega arith) e
@@ -180,23 +213,32 @@ greatest_nodes_are_planned S L n low high p =
     let cut = apart low high in
     let ks = S.peaks n in
     let ss = sites_in T cut (peaks_of T n) in
-    let all : AllSites (IsTop T ks cut) ss = tops_in T ks cut 0 ks (λ a k h. (peak_under S L n a k h, peak_top S L n cut a k h)) in
-    let sorted : AllSites (IsTop T ks cut) (by_position T ss) = all_have (IsTop T ks cut) (by_position T ss) (λ s l. site_has (IsTop T ks cut) s ss all (omega (arith, times-by_position T s ss))) in (
+    let all : AllSites (IsTop T ks cut) ss =
+    tops_in T ks cut 0 ks (λ a k h. (peak_under S L n a k h, peak_top S L n cut a k h)) in
+    let sorted : AllSites (IsTop T ks cut) (by_position T ss) = all_have (IsTop T ks cut) (by_position T ss)
+    (λ s l. site_has (IsTop T ks cut) s ss all (omega (arith, times-by_position T s ss))) in (
       λ c. (let r = named T (IsTop T ks cut) (by_position T ss) sorted c.0 p c.1 c.2 in of_site r.0 r.1 r.2),
       λ g.
           let a = g.0 in
           let k = g.1 in
           let under = from_tree S L n a k g.3.tree in
-          let found = found_in T ks cut a k under g.3.outside (λ b j u l h c. g.3.greatest b j (to_tree S L n b j u) c l h) 0 ks (peak_under S L n) under.1 in
-          subst (Contains (planned S n low high)) g.2.at (contained (planned S n low high) (S.position a k) (times_among T (node a k) (by_position T ss) (omega (arith, times-by_position T (node a k) ss)))),
+          let found = found_in T ks cut a k under g.3.outside
+          (λ b j u l h c. g.3.greatest b j (to_tree S L n b j u) c l h) 0 ks (peak_under S L n) under.1 in
+          subst (Contains (planned S n low high)) g.2.at (contained (planned S n low high) (S.position a k)
+          (times_among T (node a k) (by_position T ss) (omega (arith, times-by_position T (node a k) ss)))),
     )
   where
-    of_site : (s : Site) → IsTop (ungrafted S) (S.peaks n) (apart low high) s → position_of (ungrafted S) s ≡ p → (a : ℕ) × (k : ℕ) × IsNode S p a k × IsGreatestApart S n low high a k
+    of_site : (s : Site) → IsTop (ungrafted S) (S.peaks n) (apart low high) s → position_of (ungrafted S) s ≡ p
+        → (a : ℕ) × (k : ℕ) × IsNode S p a k × IsGreatestApart S n low high a k
     of_site front q e = absurd q
     of_site back q e = absurd q
     of_site (node a k) q e = (
       a,
       k,
       record { aligned = q.0.0; at = e },
-      record { tree = to_tree S L n a k q.0; outside = q.1; greatest = λ b j t c l u. q.2 b j (from_tree S L n b j t) l u c },
+      record {
+        tree = to_tree S L n a k q.0;
+        outside = q.1;
+        greatest = λ b j t c l u. q.2 b j (from_tree S L n b j t) l u c;
+      },
     )

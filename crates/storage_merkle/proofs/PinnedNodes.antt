@@ -28,26 +28,32 @@ module _ (S : Shape) (a k : ℕ) where
     pub stand : stands 0 start ≡ stands s (start - s)
     pub read : (none : List ℕ) → digest_from none 0 start pinned ≡ digest_from none s (start - s) left
 
-  pub goes_from : (start : ℕ) (pinned : List (List ℕ)) → length pinned ≡ length (S.peaks start) → Goes start pinned 0 pinned
+  pub goes_from : (start : ℕ) (pinned : List (List ℕ)) → length pinned ≡ length (S.peaks start)
+      → Goes start pinned 0 pinned
   goes_from start pinned e =
       let z : start - 0 ≡ start = omega arith in
       record { within = omega arith; count = rw z e; stand = rw z refl; read = λ none. rw z refl }
 
-  pub some_left : S.peaks 0 ≡ [] → (start : ℕ) (pinned : List (List ℕ)) (s : ℕ) (left : List (List ℕ)) → Goes start pinned s left → 0 < length left → 0 < start - s
+  pub some_left : S.peaks 0 ≡ [] → (start : ℕ) (pinned : List (List ℕ)) (s : ℕ) (left : List (List ℕ))
+      → Goes start pinned s left → 0 < length left → 0 < start - s
   some_left none start pinned s left t l = go (start - s) t.count
     where
       go : (r : ℕ) → length left ≡ length (S.peaks r) → 0 < r
       go zero e = absurd (omega (arith, e, ap length none))
       go (suc r) e = omega arith
 
-  module _ (start s j : ℕ) (pinned : List (List ℕ)) (d : List ℕ) (left : List (List ℕ)) (t : Goes start pinned s (d ∷ left)) (first : S.peaks (start - s) ≡ j ∷ S.peaks (start - s - 2 ^ j)) where
-    peaks_are : peaks_from S s (start - s) ≡ (record { first = s; height = j }) ∷ peaks_from S (s + 2 ^ j) (start - s - 2 ^ j)
+  module _ (start s j : ℕ) (pinned : List (List ℕ)) (d : List ℕ) (left : List (List ℕ))
+      (t : Goes start pinned s (d ∷ left)) (first : S.peaks (start - s) ≡ j ∷ S.peaks (start - s - 2 ^ j)) where
+    peaks_are : peaks_from S s (start - s)
+        ≡ (record { first = s; height = j }) ∷ peaks_from S (s + 2 ^ j) (start - s - 2 ^ j)
     peaks_are = opened S s (start - s) j first
 
-    pub found_here : s ≡ a → j ≡ k → (is_pinned S start a k ≡ true) × ((none : List ℕ) → d ≡ pinned_digest S start pinned none a k)
+    pub found_here : s ≡ a → j ≡ k
+        → (is_pinned S start a k ≡ true) × ((none : List ℕ) → d ≡ pinned_digest S start pinned none a k)
     found_here ea ek = (
       t.stand ∙ ap (λ ps. stands_in ps a k) peaks_are ∙ rw (eq-eqb s a ea, eq-eqb j k ek) refl,
-      λ none. sym (t.read none ∙ ap (λ ps. look_up none (peak_sites ps) (d ∷ left) (node a k)) peaks_are ∙ rw (eq-eqb a s (sym ea), eq-eqb k j (sym ek)) refl),
+      λ none. sym (t.read none ∙ ap (λ ps. look_up none (peak_sites ps) (d ∷ left) (node a k)) peaks_are
+          ∙ rw (eq-eqb a s (sym ea), eq-eqb k j (sym ek)) refl),
     )
 
     not_here : (s ≡ a → j ≡ k → ⊥) → ((eqb s a && eqb j k) ≡ false) × ((eqb a s && eqb k j) ≡ false)
@@ -66,12 +72,16 @@ module _ (S : Shape) (a k : ℕ) where
         let here : s + 2 ^ j ≡ s + q = omega arith in
         record {
           within = let w = t.within in omega arith;
-          count = let c : suc (length left) ≡ length (S.peaks (start - s)) = t.count in let less : length left ≡ length (S.peaks (start - s - 2 ^ j)) = omega (arith, ap length first) in less ∙ ap (λ r. length (S.peaks r)) rest;
+          count = let c : suc (length left) ≡ length (S.peaks (start - s)) = t.count in
+              let less : length left ≡ length (S.peaks (start - s - 2 ^ j)) = omega (arith, ap length first) in
+              less ∙ ap (λ r. length (S.peaks r)) rest;
           stand = t.stand ∙ ap (λ ps. stands_in ps a k) peaks_are ∙ rw n.0 refl ∙ ap₂ stands here rest;
-          read = λ none. t.read none ∙ ap (λ ps. look_up none (peak_sites ps) (d ∷ left) (node a k)) peaks_are ∙ rw n.1 refl ∙ ap₂ (λ i r. digest_from none i r left) here rest;
+          read = λ none. t.read none ∙ ap (λ ps. look_up none (peak_sites ps) (d ∷ left) (node a k)) peaks_are
+              ∙ rw n.1 refl ∙ ap₂ (λ i r. digest_from none i r left) here rest;
         }
 
-  pub none_left : (start : ℕ) (pinned : List (List ℕ)) (s : ℕ) (left : List (List ℕ)) → Goes start pinned s left → left ≡ [] → is_pinned S start a k ≡ false
+  pub none_left : (start : ℕ) (pinned : List (List ℕ)) (s : ℕ) (left : List (List ℕ)) → Goes start pinned s left
+      → left ≡ [] → is_pinned S start a k ≡ false
   none_left start pinned s left t e = t.stand ∙ go (S.peaks (start - s)) (sym t.count ∙ ap length e)
     where
       go : (ks : List ℕ) → length ks ≡ 0 → stands_in (places s ks) a k ≡ false
@@ -79,7 +89,8 @@ module _ (S : Shape) (a k : ℕ) where
       go (j ∷ ks) z = absurd (omega arith)
 
 -- nothing is looked up where no peak stands
-not_found : (none : List ℕ) (a k s : ℕ) (ks : List ℕ) (ds : List (List ℕ)) → stands_in (places s ks) a k ≡ false → look_up none (peak_sites (places s ks)) ds (node a k) ≡ none
+not_found : (none : List ℕ) (a k s : ℕ) (ks : List ℕ) (ds : List (List ℕ)) → stands_in (places s ks) a k ≡ false
+    → look_up none (peak_sites (places s ks)) ds (node a k) ≡ none
 not_found none a k s [] ds e = refl
 not_found none a k s (j ∷ ks) [] e = refl
 not_found none a k s (j ∷ ks) (d ∷ ds) e =
@@ -88,7 +99,8 @@ not_found none a k s (j ∷ ks) (d ∷ ds) e =
       | inl o ↦ absurd (itself (tells (eqb a s)) o)
     ]
   where
-    later : ((eqb s a && eqb j k) ≡ true) ⊎ ((eqb s a && eqb j k) ≡ false) → stands_in (places (s + 2 ^ j) ks) a k ≡ false
+    later : ((eqb s a && eqb j k) ≡ true) ⊎ ((eqb s a && eqb j k) ≡ false)
+        → stands_in (places (s + 2 ^ j) ks) a k ≡ false
     later (inl t) = absurd (let here : stands_in (places s (j ∷ ks)) a k ≡ true = rw t refl in cc)
     later (inr f) = subst (λ b. (b || stands_in (places (s + 2 ^ j) ks) a k) ≡ false) f e
 
@@ -102,18 +114,24 @@ not_found none a k s (j ∷ ks) (d ∷ ds) e =
         cc
 
 -- the digest of a node before the start
-module _ (h : HashFunction) (T : Layout) (S : Shape) (same : T.shape ≡ S) (start : ℕ) (pinned : List (List ℕ)) (chunk : ℕ → List ℕ) where
+module _ (h : HashFunction) (T : Layout) (S : Shape) (same : T.shape ≡ S) (start : ℕ) (pinned : List (List ℕ))
+    (chunk : ℕ → List ℕ) where
   abbrev cut : ℕ → ℕ → Bool
   cut b j = eqb j 0 || is_pinned T.shape start b j
 
   abbrev values : Values
-  values = record { digest = look_up (h []) (peak_sites (peaks_from T.shape 0 start)) pinned; element = λ j. []; chunk = chunk }
+  values = record {
+    digest = look_up (h []) (peak_sites (peaks_from T.shape 0 start)) pinned;
+    element = λ j. [];
+    chunk = chunk;
+  }
 
   eval-given : (k a : ℕ) → cut a k ≡ true → eval h values (node_calc T cut k a) ≡ values.digest (node a k)
   eval-given zero a e = refl
   eval-given (suc k) a e = rw e refl
 
-  eval-halves : (k a : ℕ) → cut a (suc k) ≡ false → eval h values (node_calc T cut (suc k) a) ≡ join_digest h T chunk a (suc k) (eval h values (node_calc T cut k a)) (eval h values (node_calc T cut k (a + 2 ^ k)))
+  eval-halves : (k a : ℕ) → cut a (suc k) ≡ false → eval h values (node_calc T cut (suc k) a) ≡ join_digest h T chunk a
+      (suc k) (eval h values (node_calc T cut k a)) (eval h values (node_calc T cut k (a + 2 ^ k)))
   eval-halves k a e = rw e (eval-join h values T a (suc k) (node_calc T cut k a) (node_calc T cut k (a + 2 ^ k)))
 
   or-right : (x y : Bool) → y ≡ true → (x || y) ≡ true
@@ -124,22 +142,29 @@ module _ (h : HashFunction) (T : Layout) (S : Shape) (same : T.shape ≡ S) (sta
   both_false true y ex ey = ex
   both_false false y ex ey = ey
 
-  pub node_pinned : (k a : ℕ) (x : List ℕ) → is_pinned S start a k ≡ true → x ≡ pinned_digest S start pinned (h []) a k → x ≡ digest_before h T start pinned chunk a k
+  pub node_pinned : (k a : ℕ) (x : List ℕ) → is_pinned S start a k ≡ true → x ≡ pinned_digest S start pinned (h []) a k
+      → x ≡ digest_before h T start pinned chunk a k
   node_pinned k a x e f =
       let here : is_pinned T.shape start a k ≡ true = ap (λ U. is_pinned U start a k) same ∙ e in
-      f ∙ ap (λ U. pinned_digest U start pinned (h []) a k) (sym same) ∙ sym (eval-given k a (or-right (eqb k 0) _ here))
+      f ∙ ap (λ U. pinned_digest U start pinned (h []) a k) (sym same)
+      ∙ sym (eval-given k a (or-right (eqb k 0) _ here))
 
-  pub node_empty : (k a : ℕ) (x : List ℕ) → is_pinned S start a k ≡ false → k ≡ 0 → x ≡ h [] → x ≡ digest_before h T start pinned chunk a k
+  pub node_empty : (k a : ℕ) (x : List ℕ) → is_pinned S start a k ≡ false → k ≡ 0 → x ≡ h []
+      → x ≡ digest_before h T start pinned chunk a k
   node_empty zero a x e z f =
       let here : is_pinned T.shape start a 0 ≡ false = ap (λ U. is_pinned U start a 0) same ∙ e in
       f ∙ sym (not_found (h []) a 0 0 (T.shape.peaks start) pinned here) ∙ sym (eval-given 0 a refl)
   node_empty (suc k) a x e z f = absurd (omega arith)
 
-  pub node_joined : (k a : ℕ) (x l r : List ℕ) → is_pinned S start a k ≡ false → k ≢ 0 → l ≡ digest_before h T start pinned chunk a (k - 1) → r ≡ digest_before h T start pinned chunk (a + 2 ^ (k - 1)) (k - 1) → x ≡ join_digest h T chunk a k l r → x ≡ digest_before h T start pinned chunk a k
+  pub node_joined : (k a : ℕ) (x l r : List ℕ) → is_pinned S start a k ≡ false → k ≢ 0
+      → l ≡ digest_before h T start pinned chunk a (k - 1) → r ≡ digest_before h T start pinned chunk (a + 2 ^ (k - 1))
+      (k - 1) → x ≡ join_digest h T chunk a k l r → x ≡ digest_before h T start pinned chunk a k
   node_joined zero a x l r e ne el er f = absurd (ne refl)
   node_joined (suc k) a x l r e ne el er f =
       let less : suc k - 1 ≡ k = omega arith in
-      let here : cut a (suc k) ≡ false = both_false (eqb (suc k) 0) _ (ne_eqb (suc k) 0 ne) (ap (λ U. is_pinned U start a (suc k)) same ∙ e) in
+      let here : cut a (suc k) ≡ false =
+      both_false (eqb (suc k) 0) _ (ne_eqb (suc k) 0 ne) (ap (λ U. is_pinned U start a (suc k)) same ∙ e) in
       let el' : l ≡ digest_before h T start pinned chunk a k = el ∙ ap (digest_before h T start pinned chunk a) less in
-      let er' : r ≡ digest_before h T start pinned chunk (a + 2 ^ k) k = er ∙ ap (λ j. digest_before h T start pinned chunk (a + 2 ^ j) j) less in
+      let er' : r ≡ digest_before h T start pinned chunk (a + 2 ^ k) k =
+      er ∙ ap (λ j. digest_before h T start pinned chunk (a + 2 ^ j) j) less in
       f ∙ ap₂ (join_digest h T chunk a (suc k)) el' er' ∙ sym (eval-halves k a here)

@@ -24,9 +24,13 @@ use Rattle.storage_merkle.proofs.CheckSites.{siblings_both}
 
 module _ (T U : Layout) (cut : ℕ → ℕ → Bool) where
   same_under : (k a : ℕ) → sites_of (node_calc T cut k a) ≡ sites_of (node_calc U cut k a)
-  same_under zero a = elim (cut a zero) as (λ c. sites_of (if c then given (node a zero) else leaf (be8 (T.shape.position a zero)) a) ≡ sites_of (if c then given (node a zero) else leaf (be8 (U.shape.position a zero)) a)) [ true ↦ refl | false ↦ refl ]
+  same_under zero a = elim (cut a zero) as (λ c.
+      sites_of (if c then given (node a zero) else leaf (be8 (T.shape.position a zero)) a) ≡ sites_of
+      (if c then given (node a zero) else leaf (be8 (U.shape.position a zero)) a)) [ true ↦ refl | false ↦ refl ]
   same_under (suc k) a =
-      elim (cut a (suc k)) as (λ c. sites_of (if c then given (node a (suc k)) else join_calc T a (suc k) (node_calc T cut k a) (node_calc T cut k (a + 2 ^ k))) ≡ sites_of (if c then given (node a (suc k)) else join_calc U a (suc k) (node_calc U cut k a) (node_calc U cut k (a + 2 ^ k)))) [
+      elim (cut a (suc k)) as (λ c. sites_of (if c then given (node a (suc k)) else join_calc T a (suc k)
+      (node_calc T cut k a) (node_calc T cut k (a + 2 ^ k))) ≡ sites_of (if c then given (node a (suc k))
+      else join_calc U a (suc k) (node_calc U cut k a) (node_calc U cut k (a + 2 ^ k)))) [
         | true ↦ refl
         | false ↦
             sites-join T a (suc k) (node_calc T cut k a) (node_calc T cut k (a + 2 ^ k))
@@ -44,7 +48,9 @@ module _ (T : Layout) (low high : ℕ) where
   abbrev ins : List Peak → List Site
   ins ps = sites_in T (apart low high) ps
 
-  split : (b : Bagging) (i s : ℕ) (ks : List ℕ) → ins (up_to high (not_leading low (places s ks))) ≡ ins (up_to high (not_leading low (folded b i (places s ks)))) ++ ins (up_to high (not_leading low (unfolded b i (places s ks))))
+  split : (b : Bagging) (i s : ℕ) (ks : List ℕ)
+      → ins (up_to high (not_leading low (places s ks))) ≡ ins (up_to high (not_leading low (folded b i (places s ks))))
+      ++ ins (up_to high (not_leading low (unfolded b i (places s ks))))
   split ForwardFold i s ks = sym (append-nil (ins (up_to high (not_leading low (places s ks)))))
   split BackwardFold i s ks = sym (siblings_both T low high i s ks)
 
@@ -78,11 +84,14 @@ module _ (h : HashFunction) (T : Layout) (content : Content) where
   wholes [] = refl
   wholes (p ∷ ps) = ap (λ ds. own_node p.first p.height ∷ ds) (wholes ps)
 
-  front_own : (ls : List Peak) → fold_digest h (plain h content) (bag (map (whole T) ls) []) ≡ digest_or (h []) (forward_of h (peaks_by own_node ls))
+  front_own : (ls : List Peak) → fold_digest h (plain h content) (bag (map (whole T) ls) [])
+      ≡ digest_or (h []) (forward_of h (peaks_by own_node ls))
   front_own [] = refl
-  front_own (p ∷ ps) = eval-forward h (plain h content) (whole T p) (map (whole T) ps) ∙ ap (folded_forward h (own_node p.first p.height)) (wholes ps)
+  front_own (p ∷ ps) = eval-forward h (plain h content) (whole T p) (map (whole T) ps)
+      ∙ ap (folded_forward h (own_node p.first p.height)) (wholes ps)
 
-  back_own : (ts : List Peak) → fold_digest h (plain h content) (bag [] (map (whole T) ts)) ≡ digest_or (h []) (folded_onto h (peaks_by own_node ts) None)
+  back_own : (ts : List Peak) → fold_digest h (plain h content) (bag [] (map (whole T) ts))
+      ≡ digest_or (h []) (folded_onto h (peaks_by own_node ts) None)
   back_own [] = refl
   back_own (p ∷ ps) =
       eval-backward h (plain h content) (whole T p) (map (whole T) ps)
@@ -101,7 +110,8 @@ module _ (h : HashFunction) (T : Layout) (content : Content) where
     site_own back = back_own (trailing high ys)
     site_own (node a k) = refl
 
-    sites_own : sites T low high b n i ≡ tops low high xs ys (ungrafted T.shape) ++ sibling_sites (ungrafted T.shape) n low high
+    sites_own : sites T low high b n i
+        ≡ tops low high xs ys (ungrafted T.shape) ++ sibling_sites (ungrafted T.shape) n low high
     sites_own =
         let U = ungrafted T.shape in
         let cut = apart low high in
@@ -110,33 +120,58 @@ module _ (h : HashFunction) (T : Layout) (content : Content) where
         let C = sites_in U cut (trailing high (not_leading low xs)) in
         let D = back_sites (trailing high ys) in
         let E = sibling_sites U n low high in
-        let siblings : by_position T (sites_in T cut (up_to high (not_leading low xs)) ++ sites_in T cut (up_to high (not_leading low ys))) ≡ E =
-        ap (by_position T) (ap₂ (λ ss ts. ss ++ ts) (same_in T U cut (up_to high (not_leading low xs))) (same_in T U cut (up_to high (not_leading low ys))) ∙ sym (split U low high b i 0 (T.shape.peaks n)))
+        let siblings : by_position T
+        (sites_in T cut (up_to high (not_leading low xs)) ++ sites_in T cut (up_to high (not_leading low ys))) ≡ E =
+        ap (by_position T) (ap₂ (λ ss ts. ss ++ ts) (same_in T U cut (up_to high (not_leading low xs)))
+        (same_in T U cut (up_to high (not_leading low ys))) ∙ sym (split U low high b i 0 (T.shape.peaks n)))
         ∙ same_order T (sites_in U cut (up_to high (not_leading low (peaks_of U n)))) in
-        ap₂ (λ ss ts. A ++ (ss ++ ts)) (same_in T U cut (leading low ys)) (ap₂ (λ ss ts. ss ++ (D ++ ts)) (same_in T U cut (trailing high (not_leading low xs))) siblings)
-        ∙ sym (append_assoc A (B ++ (C ++ D)) E ∙ ap (λ ss. A ++ ss) (append_assoc B (C ++ D) E ∙ ap (λ ss. B ++ ss) (append_assoc C D E)))
+        ap₂ (λ ss ts. A ++ (ss ++ ts)) (same_in T U cut (leading low ys))
+        (ap₂ (λ ss ts. ss ++ (D ++ ts)) (same_in T U cut (trailing high (not_leading low xs))) siblings)
+        ∙ sym (append_assoc A (B ++ (C ++ D)) E
+        ∙ ap (λ ss. A ++ ss) (append_assoc B (C ++ D) E ∙ ap (λ ss. B ++ ss) (append_assoc C D E)))
 
-    digests_own : (texts : List (List ℕ)) → texts ≡ map (site_digest low high xs ys h own_node) (tops low high xs ys (ungrafted T.shape) ++ sibling_sites (ungrafted T.shape) n low high) → texts ≡ map (own_digest h T b content n i low high) (sites T low high b n i)
-    digests_own texts e = e ∙ ap (map (site_digest low high xs ys h own_node)) (sym sites_own) ∙ sym (map_same (own_digest h T b content n i low high) (site_digest low high xs ys h own_node) site_own (sites T low high b n i))
+    digests_own : (texts : List (List ℕ)) → texts ≡ map (site_digest low high xs ys h own_node)
+        (tops low high xs ys (ungrafted T.shape) ++ sibling_sites (ungrafted T.shape) n low high)
+        → texts ≡ map (own_digest h T b content n i low high) (sites T low high b n i)
+    digests_own texts e = e ∙ ap (map (site_digest low high xs ys h own_node)) (sym sites_own)
+        ∙ sym (map_same (own_digest h T b content n i low high) (site_digest low high xs ys h own_node) site_own
+        (sites T low high b n i))
 
 -- the tree's own proof, field for field
-pub is_own : (h : HashFunction) (S : Shape) (T : Layout) → T.shape ≡ S → (b : Bagging) (content : Content) (n i low high leaves inactive : ℕ) (texts : List (List ℕ)) → length content.elements ≡ n → leaves ≡ n → inactive ≡ i → texts ≡ map (site_digest low high (folded b i (peaks_from S 0 n)) (unfolded b i (peaks_from S 0 n)) h (tree_node h T content)) (tops low high (folded b i (peaks_from S 0 n)) (unfolded b i (peaks_from S 0 n)) (ungrafted S) ++ sibling_sites (ungrafted S) n low high) → ◌≡◌ {A = RangeProof} (record { leaves = leaves; inactive = inactive; digests = texts }) (own_proof h T b content i low high)
+pub is_own : (h : HashFunction) (S : Shape) (T : Layout) → T.shape ≡ S
+    → (b : Bagging) (content : Content) (n i low high leaves inactive : ℕ) (texts : List (List ℕ))
+    → length content.elements ≡ n → leaves ≡ n → inactive ≡ i → texts ≡ map
+    (site_digest low high (folded b i (peaks_from S 0 n)) (unfolded b i (peaks_from S 0 n)) h (tree_node h T content))
+    (tops low high (folded b i (peaks_from S 0 n)) (unfolded b i (peaks_from S 0 n)) (ungrafted S)
+    ++ sibling_sites (ungrafted S) n low high) → ◌≡◌ {A = RangeProof}
+    (record { leaves = leaves; inactive = inactive; digests = texts }) (own_proof h T b content i low high)
 is_own h S T es b content n i low high leaves inactive texts en el ei e =
-    let Q : Shape → ℕ → Type 0 = λ R m. texts ≡ map (site_digest low high (folded b i (peaks_from R 0 m)) (unfolded b i (peaks_from R 0 m)) h (tree_node h T content)) (tops low high (folded b i (peaks_from R 0 m)) (unfolded b i (peaks_from R 0 m)) (ungrafted R) ++ sibling_sites (ungrafted R) m low high) in
-    let here : Q T.shape (length content.elements) = subst (λ m. Q T.shape m) (sym en) (subst (λ R. Q R n) (sym es) e) in
+    let Q : Shape → ℕ → Type 0 = λ R m. texts ≡ map (site_digest low high (folded b i (peaks_from R 0 m))
+    (unfolded b i (peaks_from R 0 m)) h (tree_node h T content)) (tops low high (folded b i (peaks_from R 0 m))
+    (unfolded b i (peaks_from R 0 m)) (ungrafted R) ++ sibling_sites (ungrafted R) m low high) in
+    let here : Q T.shape (length content.elements) =
+    subst (λ m. Q T.shape m) (sym en) (subst (λ R. Q R n) (sym es) e) in
     let gathered = digests_own h T content b (length content.elements) i low high texts here in
     let counts : leaves ≡ length content.elements = el ∙ sym en in
     ap₂ (λ (l : ℕ) (ds : List (List ℕ)). record { leaves = l; inactive = inactive; digests = ds }) counts gathered
-    ∙ ap (λ (j : ℕ). record { leaves = length content.elements; inactive = j; digests = map (own_digest h T b content (length content.elements) i low high) (sites T low high b (length content.elements) i) }) ei
+    ∙ ap (λ (j : ℕ). record {
+      leaves = length content.elements;
+      inactive = j;
+      digests = map (own_digest h T b content
+          (length content.elements) i low high) (sites T low high b (length content.elements) i);
+    }) ei
 
 -- ---- what is answered at the planned positions
 
 module _ {D : Type 0} (A : ℕ → D → Type 0) where
-  answered_at : (ps : List ℕ) (ds : List D) → AllZip A ps ds → (p : ℕ) (d : D) → StandsAt ps ds p d → Contains ps p × A p d
+  answered_at : (ps : List ℕ) (ds : List D) → AllZip A ps ds → (p : ℕ) (d : D) → StandsAt ps ds p d
+      → Contains ps p × A p d
   answered_at [] ds z p d s = absurd s
   answered_at (q ∷ qs) [] z p d s = absurd s
-  answered_at (q ∷ qs) (e ∷ es) z p d (inl s) = ((0, omega arith, sym s.0), subst (λ x. A x d) (sym s.0) (subst (λ x. A q x) (sym s.1) z.0))
-  answered_at (q ∷ qs) (e ∷ es) z p d (inr s) = let r = answered_at qs es z.1 p d s in ((suc r.0.0, omega (arith, r.0.1), r.0.2), r.1)
+  answered_at (q ∷ qs) (e ∷ es) z p d (inl s) =
+      ((0, omega arith, sym s.0), subst (λ x. A x d) (sym s.0) (subst (λ x. A q x) (sym s.1) z.0))
+  answered_at (q ∷ qs) (e ∷ es) z p d (inr s) = let r = answered_at qs es z.1 p d s in
+      ((suc r.0.0, omega (arith, r.0.1), r.0.2), r.1)
 
   pub each_answered : (ps : List ℕ) (ds : List D) → AllZip A ps ds → All (λ p. (d : D) × A p d) ps
   each_answered [] ds z k x l = absurd (omega arith)
@@ -150,7 +185,10 @@ module _ {D : Type 0} (A : ℕ → D → Type 0) where
   as_many (q ∷ qs) [] z = absurd z
   as_many (q ∷ qs) (e ∷ es) z = ap suc (as_many qs es z.1)
 
-pub are_of : {D : Type 0} (text : D → List ℕ) (answers : ℕ → Option D → Type 0) (h : HashFunction) (S : Shape) (T : Layout) (content : Content) → T.shape ≡ S → (ps : List ℕ) (ds : List D) → AllZip (λ p d. answers p (Some d)) ps ds → AnswersAre text answers ps h T content → AreOf text S ps ds (tree_node h T content)
+pub are_of : {D : Type 0} (text : D → List ℕ) (answers : ℕ → Option D → Type 0) (h : HashFunction) (S : Shape)
+    (T : Layout) (content : Content) → T.shape ≡ S → (ps : List ℕ) (ds : List D)
+    → AllZip (λ p d. answers p (Some d)) ps ds → AnswersAre text answers ps h T content
+    → AreOf text S ps ds (tree_node h T content)
 are_of text answers h S T content e ps ds z are p a k d s is =
     let r = answered_at (λ q x. answers q (Some x)) ps ds z p d s in
     are p a k d r.0 (subst (λ R. IsNode R p a k) (sym e) is) r.1

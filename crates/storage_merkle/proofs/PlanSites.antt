@@ -19,24 +19,32 @@ abbrev pub planned_from : Layout → ℕ → ℕ → ℕ → ℕ → List ℕ
 planned_from T low high s r = positions T (sites_in T (apart low high) (places s (T.shape.peaks r)))
 
 -- a peak of height h comes first
-pub plans_peak : (T : Layout) (low high s r h m n : ℕ) → T.shape.peaks r ≡ h ∷ T.shape.peaks (r - 2 ^ h) → m ≡ 2 ^ h → n ≡ 2 ^ h → (old new all : List ℕ) → new ≡ old ++ positions T (apart_under T low high h s) → old ++ planned_from T low high s r ≡ all → new ++ planned_from T low high (s + m) (r - n) ≡ all
+pub plans_peak : (T : Layout) (low high s r h m n : ℕ) → T.shape.peaks r ≡ h ∷ T.shape.peaks (r - 2 ^ h) → m ≡ 2 ^ h
+    → n ≡ 2 ^ h → (old new all : List ℕ) → new ≡ old ++ positions T (apart_under T low high h s)
+    → old ++ planned_from T low high s r ≡ all → new ++ planned_from T low high (s + m) (r - n) ≡ all
 plans_peak T low high s r h m n peaks em en old new all f g =
     let here = positions T (apart_under T low high h s) in
     let later = planned_from T low high (s + 2 ^ h) (r - 2 ^ h) in
-    let moved : planned_from T low high (s + m) (r - n) ≡ later = ap₂ (λ x y. planned_from T low high (s + x) (r - y)) em en in
+    let moved : planned_from T low high (s + m) (r - n) ≡ later =
+    ap₂ (λ x y. planned_from T low high (s + x) (r - y)) em en in
     let split : planned_from T low high s r ≡ here ++ later =
-    ap (λ ks. positions T (sites_in T (apart low high) (places s ks))) peaks ∙ map-append (position_of T) (apart_under T low high h s) (sites_in T (apart low high) (places (s + 2 ^ h) (T.shape.peaks (r - 2 ^ h)))) in
+    ap (λ ks. positions T (sites_in T (apart low high) (places s ks))) peaks ∙ map-append (position_of T)
+    (apart_under T low high h s) (sites_in T (apart low high) (places (s + 2 ^ h) (T.shape.peaks (r - 2 ^ h)))) in
     ap₂ (λ xs ys. xs ++ ys) f moved ∙ append_assoc old here later ∙ ap (λ xs. old ++ xs) (sym split) ∙ g
 
-pub plans_none : (T : Layout) (low high s r : ℕ) (old all : List ℕ) → T.shape.peaks 0 ≡ [] → r ≤ 0 → old ++ planned_from T low high s r ≡ all → old ≡ all
+pub plans_none : (T : Layout) (low high s r : ℕ) (old all : List ℕ) → T.shape.peaks 0 ≡ [] → r ≤ 0
+    → old ++ planned_from T low high s r ≡ all → old ≡ all
 plans_none T low high s r old all none l g =
     let z : r ≡ 0 = omega arith in
-    let nothing : planned_from T low high s r ≡ [] = ap (λ j. positions T (sites_in T (apart low high) (places s j))) (ap T.shape.peaks z ∙ none) in
+    let nothing : planned_from T low high s r ≡ [] =
+    ap (λ j. positions T (sites_in T (apart low high) (places s j))) (ap T.shape.peaks z ∙ none) in
     sym (append-nil old) ∙ ap (λ xs. old ++ xs) (sym nothing) ∙ g
 
-pub planned_sorted : (S : Shape) (n low high : ℕ) (found ps : List ℕ) → found ≡ planned_from (ungrafted S) low high 0 n → IsPermutation found ps → IsNonDecreasing ps → ps ≡ planned S n low high
+pub planned_sorted : (S : Shape) (n low high : ℕ) (found ps : List ℕ) → found ≡ planned_from (ungrafted S) low high 0 n
+    → IsPermutation found ps → IsNonDecreasing ps → ps ≡ planned S n low high
 planned_sorted S n low high found ps e p up =
-    positions_sorted (ungrafted S) (sites_in (ungrafted S) (apart low high) (peaks_of (ungrafted S) n)) ps (subst (λ xs. IsPermutation xs ps) e p) up
+    positions_sorted (ungrafted S) (sites_in (ungrafted S) (apart low high) (peaks_of (ungrafted S) n)) ps
+    (subst (λ xs. IsPermutation xs ps) e p) up
 
 -- ---- each position once
 
@@ -56,13 +64,17 @@ IsAlignedNode (node a k) = a % 2 ^ k ≡ 0
 
 module _ (T : Layout) (cut : ℕ → ℕ → Bool) where
   pub aligned_under : (k a : ℕ) → a % 2 ^ k ≡ 0 → AllSites IsAlignedNode (sites_of (node_calc T cut k a))
-  aligned_under zero a h = elim (cut a zero) as (λ c. AllSites IsAlignedNode (sites_of (if c then given (node a zero) else leaf (be8 (T.shape.position a zero)) a))) [ true ↦ (h, tt) | false ↦ tt ]
+  aligned_under zero a h = elim (cut a zero) as (λ c. AllSites IsAlignedNode (sites_of
+      (if c then given (node a zero) else leaf (be8 (T.shape.position a zero)) a))) [ true ↦ (h, tt) | false ↦ tt ]
   aligned_under (suc k) a h =
       let left : a % 2 ^ k ≡ 0 = multiple_down a k (suc k) (omega arith) h in
-      let right : (a + 2 ^ k) % 2 ^ k ≡ 0 = multiple_add a (2 ^ k) (2 ^ k) (pow_pos k) left (power_multiple k k (omega arith)) in
-      elim (cut a (suc k)) as (λ c. AllSites IsAlignedNode (sites_of (if c then given (node a (suc k)) else join_calc T a (suc k) (node_calc T cut k a) (node_calc T cut k (a + 2 ^ k))))) [
+      let right : (a + 2 ^ k) % 2 ^ k ≡ 0 =
+      multiple_add a (2 ^ k) (2 ^ k) (pow_pos k) left (power_multiple k k (omega arith)) in
+      elim (cut a (suc k)) as (λ c. AllSites IsAlignedNode (sites_of (if c then given (node a (suc k))
+      else join_calc T a (suc k) (node_calc T cut k a) (node_calc T cut k (a + 2 ^ k))))) [
         | true ↦ (h, tt)
-        | false ↦ rw (sites-join T a (suc k) (node_calc T cut k a) (node_calc T cut k (a + 2 ^ k))) (all_both IsAlignedNode _ _ (aligned_under k a left) (aligned_under k (a + 2 ^ k) right))
+        | false ↦ rw (sites-join T a (suc k) (node_calc T cut k a) (node_calc T cut k (a + 2 ^ k)))
+            (all_both IsAlignedNode _ _ (aligned_under k a left) (aligned_under k (a + 2 ^ k) right))
       ]
 
   pub aligned_in : (s : ℕ) (ks : List ℕ) → AreAligned ks s → AllSites IsAlignedNode (sites_in T cut (places s ks))
@@ -78,30 +90,38 @@ module _ (T : Layout) (L : Laws T.shape) where
   one_place (node a k) back p q e = absurd q
   one_place (node a k) (node b j) p q e = let i = L.injective a k b j p q e in ap₂ node i.0 i.1
 
-  none_there : (s : Site) (ss : List Site) → IsAlignedNode s → AllSites IsAlignedNode ss → times s ss ≡ 0 → count (position_of T s) (positions T ss) ≡ 0
+  none_there : (s : Site) (ss : List Site) → IsAlignedNode s → AllSites IsAlignedNode ss → times s ss ≡ 0
+      → count (position_of T s) (positions T ss) ≡ 0
   none_there s [] a b z = refl
   none_there s (t ∷ ts) a b z = go (eqb (position_of T t) (position_of T s)) refl (none_there s ts a b.1 (omega arith))
     where
-      go : (c : Bool) → eqb (position_of T t) (position_of T s) ≡ c → count (position_of T s) (positions T ts) ≡ 0 → one_if c + count (position_of T s) (positions T ts) ≡ 0
+      go : (c : Bool) → eqb (position_of T t) (position_of T s) ≡ c → count (position_of T s) (positions T ts) ≡ 0
+          → one_if c + count (position_of T s) (positions T ts) ≡ 0
       go true e i =
           let same : t ≡ s = one_place t s b.0 a (eqb-true (position_of T t) (position_of T s) e) in
           let one : one_if (same_site t s) ≡ 1 = ap one_if (subst (λ u. same_site t u ≡ true) same (same_itself t)) in
           absurd (omega arith)
       go false e i = omega arith
 
-  pub each_place_once : (ss : List Site) → AllSites IsAlignedNode ss → ((s : Site) → times s ss ≤ 1) → (m : ℕ) → count m (positions T ss) ≤ 1
+  pub each_place_once : (ss : List Site) → AllSites IsAlignedNode ss → ((s : Site) → times s ss ≤ 1) → (m : ℕ)
+      → count m (positions T ss) ≤ 1
   each_place_once [] a o m = omega arith
-  each_place_once (s ∷ ss) a o m = go (eqb (position_of T s) m) refl (each_place_once ss a.1 (λ t. omega (arith, o t)) m)
+  each_place_once (s ∷ ss) a o m =
+      go (eqb (position_of T s) m) refl (each_place_once ss a.1 (λ t. omega (arith, o t)) m)
     where
-      go : (c : Bool) → eqb (position_of T s) m ≡ c → count m (positions T ss) ≤ 1 → one_if c + count m (positions T ss) ≤ 1
+      go : (c : Bool) → eqb (position_of T s) m ≡ c → count m (positions T ss) ≤ 1
+          → one_if c + count m (positions T ss) ≤ 1
       go false e i = omega arith
       go true e i =
           let itself : one_if (same_site s s) ≡ 1 = ap one_if (same_itself s) in
           let gone : times s ss ≡ 0 = omega (arith, o s) in
-          let none : count m (positions T ss) ≡ 0 = ap (λ p. count p (positions T ss)) (sym (eqb-true (position_of T s) m e)) ∙ none_there s ss a.0 a.1 gone in
+          let none : count m (positions T ss) ≡ 0 =
+          ap (λ p. count p (positions T ss)) (sym (eqb-true (position_of T s) m e))
+          ∙ none_there s ss a.0 a.1 gone in
           omega arith
 
-pub strictly : (xs : List ℕ) → Rising xs → ((m : ℕ) → count m xs ≤ 1) → (k : ℕ) → k + 1 < length xs → get_or xs k 0 < get_or xs (k + 1) 0
+pub strictly : (xs : List ℕ) → Rising xs → ((m : ℕ) → count m xs ≤ 1) → (k : ℕ) → k + 1 < length xs
+    → get_or xs k 0 < get_or xs (k + 1) 0
 strictly [] r o k l = absurd (omega arith)
 strictly (x ∷ []) r o k l = absurd (omega arith)
 strictly (x ∷ (y ∷ zs)) r o zero l = go (eqb y x) refl
@@ -121,6 +141,9 @@ pub planned_rises : (S : Shape) → Laws S → (n low high : ℕ) → IsStrictly
 planned_rises S L n low high =
     let T = ungrafted S in
     let ss = sites_in T (apart low high) (peaks_of T n) in
-    let moved : IsPermutation (positions T ss) (positions T (by_position T ss)) = IsPermutation-map (position_of T) ss (by_position T ss) (sorted T ss) in
-    let once : (m : ℕ) → count m (positions T ss) ≤ 1 = each_place_once T L ss (aligned_in T (apart low high) 0 (S.peaks n) (L.aligned n)) (each_given_once T (apart low high) (S.peaks n)) in
-    strictly (planned S n low high) (sort_rises T ss) (λ m. omega (arith, once m, count-permutation m (positions T ss) (positions T (by_position T ss)) moved))
+    let moved : IsPermutation (positions T ss) (positions T (by_position T ss)) =
+    IsPermutation-map (position_of T) ss (by_position T ss) (sorted T ss) in
+    let once : (m : ℕ) → count m (positions T ss) ≤ 1 = each_place_once T L ss
+    (aligned_in T (apart low high) 0 (S.peaks n) (L.aligned n)) (each_given_once T (apart low high) (S.peaks n)) in
+    strictly (planned S n low high) (sort_rises T ss)
+    (λ m. omega (arith, once m, count-permutation m (positions T ss) (positions T (by_position T ss)) moved))

@@ -38,14 +38,17 @@ other_way s t e = go (same_site t s) refl
   where
     go : (b : Bool) → same_site t s ≡ b → b ≡ false
     go false f = refl
-    go true f = let r = same_site-eq t s f in let g = same_itself s in let f' : same_site s t ≡ true = subst (λ u. same_site s u ≡ true) (sym r) g in cc
+    go true f = let r = same_site-eq t s f in let g = same_itself s in
+        let f' : same_site s t ≡ true = subst (λ u. same_site s u ≡ true) (sym r) g in cc
 
 -- a site of a list has its digest there
-pub found : (none : List ℕ) (w : Site → List ℕ) (ss : List Site) (s : Site) → 1 ≤ times s ss → look_up none ss (map w ss) s ≡ w s
+pub found : (none : List ℕ) (w : Site → List ℕ) (ss : List Site) (s : Site) → 1 ≤ times s ss
+    → look_up none ss (map w ss) s ≡ w s
 found none w [] s l = absurd (omega arith)
 found none w (t ∷ ts) s l = go (same_site s t) refl (found none w ts s)
   where
-    go : (b : Bool) → same_site s t ≡ b → (1 ≤ times s ts → look_up none ts (map w ts) s ≡ w s) → (if b then w t else look_up none ts (map w ts) s) ≡ w s
+    go : (b : Bool) → same_site s t ≡ b → (1 ≤ times s ts → look_up none ts (map w ts) s ≡ w s)
+        → (if b then w t else look_up none ts (map w ts) s) ≡ w s
     go true e rest = ap w (sym (same_site-eq s t e))
     go false e rest = rest (let f : one_if (same_site t s) ≡ 0 = ap one_if (other_way s t e) in omega arith)
 
@@ -53,18 +56,27 @@ found none w (t ∷ ts) s l = go (same_site s t) refl (found none w ts s)
 pub all_not_leading : (low : ℕ) (Q : Peak → Type 0) (ps : List Peak) → AllPeaks Q ps → AllPeaks Q (not_leading low ps)
 all_not_leading low Q [] a = tt
 all_not_leading low Q (p ∷ ps) a =
-    elim (leb (p.first + 2 ^ p.height) low) as (λ b. AllPeaks Q (if b then not_leading low ps else p ∷ ps)) [ true ↦ all_not_leading low Q ps a.1 | false ↦ a ]
+    elim (leb (p.first + 2 ^ p.height) low) as (λ b. AllPeaks Q (if b then not_leading low ps else p ∷ ps)) [
+      | true ↦
+          all_not_leading low Q ps a.1
+      | false ↦ a
+    ]
 
 pub all_up_to : (high : ℕ) (Q : Peak → Type 0) (ps : List Peak) → AllPeaks Q ps → AllPeaks Q (up_to high ps)
 all_up_to high Q [] a = tt
 all_up_to high Q (p ∷ ps) a =
-    elim (leb high p.first) as (λ b. AllPeaks Q (if b then [] else p ∷ up_to high ps)) [ true ↦ tt | false ↦ (a.0, all_up_to high Q ps a.1) ]
+    elim (leb high p.first) as (λ b. AllPeaks Q (if b then [] else p ∷ up_to high ps)) [
+      | true ↦ tt
+      | false ↦
+          (a.0, all_up_to high Q ps a.1)
+    ]
 
 -- nodes that stand inside one of the peaks
 pub inside_half : (hs : List ℕ) (s a k : ℕ) → Inside hs s a (suc k) → Inside hs s a k × Inside hs s (a + 2 ^ k) k
 unfolding Inside
 inside_half [] s a k i = absurd i
-inside_half (x ∷ hs) s a k (inl i) = (inl (i.0, omega (arith, i, pow_two k)), inl (omega (arith, i), omega (arith, i, pow_two k)))
+inside_half (x ∷ hs) s a k (inl i) =
+    (inl (i.0, omega (arith, i, pow_two k)), inl (omega (arith, i), omega (arith, i, pow_two k)))
 inside_half (x ∷ hs) s a k (inr i) = let r = inside_half hs (s + 2 ^ x) a k i in (inr r.0, inr r.1)
 
 abbrev pub IsUnder : List ℕ → ℕ → ℕ → Type 0
@@ -76,12 +88,15 @@ under_halves ks a k u =
     let i = inside_half ks 0 a k u.1 in
     ((down, i.0), (multiple_add a (2 ^ k) (2 ^ k) (pow_pos k) down (power_multiple k k (omega arith)), i.1))
 
-pub peaks_under : (ks hs : List ℕ) (s : ℕ) → AreAligned hs s → ((a k : ℕ) → Inside hs s a k → Inside ks 0 a k) → AllPeaks (λ p. IsUnder ks p.first p.height) (places s hs)
+pub peaks_under : (ks hs : List ℕ) (s : ℕ) → AreAligned hs s → ((a k : ℕ) → Inside hs s a k → Inside ks 0 a k)
+    → AllPeaks (λ p. IsUnder ks p.first p.height) (places s hs)
 unfolding AreAligned Inside
 peaks_under ks [] s al f = tt
-peaks_under ks (x ∷ hs) s al f = ((al.0, f s x (inl (omega arith, omega arith))), peaks_under ks hs (s + 2 ^ x) al.1 (λ a k i. f a k (inr i)))
+peaks_under ks (x ∷ hs) s al f =
+    ((al.0, f s x (inl (omega arith, omega arith))), peaks_under ks hs (s + 2 ^ x) al.1 (λ a k i. f a k (inr i)))
 
-pub all_folded : (Q : Peak → Type 0) (b : Bagging) (i : ℕ) (ps : List Peak) → AllPeaks Q ps → AllPeaks Q (folded b i ps) × AllPeaks Q (unfolded b i ps)
+pub all_folded : (Q : Peak → Type 0) (b : Bagging) (i : ℕ) (ps : List Peak) → AllPeaks Q ps
+    → AllPeaks Q (folded b i ps) × AllPeaks Q (unfolded b i ps)
 all_folded Q ForwardFold i ps a = (a, tt)
 all_folded Q BackwardFold i ps a = (all_take Q i ps a, all_drop Q i ps a)
 
@@ -91,7 +106,8 @@ module _ (v w : Values) where
   eval_agree h (leaf p j) a = ap (λ x. h (p ++ x)) a
   eval_agree h (pair p l r) a = ap₂ (λ x y. h (p ++ (x ++ y))) (eval_agree h l a.0) (eval_agree h r a.1)
   eval_agree h (graft c p l r) a =
-      ap₂ (λ x y. grafted_digest h (v.chunk c) (h (be8 p ++ (x ++ y)))) (eval_agree h l a.1.0) (eval_agree h r a.1.1) ∙ ap (λ y. grafted_digest h y (h (be8 p ++ (eval h w l ++ eval h w r)))) a.0
+      ap₂ (λ x y. grafted_digest h (v.chunk c) (h (be8 p ++ (x ++ y)))) (eval_agree h l a.1.0) (eval_agree h r a.1.1)
+      ∙ ap (λ y. grafted_digest h y (h (be8 p ++ (eval h w l ++ eval h w r)))) a.0
 
   pub bag_eval : (h : HashFunction) (t : Option Calc) → AgreeBag v w t → eval_bag h v t ≡ eval_bag h w t
   bag_eval h None a = refl
@@ -115,54 +131,84 @@ module _ (v w : Values) where
   append_of (t ∷ ts) us a b = (a.0, append_of ts us a.1 b)
 
   -- values that agree at each given node, element and chunk of a calculation agree on it; Q goes down from a node to its halves
-  module _ (T : Layout) (cut : ℕ → ℕ → Bool) (Q : ℕ → ℕ → Type 0) (down : (a k : ℕ) → Q a (suc k) → Q a k × Q (a + 2 ^ k) k) (elements : (a : ℕ) → cut a 0 ≡ false → v.element a ≡ w.element a) (touched : (a k : ℕ) → Q a (suc k) → cut a (suc k) ≡ false → T.grafted a (suc k) ≡ true → v.chunk a ≡ w.chunk a) where
-    join_of : (a k : ℕ) (l r : Calc) → Q a (suc k) → cut a (suc k) ≡ false → Agree v w l → Agree v w r → Agree v w (join_calc T a (suc k) l r)
+  module _ (T : Layout) (cut : ℕ → ℕ → Bool) (Q : ℕ → ℕ → Type 0)
+      (down : (a k : ℕ) → Q a (suc k) → Q a k × Q (a + 2 ^ k) k)
+      (elements : (a : ℕ) → cut a 0 ≡ false → v.element a ≡ w.element a)
+      (touched : (a k : ℕ) → Q a (suc k) → cut a (suc k) ≡ false → T.grafted a (suc k) ≡ true → v.chunk a ≡ w.chunk a) where
+    join_of : (a k : ℕ) (l r : Calc) → Q a (suc k) → cut a (suc k) ≡ false → Agree v w l → Agree v w r
+        → Agree v w (join_calc T a (suc k) l r)
     join_of a k l r q e x y = go (T.grafted a (suc k)) refl
       where
-        go : (b : Bool) → T.grafted a (suc k) ≡ b → Agree v w (if b then graft a (T.shape.position a (suc k)) l r else pair (be8 (T.shape.position a (suc k))) l r)
+        go : (b : Bool) → T.grafted a (suc k) ≡ b → Agree v w
+            (if b then graft a (T.shape.position a (suc k)) l r else pair (be8 (T.shape.position a (suc k))) l r)
         go true t = (touched a k q e t, (x, y))
         go false t = (x, y)
 
-    pub node_of : (k a : ℕ) → Q a k → ((s : Site) → 1 ≤ times s (sites_of (node_calc T cut k a)) → v.digest s ≡ w.digest s) → Agree v w (node_calc T cut k a)
+    pub node_of : (k a : ℕ) → Q a k → ((s : Site) → 1 ≤ times s (sites_of (node_calc T cut k a))
+        → v.digest s ≡ w.digest s) → Agree v w (node_calc T cut k a)
     node_of zero a q f = go (cut a zero) refl f
       where
-        go : (b : Bool) → cut a zero ≡ b → ((s : Site) → 1 ≤ times s (sites_of (if b then given (node a zero) else leaf (be8 (T.shape.position a zero)) a)) → v.digest s ≡ w.digest s) → Agree v w (if b then given (node a zero) else leaf (be8 (T.shape.position a zero)) a)
-        go true e g = let i : one_if (same_site (node a zero) (node a zero)) ≡ 1 = ap one_if (same_itself (node a zero)) in g (node a zero) (omega arith)
+        go : (b : Bool) → cut a zero ≡ b → ((s : Site) → 1 ≤ times s (sites_of
+            (if b then given (node a zero) else leaf (be8 (T.shape.position a zero)) a)) → v.digest s ≡ w.digest s)
+            → Agree v w (if b then given (node a zero) else leaf (be8 (T.shape.position a zero)) a)
+        go true e g = let i : one_if (same_site (node a zero) (node a zero)) ≡ 1 =
+            ap one_if (same_itself (node a zero)) in g (node a zero) (omega arith)
         go false e g = elements a e
-    node_of (suc k) a q f = go (cut a (suc k)) refl f (node_of k a (down a k q).0) (node_of k (a + 2 ^ k) (down a k q).1)
+    node_of (suc k) a q f =
+        go (cut a (suc k)) refl f (node_of k a (down a k q).0) (node_of k (a + 2 ^ k) (down a k q).1)
       where
-        go : (b : Bool) → cut a (suc k) ≡ b → ((s : Site) → 1 ≤ times s (sites_of (if b then given (node a (suc k)) else join_calc T a (suc k) (node_calc T cut k a) (node_calc T cut k (a + 2 ^ k)))) → v.digest s ≡ w.digest s)
-            → (((s : Site) → 1 ≤ times s (sites_of (node_calc T cut k a)) → v.digest s ≡ w.digest s) → Agree v w (node_calc T cut k a))
-            → (((s : Site) → 1 ≤ times s (sites_of (node_calc T cut k (a + 2 ^ k))) → v.digest s ≡ w.digest s) → Agree v w (node_calc T cut k (a + 2 ^ k)))
-            → Agree v w (if b then given (node a (suc k)) else join_calc T a (suc k) (node_calc T cut k a) (node_calc T cut k (a + 2 ^ k)))
-        go true e g x y = let i : one_if (same_site (node a (suc k)) (node a (suc k))) ≡ 1 = ap one_if (same_itself (node a (suc k))) in g (node a (suc k)) (omega arith)
+        go : (b : Bool) → cut a (suc k) ≡ b
+            → ((s : Site) → 1 ≤ times s (sites_of (if b then given (node a (suc k)) else join_calc T a (suc k)
+            (node_calc T cut k a) (node_calc T cut k (a + 2 ^ k)))) → v.digest s ≡ w.digest s)
+            → (((s : Site) → 1 ≤ times s (sites_of (node_calc T cut k a)) → v.digest s ≡ w.digest s)
+            → Agree v w (node_calc T cut k a))
+            → (((s : Site) → 1 ≤ times s (sites_of (node_calc T cut k (a + 2 ^ k))) → v.digest s ≡ w.digest s)
+            → Agree v w (node_calc T cut k (a + 2 ^ k)))
+            → Agree v w (if b then given (node a (suc k))
+            else join_calc T a (suc k) (node_calc T cut k a) (node_calc T cut k (a + 2 ^ k)))
+        go true e g x y = let i : one_if (same_site (node a (suc k)) (node a (suc k))) ≡ 1 =
+            ap one_if (same_itself (node a (suc k))) in g (node a (suc k)) (omega arith)
         go false e g x y = join_of a k _ _ q e
-            (x (λ s l. g s (omega (arith, times-join s T a (suc k) (node_calc T cut k a) (node_calc T cut k (a + 2 ^ k))))))
-            (y (λ s l. g s (omega (arith, times-join s T a (suc k) (node_calc T cut k a) (node_calc T cut k (a + 2 ^ k))))))
+            (x (λ s l.
+            g s (omega (arith, times-join s T a (suc k) (node_calc T cut k a) (node_calc T cut k (a + 2 ^ k))))))
+            (y (λ s l.
+            g s (omega (arith, times-join s T a (suc k) (node_calc T cut k a) (node_calc T cut k (a + 2 ^ k))))))
 
-    pub parts_of : (ps : List Peak) → AllPeaks (λ p. Q p.first p.height) ps → ((s : Site) → 1 ≤ times s (sites_in T cut ps) → v.digest s ≡ w.digest s) → AgreeAll v w (map (part T cut) ps)
+    pub parts_of : (ps : List Peak) → AllPeaks (λ p. Q p.first p.height) ps
+        → ((s : Site) → 1 ≤ times s (sites_in T cut ps) → v.digest s ≡ w.digest s) → AgreeAll v w (map (part T cut) ps)
     parts_of [] q f = tt
     parts_of (p ∷ ps) q f = (
-      node_of p.height p.first q.0 (λ s l. f s (omega (arith, times-append s (sites_of (part T cut p)) (sites_in T cut ps)))),
+      node_of p.height p.first q.0
+          (λ s l. f s (omega (arith, times-append s (sites_of (part T cut p)) (sites_in T cut ps)))),
       parts_of ps q.1 (λ s l. f s (omega (arith, times-append s (sites_of (part T cut p)) (sites_in T cut ps)))),
     )
 
-  front_of : (ps : List Peak) → ((s : Site) → 1 ≤ times s (front_sites ps) → v.digest s ≡ w.digest s) → AgreeAll v w (front_given ps)
+  front_of : (ps : List Peak) → ((s : Site) → 1 ≤ times s (front_sites ps) → v.digest s ≡ w.digest s)
+      → AgreeAll v w (front_given ps)
   front_of [] f = tt
   front_of (p ∷ ps) f = (f front (omega arith), tt)
 
-  back_of : (ps : List Peak) → ((s : Site) → 1 ≤ times s (back_sites ps) → v.digest s ≡ w.digest s) → AgreeAll v w (back_given ps)
+  back_of : (ps : List Peak) → ((s : Site) → 1 ≤ times s (back_sites ps) → v.digest s ≡ w.digest s)
+      → AgreeAll v w (back_given ps)
   back_of [] f = tt
   back_of (p ∷ ps) f = (f back (omega arith), tt)
 
-  module _ (T : Layout) (low high : ℕ) (Q : ℕ → ℕ → Type 0) (down : (a k : ℕ) → Q a (suc k) → Q a k × Q (a + 2 ^ k) k) (elements : (a : ℕ) → apart low high a 0 ≡ false → v.element a ≡ w.element a) (touched : (a k : ℕ) → Q a (suc k) → apart low high a (suc k) ≡ false → T.grafted a (suc k) ≡ true → v.chunk a ≡ w.chunk a) where
+  module _ (T : Layout) (low high : ℕ) (Q : ℕ → ℕ → Type 0) (down : (a k : ℕ) → Q a (suc k) → Q a k × Q (a + 2 ^ k) k)
+      (elements : (a : ℕ) → apart low high a 0 ≡ false → v.element a ≡ w.element a)
+      (touched : (a k : ℕ) → Q a (suc k) → apart low high a (suc k) ≡ false → T.grafted a (suc k) ≡ true → v.chunk a ≡ w.chunk a) where
     abbrev QPeak : Peak → Type 0
     QPeak p = Q p.first p.height
 
-    over : (ps : List Peak) → AllPeaks (λ p. Q p.first p.height) ps → ((s : Site) → 1 ≤ times s (sites_in T (apart low high) ps) → v.digest s ≡ w.digest s) → AgreeAll v w (map (part T (apart low high)) ps)
+    over : (ps : List Peak) → AllPeaks (λ p. Q p.first p.height) ps
+        → ((s : Site) → 1 ≤ times s (sites_in T (apart low high) ps) → v.digest s ≡ w.digest s)
+        → AgreeAll v w (map (part T (apart low high)) ps)
     over ps q f = parts_of T (apart low high) Q down elements touched ps q f
 
-    pub bag_agrees : low < high → (xs ys : List Peak) → AllPeaks (λ p. Q p.first p.height) xs → AllPeaks (λ p. Q p.first p.height) ys → ((s : Site) → 1 ≤ times s (sites_over T low high xs ys) → v.digest s ≡ w.digest s) → AgreeBag v w (bag (front_given (leading low xs) ++ map (part T (apart low high)) (not_leading low xs)) (map (part T (apart low high)) (up_to high ys) ++ back_given (trailing high ys)))
+    pub bag_agrees : low < high → (xs ys : List Peak) → AllPeaks (λ p. Q p.first p.height) xs
+        → AllPeaks (λ p. Q p.first p.height) ys
+        → ((s : Site) → 1 ≤ times s (sites_over T low high xs ys) → v.digest s ≡ w.digest s)
+        → AgreeBag v w (bag (front_given (leading low xs) ++ map (part T (apart low high)) (not_leading low xs))
+        (map (part T (apart low high)) (up_to high ys) ++ back_given (trailing high ys)))
     bag_agrees some xs ys qx qy f =
         let ls = leading low xs in
         let ns = not_leading low xs in
@@ -174,20 +220,46 @@ module _ (v w : Values) where
         let C = back_sites (trailing high ys) in
         let D = sites_in T (apart low high) (up_to high ns) in
         let E = sites_in T (apart low high) (up_to high os) in
-        let total : (s : Site) → times s (sites_over T low high xs ys) ≡ times s F + (times s A + (times s B + (times s C + (times s D + times s E)))) =
-        λ s. omega (arith, times-append s F (A ++ (B ++ (C ++ by_position T (D ++ E)))), times-append s A (B ++ (C ++ by_position T (D ++ E))), times-append s B (C ++ by_position T (D ++ E)), times-append s C (by_position T (D ++ E)), times-by_position T s (D ++ E), times-append s D E) in
+        let total : (s : Site) → times s (sites_over T low high xs ys)
+        ≡ times s F + (times s A + (times s B + (times s C + (times s D + times s E)))) =
+        λ s. omega (
+          arith,
+          times-append s F (A ++ (B ++ (C ++ by_position T (D ++ E)))),
+          times-append s A (B ++ (C ++ by_position T (D ++ E))),
+          times-append s B (C ++ by_position T (D ++ E)),
+          times-append s C (by_position T (D ++ E)),
+          times-by_position T s (D ++ E),
+          times-append s D E,
+        ) in
         bag_of _ _
-        (append_of (front_given ls) (map (part T (apart low high)) ns) (front_of ls (λ s l. f s (omega (arith, total s))))
-        (over ns (all_not_leading low (λ p. Q p.first p.height) xs qx) (λ s l. f s (omega (arith, total s, times-in T (apart low high) s (up_to high ns) (trailing high ns), ap (λ ps. times s (sites_in T (apart low high) ps)) (up_to-all high ns))))))
+        (append_of (front_given ls) (map (part T (apart low high)) ns)
+        (front_of ls (λ s l. f s (omega (arith, total s))))
+        (over ns (all_not_leading low (λ p. Q p.first p.height) xs qx)
+        (λ s l. f s (omega (
+          arith,
+          total s,
+          times-in T (apart low high) s (up_to high ns) (trailing high ns),
+          ap (λ ps. times s (sites_in T (apart low high) ps)) (up_to-all high ns),
+        )))))
         (append_of (map (part T (apart low high)) (up_to high ys)) (back_given (trailing high ys))
-        (over (up_to high ys) (all_up_to high (λ p. Q p.first p.height) ys qy) (λ s l. f s (omega (arith, total s, times-in T (apart low high) s ms (up_to high os), ap (λ ps. times s (sites_in T (apart low high) ps)) (up_to-leading low high some ys)))))
+        (over (up_to high ys) (all_up_to high (λ p. Q p.first p.height) ys qy)
+        (λ s l. f s (omega (
+          arith,
+          total s,
+          times-in T (apart low high) s ms (up_to high os),
+          ap (λ ps. times s (sites_in T (apart low high) ps)) (up_to-leading low high some ys),
+        ))))
         (back_of (trailing high ys) (λ s l. f s (omega (arith, total s)))))
 
-module _ (h : HashFunction) (T : Layout) (L : Laws T.shape) (b : Bagging) (start : ℕ) (claim content : Content) (inactive : ℕ) where
+module _ (h : HashFunction) (T : Layout) (L : Laws T.shape) (b : Bagging) (start : ℕ) (claim content : Content)
+    (inactive : ℕ) where
   abbrev own : RangeProof
   own = own_proof h T b content inactive start (start + length claim.elements)
 
-  own_agrees : 0 < length claim.elements → (proof : RangeProof) → IsOwn h T b proof start claim content inactive → AgreeBag (check_values h T b own start claim) (own_values h T b content (length content.elements) inactive start (start + length claim.elements)) (check_bag T start (start + length claim.elements) b (length content.elements) inactive)
+  own_agrees : 0 < length claim.elements → (proof : RangeProof) → IsOwn h T b proof start claim content inactive
+      → AgreeBag (check_values h T b own start claim)
+      (own_values h T b content (length content.elements) inactive start (start + length claim.elements))
+      (check_bag T start (start + length claim.elements) b (length content.elements) inactive)
   own_agrees some proof is =
       let n = length content.elements in
       let high = start + length claim.elements in
@@ -196,7 +268,8 @@ module _ (h : HashFunction) (T : Layout) (L : Laws T.shape) (b : Bagging) (start
       let xs = folded b inactive (peaks_of T n) in
       let ys = unfolded b inactive (peaks_of T n) in
       let ks = T.shape.peaks n in
-      let q = all_folded (λ z. IsUnder ks z.first z.height) b inactive (peaks_of T n) (peaks_under ks ks 0 (L.aligned n) (λ a k i. i)) in
+      let q = all_folded (λ z. IsUnder ks z.first z.height) b inactive (peaks_of T n)
+      (peaks_under ks ks 0 (L.aligned n) (λ a k i. i)) in
       bag_agrees v w T start high (IsUnder ks) (under_halves ks)
       (λ j out.
       let r = or-false (leb (j + 2 ^ 0) start) (leb high j) out in
@@ -207,14 +280,26 @@ module _ (h : HashFunction) (T : Layout) (L : Laws T.shape) (b : Bagging) (start
       (λ a k u out t. is.chunks_are a (suc k) (omega arith) t u.0 u.1 out)
       (omega arith) xs ys q.0 q.1 (λ s l. found (h []) w.digest (sites_over T start high xs ys) s l)
 
-  pub own_accepted : (proof : RangeProof) → length content.elements ≤ 2 ^ 62 → inactive ≤ length (T.shape.peaks (length content.elements)) → 0 < length claim.elements
-      → IsOwn h T b proof start claim content inactive → IsAccepted h T b proof start claim (tree_root h T b content inactive)
+  pub own_accepted : (proof : RangeProof) → length content.elements ≤ 2 ^ 62
+      → inactive ≤ length (T.shape.peaks (length content.elements)) → 0 < length claim.elements
+      → IsOwn h T b proof start claim content inactive
+      → IsAccepted h T b proof start claim (tree_root h T b content inactive)
   own_accepted proof few peaks some is =
       let n = length content.elements in
       let high = start + length claim.elements in
       let v = check_values h T b own start claim in
       let w = own_values h T b content n inactive start high in
       let t = check_bag T start high b n inactive in
-      let root_is = ap (λ x. h (root_head T b n inactive ++ x)) (bag_eval v w h t (own_agrees some proof is) ∙ (own-prunes h T b content n inactive start high).same) in
+      let root_is = ap (λ x. h (root_head T b n inactive ++ x)) (bag_eval v w h t (own_agrees some proof is)
+      ∙ (own-prunes h T b content n inactive start high).same) in
       subst (λ p. IsAccepted h T b p start claim (tree_root h T b content inactive)) (sym is.proof_is)
-      (inl (record { few = few; peaks = peaks; some = some; within = is.elements_are.within; count = length-map _ _ }, root_is))
+      (inl (
+        record {
+          few = few;
+          peaks = peaks;
+          some = some;
+          within = is.elements_are.within;
+          count = length-map _ _;
+        },
+        root_is,
+      ))

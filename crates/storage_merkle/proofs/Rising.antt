@@ -54,7 +54,10 @@ at_least_from m (x ∷ xs) f = (f 0 (omega arith), at_least_from m xs (λ j l. f
 
 pub rising_from : (xs : List ℕ) → ((i j : ℕ) → i ≤ j → j < length xs → get_or xs i 0 ≤ get_or xs j 0) → Rising xs
 rising_from [] f = tt
-rising_from (x ∷ xs) f = (at_least_from x xs (λ j l. f 0 (suc j) (omega arith) (omega arith)), rising_from xs (λ i j u l. f (suc i) (suc j) (omega arith) (omega arith)))
+rising_from (x ∷ xs) f = (
+  at_least_from x xs (λ j l. f 0 (suc j) (omega arith) (omega arith)),
+  rising_from xs (λ i j u l. f (suc i) (suc j) (omega arith) (omega arith)),
+)
 
 at_least_at : (m : ℕ) (xs : List ℕ) → AtLeast m xs → (j : ℕ) → j < length xs → m ≤ get_or xs j 0
 at_least_at m [] a j l = absurd (omega arith)
@@ -74,7 +77,10 @@ count-sum m [] = refl
 count-sum m (x ∷ xs) = ap (λ n. one_if (eqb x m) + n) (count-sum m xs) ∙ sym (sum_by-cons (λ x. one_if (eqb x m)) x xs)
 
 pub count-permutation : (m : ℕ) (xs ys : List ℕ) → IsPermutation xs ys → count m ys ≡ count m xs
-count-permutation m xs ys p = count-sum m ys ∙ sum_by-IsPermutation (λ x. one_if (eqb x m)) xs ys p ∙ sym (count-sum m xs)
+count-permutation m xs ys p =
+    count-sum m ys ∙ sum_by-IsPermutation (λ x. one_if (eqb x m)) xs ys p ∙ sym (count-sum m xs)
 
-pub sorted_is : (xs ys zs : List ℕ) → IsPermutation xs ys → IsNonDecreasing ys → Rising zs → ((m : ℕ) → count m zs ≡ count m xs) → ys ≡ zs
-sorted_is xs ys zs p up r c = same_rising ys zs (rising_from ys (λ i j u l. up i j 0 u l)) r (λ m. count-permutation m xs ys p ∙ sym (c m))
+pub sorted_is : (xs ys zs : List ℕ) → IsPermutation xs ys → IsNonDecreasing ys → Rising zs
+    → ((m : ℕ) → count m zs ≡ count m xs) → ys ≡ zs
+sorted_is xs ys zs p up r c =
+    same_rising ys zs (rising_from ys (λ i j u l. up i j 0 u l)) r (λ m. count-permutation m xs ys p ∙ sym (c m))

@@ -3,7 +3,8 @@ use Rattle.std.proofs.Common.{◌≡◌, ℕ, List, [], ◌∷◌, map, refl, ap
 use Rattle.std.specs.Prelude.{IfOk}
 use Rattle.std.specs.List.{AllZip}
 
-pub serves : {D : Type 0} (kept : ℕ → Option D) (ps : List ℕ) (ds : List D) → AllZip (λ p d. Some d ≡ kept p) ps ds → map Some ds ≡ map kept ps
+pub serves : {D : Type 0} (kept : ℕ → Option D) (ps : List ℕ) (ds : List D) → AllZip (λ p d. Some d ≡ kept p) ps ds
+    → map Some ds ≡ map kept ps
 serves kept [] [] z = refl
 serves kept [] (d ∷ ds) z = absurd z
 serves kept (p ∷ ps) [] z = absurd z

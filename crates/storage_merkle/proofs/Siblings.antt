@@ -17,7 +17,8 @@ module _ (low high : ℕ) where
   overlapped-past s [] h = refl
   overlapped-past s (k ∷ ks) h =
       let rest = overlapped-past (s + 2 ^ k) ks (omega arith) in
-      elim (leb (s + 2 ^ k) low) as (λ b. (if (b || leb high s) then overlapped low high (places (s + 2 ^ k) ks) else (record { first = s; height = k }) ∷ overlapped low high (places (s + 2 ^ k) ks)) ≡ []) [
+      elim (leb (s + 2 ^ k) low) as (λ b. (if (b || leb high s) then overlapped low high (places (s + 2 ^ k) ks)
+      else (record { first = s; height = k }) ∷ overlapped low high (places (s + 2 ^ k) ks)) ≡ []) [
         | true ↦ rest
         | false ↦ rw (le-leb high s h) rest
       ]
@@ -27,11 +28,13 @@ module _ (low high : ℕ) where
   overlapped-up_to s (k ∷ ks) h =
       let first : leb (s + 2 ^ k) low ≡ false = lt-leb (s + 2 ^ k) low (omega arith) in
       elim (cases_lt s high) [
-        | inl before ↦ rw (first, lt-leb high s before) (ap (λ ps. (record { first = s; height = k }) ∷ ps) (overlapped-up_to (s + 2 ^ k) ks (omega arith)))
+        | inl before ↦ rw (first, lt-leb high s before)
+            (ap (λ ps. (record { first = s; height = k }) ∷ ps) (overlapped-up_to (s + 2 ^ k) ks (omega arith)))
         | inr past ↦ rw (first, le-leb high s past) (overlapped-past (s + 2 ^ k) ks (omega arith))
       ]
 
-  pub overlapped-is : (s : ℕ) (ks : List ℕ) → overlapped low high (places s ks) ≡ up_to high (not_leading low (places s ks))
+  pub overlapped-is : (s : ℕ) (ks : List ℕ)
+      → overlapped low high (places s ks) ≡ up_to high (not_leading low (places s ks))
   overlapped-is s [] = refl
   overlapped-is s (k ∷ ks) =
       elim (cases_lt low (s + 2 ^ k)) [
@@ -39,7 +42,8 @@ module _ (low high : ℕ) where
         | inl after ↦
             let first : leb (s + 2 ^ k) low ≡ false = lt-leb (s + 2 ^ k) low after in
             elim (cases_lt s high) [
-              | inl before ↦ rw (first, lt-leb high s before) (ap (λ ps. (record { first = s; height = k }) ∷ ps) (overlapped-up_to (s + 2 ^ k) ks after))
+              | inl before ↦ rw (first, lt-leb high s before)
+                  (ap (λ ps. (record { first = s; height = k }) ∷ ps) (overlapped-up_to (s + 2 ^ k) ks after))
               | inr past ↦ rw (first, le-leb high s past) (overlapped-past (s + 2 ^ k) ks (omega arith))
             ]
       ]
@@ -47,7 +51,8 @@ module _ (low high : ℕ) where
 -- the sites of a node
 module _ (T : Layout) where
   pub sites-join : (a k : ℕ) (l r : Calc) → sites_of (join_calc T a k l r) ≡ sites_of l ++ sites_of r
-  sites-join a k l r = elim (T.grafted a k) as (λ b. sites_of (if b then graft a (T.shape.position a k) l r else pair (be8 (T.shape.position a k)) l r) ≡ sites_of l ++ sites_of r) [ true ↦ refl | false ↦ refl ]
+  sites-join a k l r = elim (T.grafted a k) as (λ b. sites_of (if b then graft a (T.shape.position a k) l r
+      else pair (be8 (T.shape.position a k)) l r) ≡ sites_of l ++ sites_of r) [ true ↦ refl | false ↦ refl ]
 
   module _ (cut : ℕ → ℕ → Bool) where
     pub sites-cut : (k a : ℕ) → cut a k ≡ true → sites_of (node_calc T cut k a) ≡ node a k ∷ []
@@ -57,39 +62,49 @@ module _ (T : Layout) where
     pub sites-leaf : (a : ℕ) → cut a 0 ≡ false → sites_of (node_calc T cut 0 a) ≡ []
     sites-leaf a e = rw e refl
 
-    pub sites-halves : (k a : ℕ) → cut a (suc k) ≡ false → sites_of (node_calc T cut (suc k) a) ≡ sites_of (node_calc T cut k a) ++ sites_of (node_calc T cut k (a + 2 ^ k))
+    pub sites-halves : (k a : ℕ) → cut a (suc k) ≡ false → sites_of (node_calc T cut (suc k) a)
+        ≡ sites_of (node_calc T cut k a) ++ sites_of (node_calc T cut k (a + 2 ^ k))
     sites-halves k a e = rw e (sites-join a (suc k) (node_calc T cut k a) (node_calc T cut k (a + 2 ^ k)))
 
   module _ (low high : ℕ) where
     pub sites-covered : (k a : ℕ) → low ≤ a → a + 2 ^ k ≤ high → sites_of (node_calc T (apart low high) k a) ≡ []
-    sites-covered zero a l u = sites-leaf (apart low high) a (rw (lt-leb (a + 2 ^ 0) low (omega arith), lt-leb high a (omega arith)) refl)
+    sites-covered zero a l u =
+        sites-leaf (apart low high) a (rw (lt-leb (a + 2 ^ 0) low (omega arith), lt-leb high a (omega arith)) refl)
     sites-covered (suc k) a l u =
         let some : 0 < 2 ^ k = pow_pos k in
         let twice = pow_two k in
-        let out : apart low high a (suc k) ≡ false = rw (lt-leb (a + 2 ^ suc k) low (omega arith), lt-leb high a (omega arith)) refl in
-        sites-halves (apart low high) k a out ∙ ap₂ (λ ss ts. ss ++ ts) (sites-covered k a l (omega arith)) (sites-covered k (a + 2 ^ k) (omega arith) (omega arith))
+        let out : apart low high a (suc k) ≡ false =
+        rw (lt-leb (a + 2 ^ suc k) low (omega arith), lt-leb high a (omega arith)) refl in
+        sites-halves (apart low high) k a out ∙ ap₂ (λ ss ts. ss ++ ts) (sites-covered k a l (omega arith))
+        (sites-covered k (a + 2 ^ k) (omega arith) (omega arith))
 
 -- sorted by position
 module _ (T : Layout) where
   abbrev pub positions : List Site → List ℕ
   positions ss = map (position_of T) ss
 
-  place-count : (m : ℕ) (s : Site) (ss : List Site) → count m (positions (place_in T s ss)) ≡ one_if (eqb (position_of T s) m) + count m (positions ss)
+  place-count : (m : ℕ) (s : Site) (ss : List Site)
+      → count m (positions (place_in T s ss)) ≡ one_if (eqb (position_of T s) m) + count m (positions ss)
   place-count m s [] = refl
   place-count m s (t ∷ ts) =
-      elim (leb (position_of T s) (position_of T t)) as (λ b. count m (positions (if b then s ∷ t ∷ ts else t ∷ place_in T s ts)) ≡ one_if (eqb (position_of T s) m) + (one_if (eqb (position_of T t) m) + count m (positions ts))) [
+      elim (leb (position_of T s) (position_of T t)) as (λ b.
+      count m (positions (if b then s ∷ t ∷ ts else t ∷ place_in T s ts))
+      ≡ one_if (eqb (position_of T s) m) + (one_if (eqb (position_of T t) m) + count m (positions ts))) [
         | true ↦ refl
         | false ↦ omega (arith, place-count m s ts)
       ]
 
   pub sort-count : (m : ℕ) (ss : List Site) → count m (positions (by_position T ss)) ≡ count m (positions ss)
   sort-count m [] = refl
-  sort-count m (s ∷ ss) = place-count m s (by_position T ss) ∙ ap (λ n. one_if (eqb (position_of T s) m) + n) (sort-count m ss)
+  sort-count m (s ∷ ss) =
+      place-count m s (by_position T ss) ∙ ap (λ n. one_if (eqb (position_of T s) m) + n) (sort-count m ss)
 
-  place_at_least : (m : ℕ) (s : Site) (ss : List Site) → m ≤ position_of T s → AtLeast m (positions ss) → AtLeast m (positions (place_in T s ss))
+  place_at_least : (m : ℕ) (s : Site) (ss : List Site) → m ≤ position_of T s → AtLeast m (positions ss)
+      → AtLeast m (positions (place_in T s ss))
   place_at_least m s [] l a = (l, tt)
   place_at_least m s (t ∷ ts) l a =
-      elim (leb (position_of T s) (position_of T t)) as (λ b. AtLeast m (positions (if b then s ∷ t ∷ ts else t ∷ place_in T s ts))) [
+      elim (leb (position_of T s) (position_of T t)) as (λ b.
+      AtLeast m (positions (if b then s ∷ t ∷ ts else t ∷ place_in T s ts))) [
         | true ↦ (l, a)
         | false ↦ (a.0, place_at_least m s ts l a.1)
       ]
@@ -98,40 +113,50 @@ module _ (T : Layout) where
   place_rises s [] r = (tt, tt)
   place_rises s (t ∷ ts) r = go (leb (position_of T s) (position_of T t)) refl (place_rises s ts r.1)
     where
-      go : (b : Bool) → leb (position_of T s) (position_of T t) ≡ b → Rising (positions (place_in T s ts)) → Rising (positions (if b then s ∷ t ∷ ts else t ∷ place_in T s ts))
-      go true e q = let l = leb-true (position_of T s) (position_of T t) e in ((l, at_least_less (position_of T s) (position_of T t) (positions ts) l r.0), r)
-      go false e q = let l = leb-false (position_of T s) (position_of T t) e in (place_at_least (position_of T t) s ts (omega (arith, l)) r.0, q)
+      go : (b : Bool) → leb (position_of T s) (position_of T t) ≡ b → Rising (positions (place_in T s ts))
+          → Rising (positions (if b then s ∷ t ∷ ts else t ∷ place_in T s ts))
+      go true e q = let l = leb-true (position_of T s) (position_of T t) e in
+          ((l, at_least_less (position_of T s) (position_of T t) (positions ts) l r.0), r)
+      go false e q = let l = leb-false (position_of T s) (position_of T t) e in
+          (place_at_least (position_of T t) s ts (omega (arith, l)) r.0, q)
 
   pub sort_rises : (ss : List Site) → Rising (positions (by_position T ss))
   sort_rises [] = tt
   sort_rises (s ∷ ss) = place_rises s (by_position T ss) (sort_rises ss)
 
   -- a sort of the positions gives those of the sorted sites
-  pub positions_sorted : (ss : List Site) (ps : List ℕ) → IsPermutation (positions ss) ps → IsNonDecreasing ps → ps ≡ positions (by_position T ss)
-  positions_sorted ss ps p up = sorted_is (positions ss) ps (positions (by_position T ss)) p up (sort_rises ss) (λ m. sort-count m ss)
+  pub positions_sorted : (ss : List Site) (ps : List ℕ) → IsPermutation (positions ss) ps → IsNonDecreasing ps
+      → ps ≡ positions (by_position T ss)
+  positions_sorted ss ps p up =
+      sorted_is (positions ss) ps (positions (by_position T ss)) p up (sort_rises ss) (λ m. sort-count m ss)
 
 -- lists of positions to which those of a node's sites are added
 module _ (T : Layout) (low high : ℕ) where
   abbrev pub apart_under : ℕ → ℕ → List Site
   apart_under k a = sites_of (node_calc T (apart low high) k a)
 
-  pub adds_itself : (k a p : ℕ) (old new : List ℕ) → true ≡ apart low high a k → p ≡ T.shape.position a k → new ≡ old ++ p ∷ [] → new ≡ old ++ positions T (apart_under k a)
+  pub adds_itself : (k a p : ℕ) (old new : List ℕ) → true ≡ apart low high a k → p ≡ T.shape.position a k
+      → new ≡ old ++ p ∷ [] → new ≡ old ++ positions T (apart_under k a)
   adds_itself k a p old new e q f =
       f ∙ ap (λ x. old ++ x ∷ []) q ∙ ap (λ ss. old ++ positions T ss) (sym (sites-cut T (apart low high) k a (sym e)))
 
   adds_none : (k a : ℕ) (old : List ℕ) → apart_under k a ≡ [] → old ≡ old ++ positions T (apart_under k a)
   adds_none k a old e = sym (append-nil old) ∙ ap (λ ss. old ++ positions T ss) (sym e)
 
-  pub adds_leaf : (k a : ℕ) (old : List ℕ) → false ≡ apart low high a k → k ≡ 0 → old ≡ old ++ positions T (apart_under k a)
+  pub adds_leaf : (k a : ℕ) (old : List ℕ) → false ≡ apart low high a k → k ≡ 0
+      → old ≡ old ++ positions T (apart_under k a)
   adds_leaf zero a old e z = adds_none zero a old (sites-leaf T (apart low high) a (sym e))
   adds_leaf (suc k) a old e z = absurd (omega arith)
 
-  pub adds_covered : (k a n : ℕ) (b : Bool) (old : List ℕ) → low ≤ a → n ≡ 2 ^ k → b ≡ leb (a + n) high → b ≡ true → old ≡ old ++ positions T (apart_under k a)
+  pub adds_covered : (k a n : ℕ) (b : Bool) (old : List ℕ) → low ≤ a → n ≡ 2 ^ k → b ≡ leb (a + n) high → b ≡ true
+      → old ≡ old ++ positions T (apart_under k a)
   adds_covered k a n b old l e u t =
       let fits : a + n ≤ high = leb-true (a + n) high (sym u ∙ t) in
       adds_none k a old (sites-covered T low high k a l (omega arith))
 
-  pub adds_halves : (k a : ℕ) (old mid new : List ℕ) → false ≡ apart low high a k → k ≢ 0 → mid ≡ old ++ positions T (apart_under (k - 1) a) → new ≡ mid ++ positions T (apart_under (k - 1) (a + 2 ^ (k - 1))) → new ≡ old ++ positions T (apart_under k a)
+  pub adds_halves : (k a : ℕ) (old mid new : List ℕ) → false ≡ apart low high a k → k ≢ 0
+      → mid ≡ old ++ positions T (apart_under (k - 1) a)
+      → new ≡ mid ++ positions T (apart_under (k - 1) (a + 2 ^ (k - 1))) → new ≡ old ++ positions T (apart_under k a)
   adds_halves zero a old mid new e ne f g = absurd (ne refl)
   adds_halves (suc k) a old mid new e ne f g =
       let less : suc k - 1 ≡ k = omega arith in
@@ -139,7 +164,9 @@ module _ (T : Layout) (low high : ℕ) where
       let ys = positions T (apart_under k (a + 2 ^ k)) in
       let f' : mid ≡ old ++ xs = f ∙ ap (λ j. old ++ positions T (apart_under j a)) less in
       let g' : new ≡ mid ++ ys = g ∙ ap (λ j. mid ++ positions T (apart_under j (a + 2 ^ j))) less in
-      g' ∙ ap (λ ps. ps ++ ys) f' ∙ append_assoc old xs ys ∙ ap (λ ps. old ++ ps) (sym (map-append (position_of T) (apart_under k a) (apart_under k (a + 2 ^ k)))) ∙ ap (λ ss. old ++ positions T ss) (sym (sites-halves T (apart low high) k a (sym e)))
+      g' ∙ ap (λ ps. ps ++ ys) f' ∙ append_assoc old xs ys
+      ∙ ap (λ ps. old ++ ps) (sym (map-append (position_of T) (apart_under k a) (apart_under k (a + 2 ^ k))))
+      ∙ ap (λ ss. old ++ positions T ss) (sym (sites-halves T (apart low high) k a (sym e)))
 
 pub on_ok : {A E : Type 0} {P Q : Type 0} (r : Result A E) → (P → Q) → OnOk r P → OnOk r Q
 on_ok (Ok x) f p = f p
@@ -153,38 +180,52 @@ not_below b m n t e l = let below : m ≤ n = leb-true m n (sym e ∙ t) in omeg
 
 -- the positions of the sites in the peaks over r leaves from the leaf s on that share a leaf with the range
 abbrev pub overlapped_positions : Layout → ℕ → ℕ → ℕ → ℕ → List ℕ
-overlapped_positions T low high s r = positions T (sites_in T (apart low high) (overlapped low high (places s (T.shape.peaks r))))
+overlapped_positions T low high s r =
+    positions T (sites_in T (apart low high) (overlapped low high (places s (T.shape.peaks r))))
 
 -- past the first of them, which has height h
-module _ (T : Layout) (low high s r h m n : ℕ) (peaks : T.shape.peaks r ≡ h ∷ T.shape.peaks (r - 2 ^ h)) (em : m ≡ 2 ^ h) (en : n ≡ 2 ^ h) where
+module _ (T : Layout) (low high s r h m n : ℕ) (peaks : T.shape.peaks r ≡ h ∷ T.shape.peaks (r - 2 ^ h))
+    (em : m ≡ 2 ^ h) (en : n ≡ 2 ^ h) where
   moved : overlapped_positions T low high (s + m) (r - n) ≡ overlapped_positions T low high (s + 2 ^ h) (r - 2 ^ h)
   moved = ap₂ (λ x y. overlapped_positions T low high (s + x) (r - y)) em en
 
-  opened : overlapped_positions T low high s r ≡ positions T (sites_in T (apart low high) (overlapped low high (places s (h ∷ T.shape.peaks (r - 2 ^ h)))))
+  opened : overlapped_positions T low high s r
+      ≡ positions T (sites_in T (apart low high) (overlapped low high (places s (h ∷ T.shape.peaks (r - 2 ^ h)))))
   opened = ap (λ ks. positions T (sites_in T (apart low high) (overlapped low high (places s ks)))) peaks
 
-  pub walk_skips : (old new all : List ℕ) → true ≡ apart low high s h → new ≡ old → old ++ overlapped_positions T low high s r ≡ all → new ++ overlapped_positions T low high (s + m) (r - n) ≡ all
+  pub walk_skips : (old new all : List ℕ) → true ≡ apart low high s h → new ≡ old
+      → old ++ overlapped_positions T low high s r ≡ all → new ++ overlapped_positions T low high (s + m) (r - n) ≡ all
   walk_skips old new all e f g =
-      let skipped : overlapped_positions T low high s r ≡ overlapped_positions T low high (s + 2 ^ h) (r - 2 ^ h) = opened ∙ rw (sym e) refl in
+      let skipped : overlapped_positions T low high s r ≡ overlapped_positions T low high (s + 2 ^ h) (r - 2 ^ h) =
+      opened ∙ rw (sym e) refl in
       ap₂ (λ xs ys. xs ++ ys) f (moved ∙ sym skipped) ∙ g
 
-  pub walk_takes : (old new all : List ℕ) → false ≡ apart low high s h → new ≡ old ++ positions T (apart_under T low high h s) → old ++ overlapped_positions T low high s r ≡ all → new ++ overlapped_positions T low high (s + m) (r - n) ≡ all
+  pub walk_takes : (old new all : List ℕ) → false ≡ apart low high s h
+      → new ≡ old ++ positions T (apart_under T low high h s) → old ++ overlapped_positions T low high s r ≡ all
+      → new ++ overlapped_positions T low high (s + m) (r - n) ≡ all
   walk_takes old new all e f g =
       let here = positions T (apart_under T low high h s) in
       let later = overlapped_positions T low high (s + 2 ^ h) (r - 2 ^ h) in
-      let taken : overlapped_positions T low high s r ≡ here ++ later = opened ∙ rw (sym e) (map-append (position_of T) (apart_under T low high h s) (sites_in T (apart low high) (overlapped low high (places (s + 2 ^ h) (T.shape.peaks (r - 2 ^ h)))))) in
+      let taken : overlapped_positions T low high s r ≡ here ++ later =
+      opened ∙ rw (sym e) (map-append (position_of T) (apart_under T low high h s)
+      (sites_in T (apart low high) (overlapped low high (places (s + 2 ^ h) (T.shape.peaks (r - 2 ^ h)))))) in
       ap₂ (λ xs ys. xs ++ ys) f moved ∙ append_assoc old here later ∙ ap (λ xs. old ++ xs) (sym taken) ∙ g
 
 -- past the last of them
-pub walk_ends : (T : Layout) (low high s r : ℕ) (old all : List ℕ) → T.shape.peaks 0 ≡ [] → r ≤ 0 → old ++ overlapped_positions T low high s r ≡ all → old ≡ all
+pub walk_ends : (T : Layout) (low high s r : ℕ) (old all : List ℕ) → T.shape.peaks 0 ≡ [] → r ≤ 0
+    → old ++ overlapped_positions T low high s r ≡ all → old ≡ all
 walk_ends T low high s r old all none l g =
     let z : r ≡ 0 = omega arith in
-    let nothing : overlapped_positions T low high s r ≡ [] = ap (λ j. positions T (sites_in T (apart low high) (overlapped low high (places s j)))) (ap T.shape.peaks z ∙ none) in
+    let nothing : overlapped_positions T low high s r ≡ [] = ap (λ j.
+    positions T (sites_in T (apart low high) (overlapped low high (places s j)))) (ap T.shape.peaks z ∙ none) in
     sym (append-nil old) ∙ ap (λ xs. old ++ xs) (sym nothing) ∙ g
 
 -- the positions, sorted
-pub siblings_sorted : (T : Layout) (n low high : ℕ) (found sorted : List ℕ) → found ≡ overlapped_positions T low high 0 n → IsPermutation found sorted → IsNonDecreasing sorted → sorted ≡ positions T (sibling_sites T n low high)
+pub siblings_sorted : (T : Layout) (n low high : ℕ) (found sorted : List ℕ)
+    → found ≡ overlapped_positions T low high 0 n → IsPermutation found sorted → IsNonDecreasing sorted
+    → sorted ≡ positions T (sibling_sites T n low high)
 siblings_sorted T n low high found sorted e p up =
     let all = sites_in T (apart low high) (overlapped low high (peaks_of T n)) in
     positions_sorted T all sorted (subst (λ xs. IsPermutation xs sorted) e p) up
-    ∙ ap (λ ps. positions T (by_position T (sites_in T (apart low high) ps))) (overlapped-is low high 0 (T.shape.peaks n))
+    ∙ ap (λ ps. positions T (by_position T (sites_in T (apart low high) ps)))
+    (overlapped-is low high 0 (T.shape.peaks n))

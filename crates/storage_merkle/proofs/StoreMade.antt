@@ -1,55 +1,37 @@
 -- A store made from an accepted proof is one of the tree.
-use Rattle.std.proofs.Common.{◌≡◌, ℕ, zero, suc, ◌+◌, ◌<◌, ◌^◌, List, [], ◌∷◌, ◌++◌, length, map, Bool, true, false, if◌then◌else◌, ◌⊎◌, inl, inr, refl, sym, ap, ap₂, ◌∙◌, arith, subst}
+use Rattle.std.proofs.Common.{◌≡◌, ℕ, ◌+◌, ◌<◌, List, [], ◌∷◌, ◌++◌, length, map, ◌⊎◌, inl, inr, refl, sym, ap, ap₂, ◌∙◌, arith, subst}
 use Rattle.std.proofs.lemmas.List.{map-append}
 use Rattle.storage_codec.specs.Digests.{HashFunction, Cross}
 use Rattle.storage_merkle.specs.Shape.{Laws}
 use Rattle.storage_merkle.specs.ShapeLaws.{no_peaks}
-use Rattle.storage_merkle.specs.Calc.{Site, front, back, node, given, Values, eval, Agree}
+use Rattle.storage_merkle.specs.Calc.{Site, front, back, Values}
 use Rattle.storage_merkle.specs.declared.merkle.bagging.Bagging.{Bagging}
 use Rattle.storage_merkle.specs.declared.merkle.bagging.Bagging.TheVariants.{ForwardFold, BackwardFold}
-use Rattle.storage_merkle.specs.Trees.{Layout, Content, Peak, node_calc, join_calc, never, places, peaks_of, folded, unfolded, part, plain, tree_root, tree_strings}
+use Rattle.storage_merkle.specs.Trees.{Layout, Content, Peak, places, peaks_of, folded, unfolded, part, tree_root, tree_strings}
 use Rattle.storage_merkle.specs.RangeProofs.{RangeProof, apart, leading, not_leading, up_to, trailing, front_given, back_given, check_bag, check_values, check_strings, IsAccepted}
 use Rattle.storage_merkle.specs.Multi.{tree_digest}
-use Rattle.storage_merkle.specs.Extracted.{nodes_under, nodes_in, entries, digest_at}
+use Rattle.storage_merkle.specs.Extracted.{nodes_in, entries, digest_at}
 use Rattle.storage_merkle.specs.Stores.{kept_sites, store_of, IsStoreOf, StoresOfAcceptedProofsAreTrue}
-use Rattle.storage_merkle.proofs.Prune.{prunes_node}
-use Rattle.storage_merkle.proofs.Agreeing.{AgreeAll, AgreeAt, AgreeBag, agree_bag, agree_append, agree_join, agree_at_append, agree_by_position}
+use Rattle.storage_merkle.proofs.Agreeing.{AgreeAll, AgreeBag, agree_bag, agree_append, agree_by_position}
 use Rattle.storage_merkle.proofs.RangeSound.{own_values, range_agrees, range_sound}
-use Rattle.storage_merkle.proofs.RangeOwn.{append_of, eval_agree}
-use Rattle.storage_merkle.proofs.Extracted.{bare, entries_agree}
+use Rattle.storage_merkle.proofs.RangeOwn.{append_of}
+use Rattle.storage_merkle.proofs.Extracted.{bare, entries_agree, same_in}
 
--- at each node of a calculation that agrees with the own one
-module _ (h : HashFunction) (v w : Values) (T : Layout) (cut : ℕ → ℕ → Bool) (content : Content) (chunks : (a : ℕ) → w.chunk a ≡ content.chunk a) (elements : (j : ℕ) → w.element j ≡ (plain h content).element j) (nodes : (a k : ℕ) → w.digest (node a k) ≡ eval h (plain h content) (node_calc T never k a)) where
-  abbrev SameAt : List Site → Type 0
-  SameAt = AgreeAt (bare (digest_at h v T cut)) (bare (tree_digest h T content))
-
-  same_node : (k a : ℕ) → Agree v w (node_calc T cut k a) → digest_at h v T cut (node a k) ≡ tree_digest h T content (node a k)
-  same_node k a g = eval_agree v w h (node_calc T cut k a) g ∙ (prunes_node h w (plain h content) T cut chunks elements nodes k a).same
-
-  same_under : (k a : ℕ) → Agree v w (node_calc T cut k a) → SameAt (nodes_under cut k a)
-  same_under zero a g = (same_node zero a g, tt)
-  same_under (suc k) a g =
-      agree_at_append (bare (digest_at h v T cut)) (bare (tree_digest h T content)) (if cut a (suc k) then [] else nodes_under cut k a ++ nodes_under cut k (a + 2 ^ k)) (node a (suc k) ∷ [])
-      ((elim (cut a (suc k)) as (λ b. Agree v w (if b then given (node a (suc k)) else join_calc T a (suc k) (node_calc T cut k a) (node_calc T cut k (a + 2 ^ k))) → SameAt (if b then [] else nodes_under cut k a ++ nodes_under cut k (a + 2 ^ k))) [
-        | true ↦ λ f. tt
-        | false ↦ λ f. let r = agree_join v w T a (suc k) _ _ f in agree_at_append (bare (digest_at h v T cut)) (bare (tree_digest h T content)) (nodes_under cut k a) (nodes_under cut k (a + 2 ^ k)) (same_under k a r.0) (same_under k (a + 2 ^ k) r.1)
-      ]) g)
-      (same_node (suc k) a g, tt)
-
-  same_in : (ps : List Peak) → AgreeAll v w (map (part T cut) ps) → SameAt (nodes_in cut ps)
-  same_in [] a = tt
-  same_in (p ∷ ps) a = agree_at_append (bare (digest_at h v T cut)) (bare (tree_digest h T content)) (nodes_under cut p.height p.first) (nodes_in cut ps) (same_under p.height p.first a.0) (same_in ps a.1)
-
-front_agrees : (v w : Values) (ps : List Peak) → AgreeAll v w (front_given ps) → 0 < length ps → v.digest front ≡ w.digest front
+front_agrees : (v w : Values) (ps : List Peak) → AgreeAll v w (front_given ps) → 0 < length ps
+    → v.digest front ≡ w.digest front
 front_agrees v w [] a l = absurd (omega arith)
 front_agrees v w (p ∷ ps) a l = a.0
 
-back_agrees : (v w : Values) (ps : List Peak) → AgreeAll v w (back_given ps) → 0 < length ps → v.digest back ≡ w.digest back
+back_agrees : (v w : Values) (ps : List Peak) → AgreeAll v w (back_given ps) → 0 < length ps
+    → v.digest back ≡ w.digest back
 back_agrees v w [] a l = absurd (omega arith)
 back_agrees v w (p ∷ ps) a l = a.0
 
-made_of : (h : HashFunction) (T : Layout) (b : Bagging) (proof : RangeProof) (start : ℕ) (claim content : Content) (inactive : ℕ) → proof.leaves ≡ length content.elements → proof.inactive ≡ inactive
-    → AgreeBag (check_values h T b proof start claim) (own_values h T b content proof.leaves proof.inactive start (start + length claim.elements)) (check_bag T start (start + length claim.elements) b proof.leaves proof.inactive)
+made_of : (h : HashFunction) (T : Layout) (b : Bagging) (proof : RangeProof) (start : ℕ) (claim content : Content)
+    (inactive : ℕ) → proof.leaves ≡ length content.elements → proof.inactive ≡ inactive
+    → AgreeBag (check_values h T b proof start claim)
+    (own_values h T b content proof.leaves proof.inactive start (start + length claim.elements))
+    (check_bag T start (start + length claim.elements) b proof.leaves proof.inactive)
     → IsStoreOf h T (store_of h T b proof start claim) content inactive
 made_of h T b proof start claim content inactive en ei a =
     let n = proof.leaves in
@@ -65,30 +47,47 @@ made_of h T b proof start claim content inactive en ei a =
     let both = agree_bag v w _ _ a in
     let fore = agree_append v w (front_given (leading start xs)) _ both.0 in
     let aft = agree_append v w (map (part T cut) us) _ both.1 in
-    let joined : AgreeAll v w (map (part T cut) (ns ++ us)) = subst (AgreeAll v w) (sym (map-append (part T cut) ns us)) (append_of v w _ _ fore.1 aft.0) in
+    let joined : AgreeAll v w (map (part T cut) (ns ++ us)) =
+    subst (AgreeAll v w) (sym (map-append (part T cut) ns us)) (append_of v w _ _ fore.1 aft.0) in
     let each = same_in h v w T cut content (λ c. refl) (λ j. refl) (λ c k. refl) (ns ++ us) joined in
     record {
       leaves_are = en;
       inactive_are = ei;
       front_is = λ l. front_agrees v w (leading start xs) fore.0 l;
       back_is = λ l. back_agrees v w (trailing high ys) aft.1 l;
-      kept_are = entries_agree T (digest_at h v T cut) (tree_digest h T content) (kept_sites T b n i start high) (agree_by_position (bare (digest_at h v T cut)) (bare (tree_digest h T content)) T (nodes_in cut (ns ++ us)) each);
+      kept_are = entries_agree T (digest_at h v T cut) (tree_digest h T content) (kept_sites T b n i start high)
+          (agree_by_position (bare (digest_at h v T cut)) (bare (tree_digest h T content)) T
+          (nodes_in cut (ns ++ us)) each);
     }
 
 -- no leaves, nothing kept
-pub no_kept : (T : Layout) (b : Bagging) (f : Site → List ℕ) (n i low high : ℕ) → T.shape.peaks 0 ≡ [] → n ≡ 0 → i ≡ 0 → entries T f (kept_sites T b n i low high) ≡ []
-no_kept T ForwardFold f n i low high none en ei = ap₂ (λ m j. entries T f (kept_sites T ForwardFold m j low high)) en ei ∙ rw none refl
-no_kept T BackwardFold f n i low high none en ei = ap₂ (λ m j. entries T f (kept_sites T BackwardFold m j low high)) en ei ∙ rw none refl
+pub no_kept : (T : Layout) (b : Bagging) (f : Site → List ℕ) (n i low high : ℕ) → T.shape.peaks 0 ≡ [] → n ≡ 0 → i ≡ 0
+    → entries T f (kept_sites T b n i low high) ≡ []
+no_kept T ForwardFold f n i low high none en ei =
+    ap₂ (λ m j. entries T f (kept_sites T ForwardFold m j low high)) en ei ∙ rw none refl
+no_kept T BackwardFold f n i low high none en ei =
+    ap₂ (λ m j. entries T f (kept_sites T BackwardFold m j low high)) en ei ∙ rw none refl
 
-no_leading : (T : Layout) (b : Bagging) (n i low : ℕ) → T.shape.peaks 0 ≡ [] → n ≡ 0 → i ≡ 0 → length (leading low (folded b i (peaks_of T n))) ≡ 0
-no_leading T ForwardFold n i low none en ei = ap₂ (λ m j. length (leading low (folded ForwardFold j (peaks_of T m)))) en ei ∙ ap (λ ks. length (leading low (folded ForwardFold 0 (places 0 ks)))) none
-no_leading T BackwardFold n i low none en ei = ap₂ (λ m j. length (leading low (folded BackwardFold j (peaks_of T m)))) en ei ∙ ap (λ ks. length (leading low (folded BackwardFold 0 (places 0 ks)))) none
+no_leading : (T : Layout) (b : Bagging) (n i low : ℕ) → T.shape.peaks 0 ≡ [] → n ≡ 0 → i ≡ 0
+    → length (leading low (folded b i (peaks_of T n))) ≡ 0
+no_leading T ForwardFold n i low none en ei =
+    ap₂ (λ m j. length (leading low (folded ForwardFold j (peaks_of T m)))) en ei
+    ∙ ap (λ ks. length (leading low (folded ForwardFold 0 (places 0 ks)))) none
+no_leading T BackwardFold n i low none en ei =
+    ap₂ (λ m j. length (leading low (folded BackwardFold j (peaks_of T m)))) en ei
+    ∙ ap (λ ks. length (leading low (folded BackwardFold 0 (places 0 ks)))) none
 
-no_trailing : (T : Layout) (b : Bagging) (n i high : ℕ) → T.shape.peaks 0 ≡ [] → n ≡ 0 → i ≡ 0 → length (trailing high (unfolded b i (peaks_of T n))) ≡ 0
+no_trailing : (T : Layout) (b : Bagging) (n i high : ℕ) → T.shape.peaks 0 ≡ [] → n ≡ 0 → i ≡ 0
+    → length (trailing high (unfolded b i (peaks_of T n))) ≡ 0
 no_trailing T ForwardFold n i high none en ei = refl
-no_trailing T BackwardFold n i high none en ei = ap₂ (λ m j. length (trailing high (unfolded BackwardFold j (peaks_of T m)))) en ei ∙ ap (λ ks. length (trailing high (unfolded BackwardFold 0 (places 0 ks)))) none
+no_trailing T BackwardFold n i high none en ei =
+    ap₂ (λ m j. length (trailing high (unfolded BackwardFold j (peaks_of T m)))) en ei
+    ∙ ap (λ ks. length (trailing high (unfolded BackwardFold 0 (places 0 ks)))) none
 
-made_of_nothing : (h : HashFunction) (T : Layout) → Laws T.shape → (b : Bagging) (proof : RangeProof) (start : ℕ) (claim content : Content) (inactive : ℕ) → proof.leaves ≡ 0 → proof.inactive ≡ 0 → proof.leaves ≡ length content.elements → proof.inactive ≡ inactive → IsStoreOf h T (store_of h T b proof start claim) content inactive
+made_of_nothing : (h : HashFunction) (T : Layout) → Laws T.shape
+    → (b : Bagging) (proof : RangeProof) (start : ℕ) (claim content : Content) (inactive : ℕ) → proof.leaves ≡ 0
+    → proof.inactive ≡ 0 → proof.leaves ≡ length content.elements → proof.inactive ≡ inactive
+    → IsStoreOf h T (store_of h T b proof start claim) content inactive
 made_of_nothing h T L b proof start claim content inactive zn zi en ei =
     let none = no_peaks T.shape L in
     let high = start + length claim.elements in
@@ -99,28 +98,37 @@ made_of_nothing h T L b proof start claim content inactive zn zi en ei =
       inactive_are = ei;
       front_is = λ l. absurd (omega (arith, no_leading T b n i start none zn zi));
       back_is = λ l. absurd (omega (arith, no_trailing T b n i high none zn zi));
-      kept_are = no_kept T b _ n i start high none zn zi ∙ sym (no_kept T b (tree_digest h T content) n i start high none zn zi);
+      kept_are = no_kept T b _ n i start high none zn zi
+          ∙ sym (no_kept T b (tree_digest h T content) n i start high none zn zi);
     }
 
 pub stores_true : StoresOfAcceptedProofsAreTrue
-stores_true d h T b proof start claim root sized L wide accepted N grafted same other chunked content inactive chunks few peaks at =
+stores_true d h T b proof start claim root sized L wide accepted N grafted same other chunked content inactive chunks
+    few peaks at =
     let over : ℕ → Layout = λ n. record { shape = T.shape; grafted = grafted n } in
     let m = length content.elements in
-    let Outcome : Layout → Type 0 = λ U. IsStoreOf h (over m) (store_of h U b proof start claim) content inactive ⊎ Cross h (check_strings h U b proof start claim) (tree_strings h (over m) b content inactive) in
-    let here : IsAccepted h (over proof.leaves) b proof start claim (tree_root h (over m) b content inactive) = subst (λ U. IsAccepted h U b proof start claim (tree_root h (over m) b content inactive)) same (subst (IsAccepted h T b proof start claim) (sym at) accepted) in
+    let Outcome : Layout → Type 0 = λ U. IsStoreOf h (over m) (store_of h U b proof start claim) content inactive
+    ⊎ Cross h (check_strings h U b proof start claim) (tree_strings h (over m) b content inactive) in
+    let here : IsAccepted h (over proof.leaves) b proof start claim (tree_root h (over m) b content inactive) =
+    subst (λ U. IsAccepted h U b proof start claim (tree_root h (over m) b content inactive)) same
+    (subst (IsAccepted h T b proof start claim) (sym at) accepted) in
     let U = over proof.leaves in
     let Made : ℕ → Type 0 = λ n. IsStoreOf h (over n) (store_of h U b proof start claim) content inactive in
     let answer : Outcome U = elim here [
-      | inl ok ↦ elim (range_agrees d N h sized other T.shape L grafted b proof start claim wide chunked content chunks inactive few peaks ok.0 ok.1) [
-        | inr c ↦ inr c
-        | inl r ↦ inl (subst Made r.leaves_are (made_of h U b proof start claim content inactive r.leaves_are r.inactive_are r.agree))
-      ]
-      | inr ok ↦ elim (range_sound d N h sized other T.shape L grafted b proof start claim wide chunked content chunks inactive few peaks (inr ok)) [
-        | inr c ↦ inr c
-        | inl own ↦
-            let en : proof.leaves ≡ m = ap (λ (p : RangeProof). p.leaves) own.proof_is in
-            let ei : proof.inactive ≡ inactive = ap (λ (p : RangeProof). p.inactive) own.proof_is in
-            inl (subst Made en (made_of_nothing h U L b proof start claim content inactive ok.0.no_leaves ok.0.no_inactive en ei))
-      ]
+      | inl ok ↦ elim (range_agrees d N h sized other T.shape L grafted b proof start claim wide chunked content chunks
+          inactive few peaks ok.0 ok.1) [
+            | inr c ↦ inr c
+            | inl r ↦ inl (subst Made r.leaves_are
+                (made_of h U b proof start claim content inactive r.leaves_are r.inactive_are r.agree))
+          ]
+      | inr ok ↦ elim (range_sound d N h sized other T.shape L grafted b proof start claim wide chunked content chunks
+          inactive few peaks (inr ok)) [
+            | inr c ↦ inr c
+            | inl own ↦
+                let en : proof.leaves ≡ m = ap (λ (p : RangeProof). p.leaves) own.proof_is in
+                let ei : proof.inactive ≡ inactive = ap (λ (p : RangeProof). p.inactive) own.proof_is in
+                inl (subst Made en
+                (made_of_nothing h U L b proof start claim content inactive ok.0.no_leaves ok.0.no_inactive en ei))
+          ]
     ] in
     subst Outcome (sym same) answer

@@ -42,7 +42,8 @@ module _ (F : Type 0) (n : ℕ) (ls : List ℕ) where
             go false e = refl
             go true e = let l : x < y = ltb-true x y e in absurd (omega arith)
 
-    past_first : first ≤ l → (rest : Option (Error F)) → (if ltb (l + 1) first then Some (UnsortedLocation l) else (if eqb (l + 1) first then Some (DuplicateLocation l) else rest)) ≡ rest
+    past_first : first ≤ l → (rest : Option (Error F)) → (if ltb (l + 1) first then Some (UnsortedLocation l)
+        else (if eqb (l + 1) first then Some (DuplicateLocation l) else rest)) ≡ rest
     past_first u rest =
         let ne : l + 1 ≢ first = omega arith in
         rw (le-ltb (l + 1) first (omega arith), ne_eqb (l + 1) first ne) refl
@@ -65,9 +66,13 @@ module _ (F : Type 0) (n : ℕ) (ls : List ℕ) where
 
 pub ascends : (F : Type 0) (n first : ℕ) (ls : List ℕ) → location_refusal F first n ls ≡ None → Ascend first n ls
 ascends F n first [] e = tt
-ascends F n first (l ∷ ls) e = go (ltb (l + 1) first) (eqb (l + 1) first) (leb n l) refl refl refl e (λ d. ascends F n (l + 1) ls d)
+ascends F n first (l ∷ ls) e =
+    go (ltb (l + 1) first) (eqb (l + 1) first) (leb n l) refl refl refl e (λ d. ascends F n (l + 1) ls d)
   where
-    go : (a b c : Bool) → ltb (l + 1) first ≡ a → eqb (l + 1) first ≡ b → leb n l ≡ c → (if a then Some (UnsortedLocation l) else (if b then Some (DuplicateLocation l) else (if c then Some (RangeOutOfBounds l) else location_refusal F (l + 1) n ls))) ≡ None → (location_refusal F (l + 1) n ls ≡ None → Ascend (l + 1) n ls) → Ascend first n (l ∷ ls)
+    go : (a b c : Bool) → ltb (l + 1) first ≡ a → eqb (l + 1) first ≡ b → leb n l ≡ c
+        → (if a then Some (UnsortedLocation l) else (if b then Some (DuplicateLocation l)
+        else (if c then Some (RangeOutOfBounds l) else location_refusal F (l + 1) n ls))) ≡ None
+        → (location_refusal F (l + 1) n ls ≡ None → Ascend (l + 1) n ls) → Ascend first n (l ∷ ls)
     go true b c x y z d rest = cc
     go false true c x y z d rest = cc
     go false false true x y z d rest = cc
@@ -80,27 +85,34 @@ ascends F n first (l ∷ ls) e = go (ltb (l + 1) first) (eqb (l + 1) first) (leb
 -- ---- entries
 
 module _ {D : Type 0} (text : D → List ℕ) (p : ℕ) where
-  pub entry_hit : (es : List (ℕ × D)) (i : ℕ) (e : ℕ × D) → i < length es → e ≡ get_or es i e → e.0 ≡ p → entry_at p (texts text (drop i es)) ≡ Some (text e.1)
+  pub entry_hit : (es : List (ℕ × D)) (i : ℕ) (e : ℕ × D) → i < length es → e ≡ get_or es i e → e.0 ≡ p
+      → entry_at p (texts text (drop i es)) ≡ Some (text e.1)
   entry_hit es i e within at same =
-      ap (λ xs. entry_at p (texts text xs)) (drop_more es i e within ∙ ap (λ x. x ∷ drop (i + 1) es) (sym at)) ∙ rw (eq-eqb e.0 p same) refl
+      ap (λ xs. entry_at p (texts text xs)) (drop_more es i e within ∙ ap (λ x. x ∷ drop (i + 1) es) (sym at))
+      ∙ rw (eq-eqb e.0 p same) refl
 
-  pub entry_later : (es : List (ℕ × D)) (i : ℕ) (e : ℕ × D) → i < length es → e ≡ get_or es i e → e.0 ≢ p → entry_at p (texts text (drop i es)) ≡ entry_at p (texts text (drop (i + 1) es))
+  pub entry_later : (es : List (ℕ × D)) (i : ℕ) (e : ℕ × D) → i < length es → e ≡ get_or es i e → e.0 ≢ p
+      → entry_at p (texts text (drop i es)) ≡ entry_at p (texts text (drop (i + 1) es))
   entry_later es i e within at other =
-      ap (λ xs. entry_at p (texts text xs)) (drop_more es i e within ∙ ap (λ x. x ∷ drop (i + 1) es) (sym at)) ∙ rw (ne_eqb e.0 p other) refl
+      ap (λ xs. entry_at p (texts text xs)) (drop_more es i e within ∙ ap (λ x. x ∷ drop (i + 1) es) (sym at))
+      ∙ rw (ne_eqb e.0 p other) refl
 
   pub entry_end : (es : List (ℕ × D)) (i : ℕ) → length es ≤ i → entry_at p (texts text (drop i es)) ≡ None
   entry_end es i l = ap (λ xs. entry_at p (texts text xs)) (drop_all i es l)
 
   -- past those below p
-  pub entry_found : (es : List (ℕ × D)) (i : ℕ) (e : ℕ × D) → ((k : ℕ) (d : ℕ × D) → k < i → (get_or es k d).0 < p) → i < length es → e ≡ get_or es i e → e.0 ≡ p → entry_at p (texts text es) ≡ Some (text e.1)
+  pub entry_found : (es : List (ℕ × D)) (i : ℕ) (e : ℕ × D) → ((k : ℕ) (d : ℕ × D) → k < i → (get_or es k d).0 < p)
+      → i < length es → e ≡ get_or es i e → e.0 ≡ p → entry_at p (texts text es) ≡ Some (text e.1)
   entry_found [] i e below within at same = absurd (omega arith)
-  entry_found (x ∷ es) zero e below within at same = let same' : x.0 ≡ p = sym (ap (λ y. y.0) at) ∙ same in rw (eq-eqb x.0 p same') (ap (λ y. Some (text y.1)) (sym at))
+  entry_found (x ∷ es) zero e below within at same = let same' : x.0 ≡ p = sym (ap (λ y. y.0) at) ∙ same in
+      rw (eq-eqb x.0 p same') (ap (λ y. Some (text y.1)) (sym at))
   entry_found (x ∷ es) (suc i) e below within at same =
       let less : x.0 < p = below 0 x (omega arith) in
       let ne : x.0 ≢ p = omega arith in
       rw (ne_eqb x.0 p ne) (entry_found es i e (λ k d l. below (suc k) d (omega arith)) (omega arith) at same)
 
-  pub entry_none : (es : List (ℕ × D)) → ((k : ℕ) (d : ℕ × D) → k < length es → (get_or es k d).0 ≢ p) → entry_at p (texts text es) ≡ None
+  pub entry_none : (es : List (ℕ × D)) → ((k : ℕ) (d : ℕ × D) → k < length es → (get_or es k d).0 ≢ p)
+      → entry_at p (texts text es) ≡ None
   entry_none [] f = refl
   entry_none (x ∷ es) f = rw (ne_eqb x.0 p (f 0 x (omega arith))) (entry_none es (λ k d l. f (suc k) d (omega arith)))
 
@@ -121,36 +133,49 @@ module _ (S : Shape) (past : ℕ) where
   pub past_none : (f s r : ℕ) (old : List ℕ) → S.peaks 0 ≡ [] → r ≡ 0 → old ≡ old ++ past_positions f s r
   past_none f s r old none z =
       let nothing : peaks_from S s r ≡ [] = ap (λ ks. places s ks) (ap S.peaks z ∙ none) in
-      sym (append-nil old) ∙ ap (λ ps. old ++ map (λ p. S.position p.first p.height) (trailing past ps)) (sym (ap (drop f) nothing ∙ no_drop f))
+      sym (append-nil old) ∙ ap (λ ps. old ++ map (λ p. S.position p.first p.height) (trailing past ps))
+      (sym (ap (drop f) nothing ∙ no_drop f))
 
-  module _ (f g s r h n : ℕ) (old new : List ℕ) (peaks : S.peaks r ≡ h ∷ S.peaks (r - 2 ^ h)) (length_is : n ≡ 2 ^ h) (less : g ≡ f - 1) where
+  module _ (f g s r h n : ℕ) (old new : List ℕ) (peaks : S.peaks r ≡ h ∷ S.peaks (r - 2 ^ h)) (length_is : n ≡ 2 ^ h)
+      (less : g ≡ f - 1) where
     abbrev later : ℕ → List ℕ
     later k = map (λ p. S.position p.first p.height) (trailing past (drop k (places (s + 2 ^ h) (S.peaks (r - 2 ^ h)))))
 
-    opened_past : past_positions f s r ≡ map (λ p. S.position p.first p.height) (trailing past (drop f (places s (h ∷ S.peaks (r - 2 ^ h)))))
+    opened_past : past_positions f s r
+        ≡ map (λ p. S.position p.first p.height) (trailing past (drop f (places s (h ∷ S.peaks (r - 2 ^ h)))))
     opened_past = ap (λ ks. map (λ p. S.position p.first p.height) (trailing past (drop f (places s ks)))) peaks
 
     moved : past_positions g (s + n) (r - n) ≡ later (f - 1)
     moved = ap (λ z. past_positions g (s + z) (r - z)) length_is ∙ ap later less
 
-    pub past_pushed : (mid : List ℕ) → f ≡ 0 → past ≤ s → mid ≡ old ++ S.position s h ∷ [] → new ≡ mid ++ past_positions g (s + n) (r - n) → new ≡ old ++ past_positions f s r
+    pub past_pushed : (mid : List ℕ) → f ≡ 0 → past ≤ s → mid ≡ old ++ S.position s h ∷ []
+        → new ≡ mid ++ past_positions g (s + n) (r - n) → new ≡ old ++ past_positions f s r
     past_pushed mid z l e d =
         let zero_left : f - 1 ≡ 0 = omega arith in
-        let rest : later (f - 1) ≡ map (λ p. S.position p.first p.height) (places (s + 2 ^ h) (S.peaks (r - 2 ^ h))) = ap later zero_left ∙ ap (map (λ p. S.position p.first p.height)) (trailing_all (s + 2 ^ h) (S.peaks (r - 2 ^ h)) (omega arith)) in
-        let all : past_positions f s r ≡ S.position s h ∷ map (λ p. S.position p.first p.height) (places (s + 2 ^ h) (S.peaks (r - 2 ^ h))) =
-        opened_past ∙ ap (λ k. map (λ p. S.position p.first p.height) (trailing past (drop k (places s (h ∷ S.peaks (r - 2 ^ h)))))) z ∙ ap (map (λ p. S.position p.first p.height)) (trailing_all s (h ∷ S.peaks (r - 2 ^ h)) l) in
-        d ∙ ap₂ (λ us vs. us ++ vs) e (moved ∙ rest) ∙ append_assoc old (S.position s h ∷ []) _ ∙ ap (λ vs. old ++ vs) (sym all)
+        let rest : later (f - 1) ≡ map (λ p. S.position p.first p.height) (places (s + 2 ^ h) (S.peaks (r - 2 ^ h))) =
+        ap later zero_left ∙ ap (map (λ p. S.position p.first p.height))
+        (trailing_all (s + 2 ^ h) (S.peaks (r - 2 ^ h)) (omega arith)) in
+        let all : past_positions f s r
+        ≡ S.position s h ∷ map (λ p. S.position p.first p.height) (places (s + 2 ^ h) (S.peaks (r - 2 ^ h))) =
+        opened_past ∙ ap (λ k.
+        map (λ p. S.position p.first p.height) (trailing past (drop k (places s (h ∷ S.peaks (r - 2 ^ h)))))) z
+        ∙ ap (map (λ p. S.position p.first p.height)) (trailing_all s (h ∷ S.peaks (r - 2 ^ h)) l) in
+        d ∙ ap₂ (λ us vs. us ++ vs) e (moved ∙ rest) ∙ append_assoc old (S.position s h ∷ []) _
+        ∙ ap (λ vs. old ++ vs) (sym all)
 
-    pub past_not_yet : f ≡ 0 → s < past → new ≡ old ++ past_positions g (s + n) (r - n) → new ≡ old ++ past_positions f s r
+    pub past_not_yet : f ≡ 0 → s < past → new ≡ old ++ past_positions g (s + n) (r - n)
+        → new ≡ old ++ past_positions f s r
     past_not_yet z l d =
         let zero_left : f - 1 ≡ 0 = omega arith in
-        let all : past_positions f s r ≡ later 0 = opened_past ∙ ap (λ k. map (λ p. S.position p.first p.height) (trailing past (drop k (places s (h ∷ S.peaks (r - 2 ^ h)))))) z ∙ rw (lt-leb past s l) refl in
+        let all : past_positions f s r ≡ later 0 = opened_past ∙ ap (λ k. map (λ p. S.position p.first p.height)
+        (trailing past (drop k (places s (h ∷ S.peaks (r - 2 ^ h)))))) z ∙ rw (lt-leb past s l) refl in
         d ∙ ap (λ vs. old ++ vs) (moved ∙ ap later zero_left ∙ sym all)
 
     pub past_folded : f ≢ 0 → new ≡ old ++ past_positions g (s + n) (r - n) → new ≡ old ++ past_positions f s r
     past_folded ne d =
         let one_more : f ≡ suc (f - 1) = omega arith in
-        let all : past_positions f s r ≡ later (f - 1) = opened_past ∙ ap (λ k. map (λ p. S.position p.first p.height) (trailing past (drop k (places s (h ∷ S.peaks (r - 2 ^ h)))))) one_more in
+        let all : past_positions f s r ≡ later (f - 1) = opened_past ∙ ap (λ k. map (λ p. S.position p.first p.height)
+        (trailing past (drop k (places s (h ∷ S.peaks (r - 2 ^ h)))))) one_more in
         d ∙ ap (λ vs. old ++ vs) (moved ∙ sym all)
 
 -- ---- needed positions
@@ -159,57 +184,81 @@ module _ (F : Type 0) (store : Store) (peaks : List (ℕ × List ℕ)) (suffix :
   abbrev pub digest_of : ℕ → List ℕ
   digest_of p = or_else [] (found_at store peaks p)
 
-  pub needed_there : (ps : List ℕ) (i p : ℕ) (d : List ℕ) → i < length ps → p ≡ get_or ps i p → found_at store peaks p ≡ Some d → needed_refusal F store peaks suffix (drop i ps) ≡ needed_refusal F store peaks suffix (drop (i + 1) ps)
+  pub needed_there : (ps : List ℕ) (i p : ℕ) (d : List ℕ) → i < length ps → p ≡ get_or ps i p → found_at store peaks p
+      ≡ Some d → needed_refusal F store peaks suffix (drop i ps) ≡ needed_refusal F store peaks suffix (drop (i + 1) ps)
   needed_there ps i p d within at found =
       ap (needed_refusal F store peaks suffix) (drop_more ps i p within ∙ ap (λ x. x ∷ drop (i + 1) ps) (sym at))
-      ∙ ap (λ o. unless_there o (if is_among p suffix then CompressedDigest p else ElementPruned p) (needed_refusal F store peaks suffix (drop (i + 1) ps))) found
+      ∙ ap (λ o. unless_there o (if is_among p suffix then CompressedDigest p else ElementPruned p)
+      (needed_refusal F store peaks suffix (drop (i + 1) ps))) found
 
-  pub needed_missing : (ps : List ℕ) (i p : ℕ) → i < length ps → p ≡ get_or ps i p → found_at store peaks p ≡ None → needed_refusal F store peaks suffix (drop i ps) ≡ Some (if is_among p suffix then CompressedDigest p else ElementPruned p)
+  pub needed_missing : (ps : List ℕ) (i p : ℕ) → i < length ps → p ≡ get_or ps i p → found_at store peaks p ≡ None
+      → needed_refusal F store peaks suffix (drop i ps)
+      ≡ Some (if is_among p suffix then CompressedDigest p else ElementPruned p)
   needed_missing ps i p within at found =
       ap (needed_refusal F store peaks suffix) (drop_more ps i p within ∙ ap (λ x. x ∷ drop (i + 1) ps) (sym at))
-      ∙ ap (λ o. unless_there o (if is_among p suffix then CompressedDigest p else ElementPruned p) (needed_refusal F store peaks suffix (drop (i + 1) ps))) found
+      ∙ ap (λ o. unless_there o (if is_among p suffix then CompressedDigest p else ElementPruned p)
+      (needed_refusal F store peaks suffix (drop (i + 1) ps))) found
 
   pub needed_all : (ps : List ℕ) (i : ℕ) → length ps ≤ i → needed_refusal F store peaks suffix (drop i ps) ≡ None
   needed_all ps i l = ap (needed_refusal F store peaks suffix) (drop_all i ps l)
 
-  pub digests_more : {D : Type 0} (text : D → List ℕ) (ps : List ℕ) (i p : ℕ) (d : D) (old new : List D) → i < length ps → p ≡ get_or ps i p → found_at store peaks p ≡ Some (text d) → new ≡ old ++ d ∷ [] → map text old ++ map digest_of (drop i ps) ≡ map digest_of ps → map text new ++ map digest_of (drop (i + 1) ps) ≡ map digest_of ps
+  pub digests_more : {D : Type 0} (text : D → List ℕ) (ps : List ℕ) (i p : ℕ) (d : D) (old new : List D) → i < length ps
+      → p ≡ get_or ps i p → found_at store peaks p ≡ Some (text d) → new ≡ old ++ d ∷ [] → map text old ++ map digest_of
+      (drop i ps) ≡ map digest_of ps → map text new ++ map digest_of (drop (i + 1) ps) ≡ map digest_of ps
   digests_more text ps i p d old new within at found pushed e =
       let here : text d ≡ digest_of p = sym (ap (or_else []) found) in
-      let opened : map digest_of (drop i ps) ≡ digest_of p ∷ map digest_of (drop (i + 1) ps) = ap (map digest_of) (drop_more ps i p within ∙ ap (λ x. x ∷ drop (i + 1) ps) (sym at)) in
+      let opened : map digest_of (drop i ps) ≡ digest_of p ∷ map digest_of (drop (i + 1) ps) =
+      ap (map digest_of) (drop_more ps i p within ∙ ap (λ x. x ∷ drop (i + 1) ps) (sym at)) in
       ap (λ xs. map text xs ++ map digest_of (drop (i + 1) ps)) pushed
       ∙ ap (λ xs. xs ++ map digest_of (drop (i + 1) ps)) (map-append text old (d ∷ []))
       ∙ append_assoc (map text old) (text d ∷ []) (map digest_of (drop (i + 1) ps))
       ∙ ap (λ x. map text old ++ x ∷ map digest_of (drop (i + 1) ps)) here
       ∙ ap (λ xs. map text old ++ xs) (sym opened) ∙ e
 
-  pub digests_end : (ps : List ℕ) (i : ℕ) (xs : List (List ℕ)) → length ps ≤ i → xs ++ map digest_of (drop i ps) ≡ map digest_of ps → xs ≡ map digest_of ps
+  pub digests_end : (ps : List ℕ) (i : ℕ) (xs : List (List ℕ)) → length ps ≤ i
+      → xs ++ map digest_of (drop i ps) ≡ map digest_of ps → xs ≡ map digest_of ps
   digests_end ps i xs l e = sym (append-nil xs) ∙ ap (λ qs. xs ++ map digest_of qs) (sym (drop_all i ps l)) ∙ e
 
 -- ---- at their positions
 
 -- positions of nodes, sorted, and the peaks past a range
-peak_nodes : (S : Shape) (ps : List Peak) → map (λ p. S.position p.first p.height) ps ≡ map (position_of (ungrafted S)) (map (λ p. node p.first p.height) ps)
+peak_nodes : (S : Shape) (ps : List Peak)
+    → map (λ p. S.position p.first p.height) ps ≡ map (position_of (ungrafted S)) (map (λ p. node p.first p.height) ps)
 peak_nodes S [] = refl
 peak_nodes S (p ∷ ps) = ap (λ qs. S.position p.first p.height ∷ qs) (peak_nodes S ps)
 
-pub suffix_sorted : (S : Shape) (store : Store) (found ps : List ℕ) → found ≡ map (λ p. S.position p.first p.height) (trailing store.past (unfolded store.bagging store.inactive (peaks_of (ungrafted S) store.leaves))) → IsPermutation found ps → IsNonDecreasing ps → ps ≡ suffix_positions S store
+pub suffix_sorted : (S : Shape) (store : Store) (found ps : List ℕ) → found ≡ map (λ p. S.position p.first p.height)
+    (trailing store.past (unfolded store.bagging store.inactive (peaks_of (ungrafted S) store.leaves)))
+    → IsPermutation found ps → IsNonDecreasing ps → ps ≡ suffix_positions S store
 suffix_sorted S store found ps e p up =
     let peaks = trailing store.past (unfolded store.bagging store.inactive (peaks_of (ungrafted S) store.leaves)) in
-    positions_sorted (ungrafted S) (map (λ p. node p.first p.height) peaks) ps (subst (λ xs. IsPermutation xs ps) (e ∙ peak_nodes S peaks) p) up
+    positions_sorted (ungrafted S) (map (λ p. node p.first p.height) peaks) ps
+    (subst (λ xs. IsPermutation xs ps) (e ∙ peak_nodes S peaks) p) up
 
 -- kept at a position: the entry at the place that a search gives, or none
-module _ {D : Type 0} (text : D → List ℕ) (p : ℕ) (es : List (ℕ × D)) (i : ℕ) (parts : IsPartitionPoint (λ (e : ℕ × D). ltb e.0 p ≡ true) (λ e. ltb e.0 p ≡ false) es i) where
-  pub kept_found : (e : ℕ × D) → i < length es → e ≡ get_or es i e → e.0 ≡ p → entry_at p (texts text es) ≡ Some (text e.1)
-  kept_found e within at same = entry_found text p es i e (λ k d l. ltb-true (get_or es k d).0 p (parts.0 k d (omega arith) l)) within at same
+module _ {D : Type 0} (text : D → List ℕ) (p : ℕ) (es : List (ℕ × D)) (i : ℕ)
+    (parts : IsPartitionPoint (λ (e : ℕ × D). ltb e.0 p ≡ true) (λ e. ltb e.0 p ≡ false) es i) where
+  pub kept_found : (e : ℕ × D) → i < length es → e ≡ get_or es i e → e.0 ≡ p
+      → entry_at p (texts text es) ≡ Some (text e.1)
+  kept_found e within at same =
+      entry_found text p es i e (λ k d l. ltb-true (get_or es k d).0 p (parts.0 k d (omega arith) l)) within at same
 
   -- the entries from i on are not below p, and ascend
-  pub kept_none : IsNonDecreasing (map (λ e. e.0) es) → (i < length es → (d : ℕ × D) → (get_or es i d).0 ≢ p) → entry_at p (texts text es) ≡ None
+  pub kept_none : IsNonDecreasing (map (λ e. e.0) es) → (i < length es → (d : ℕ × D) → (get_or es i d).0 ≢ p)
+      → entry_at p (texts text es) ≡ None
   kept_none up other = entry_none text p es (λ k d l. elim (cases_lt k i) [
-    | inl before ↦ let less : (get_or es k d).0 < p = ltb-true (get_or es k d).0 p (parts.0 k d (omega arith) before) in omega arith
+    | inl before ↦ let less : (get_or es k d).0 < p =
+        ltb-true (get_or es k d).0 p (parts.0 k d (omega arith) before) in omega arith
     | inr later ↦
         let ge : p ≤ (get_or es i d).0 = ltb-false (get_or es i d).0 p (parts.1 i d (omega arith) (omega arith)) in
         let ne : (get_or es i d).0 ≢ p = other (omega arith) d in
-        let rises : (get_or es i d).0 ≤ (get_or es k d).0 = omega (arith, up i k 0 later (omega (arith, length-map es (λ (e : ℕ × D). e.0))), get_or-map (λ (e : ℕ × D). e.0) es i d 0 (omega arith), get_or-map (λ (e : ℕ × D). e.0) es k d 0 l) in
+        let rises : (get_or es i d).0 ≤ (get_or es k d).0 =
+        omega (
+          arith,
+          up i k 0 later (omega (arith, length-map es (λ (e : ℕ × D). e.0))),
+          get_or-map (λ (e : ℕ × D). e.0) es i d 0 (omega arith),
+          get_or-map (λ (e : ℕ × D). e.0) es k d 0 l,
+        ) in
         omega arith
   ])
 
@@ -225,33 +274,53 @@ chosen_second true c x y e f = cc
 
 -- the peaks inside the fold past the range, as they are found
 abbrev pub suffix_found : Shape → Store → List ℕ
-suffix_found S store = map (λ p. S.position p.first p.height) (trailing store.past (unfolded store.bagging store.inactive (peaks_of (ungrafted S) store.leaves)))
+suffix_found S store = map (λ p. S.position p.first p.height)
+    (trailing store.past (unfolded store.bagging store.inactive (peaks_of (ungrafted S) store.leaves)))
 
-pub suffix_forward : (S : Shape) (store : Store) (b : Bagging) (found : List ℕ) → b ≡ store.bagging → b ≡ ForwardFold → found ≡ [] → found ≡ suffix_found S store
-suffix_forward S store b found e f none = none ∙ ap (λ c. map (λ p. S.position p.first p.height) (trailing store.past (unfolded c store.inactive (peaks_of (ungrafted S) store.leaves)))) (sym f ∙ e)
+pub suffix_forward : (S : Shape) (store : Store) (b : Bagging) (found : List ℕ) → b ≡ store.bagging → b ≡ ForwardFold
+    → found ≡ [] → found ≡ suffix_found S store
+suffix_forward S store b found e f none = none ∙ ap (λ c. map (λ p. S.position p.first p.height)
+    (trailing store.past (unfolded c store.inactive (peaks_of (ungrafted S) store.leaves)))) (sym f ∙ e)
 
-pub suffix_backward : (S : Shape) (store : Store) (b : Bagging) (past inactive leaves : ℕ) (old new found : List ℕ) → b ≡ store.bagging → b ≡ BackwardFold → past ≡ store.past → inactive ≡ store.inactive → leaves ≡ store.leaves → old ≡ [] → new ≡ old ++ past_positions S past inactive 0 leaves → found ≡ new → found ≡ suffix_found S store
+pub suffix_backward : (S : Shape) (store : Store) (b : Bagging) (past inactive leaves : ℕ) (old new found : List ℕ)
+    → b ≡ store.bagging → b ≡ BackwardFold → past ≡ store.past → inactive ≡ store.inactive → leaves ≡ store.leaves
+    → old ≡ [] → new ≡ old ++ past_positions S past inactive 0 leaves → found ≡ new → found ≡ suffix_found S store
 suffix_backward S store b past inactive leaves old new found e f ep ei en none added same =
     same ∙ added ∙ ap (λ xs. xs ++ past_positions S past inactive 0 leaves) none
     ∙ ap₂ (λ z i. past_positions S z i 0 leaves) ep ei ∙ ap (past_positions S store.past store.inactive 0) en
-    ∙ ap (λ c. map (λ p. S.position p.first p.height) (trailing store.past (unfolded c store.inactive (peaks_of (ungrafted S) store.leaves)))) (sym f ∙ e)
+    ∙ ap (λ c. map (λ p. S.position p.first p.height)
+    (trailing store.past (unfolded c store.inactive (peaks_of (ungrafted S) store.leaves)))) (sym f ∙ e)
 
-pub entries_rise : {D : Type 0} (es : List (ℕ × D)) → IsNonDecreasing (map (λ e. e.0) es) → IsNonDecreasingBy (λ (e : ℕ × D). e.0) es
-entries_rise es up = λ i j d le l. omega (arith, up i j 0 le (omega (arith, length-map es (λ (e : _ × _). e.0))), get_or-map (λ (e : _ × _). e.0) es i d 0 (omega arith), get_or-map (λ (e : _ × _). e.0) es j d 0 l)
+pub entries_rise : {D : Type 0} (es : List (ℕ × D)) → IsNonDecreasing (map (λ e. e.0) es)
+    → IsNonDecreasingBy (λ (e : ℕ × D). e.0) es
+entries_rise es up = λ i j d le l. omega (
+  arith,
+  up i j 0 le (omega (arith, length-map es (λ (e : _ × _). e.0))),
+  get_or-map (λ (e : _ × _). e.0) es i d 0 (omega arith),
+  get_or-map (λ (e : _ × _). e.0) es j d 0 l,
+)
 
-pub positions_rise : {D : Type 0} (es : List (ℕ × D)) → IsNonDecreasingBy (λ (e : ℕ × D). e.0) es → IsNonDecreasing (map (λ e. e.0) es)
+pub positions_rise : {D : Type 0} (es : List (ℕ × D)) → IsNonDecreasingBy (λ (e : ℕ × D). e.0) es
+    → IsNonDecreasing (map (λ e. e.0) es)
 positions_rise [] up = λ i j d l m. absurd (omega arith)
 positions_rise (e ∷ es) up = λ i j d l m.
     let n : j < length (e ∷ es) = omega (arith, length-map (e ∷ es) (λ (x : _ × _). x.0)) in
     let k : i < length (e ∷ es) = omega arith in
     let le = up i j e l n in
-    omega (arith, le, get_or-map (λ (x : _ × _). x.0) (e ∷ es) i e d k, get_or-map (λ (x : _ × _). x.0) (e ∷ es) j e d n)
+    omega (
+      arith,
+      le,
+      get_or-map (λ (x : _ × _). x.0) (e ∷ es) i e d k,
+      get_or-map (λ (x : _ × _). x.0) (e ∷ es) j e d n,
+    )
 
 -- an entry that stands elsewhere
-pub stands_elsewhere : {D : Type 0} (es : List (ℕ × D)) (i p : ℕ) (e : ℕ × D) → e ≡ get_or es i e → true ≡ not (eqb e.0 p) → i < length es → (d : ℕ × D) → (get_or es i d).0 ≢ p
+pub stands_elsewhere : {D : Type 0} (es : List (ℕ × D)) (i p : ℕ) (e : ℕ × D) → e ≡ get_or es i e
+    → true ≡ not (eqb e.0 p) → i < length es → (d : ℕ × D) → (get_or es i d).0 ≢ p
 stands_elsewhere es i p e at ne within d =
     let same : get_or es i d ≡ e = get_or_default es i d e within ∙ sym at in
-    λ f. (let t : eqb e.0 p ≡ true = eq-eqb e.0 p (sym (ap (λ x. x.0) same) ∙ f) in let g : true ≡ not true = ne ∙ ap not t in cc)
+    λ f.
+    (let t : eqb e.0 p ≡ true = eq-eqb e.0 p (sym (ap (λ x. x.0) same) ∙ f) in let g : true ≡ not true = ne ∙ ap not t in cc)
 
 pub stands_there : (m p : ℕ) → false ≡ not (eqb m p) → m ≡ p
 stands_there m p e = go (eqb m p) refl e
@@ -265,7 +334,9 @@ map_itself [] = refl
 map_itself (x ∷ xs) = ap (λ ys. x ∷ ys) (map_itself xs)
 
 -- of some locations, none of which is refused, and of the positions that they need
-module _ (F : Type 0) (S : Shape) (store : Store) (peaks : List (ℕ × List ℕ)) (ls ps : List ℕ) (some : false ≡ (length ls == 0)) (n : ℕ) (leaves : n ≡ store.leaves) (located : location_refusal F 0 n ls ≡ None) (found : ps ≡ map (position_of (ungrafted S)) (needed_sites (ungrafted S) (map (λ l. l) ls) n)) where
+module _ (F : Type 0) (S : Shape) (store : Store) (peaks : List (ℕ × List ℕ)) (ls ps : List ℕ)
+    (some : false ≡ (length ls == 0)) (n : ℕ) (leaves : n ≡ store.leaves) (located : location_refusal F 0 n ls ≡ None)
+    (found : ps ≡ map (position_of (ungrafted S)) (needed_sites (ungrafted S) (map (λ l. l) ls) n)) where
   abbrev refusal_of : List ℕ → Option (Error F)
   refusal_of qs = needed_refusal F store peaks (suffix_positions S store) qs
 
@@ -275,9 +346,12 @@ module _ (F : Type 0) (S : Shape) (store : Store) (peaks : List (ℕ × List ℕ
   pub multi_is : multi_refusal F S store peaks ls ≡ refusal_of ps
   multi_is = go ls some (ap (λ m. location_refusal F 0 m ls) (sym leaves) ∙ located) ∙ ap refusal_of (sym found_are)
     where
-      go : (ks : List ℕ) → false ≡ (length ks == 0) → location_refusal F 0 store.leaves ks ≡ None → multi_refusal F S store peaks ks ≡ refusal_of (needed_positions S ks store.leaves)
+      go : (ks : List ℕ) → false ≡ (length ks == 0) → location_refusal F 0 store.leaves ks ≡ None
+          → multi_refusal F S store peaks ks ≡ refusal_of (needed_positions S ks store.leaves)
       go [] e f = cc
       go (k ∷ ks) e f = ap (λ o. first_of o (refusal_of (needed_positions S (k ∷ ks) store.leaves))) f
 
-  pub multi_digests : {D : Type 0} (text : D → List ℕ) (ds : List D) → map text ds ≡ map (λ p. or_else [] (found_at store peaks p)) ps → map text ds ≡ map (λ p. or_else [] (found_at store peaks p)) (needed_positions S ls store.leaves)
+  pub multi_digests : {D : Type 0} (text : D → List ℕ) (ds : List D)
+      → map text ds ≡ map (λ p. or_else [] (found_at store peaks p)) ps
+      → map text ds ≡ map (λ p. or_else [] (found_at store peaks p)) (needed_positions S ls store.leaves)
   multi_digests text ds e = e ∙ ap (map (λ p. or_else [] (found_at store peaks p))) found_are

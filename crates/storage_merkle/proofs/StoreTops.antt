@@ -5,7 +5,8 @@ use Rattle.storage_merkle.specs.Calc.{node}
 use Rattle.storage_merkle.specs.RangeProofs.{apart}
 use Rattle.storage_merkle.proofs.CheckTops.{tops, tops_step}
 
-module _ (S : Shape) (low high a r f h a' r' f' : ℕ) (e : S.peaks r ≡ h ∷ S.peaks (r - 2 ^ h)) (ea : a' ≡ a + 2 ^ h) (er : r' ≡ r - 2 ^ h) (ef : f' ≡ f - 1) (l : (0 < f) ⊎ ((f ≤ 0) × (a < high))) where
+module _ (S : Shape) (low high a r f h a' r' f' : ℕ) (e : S.peaks r ≡ h ∷ S.peaks (r - 2 ^ h)) (ea : a' ≡ a + 2 ^ h)
+    (er : r' ≡ r - 2 ^ h) (ef : f' ≡ f - 1) (l : (0 < f) ⊎ ((f ≤ 0) × (a < high))) where
   abbrev Opens : Bool → Type 0
   Opens b = tops S low high a r f ≡ (if b then node a h ∷ tops S low high a' r' f' else tops S low high a' r' f')
 

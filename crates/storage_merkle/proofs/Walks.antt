@@ -1,7 +1,7 @@
 -- Walking along the peaks of a tree, and down from a node to its halves.
-use Rattle.std.proofs.Common.{◌≡◌, ◌≢◌, ℕ, zero, suc, ◌+◌, ◌-◌, ◌*◌, ◌%◌, ◌^◌, ◌<◌, ◌≤◌, ◌∷◌, length, inl, inr, arith, refl, sym, subst, ap, ◌∙◌, pow_pos}
-use Rattle.storage_merkle.specs.Shape.{Shape, Laws, size, Inside, AreAligned}
-use Rattle.storage_merkle.specs.Multiples.{pow_two, pow_order, multiple_down, multiple_add, power_multiple}
+use Rattle.std.proofs.Common.{◌≡◌, ◌≢◌, ℕ, zero, suc, ◌+◌, ◌-◌, ◌*◌, ◌%◌, ◌^◌, ◌<◌, ◌≤◌, ◌∷◌, length, inl, inr, arith, refl, sym, subst, pow_pos}
+use Rattle.storage_merkle.specs.Shape.{Shape, Laws, size, Inside}
+use Rattle.storage_merkle.specs.Multiples.{pow_two, multiple_down, multiple_add, power_multiple}
 use Rattle.storage_merkle.specs.ShapeLaws.{step, Step, early_fits, length_at_most}
 use Rattle.storage_merkle.specs.Plans.{InTree, ArePeaks}
 
@@ -52,7 +52,8 @@ module _ (S : Shape) (L : Laws S) where
   pub peaks_step : (n s r h : ℕ) → n ≤ 2 ^ 62 → ArePeaks S n s r → S.peaks r ≡ h ∷ S.peaks (r - 2 ^ h) → Step S L s r h
   peaks_step n s r h few p e = step S L s r h (omega (arith, p.sum)) p.aligned e
 
-  pub peaks_next : (n s r h : ℕ) → n ≤ 2 ^ 62 → ArePeaks S n s r → S.peaks r ≡ h ∷ S.peaks (r - 2 ^ h) → ArePeaks S n (s + 2 ^ h) (r - 2 ^ h)
+  pub peaks_next : (n s r h : ℕ) → n ≤ 2 ^ 62 → ArePeaks S n s r → S.peaks r ≡ h ∷ S.peaks (r - 2 ^ h)
+      → ArePeaks S n (s + 2 ^ h) (r - 2 ^ h)
   unfolding Inside
   peaks_next n s r h few p e =
       let t = peaks_step n s r h few p e in
@@ -62,7 +63,8 @@ module _ (S : Shape) (L : Laws S) where
         inside = λ a k i. p.inside a k (subst (λ hs. Inside hs s a k) (sym e) (inr i));
       }
 
-  pub peak_in_tree : (n s r h : ℕ) → n ≤ 2 ^ 62 → ArePeaks S n s r → S.peaks r ≡ h ∷ S.peaks (r - 2 ^ h) → InTree S n s h
+  pub peak_in_tree : (n s r h : ℕ) → n ≤ 2 ^ 62 → ArePeaks S n s r → S.peaks r ≡ h ∷ S.peaks (r - 2 ^ h)
+      → InTree S n s h
   unfolding Inside
   peak_in_tree n s r h few p e =
       let t = peaks_step n s r h few p e in

@@ -9,7 +9,8 @@ use Rattle.storage_merkle.specs.ProofWire.{proof_text, proof_at}
 
 -- the answers for a plan's positions are the digests of the nodes of the tree over some content, and what is claimed of the
 -- plan's range stands in it
-pub record IsServed {D : Type 0} (text : D → List ℕ) (answers : ℕ → Option D → Type 0) (h : HashFunction) (T : Layout) (plan : PlanOf) (inactive : ℕ) (claim content : Content) : Type 0 where
+pub record IsServed {D : Type 0} (text : D → List ℕ) (answers : ℕ → Option D → Type 0) (h : HashFunction) (T : Layout)
+    (plan : PlanOf) (inactive : ℕ) (claim content : Content) : Type 0 where
   pub leaves : length content.elements ≡ plan.leaves
   pub few : plan.leaves ≤ 2 ^ 62
   pub peaks : inactive ≤ length (T.shape.peaks plan.leaves)
@@ -20,7 +21,8 @@ pub record IsServed {D : Type 0} (text : D → List ℕ) (answers : ℕ → Opti
   pub chunks_are : SameChunks T plan.leaves plan.start plan.end claim content
 
 -- A proof that a plan builds from the nodes of a tree is accepted against the tree's root.
-abbrev pub BuiltRangeProofsAreAccepted : {D : Type 0} → (D → List ℕ) → (ℕ → Option D → Type 0) → HashFunction → Layout → Bagging → Type 0
+abbrev pub BuiltRangeProofsAreAccepted : {D : Type 0} → (D → List ℕ) → (ℕ → Option D → Type 0) → HashFunction → Layout
+    → Bagging → Type 0
 BuiltRangeProofsAreAccepted text answers h T b =
     (plan : PlanOf) (inactive : ℕ) (proof : RangeProof) (claim content : Content) →
     IsOwnOfEach text answers h T.shape b plan inactive proof →
@@ -29,7 +31,8 @@ BuiltRangeProofsAreAccepted text answers h T b =
 
 -- What such a proof, with digests of d bytes, is written as is read as the same proof, whatever follows it, by a reader that
 -- admits at least so many digests.
-abbrev pub BuiltRangeProofsAreReadAgain : {D : Type 0} → (D → List ℕ) → (ℕ → Option D → Type 0) → ℕ → HashFunction → Layout → Bagging → Type 0
+abbrev pub BuiltRangeProofsAreReadAgain : {D : Type 0} → (D → List ℕ) → (ℕ → Option D → Type 0) → ℕ → HashFunction
+    → Layout → Bagging → Type 0
 BuiltRangeProofsAreReadAgain text answers d h T b =
     (plan : PlanOf) (inactive : ℕ) (proof : RangeProof) (claim content : Content) →
     IsOwnOfEach text answers h T.shape b plan inactive proof →

@@ -56,7 +56,8 @@ abbrev pub strings : HashFunction → Values → Calc → List (List ℕ)
 strings h v (given s) = []
 strings h v (leaf prefix j) = (prefix ++ v.element j) ∷ []
 strings h v (pair prefix l r) = (prefix ++ (eval h v l ++ eval h v r)) ∷ (strings h v l ++ strings h v r)
-strings h v (graft a p l r) = grafted_strings (v.chunk a) (h (be8 p ++ (eval h v l ++ eval h v r))) ++ ((be8 p ++ (eval h v l ++ eval h v r)) ∷ (strings h v l ++ strings h v r))
+strings h v (graft a p l r) = grafted_strings (v.chunk a) (h (be8 p ++ (eval h v l ++ eval h v r)))
+    ++ ((be8 p ++ (eval h v l ++ eval h v r)) ∷ (strings h v l ++ strings h v r))
 
 -- both sets of values have the same at each name of a calculation
 abbrev pub Agree : Values → Values → Calc → Type 0

@@ -8,7 +8,8 @@ use Rattle.storage_merkle.specs.RangeProofs.{RangeProof, CountsFit, recomputed_r
 -- the root that a check recomputes where the counts fit, and none where they don't
 abbrev pub IsRecomputed : HashFunction → Layout → Bagging → RangeProof → ℕ → Content → Option (List ℕ) → Type 0
 IsRecomputed h T b proof start claim None = CountsFit h T b proof start claim → ⊥
-IsRecomputed h T b proof start claim (Some root) = CountsFit h T b proof start claim × (root ≡ recomputed_root h T b proof start claim)
+IsRecomputed h T b proof start claim (Some root) =
+    CountsFit h T b proof start claim × (root ≡ recomputed_root h T b proof start claim)
 
 -- Of each tree with that root, the proof is the tree's own and what it claims stands there, or a string of the check and a
 -- different one of the tree have one digest. Digests have d bytes and chunks N; which nodes have a chunk grafted may depend on
@@ -22,4 +23,5 @@ IsProved d h T b proof start claim root =
     length content.elements ≤ 2 ^ 62 → inactive ≤ length (T.shape.peaks (length content.elements)) →
     tree_root h (over (length content.elements)) b content inactive ≡ root →
     IsOwn h (over (length content.elements)) b proof start claim content inactive
-    ⊎ Cross h (check_strings h T b proof start claim) (tree_strings h (over (length content.elements)) b content inactive)
+    ⊎ Cross h (check_strings h T b proof start claim)
+    (tree_strings h (over (length content.elements)) b content inactive)

@@ -12,7 +12,8 @@ use Rattle.storage_merkle.specs.Multi.{tree_digest}
 -- the nodes whose digests the calculation of a node reads or computes, children first
 abbrev pub nodes_under : (ℕ → ℕ → Bool) → ℕ → ℕ → List Site
 nodes_under cut zero a = node a zero ∷ []
-nodes_under cut (suc k) a = (if cut a (suc k) then [] else nodes_under cut k a ++ nodes_under cut k (a + 2 ^ k)) ++ (node a (suc k) ∷ [])
+nodes_under cut (suc k) a = (if cut a (suc k) then [] else nodes_under cut k a ++ nodes_under cut k (a + 2 ^ k))
+    ++ (node a (suc k) ∷ [])
 
 abbrev pub nodes_in : (ℕ → ℕ → Bool) → List Peak → List Site
 nodes_in cut [] = []
@@ -21,7 +22,8 @@ nodes_in cut (p ∷ ps) = nodes_under cut p.height p.first ++ nodes_in cut ps
 -- the peaks that share a leaf with a range
 abbrev pub overlapped : ℕ → ℕ → List Peak → List Peak
 overlapped low high [] = []
-overlapped low high (p ∷ ps) = if apart low high p.first p.height then overlapped low high ps else p ∷ overlapped low high ps
+overlapped low high (p ∷ ps) = if apart low high p.first p.height then overlapped low high ps
+    else p ∷ overlapped low high ps
 
 -- each node of those peaks that the check of the range reads or computes, and the same by position
 abbrev pub checked_sites : Layout → ℕ → ℕ → ℕ → List Site
@@ -46,15 +48,18 @@ digest_at h v T cut (node a k) = eval h v (node_calc T cut k a)
 
 -- the digests of a check at some nodes
 abbrev pub checked : HashFunction → Layout → Bagging → RangeProof → ℕ → Content → List Site → List (ℕ × List ℕ)
-checked h T b proof start claim ss = entries T (digest_at h (check_values h T b proof start claim) T (apart start (start + length claim.elements))) ss
+checked h T b proof start claim ss = entries T
+    (digest_at h (check_values h T b proof start claim) T (apart start (start + length claim.elements))) ss
 
 -- what an accepted check hands out
 abbrev pub extracted : HashFunction → Layout → Bagging → RangeProof → ℕ → Content → List (ℕ × List ℕ)
-extracted h T b proof start claim = checked h T b proof start claim (extracted_sites T proof.leaves start (start + length claim.elements))
+extracted h T b proof start claim = checked h T b proof start claim
+    (extracted_sites T proof.leaves start (start + length claim.elements))
 
 -- what the tree over some content has there
 abbrev pub tree_entries : HashFunction → Layout → Content → ℕ → ℕ → List (ℕ × List ℕ)
-tree_entries h T content low high = entries T (tree_digest h T content) (extracted_sites T (length content.elements) low high)
+tree_entries h T content low high = entries T (tree_digest h T content)
+    (extracted_sites T (length content.elements) low high)
 
 -- the counts fit to a range of some elements, or it is the proof of none
 abbrev pub Fits : HashFunction → Layout → Bagging → RangeProof → ℕ → Content → Type 0
@@ -62,7 +67,8 @@ Fits h T b proof start claim = CountsFit h T b proof start claim ⊎ IsEmptyProo
 
 -- Of each tree with that root some property holds, or one of the strings and a different one of the tree have one digest. Digests
 -- have d bytes and chunks N; which nodes have a chunk grafted may depend on the number of leaves.
-abbrev pub HoldsOfEach : ℕ → HashFunction → Layout → Bagging → ℕ → Content → List (List ℕ) → List ℕ → (Layout → Content → ℕ → Type 0) → Type 0
+abbrev pub HoldsOfEach : ℕ → HashFunction → Layout → Bagging → ℕ → Content → List (List ℕ) → List ℕ
+    → (Layout → Content → ℕ → Type 0) → Type 0
 HoldsOfEach d h T b leaves claim strings root P =
     (N : ℕ) (grafted : ℕ → ℕ → ℕ → Bool) →
     let over : ℕ → Layout = λ n. record { shape = T.shape; grafted = grafted n } in
@@ -70,16 +76,19 @@ HoldsOfEach d h T b leaves claim strings root P =
     (content : Content) (inactive : ℕ) → ((a : ℕ) → length (content.chunk a) ≡ N) →
     length content.elements ≤ 2 ^ 62 → inactive ≤ length (T.shape.peaks (length content.elements)) →
     tree_root h (over (length content.elements)) b content inactive ≡ root →
-    P (over (length content.elements)) content inactive ⊎ Cross h strings (tree_strings h (over (length content.elements)) b content inactive)
+    P (over (length content.elements)) content inactive
+    ⊎ Cross h strings (tree_strings h (over (length content.elements)) b content inactive)
 
 -- what a check hands out is what each tree with that root has there, digest by digest
 abbrev pub AreExtracted : ℕ → HashFunction → Layout → Bagging → RangeProof → ℕ → Content → List ℕ → Type 0
 AreExtracted d h T b proof start claim root =
     HoldsOfEach d h T b proof.leaves claim (check_strings h T b proof start claim) root
-    (λ U content inactive. extracted h T b proof start claim ≡ tree_entries h U content start (start + length claim.elements))
+    (λ U content inactive. extracted h T b proof start claim
+    ≡ tree_entries h U content start (start + length claim.elements))
 
 -- what an accepted check hands out, whole and ascending, each position once
-pub record AreHandedOut (d : ℕ) (h : HashFunction) (T : Layout) (b : Bagging) (proof : RangeProof) (start : ℕ) (claim : Content) (root : List ℕ) (digests : List (ℕ × List ℕ)) : Type 0 where
+pub record AreHandedOut (d : ℕ) (h : HashFunction) (T : Layout) (b : Bagging) (proof : RangeProof) (start : ℕ)
+    (claim : Content) (root : List ℕ) (digests : List (ℕ × List ℕ)) : Type 0 where
   pub accepted : IsAccepted h T b proof start claim root
   pub all : digests ≡ extracted h T b proof start claim
   pub are_true : AreExtracted d h T b proof start claim root
@@ -89,7 +98,8 @@ pub record AreHandedOut (d : ℕ) (h : HashFunction) (T : Layout) (b : Bagging) 
 -- tree have one digest.
 abbrev pub ExtractedDigestsAreTrue : Type 0
 ExtractedDigestsAreTrue =
-    (d : ℕ) (h : HashFunction) (T : Layout) (b : Bagging) (proof : RangeProof) (start : ℕ) (claim : Content) (root : List ℕ) →
+    (d : ℕ) (h : HashFunction) (T : Layout) (b : Bagging) (proof : RangeProof) (start : ℕ) (claim : Content)
+    (root : List ℕ) →
     IsSized d h → Laws T.shape → AreDigests d proof.digests → IsAccepted h T b proof start claim root →
     AreExtracted d h T b proof start claim root
 

@@ -9,7 +9,8 @@ use Rattle.storage_merkle.specs.declared.merkle.bagging.Bagging.TheVariants.{For
 -- the digest of a node, by its first leaf and its height, from those of its children
 abbrev pub join_digest : HashFunction → Layout → (ℕ → List ℕ) → ℕ → ℕ → List ℕ → List ℕ → List ℕ
 join_digest h T chunk a k l r =
-    if T.grafted a k then grafted_digest h (chunk a) (h (be8 (T.shape.position a k) ++ (l ++ r))) else h (be8 (T.shape.position a k) ++ (l ++ r))
+    if T.grafted a k then grafted_digest h (chunk a) (h (be8 (T.shape.position a k) ++ (l ++ r)))
+    else h (be8 (T.shape.position a k) ++ (l ++ r))
 
 -- the digests of leaves, the first of which is leaf a
 abbrev pub leaf_digests : HashFunction → Layout → ℕ → List (List ℕ) → List (List ℕ)
@@ -19,7 +20,8 @@ leaf_digests h T a (x ∷ xs) = h (be8 (T.shape.position a 0) ++ x) ∷ leaf_dig
 -- the digest of the node of height k over the leaves from a on, from those of the leaves
 abbrev pub node_over : HashFunction → Layout → (ℕ → List ℕ) → List (List ℕ) → ℕ → ℕ → List ℕ
 node_over h T chunk leaves zero a = get_or leaves a []
-node_over h T chunk leaves (suc k) a = join_digest h T chunk a (suc k) (node_over h T chunk leaves k a) (node_over h T chunk leaves k (a + 2 ^ k))
+node_over h T chunk leaves (suc k) a = join_digest h T chunk a (suc k) (node_over h T chunk leaves k a)
+    (node_over h T chunk leaves k (a + 2 ^ k))
 
 -- the digests of the peaks over n leaves, from those of the leaves
 abbrev pub peak_digests : HashFunction → Layout → (ℕ → List ℕ) → List (List ℕ) → ℕ → List (List ℕ)

@@ -13,4 +13,5 @@ pub record IsAligned (S : Shape) (n floor g r : ℕ) : Type 0 where
   pub within : r ≤ length (S.peaks n)
   pub ends : leaves_of (take r (S.peaks n)) ≤ floor
   pub whole : leaves_of (take r (S.peaks n)) % 2 ^ g ≡ 0
-  pub most : (k : ℕ) → k ≤ length (S.peaks n) → leaves_of (take k (S.peaks n)) ≤ floor → leaves_of (take k (S.peaks n)) % 2 ^ g ≡ 0 → k ≤ r
+  pub most : (k : ℕ) → k ≤ length (S.peaks n) → leaves_of (take k (S.peaks n)) ≤ floor
+      → leaves_of (take k (S.peaks n)) % 2 ^ g ≡ 0 → k ≤ r

@@ -52,17 +52,20 @@ module _ (S : Shape) (L : Laws S) where
   unfolding leaves_of
   at_start n = record { within = omega arith; sum = omega arith; rest = refl }
 
-  pub at_next : (n left c h : ℕ) → Reached S n left c → S.peaks left ≡ h ∷ S.peaks (left - 2 ^ h) → 2 ^ h ≤ left → Reached S n (left - 2 ^ h) (c + 1)
+  pub at_next : (n left c h : ℕ) → Reached S n left c → S.peaks left ≡ h ∷ S.peaks (left - 2 ^ h) → 2 ^ h ≤ left
+      → Reached S n (left - 2 ^ h) (c + 1)
   at_next n left c h r e w =
       let o = one_more (S.peaks n) c h (S.peaks (left - 2 ^ h)) (r.rest ∙ e) in
       record { within = omega (arith, o.within); sum = omega (arith, o.sum, r.sum); rest = o.rest }
 
   -- the next peak ends past the floor
-  pub stopped : (n left c h floor : ℕ) → Reached S n left c → S.peaks left ≡ h ∷ S.peaks (left - 2 ^ h) → 2 ^ h ≤ left → floor < n - (left - 2 ^ h) → (k : ℕ) → k ≤ length (S.peaks n) → leaves_of (take k (S.peaks n)) ≤ floor → k ≤ c
+  pub stopped : (n left c h floor : ℕ) → Reached S n left c → S.peaks left ≡ h ∷ S.peaks (left - 2 ^ h) → 2 ^ h ≤ left
+      → floor < n - (left - 2 ^ h) → (k : ℕ) → k ≤ length (S.peaks n) → leaves_of (take k (S.peaks n)) ≤ floor → k ≤ c
   stopped n left c h floor r e w p k hk ends = ⊎_elim
       (λ (l : c < k). absurd (
       let x = at_next n left c h r e w in
-      let m : leaves_of (take (c + 1) (S.peaks n)) ≤ leaves_of (take k (S.peaks n)) = take_mono (S.peaks n) (c + 1) k (omega arith) in
+      let m : leaves_of (take (c + 1) (S.peaks n)) ≤ leaves_of (take k (S.peaks n)) =
+      take_mono (S.peaks n) (c + 1) k (omega arith) in
       omega (arith, x.sum)))
       (λ g. g)
       (cases_lt c k)
@@ -70,10 +73,12 @@ module _ (S : Shape) (L : Laws S) where
   pub ended : (n c : ℕ) → Reached S n 0 c → c ≡ length (S.peaks n)
   ended n c r = drop_none (S.peaks n) c r.within (r.rest ∙ no_peaks S L)
 
-  pub exact : (n left c floor : ℕ) → Reached S n left c → n - left ≤ floor → ((k : ℕ) → k ≤ length (S.peaks n) → leaves_of (take k (S.peaks n)) ≤ floor → k ≤ c) → IsExact S n floor c
+  pub exact : (n left c floor : ℕ) → Reached S n left c → n - left ≤ floor
+      → ((k : ℕ) → k ≤ length (S.peaks n) → leaves_of (take k (S.peaks n)) ≤ floor → k ≤ c) → IsExact S n floor c
   exact n left c floor r f m = record { within = r.within; ends = omega (arith, r.sum); most = m }
 
-  pub past_end : (n c floor : ℕ) → Reached S n 0 c → (k : ℕ) → k ≤ length (S.peaks n) → leaves_of (take k (S.peaks n)) ≤ floor → k ≤ c
+  pub past_end : (n c floor : ℕ) → Reached S n 0 c → (k : ℕ) → k ≤ length (S.peaks n)
+      → leaves_of (take k (S.peaks n)) ≤ floor → k ≤ c
   past_end n c floor r k hk ends = omega (arith, ended n c r)
 
 -- of the first c peaks' ends the last multiple of 2 ^ g is that of the first b
@@ -92,7 +97,8 @@ module _ (S : Shape) where
       let e : leaves_of (take c (S.peaks n)) ≡ n - left = omega (arith, r.sum) in
       record { within = omega arith; whole = rw e z; most = λ k h _. h }
 
-  pub best_old : (n left g c b : ℕ) → Reached S n left (c + 1) → ((n - left) % 2 ^ g ≡ 0 → ⊥) → Best S n g c b → Best S n g (c + 1) b
+  pub best_old : (n left g c b : ℕ) → Reached S n left (c + 1) → ((n - left) % 2 ^ g ≡ 0 → ⊥) → Best S n g c b
+      → Best S n g (c + 1) b
   best_old n left g c b r other t =
       let e : leaves_of (take (c + 1) (S.peaks n)) ≡ n - left = omega (arith, r.sum) in
       record {
@@ -104,7 +110,8 @@ module _ (S : Shape) where
             (cases_lt k (c + 1));
       }
 
-  pub aligned : (n left g c b floor : ℕ) → Reached S n left c → n - left ≤ floor → Best S n g c b → ((k : ℕ) → k ≤ length (S.peaks n) → leaves_of (take k (S.peaks n)) ≤ floor → k ≤ c) → IsAligned S n floor g b
+  pub aligned : (n left g c b floor : ℕ) → Reached S n left c → n - left ≤ floor → Best S n g c b
+      → ((k : ℕ) → k ≤ length (S.peaks n) → leaves_of (take k (S.peaks n)) ≤ floor → k ≤ c) → IsAligned S n floor g b
   aligned n left g c b floor r f t m = record {
     within = omega (arith, t.within, r.within);
     ends = omega (arith, take_mono (S.peaks n) b c t.within, r.sum);

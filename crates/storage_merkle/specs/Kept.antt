@@ -1,5 +1,5 @@
 -- What a tree in memory keeps, and for which lists of leaf digests it stands.
-use Rattle.std.specs.Prelude.{◌≡◌, ℕ, ◌+◌, ◌-◌, ◌*◌, ◌/◌, ◌%◌, ◌^◌, ◌<◌, ◌≤◌, List, [], ◌∷◌, length, map, get_or, set, slice_index, Contains, Option, Some, None, leb, eqb, if◌then◌else◌}
+use Rattle.std.specs.Prelude.{◌≡◌, ℕ, ◌+◌, ◌-◌, ◌%◌, ◌^◌, ◌<◌, ◌≤◌, List, [], ◌∷◌, length, map, get_or, set, slice_index, Contains, Option, Some, None, leb, eqb, if◌then◌else◌}
 use Rattle.std.specs.List.{slice_get}
 use Rattle.storage_merkle.specs.Shape.{Shape, size}
 use Rattle.storage_merkle.specs.Nodes.{placed}
@@ -52,12 +52,15 @@ abbrev pub IsClean : List ℕ → ℕ → ℕ → Type 0
 IsClean dirty a k = (j : ℕ) → Contains dirty j → a ≤ j → j < a + 2 ^ k → ⊥
 
 -- the digests kept of the nodes below some position are these nodes', save over dirty leaves
-pub record Holds (S : Shape) (node : ℕ → ℕ → List ℕ) (dirty : List ℕ) (boundary reach : ℕ) (pinned nodes : List (List ℕ)) : Type 0 where
+pub record Holds (S : Shape) (node : ℕ → ℕ → List ℕ) (dirty : List ℕ) (boundary reach : ℕ)
+    (pinned nodes : List (List ℕ)) : Type 0 where
   pub peaks : pinned ≡ at_peaks node 0 (S.peaks boundary)
-  pub from : (a k : ℕ) → a % 2 ^ k ≡ 0 → size S boundary ≤ S.position a k → S.position a k < reach → IsClean dirty a k → get_or nodes (S.position a k - size S boundary) [] ≡ node k a
+  pub from : (a k : ℕ) → a % 2 ^ k ≡ 0 → size S boundary ≤ S.position a k → S.position a k < reach → IsClean dirty a k
+      → get_or nodes (S.position a k - size S boundary) [] ≡ node k a
 
 -- the tree is the list's, save over dirty leaves; a digest's bytes are told by `text`
-pub record StandsBut {D : Type 0} (text : D → List ℕ) (S : Shape) (N : NodesOver) (dirty : List ℕ) (m : Kept D) (list : List (List ℕ)) : Type 0 where
+pub record StandsBut {D : Type 0} (text : D → List ℕ) (S : Shape) (N : NodesOver) (dirty : List ℕ) (m : Kept D)
+    (list : List (List ℕ)) : Type 0 where
   pub count : m.leaves ≡ length list
   pub holds : Holds S (N list) dirty m.boundary (size S m.leaves) (map text m.pinned) (map text m.nodes)
 

@@ -9,14 +9,17 @@ use Rattle.storage_merkle.specs.Multiples.{pow_two}
 use Rattle.storage_merkle.specs.Kept.{at_peaks}
 
 module _ (h : HashFunction) (T : Layout) (chunk : ℕ → List ℕ) where
-  pub node_same : (xs ys : List (List ℕ)) (k a : ℕ) → ((j : ℕ) → a ≤ j → j < a + 2 ^ k → get_or xs j [] ≡ get_or ys j []) → node_over h T chunk xs k a ≡ node_over h T chunk ys k a
+  pub node_same : (xs ys : List (List ℕ)) (k a : ℕ) → ((j : ℕ) → a ≤ j → j < a + 2 ^ k
+      → get_or xs j [] ≡ get_or ys j []) → node_over h T chunk xs k a ≡ node_over h T chunk ys k a
   node_same xs ys zero a same = same a (omega arith) (omega (arith, pow_pos 0))
   node_same xs ys (suc k) a same =
       ap₂ (join_digest h T chunk a (suc k))
       (node_same xs ys k a (λ j u w. same j u (omega (arith, pow_two k))))
       (node_same xs ys k (a + 2 ^ k) (λ j u w. same j (omega arith) (omega (arith, pow_two k))))
 
-  pub peaks_same : (xs ys : List (List ℕ)) (hs : List ℕ) (s : ℕ) → ((j : ℕ) → s ≤ j → j < s + leaves_of hs → get_or xs j [] ≡ get_or ys j []) → at_peaks (node_over h T chunk xs) s hs ≡ at_peaks (node_over h T chunk ys) s hs
+  pub peaks_same : (xs ys : List (List ℕ)) (hs : List ℕ) (s : ℕ)
+      → ((j : ℕ) → s ≤ j → j < s + leaves_of hs → get_or xs j [] ≡ get_or ys j [])
+      → at_peaks (node_over h T chunk xs) s hs ≡ at_peaks (node_over h T chunk ys) s hs
   unfolding leaves_of
   peaks_same xs ys [] s same = refl
   peaks_same xs ys (k ∷ hs) s same =

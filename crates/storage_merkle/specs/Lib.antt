@@ -20,6 +20,7 @@ pub mod Calc
 pub mod CalcLaws
 pub mod Trees
 pub mod RangeProofs
+pub mod Held
 pub mod Hashing
 pub mod HashingLaws
 pub mod Soundness

@@ -1,10 +1,10 @@
 use Rattle.std.proofs.Common.{◌≡◌, ℕ, zero, suc, ◌+◌, ◌-◌, ◌*◌, ◌/◌, ◌%◌, ◌^◌, ◌<◌, ◌≤◌, ◌↔◌, List, ◌∷◌, length, refl, sym, ap, ◌∙◌, inl, inr, ⊎_elim, add-one, arith}
-use Rattle.std.proofs.lemmas.Bool.{cases_lt, le-leb, lt-leb}
+use Rattle.std.proofs.lemmas.Bool.{cases_lt}
 use lib.Count.{count_trailing_zeros}
 use Rattle.std.proofs.lemmas.Bool.{cases_eq}
 use Rattle.std.proofs.lemmas.Nat.{pow_pos}
 use Rattle.storage_merkle.specs.Shape.{leaves_of, Inside, AreAligned, Laws, size}
-use Rattle.storage_merkle.specs.MmbSteps.{mmb_below, mmb_big, mmb_mid, mmb_small, mmb_cases, mmb_peaks_at, mmb_peaks_room, fits}
+use Rattle.storage_merkle.specs.MmbSteps.{mmb_below, mmb_big, mmb_mid, mmb_cases, mmb_peaks_at, mmb_peaks_room, fits}
 use Rattle.storage_merkle.specs.Mmb.{mmb_peaks, mmb_size, mmb_position, mmb_birth, mmb}
 use Rattle.storage_merkle.specs.Multiples.{pow_two, next, multiple_add, multiple_down, is_multiple, twice_power, pow_below_back, zero_multiple, power_multiple, pow_order, pow_le, below_pow, log_unique}
 use Rattle.storage_merkle.specs.ShapeLaws.{length_at_most, grows_below, grows_at_most, grows_back}
@@ -18,18 +18,21 @@ mmb_sum (suc i) r h = mmb_cases i r (λ hs. leaves_of hs ≡ r)
     (λ g. omega (arith, pow_two i, mmb_sum i (r - 2 * 2 ^ i) (omega (arith, pow_two i))))
 
 -- there are as many peaks as digits below the highest one of r + 1
-pub mmb_count : (i r : ℕ) → r + 1 < 2 * 2 ^ i → (2 ^ length (mmb_below i r) ≤ r + 1) × (r + 1 < 2 * 2 ^ length (mmb_below i r))
+pub mmb_count : (i r : ℕ) → r + 1 < 2 * 2 ^ i
+    → (2 ^ length (mmb_below i r) ≤ r + 1) × (r + 1 < 2 * 2 ^ length (mmb_below i r))
 unfolding mmb_below
 mmb_count zero r h = (omega arith, omega arith)
 mmb_count (suc i) r h = mmb_cases i r (λ hs. (2 ^ length hs ≤ r + 1) × (r + 1 < 2 * 2 ^ length hs))
     (λ l. mmb_count i r l)
     (λ g l.
     let ih = mmb_count i (r - 2 ^ i) (omega arith) in
-    let e : length (mmb_below i (r - 2 ^ i)) ≡ i = log_unique (r - 2 ^ i + 1) _ i ih.0 ih.1 (omega arith) (omega arith) in
+    let e : length (mmb_below i (r - 2 ^ i)) ≡ i =
+    log_unique (r - 2 ^ i + 1) _ i ih.0 ih.1 (omega arith) (omega arith) in
     rw e (omega (arith, pow_two i), omega (arith, pow_two i)))
     (λ g.
     let ih = mmb_count i (r - 2 * 2 ^ i) (omega (arith, pow_two i)) in
-    let e : length (mmb_below i (r - 2 * 2 ^ i)) ≡ i = log_unique (r - 2 * 2 ^ i + 1) _ i ih.0 ih.1 (omega arith) (omega (arith, pow_two i)) in
+    let e : length (mmb_below i (r - 2 * 2 ^ i)) ≡ i =
+    log_unique (r - 2 * 2 ^ i + 1) _ i ih.0 ih.1 (omega arith) (omega (arith, pow_two i)) in
     rw e (omega (arith, pow_two i), omega (arith, pow_two i)))
 
 -- ---- the peaks over n leaves
@@ -47,7 +50,8 @@ pub mmb_count_next : (n : ℕ) → length (mmb_peaks (n + 1)) ≤ length (mmb_pe
 mmb_count_next n =
     let a = mmb_peaks_count n in
     let b = mmb_peaks_count (n + 1) in
-    let c : length (mmb_peaks (n + 1)) ≤ suc (length (mmb_peaks n)) = pow_order _ _ (omega (arith, a, b, pow_two (length (mmb_peaks n)))) in
+    let c : length (mmb_peaks (n + 1)) ≤ suc (length (mmb_peaks n)) =
+    pow_order _ _ (omega (arith, a, b, pow_two (length (mmb_peaks n)))) in
     omega arith
 
 pub mmb_count_grows : (n : ℕ) → length (mmb_peaks n) ≤ length (mmb_peaks (n + 1))
@@ -55,7 +59,8 @@ mmb_count_grows n =
     let a = mmb_peaks_count n in
     let b = mmb_peaks_count (n + 1) in
     ⊎_elim
-    (λ (l : length (mmb_peaks (n + 1)) < length (mmb_peaks n)). absurd (let p : 2 ^ suc (length (mmb_peaks (n + 1))) ≤ 2 ^ length (mmb_peaks n) = pow_le _ _ l in omega (arith, a, b, pow_two (length (mmb_peaks (n + 1))))))
+    (λ (l : length (mmb_peaks (n + 1)) < length (mmb_peaks n)).
+    absurd (let p : 2 ^ suc (length (mmb_peaks (n + 1))) ≤ 2 ^ length (mmb_peaks n) = pow_le _ _ l in omega (arith, a, b, pow_two (length (mmb_peaks (n + 1))))))
     (λ g. g)
     (cases_lt (length (mmb_peaks (n + 1))) (length (mmb_peaks n)))
 
@@ -72,21 +77,25 @@ pub mmb_lone : (n : ℕ) → length (mmb_peaks (n + 1)) ≡ length (mmb_peaks n)
 mmb_lone n h =
     let a = mmb_peaks_count n in
     let b = mmb_peaks_count (n + 1) in
-    let e : 2 ^ length (mmb_peaks (n + 1)) ≡ 2 ^ suc (length (mmb_peaks n)) = ap (λ (z : ℕ). 2 ^ z) (let f : length (mmb_peaks (n + 1)) ≡ suc (length (mmb_peaks n)) = omega arith in f) in
+    let e : 2 ^ length (mmb_peaks (n + 1)) ≡ 2 ^ suc (length (mmb_peaks n)) =
+    ap (λ (z : ℕ). 2 ^ z) (let f : length (mmb_peaks (n + 1)) ≡ suc (length (mmb_peaks n)) = omega arith in f) in
     omega (arith, a, b, pow_two (length (mmb_peaks n)))
 
 -- three halves of a power of two, past a multiple of it, are no power of two
 pub no_power : (a k m : ℕ) → a % 2 ^ suc k ≡ 0 → a + 3 * 2 ^ k ≡ 2 ^ m → ⊥
 no_power a k m ha h =
     let le : suc k ≤ m = pow_order (suc k) m (omega (arith, pow_two k)) in
-    let s : (a + 2 ^ suc k) % 2 ^ suc k ≡ 0 = multiple_add a (2 ^ suc k) (2 ^ suc k) (pow_pos (suc k)) ha (power_multiple (suc k) (suc k) (omega arith)) in
-    let n : a + 2 ^ suc k + 2 ^ suc k ≤ 2 ^ m = next (a + 2 ^ suc k) (2 ^ m) (2 ^ suc k) s (power_multiple m (suc k) le) (omega (arith, pow_two k, pow_pos k)) in
+    let s : (a + 2 ^ suc k) % 2 ^ suc k ≡ 0 =
+    multiple_add a (2 ^ suc k) (2 ^ suc k) (pow_pos (suc k)) ha (power_multiple (suc k) (suc k) (omega arith)) in
+    let n : a + 2 ^ suc k + 2 ^ suc k ≤ 2 ^ m = next (a + 2 ^ suc k) (2 ^ m) (2 ^ suc k) s (power_multiple m (suc k) le)
+    (omega (arith, pow_two k, pow_pos k)) in
     omega (arith, pow_two k, pow_pos k)
 
 -- the leaf that brings a node brings that node alone
 pub mmb_pair : (a k n : ℕ) → a % 2 ^ suc k ≡ 0 → a + 3 * 2 ^ k ≡ n + 2 → mmb_size (n + 1) ≡ mmb_size n + 2
 mmb_pair a k n ha h = ⊎_elim
-    (λ (l : length (mmb_peaks (n + 1)) < length (mmb_peaks n) + 1). omega (arith, mmb_count_grows n, mmb_count_at_most n))
+    (λ (l : length (mmb_peaks (n + 1)) < length (mmb_peaks n) + 1).
+    omega (arith, mmb_count_grows n, mmb_count_at_most n))
     (λ (g : length (mmb_peaks n) + 1 ≤ length (mmb_peaks (n + 1))). absurd (
     let p : n + 2 ≡ 2 ^ length (mmb_peaks (n + 1)) = mmb_lone n (omega (arith, mmb_count_next n)) in
     no_power a k (length (mmb_peaks (n + 1))) ha (omega arith)))
@@ -100,9 +109,12 @@ mmb_apart a k b j l ha hb h =
     let s : (a + 2 ^ suc k) % 2 ^ suc k ≡ 0 = multiple_add a (2 ^ suc k) (2 ^ suc k) (pow_pos (suc k)) ha p in
     let b0 : b % 2 ^ suc k ≡ 0 = multiple_down b (suc k) (suc j) (omega arith) hb in
     let b1 : (b + 2 ^ j) % 2 ^ suc k ≡ 0 = multiple_add b (2 ^ j) (2 ^ suc k) (pow_pos (suc k)) b0 q in
-    let b2 : (b + 2 ^ j + 2 ^ j) % 2 ^ suc k ≡ 0 = multiple_add (b + 2 ^ j) (2 ^ j) (2 ^ suc k) (pow_pos (suc k)) b1 q in
-    let b3 : (b + 2 ^ j + 2 ^ j + 2 ^ j) % 2 ^ suc k ≡ 0 = multiple_add (b + 2 ^ j + 2 ^ j) (2 ^ j) (2 ^ suc k) (pow_pos (suc k)) b2 q in
-    let n : a + 2 ^ suc k + 2 ^ suc k ≤ b + 2 ^ j + 2 ^ j + 2 ^ j = next (a + 2 ^ suc k) (b + 2 ^ j + 2 ^ j + 2 ^ j) (2 ^ suc k) s b3 (omega (arith, pow_two k, pow_pos k)) in
+    let b2 : (b + 2 ^ j + 2 ^ j) % 2 ^ suc k ≡ 0 =
+    multiple_add (b + 2 ^ j) (2 ^ j) (2 ^ suc k) (pow_pos (suc k)) b1 q in
+    let b3 : (b + 2 ^ j + 2 ^ j + 2 ^ j) % 2 ^ suc k ≡ 0 =
+    multiple_add (b + 2 ^ j + 2 ^ j) (2 ^ j) (2 ^ suc k) (pow_pos (suc k)) b2 q in
+    let n : a + 2 ^ suc k + 2 ^ suc k ≤ b + 2 ^ j + 2 ^ j + 2 ^ j =
+    next (a + 2 ^ suc k) (b + 2 ^ j + 2 ^ j + 2 ^ j) (2 ^ suc k) s b3 (omega (arith, pow_two k, pow_pos k)) in
     omega (arith, pow_two k, pow_pos k)
 
 -- ---- births
@@ -113,12 +125,15 @@ mmb_born n a zero = (
   (λ h. grows_below mmb_size mmb_grows a n (omega arith)),
 )
 mmb_born n a (suc k) =
-    let positive : mmb_size 0 < mmb_size (a + 3 * 2 ^ k - 1) = grows_below mmb_size mmb_grows 0 (a + 3 * 2 ^ k - 1) (omega (arith, pow_pos k)) in (
+    let positive : mmb_size 0 < mmb_size (a + 3 * 2 ^ k - 1) =
+    grows_below mmb_size mmb_grows 0 (a + 3 * 2 ^ k - 1) (omega (arith, pow_pos k)) in (
       (λ h. ⊎_elim
-          (λ (l : n < a + 3 * 2 ^ k - 1). absurd (let p : mmb_size n < mmb_size (a + 3 * 2 ^ k - 1) = grows_below mmb_size mmb_grows n (a + 3 * 2 ^ k - 1) l in omega arith))
+          (λ (l : n < a + 3 * 2 ^ k - 1).
+          absurd (let p : mmb_size n < mmb_size (a + 3 * 2 ^ k - 1) = grows_below mmb_size mmb_grows n (a + 3 * 2 ^ k - 1) l in omega arith))
           (λ g. g)
           (cases_lt n (a + 3 * 2 ^ k - 1))),
-      (λ h. let p : mmb_size (a + 3 * 2 ^ k - 1) ≤ mmb_size n = grows_at_most mmb_size mmb_grows (a + 3 * 2 ^ k - 1) n h in omega arith),
+      (λ h. let p : mmb_size (a + 3 * 2 ^ k - 1) ≤ mmb_size n =
+          grows_at_most mmb_size mmb_grows (a + 3 * 2 ^ k - 1) n h in omega arith),
     )
 
 -- twice the birth, and how late it is at least
@@ -132,7 +147,8 @@ mmb_birth_late a j (suc k) h = omega (arith, pow_le j k (omega arith))
 
 -- ---- the nodes inside the peaks are those that are born
 
-pub mmb_inside : (i r s a k : ℕ) → r + 1 < 2 * 2 ^ i → s % 2 ^ i ≡ 0 → a % 2 ^ k ≡ 0 → s ≤ a → mmb_birth a k ≤ s + r → Inside (mmb_below i r) s a k
+pub mmb_inside : (i r s a k : ℕ) → r + 1 < 2 * 2 ^ i → s % 2 ^ i ≡ 0 → a % 2 ^ k ≡ 0 → s ≤ a → mmb_birth a k ≤ s + r
+    → Inside (mmb_below i r) s a k
 unfolding mmb_below Inside
 mmb_inside zero r s a zero hr hs ha le h = absurd (omega arith)
 mmb_inside zero r s a (suc k) hr hs ha le h = absurd (omega (arith, pow_pos k))
@@ -144,19 +160,25 @@ mmb_inside (suc i) r s a k hr hs ha le h =
     (λ g l. ⊎_elim
     (λ (x : a < s + 2 ^ i).
     let ki : k ≤ i = ⊎_elim (λ (y : i < k). absurd (omega (arith, mmb_birth_late a i k y))) (λ y. y) (cases_lt i k) in
-    let t : (s + 2 ^ i) % 2 ^ k ≡ 0 = multiple_down (s + 2 ^ i) k i ki (multiple_add s (2 ^ i) (2 ^ i) (pow_pos i) si pi) in
+    let t : (s + 2 ^ i) % 2 ^ k ≡ 0 =
+    multiple_down (s + 2 ^ i) k i ki (multiple_add s (2 ^ i) (2 ^ i) (pow_pos i) si pi) in
     inl (le, next a (s + 2 ^ i) (2 ^ k) ha t x))
-    (λ y. inr (mmb_inside i (r - 2 ^ i) (s + 2 ^ i) a k (omega (arith, pow_two i)) (multiple_add s (2 ^ i) (2 ^ i) (pow_pos i) si pi) ha y (omega arith)))
+    (λ y. inr (mmb_inside i (r - 2 ^ i) (s + 2 ^ i) a k (omega (arith, pow_two i))
+    (multiple_add s (2 ^ i) (2 ^ i) (pow_pos i) si pi) ha y (omega arith)))
     (cases_lt a (s + 2 ^ i)))
     (λ g. ⊎_elim
     (λ (x : a < s + 2 ^ suc i).
-    let ki : k ≤ suc i = ⊎_elim (λ (y : suc i < k). absurd (omega (arith, pow_two i, pow_pos i, mmb_birth_late a (suc i) k y))) (λ y. y) (cases_lt (suc i) k) in
-    let t : (s + 2 ^ suc i) % 2 ^ k ≡ 0 = multiple_down (s + 2 ^ suc i) k (suc i) ki (multiple_add s (2 ^ suc i) (2 ^ suc i) (pow_pos (suc i)) hs (power_multiple (suc i) (suc i) (omega arith))) in
+    let ki : k ≤ suc i = ⊎_elim (λ (y : suc i < k).
+    absurd (omega (arith, pow_two i, pow_pos i, mmb_birth_late a (suc i) k y))) (λ y. y) (cases_lt (suc i) k) in
+    let t : (s + 2 ^ suc i) % 2 ^ k ≡ 0 = multiple_down (s + 2 ^ suc i) k (suc i) ki
+    (multiple_add s (2 ^ suc i) (2 ^ suc i) (pow_pos (suc i)) hs (power_multiple (suc i) (suc i) (omega arith))) in
     inl (le, next a (s + 2 ^ suc i) (2 ^ k) ha t x))
-    (λ y. inr (mmb_inside i (r - 2 * 2 ^ i) (s + 2 ^ suc i) a k (omega (arith, pow_two i)) (multiple_add s (2 ^ suc i) (2 ^ i) (pow_pos i) si (power_multiple (suc i) i (omega arith))) ha y (omega (arith, pow_two i))))
+    (λ y. inr (mmb_inside i (r - 2 * 2 ^ i) (s + 2 ^ suc i) a k (omega (arith, pow_two i)) (multiple_add s (2 ^ suc i)
+    (2 ^ i) (pow_pos i) si (power_multiple (suc i) i (omega arith))) ha y (omega (arith, pow_two i))))
     (cases_lt a (s + 2 ^ suc i)))
 
-pub mmb_inside_back : (i r s a k : ℕ) → r + 1 < 2 * 2 ^ i → Inside (mmb_below i r) s a k → (s ≤ a) × (mmb_birth a k ≤ s + r)
+pub mmb_inside_back : (i r s a k : ℕ) → r + 1 < 2 * 2 ^ i → Inside (mmb_below i r) s a k
+    → (s ≤ a) × (mmb_birth a k ≤ s + r)
 unfolding mmb_below Inside
 mmb_inside_back zero r s a k hr h = absurd h
 mmb_inside_back (suc i) r s a k hr h =
@@ -164,11 +186,15 @@ mmb_inside_back (suc i) r s a k hr h =
     (λ l. mmb_inside_back i r s a k l)
     (λ g l. λ q. ⊎_elim
     (λ (p : (s ≤ a) × (a + 2 ^ k ≤ s + 2 ^ i)). (p.0, omega (arith, p, mmb_birth_twice a k)))
-    (λ (p : Inside (mmb_below i (r - 2 ^ i)) (s + 2 ^ i) a k). let ih = mmb_inside_back i (r - 2 ^ i) (s + 2 ^ i) a k (omega (arith, pow_two i)) p in (omega (arith, ih), omega (arith, ih)))
+    (λ (p : Inside (mmb_below i (r - 2 ^ i)) (s + 2 ^ i) a k). let ih =
+    mmb_inside_back i (r - 2 ^ i) (s + 2 ^ i) a k (omega (arith, pow_two i)) p in
+    (omega (arith, ih), omega (arith, ih)))
     q)
     (λ g. λ q. ⊎_elim
     (λ (p : (s ≤ a) × (a + 2 ^ k ≤ s + 2 ^ suc i)). (p.0, omega (arith, p, pow_two i, mmb_birth_twice a k)))
-    (λ (p : Inside (mmb_below i (r - 2 * 2 ^ i)) (s + 2 ^ suc i) a k). let ih = mmb_inside_back i (r - 2 * 2 ^ i) (s + 2 ^ suc i) a k (omega (arith, pow_two i)) p in (omega (arith, ih), omega (arith, ih, pow_two i)))
+    (λ (p : Inside (mmb_below i (r - 2 * 2 ^ i)) (s + 2 ^ suc i) a k). let ih =
+    mmb_inside_back i (r - 2 * 2 ^ i) (s + 2 ^ suc i) a k (omega (arith, pow_two i)) p in
+    (omega (arith, ih), omega (arith, ih, pow_two i)))
     q)
     h
 
@@ -179,27 +205,43 @@ mmb_aligned (suc i) r s hr hs =
     let si : s % 2 ^ i ≡ 0 = multiple_down s i (suc i) (omega arith) hs in
     mmb_cases i r (λ hs. AreAligned hs s)
     (λ l. mmb_aligned i r s l si)
-    (λ g l. (si, mmb_aligned i (r - 2 ^ i) (s + 2 ^ i) (omega (arith, pow_two i)) (multiple_add s (2 ^ i) (2 ^ i) (pow_pos i) si (power_multiple i i (omega arith)))))
-    (λ g. (hs, mmb_aligned i (r - 2 * 2 ^ i) (s + 2 ^ suc i) (omega (arith, pow_two i)) (multiple_add s (2 ^ suc i) (2 ^ i) (pow_pos i) si (power_multiple (suc i) i (omega arith)))))
+    (λ g l. (
+      si,
+      mmb_aligned i (r - 2 ^ i) (s + 2 ^ i) (omega (arith, pow_two i))
+          (multiple_add s (2 ^ i) (2 ^ i) (pow_pos i) si (power_multiple i i (omega arith))),
+    ))
+    (λ g. (
+      hs,
+      mmb_aligned i (r - 2 * 2 ^ i) (s + 2 ^ suc i) (omega (arith, pow_two i))
+          (multiple_add s (2 ^ suc i) (2 ^ i) (pow_pos i) si (power_multiple (suc i) i (omega arith))),
+    ))
 
 -- ---- positions
 
-pub mmb_children : (a k : ℕ) → a % 2 ^ suc k ≡ 0 → (mmb_position a k < mmb_position a (suc k)) × (mmb_position (a + 2 ^ k) k < mmb_position a (suc k))
+pub mmb_children : (a k : ℕ) → a % 2 ^ suc k ≡ 0
+    → (mmb_position a k < mmb_position a (suc k)) × (mmb_position (a + 2 ^ k) k < mmb_position a (suc k))
 mmb_children a zero ha =
     let p : mmb_size (a + 1 + 1) ≡ mmb_size (a + 1) + 2 = mmb_pair a 0 (a + 1) ha (omega arith) in
     let e : a + 3 * 2 ^ 0 - 1 ≡ a + 1 + 1 = omega arith in
     let g : mmb_size a < mmb_size (a + 1) = mmb_grows a in
     rw e (omega arith, omega arith)
 mmb_children a (suc k) ha =
-    let p : mmb_size 0 < mmb_size (a + 3 * 2 ^ k - 1) = grows_below mmb_size mmb_grows 0 (a + 3 * 2 ^ k - 1) (omega (arith, pow_pos k)) in
-    let q : mmb_size (a + 3 * 2 ^ k - 1) < mmb_size (a + 2 ^ suc k + 3 * 2 ^ k - 1) = grows_below mmb_size mmb_grows (a + 3 * 2 ^ k - 1) (a + 2 ^ suc k + 3 * 2 ^ k - 1) (omega (arith, pow_pos k, pow_two k)) in
-    let r : mmb_size (a + 2 ^ suc k + 3 * 2 ^ k - 1) < mmb_size (a + 3 * 2 ^ suc k - 1) = grows_below mmb_size mmb_grows (a + 2 ^ suc k + 3 * 2 ^ k - 1) (a + 3 * 2 ^ suc k - 1) (omega (arith, pow_pos k, pow_two k)) in
+    let p : mmb_size 0 < mmb_size (a + 3 * 2 ^ k - 1) =
+    grows_below mmb_size mmb_grows 0 (a + 3 * 2 ^ k - 1) (omega (arith, pow_pos k)) in
+    let q : mmb_size (a + 3 * 2 ^ k - 1) < mmb_size (a + 2 ^ suc k + 3 * 2 ^ k - 1) = grows_below mmb_size mmb_grows
+    (a + 3 * 2 ^ k - 1) (a + 2 ^ suc k + 3 * 2 ^ k - 1) (omega (arith, pow_pos k, pow_two k)) in
+    let r : mmb_size (a + 2 ^ suc k + 3 * 2 ^ k - 1) < mmb_size (a + 3 * 2 ^ suc k - 1) = grows_below mmb_size mmb_grows
+    (a + 2 ^ suc k + 3 * 2 ^ k - 1) (a + 3 * 2 ^ suc k - 1) (omega (arith, pow_pos k, pow_two k)) in
     (omega arith, omega arith)
 
 same_size : (m n : ℕ) → mmb_size m ≡ mmb_size n → m ≡ n
 same_size m n h =
-    let a : m ≤ n = ⊎_elim (λ (l : n < m). absurd (let p : mmb_size n < mmb_size m = grows_below mmb_size mmb_grows n m l in omega arith)) (λ g. g) (cases_lt n m) in
-    let b : n ≤ m = ⊎_elim (λ (l : m < n). absurd (let p : mmb_size m < mmb_size n = grows_below mmb_size mmb_grows m n l in omega arith)) (λ g. g) (cases_lt m n) in
+    let a : m ≤ n = ⊎_elim
+    (λ (l : n < m). absurd (let p : mmb_size n < mmb_size m = grows_below mmb_size mmb_grows n m l in omega arith))
+    (λ g. g) (cases_lt n m) in
+    let b : n ≤ m = ⊎_elim
+    (λ (l : m < n). absurd (let p : mmb_size m < mmb_size n = grows_below mmb_size mmb_grows m n l in omega arith))
+    (λ g. g) (cases_lt m n) in
     omega arith
 
 leaf_apart : (a b j : ℕ) → b % 2 ^ suc j ≡ 0 → mmb_size a ≡ mmb_size (b + 3 * 2 ^ j - 1) - 1 → ⊥
@@ -212,13 +254,16 @@ leaf_apart a b j hb h =
     let y : a < n + 1 = grows_back mmb_size mmb_grows a (n + 1) (omega arith) in
     omega arith
 
-pub mmb_injective : (a k b j : ℕ) → a % 2 ^ k ≡ 0 → b % 2 ^ j ≡ 0 → mmb_position a k ≡ mmb_position b j → (a ≡ b) × (k ≡ j)
+pub mmb_injective : (a k b j : ℕ) → a % 2 ^ k ≡ 0 → b % 2 ^ j ≡ 0 → mmb_position a k ≡ mmb_position b j
+    → (a ≡ b) × (k ≡ j)
 mmb_injective a zero b zero ha hb h = (same_size a b h, refl)
 mmb_injective a zero b (suc j) ha hb h = absurd (leaf_apart a b j hb h)
 mmb_injective a (suc k) b zero ha hb h = absurd (leaf_apart b a k ha (sym h))
 mmb_injective a (suc k) b (suc j) ha hb h =
-    let p : mmb_size 0 < mmb_size (a + 3 * 2 ^ k - 1) = grows_below mmb_size mmb_grows 0 (a + 3 * 2 ^ k - 1) (omega (arith, pow_pos k)) in
-    let q : mmb_size 0 < mmb_size (b + 3 * 2 ^ j - 1) = grows_below mmb_size mmb_grows 0 (b + 3 * 2 ^ j - 1) (omega (arith, pow_pos j)) in
+    let p : mmb_size 0 < mmb_size (a + 3 * 2 ^ k - 1) =
+    grows_below mmb_size mmb_grows 0 (a + 3 * 2 ^ k - 1) (omega (arith, pow_pos k)) in
+    let q : mmb_size 0 < mmb_size (b + 3 * 2 ^ j - 1) =
+    grows_below mmb_size mmb_grows 0 (b + 3 * 2 ^ j - 1) (omega (arith, pow_pos j)) in
     let e : a + 3 * 2 ^ k - 1 ≡ b + 3 * 2 ^ j - 1 = same_size _ _ (omega arith) in
     let f : a + 3 * 2 ^ k ≡ b + 3 * 2 ^ j = omega (arith, pow_pos k, pow_pos j) in
     let x : j ≤ k = ⊎_elim (λ (l : k < j). absurd (mmb_apart a k b j l ha hb f)) (λ g. g) (cases_lt k j) in
@@ -241,20 +286,24 @@ mmb_soon a (suc k) = omega (arith, pow_two k)
 
 -- ---- the first peak, and the rest
 
-pub mmb_top_big : (n p : ℕ) → 0 < p → n + 1 < 2 * 2 ^ p → 3 * 2 ^ (p - 1) ≤ n + 1 → mmb_peaks n ≡ p ∷ mmb_peaks (n - 2 ^ p)
+pub mmb_top_big : (n p : ℕ) → 0 < p → n + 1 < 2 * 2 ^ p → 3 * 2 ^ (p - 1) ≤ n + 1
+    → mmb_peaks n ≡ p ∷ mmb_peaks (n - 2 ^ p)
 mmb_top_big n zero h u l = absurd (omega arith)
 mmb_top_big n (suc i) h u l =
     let e : suc i - 1 ≡ i = omega arith in
     let l' : 3 * 2 ^ i ≤ n + 1 = rw e at l in
     let f : n - 2 * 2 ^ i ≡ n - 2 ^ suc i = omega (arith, pow_two i) in
-    mmb_peaks_at (suc i) n u ∙ mmb_big i n l' ∙ ap (λ (x : List ℕ). suc i ∷ x) (sym (mmb_peaks_at i (n - 2 * 2 ^ i) (omega (arith, pow_two i))) ∙ ap mmb_peaks f)
+    mmb_peaks_at (suc i) n u ∙ mmb_big i n l' ∙ ap (λ (x : List ℕ). suc i ∷ x)
+    (sym (mmb_peaks_at i (n - 2 * 2 ^ i) (omega (arith, pow_two i))) ∙ ap mmb_peaks f)
 
-pub mmb_top_mid : (n p : ℕ) → 0 < p → 2 ^ p ≤ n + 1 → n + 1 < 3 * 2 ^ (p - 1) → mmb_peaks n ≡ (p - 1) ∷ mmb_peaks (n - 2 ^ (p - 1))
+pub mmb_top_mid : (n p : ℕ) → 0 < p → 2 ^ p ≤ n + 1 → n + 1 < 3 * 2 ^ (p - 1)
+    → mmb_peaks n ≡ (p - 1) ∷ mmb_peaks (n - 2 ^ (p - 1))
 mmb_top_mid n zero h l u = absurd (omega arith)
 mmb_top_mid n (suc i) h l u =
     let e : suc i - 1 ≡ i = omega arith in
     let u' : n + 1 < 3 * 2 ^ i = rw e at u in
-    rw e (mmb_peaks_at (suc i) n (omega (arith, pow_two i)) ∙ mmb_mid i n (omega (arith, pow_two i)) u' ∙ ap (λ (x : List ℕ). i ∷ x) (sym (mmb_peaks_at i (n - 2 ^ i) (omega arith))))
+    rw e (mmb_peaks_at (suc i) n (omega (arith, pow_two i)) ∙ mmb_mid i n (omega (arith, pow_two i)) u'
+    ∙ ap (λ (x : List ℕ). i ∷ x) (sym (mmb_peaks_at i (n - 2 ^ i) (omega arith))))
 
 pub mmb_count_log : (n l : ℕ) → 2 ^ l ≤ n + 1 → n + 1 < 2 * 2 ^ l → l ≡ length (mmb_peaks n)
 mmb_count_log n l a b = let p = mmb_peaks_count n in log_unique (n + 1) l (length (mmb_peaks n)) a b p.0 p.1
@@ -282,14 +331,16 @@ zeros_odd : (k x : ℕ) → x % 2 ≡ 1 → count_trailing_zeros (suc k) x ≡ 0
 unfolding count_trailing_zeros
 zeros_odd k x e = rw e
 
-split_even : (k x q : ℕ) → x % 2 ≡ 0 → x / 2 ≡ (2 * q + 1) * 2 ^ count_trailing_zeros k (x / 2) → x ≡ (2 * q + 1) * 2 ^ count_trailing_zeros (suc k) x
+split_even : (k x q : ℕ) → x % 2 ≡ 0 → x / 2 ≡ (2 * q + 1) * 2 ^ count_trailing_zeros k (x / 2)
+    → x ≡ (2 * q + 1) * 2 ^ count_trailing_zeros (suc k) x
 split_even k x q e h = rw (zeros_even k x e) (omega (arith, twice_power (2 * q + 1) (count_trailing_zeros k (x / 2))))
 
 -- a number that is not 0 is odd past the zeros at its end
 pub trailing_split : (k x : ℕ) → 0 < x → x < 2 ^ k → (q : ℕ) × (x ≡ (2 * q + 1) * 2 ^ count_trailing_zeros k x)
 trailing_split zero x p h = absurd (omega arith)
 trailing_split (suc k) x p h = ⊎_elim
-    (λ (e : x % 2 ≡ 0). let ih = trailing_split k (x / 2) (omega arith) (omega (arith, pow_two k)) in (ih.0, split_even k x ih.0 e ih.1))
+    (λ (e : x % 2 ≡ 0). let ih = trailing_split k (x / 2) (omega arith) (omega (arith, pow_two k)) in
+    (ih.0, split_even k x ih.0 e ih.1))
     (λ (e : x % 2 ≡ 0 → ⊥). let f : x % 2 ≡ 1 = omega arith in (x / 2, rw (zeros_odd k x f) (omega arith)))
     (cases_eq (x % 2) 0)
 
@@ -314,7 +365,8 @@ mmb_after_at : (n q t : ℕ) → n + 2 ≡ (2 * q + 1) * 2 ^ t → mmb_size n + 
 mmb_after_at n zero t e h = absurd (no_lone n t h (omega arith))
 mmb_after_at n (suc q) t e h =
     let g : n + 2 - 3 * 2 ^ t ≡ q * 2 ^ suc t = omega (arith, twice_power q t) in
-    let al : (n + 2 - 3 * 2 ^ t) % 2 ^ suc t ≡ 0 = ap (λ x. x % 2 ^ suc t) g ∙ is_multiple q (2 ^ suc t) (pow_pos (suc t)) in
+    let al : (n + 2 - 3 * 2 ^ t) % 2 ^ suc t ≡ 0 =
+    ap (λ x. x % 2 ^ suc t) g ∙ is_multiple q (2 ^ suc t) (pow_pos (suc t)) in
     let fi : 3 * 2 ^ t ≤ n + 2 = omega (arith, twice_power q t) in
     let tw : mmb_size (n + 1) ≡ mmb_size n + 2 = mmb_pair (n + 2 - 3 * 2 ^ t) t n al (omega arith) in
     let s : mmb_size (n + 2 - 3 * 2 ^ t + 3 * 2 ^ t - 1) ≡ mmb_size (n + 1) = ap mmb_size (omega arith) in
@@ -332,8 +384,10 @@ mmb_size_at_least n = omega (arith, mmb_count_at_most n)
 pub mmb_room_above : (n : ℕ) → mmb_size n < 2 ^ 64 → n + 1 < 2 ^ 64
 mmb_room_above n h = ⊎_elim (λ l. l) (λ (g : 2 ^ 64 ≤ n + 1). absurd (
     let p = mmb_peaks_count 18446744073709551615 in
-    let q : length (mmb_peaks 18446744073709551615) ≡ 64 = sym (mmb_count_log 18446744073709551615 64 (omega arith) (omega arith)) in
-    let r : mmb_size 18446744073709551615 ≤ mmb_size n = grows_at_most mmb_size mmb_grows 18446744073709551615 n (omega arith) in
+    let q : length (mmb_peaks 18446744073709551615) ≡ 64 =
+    sym (mmb_count_log 18446744073709551615 64 (omega arith) (omega arith)) in
+    let r : mmb_size 18446744073709551615 ≤ mmb_size n =
+    grows_at_most mmb_size mmb_grows 18446744073709551615 n (omega arith) in
     omega arith)) (cases_lt (n + 1) (2 ^ 64))
 
 -- the position by the leaves before the birth
@@ -341,24 +395,32 @@ pub mmb_position_is : (a k : ℕ) → a % 2 ^ suc k ≡ 0 → mmb_position a (su
 mmb_position_is a k ha =
     let e : a + (3 * 2 ^ k - 2) + 1 ≡ a + 3 * 2 ^ k - 1 = omega (arith, pow_pos k) in
     let f : mmb_size (a + (3 * 2 ^ k - 2) + 1) ≡ mmb_size (a + 3 * 2 ^ k - 1) = ap mmb_size e in
-    let g : mmb_size (a + (3 * 2 ^ k - 2) + 1) ≡ mmb_size (a + (3 * 2 ^ k - 2)) + 2 = mmb_pair a k (a + (3 * 2 ^ k - 2)) ha (omega (arith, pow_pos k)) in
+    let g : mmb_size (a + (3 * 2 ^ k - 2) + 1) ≡ mmb_size (a + (3 * 2 ^ k - 2)) + 2 =
+    mmb_pair a k (a + (3 * 2 ^ k - 2)) ha (omega (arith, pow_pos k)) in
     omega arith
 
 pub mmb_height : (a k : ℕ) → a % 2 ^ suc k ≡ 0 → mmb_position a (suc k) < 2 ^ 64 → (k ≤ 62) × (a + 3 * 2 ^ k ≤ 2 ^ 64)
 mmb_height a k ha h =
-    let b : a + 3 * 2 ^ k ≤ 2 ^ 64 = omega (arith, mmb_position_is a k ha, mmb_size_at_least (a + (3 * 2 ^ k - 2)), pow_pos k) in
-    (⊎_elim (λ (l : 62 < k). absurd (let p : 2 ^ 63 ≤ 2 ^ k = pow_le 63 k l in omega arith)) (λ g. g) (cases_lt 62 k), b)
+    let b : a + 3 * 2 ^ k ≤ 2 ^ 64 =
+    omega (arith, mmb_position_is a k ha, mmb_size_at_least (a + (3 * 2 ^ k - 2)), pow_pos k) in (
+      ⊎_elim (λ (l : 62 < k). absurd (let p : 2 ^ 63 ≤ 2 ^ k = pow_le 63 k l in omega arith)) (λ g. g)
+          (cases_lt 62 k),
+      b,
+    )
 
 mmb_offset_low : (n t : ℕ) → n ≤ 2 ^ 62 → 3 * 2 ^ t ≤ n + 2 → t ≤ 61
-mmb_offset_low n t few h = ⊎_elim (λ (l : 61 < t). absurd (let p : 2 ^ 62 ≤ 2 ^ t = pow_le 62 t l in omega arith)) (λ g. g) (cases_lt 61 t)
+mmb_offset_low n t few h =
+    ⊎_elim (λ (l : 61 < t). absurd (let p : 2 ^ 62 ≤ 2 ^ t = pow_le 62 t l in omega arith)) (λ g. g) (cases_lt 61 t)
 
-pub mmb_offset : (n o : ℕ) → n ≤ 2 ^ 62 → (o ≡ 0 → ⊥) → mmb_size n + o < mmb_size (n + 1) → (o ≡ 1) × (count_trailing_zeros 64 (n + 2) ≤ 61) × After n (count_trailing_zeros 64 (n + 2))
+pub mmb_offset : (n o : ℕ) → n ≤ 2 ^ 62 → (o ≡ 0 → ⊥) → mmb_size n + o < mmb_size (n + 1)
+    → (o ≡ 1) × (count_trailing_zeros 64 (n + 2) ≤ 61) × After n (count_trailing_zeros 64 (n + 2))
 mmb_offset n o few z h =
     let a = mmb_after n 64 (omega arith) (omega arith) in
     (omega (arith, a.two), mmb_offset_low n (count_trailing_zeros 64 (n + 2)) few a.fits, a)
 
 pub mmb_birth_height : (a k : ℕ) → a + 3 * 2 ^ k - 1 ≤ 2 ^ 63 → k ≤ 62
-mmb_birth_height a k h = ⊎_elim (λ (l : 62 < k). absurd (let p : 2 ^ 63 ≤ 2 ^ k = pow_le 63 k l in omega arith)) (λ g. g) (cases_lt 62 k)
+mmb_birth_height a k h =
+    ⊎_elim (λ (l : 62 < k). absurd (let p : 2 ^ 63 ≤ 2 ^ k = pow_le 63 k l in omega arith)) (λ g. g) (cases_lt 62 k)
 
 -- the same by a height that is not 0
 pub record Raised (a k : ℕ) : Type 0 where
@@ -380,7 +442,8 @@ mmb_birth_low a (suc k) z h = let e : suc k - 1 ≡ k = omega arith in rw e (mmb
 mod_one : (n : ℕ) → n % 2 ^ 0 ≡ 0
 mod_one n = omega arith
 
-mmb_brings : (n o : ℕ) → mmb_size n + o < mmb_size (n + 1) → (a : ℕ) × (k : ℕ) × (a % 2 ^ k ≡ 0) × (mmb_position a k ≡ mmb_size n + o)
+mmb_brings : (n o : ℕ) → mmb_size n + o < mmb_size (n + 1)
+    → (a : ℕ) × (k : ℕ) × (a % 2 ^ k ≡ 0) × (mmb_position a k ≡ mmb_size n + o)
 mmb_brings n zero h = (n, 0, mod_one n, omega arith)
 mmb_brings n (suc o) h =
     let a = mmb_after n (n + 2) (below_pow (n + 2)) (omega arith) in
@@ -392,12 +455,15 @@ mmb_laws = record {
   sum = mmb_peaks_sum;
   aligned = λ n. rw (mmb_peaks_at n n (fits n)) (mmb_aligned n n 0 (fits n) (zero_multiple n));
   few = λ n h. (let p = mmb_peaks_count n in ⊎_elim
-      (λ (l : 63 < length (mmb_peaks n)). absurd (let q : 2 ^ 63 ≤ 2 ^ length (mmb_peaks n) = pow_le 63 (length (mmb_peaks n)) (omega arith) in omega (arith, p)))
+      (λ (l : 63 < length (mmb_peaks n)).
+      absurd (let q : 2 ^ 63 ≤ 2 ^ length (mmb_peaks n) = pow_le 63 (length (mmb_peaks n)) (omega arith) in omega (arith, p)))
       (λ g. g)
       (cases_lt 63 (length (mmb_peaks n))));
   inside = λ n a k ha. (
-    (λ i. let r = mmb_inside_back n n 0 a k (fits n) (rw (mmb_peaks_at n n (fits n)) at i) in let x : mmb_birth a k ≤ n = omega (arith, r) in x),
-    (λ h. let g : mmb_birth a k ≤ n = h in rw (mmb_peaks_at n n (fits n)) (mmb_inside n n 0 a k (fits n) (zero_multiple n) ha (omega arith) (omega arith))),
+    (λ i. let r = mmb_inside_back n n 0 a k (fits n) (rw (mmb_peaks_at n n (fits n)) at i) in
+        let x : mmb_birth a k ≤ n = omega (arith, r) in x),
+    (λ h. let g : mmb_birth a k ≤ n = h in rw (mmb_peaks_at n n (fits n))
+        (mmb_inside n n 0 a k (fits n) (zero_multiple n) ha (omega arith) (omega arith))),
   );
   grows = mmb_grows;
   born = λ n a k ha. mmb_born n a k;

@@ -1,5 +1,5 @@
-use Rattle.std.proofs.Common.{◌≡◌, ℕ, zero, suc, ◌+◌, ◌-◌, ◌*◌, ◌/◌, ◌%◌, ◌^◌, ◌<◌, ◌≤◌, ◌↔◌, List, [], ◌∷◌, length, refl, sym, ap, ◌∙◌, inl, inr, ⊎_elim, arith}
-use Rattle.std.proofs.lemmas.Bool.{cases_lt, le-leb, lt-leb}
+use Rattle.std.proofs.Common.{◌≡◌, ℕ, zero, suc, ◌+◌, ◌-◌, ◌*◌, ◌/◌, ◌%◌, ◌^◌, ◌<◌, ◌≤◌, ◌↔◌, List, ◌∷◌, length, sym, ap, ◌∙◌, inl, inr, ⊎_elim, arith}
+use Rattle.std.proofs.lemmas.Bool.{cases_lt}
 use Rattle.std.proofs.lemmas.Nat.{pow_pos, ones_cat, ones-le}
 use lib.Count.{ones, ones-ones}
 use Rattle.std.proofs.lemmas.Bool.{cases_eq}
@@ -14,7 +14,8 @@ unfolding mmr_below leaves_of
 mmr_sum zero r h = omega arith
 mmr_sum (suc i) r h = ⊎_elim
     (λ s. rw (mmr_small i r s) (mmr_sum i r s))
-    (λ b. rw (mmr_big i r b) (let ih : leaves_of (mmr_below i (r - 2 ^ i)) ≡ r - 2 ^ i = mmr_sum i (r - 2 ^ i) (omega (arith, pow_two i)) in omega arith))
+    (λ b. rw (mmr_big i r b)
+    (let ih : leaves_of (mmr_below i (r - 2 ^ i)) ≡ r - 2 ^ i = mmr_sum i (r - 2 ^ i) (omega (arith, pow_two i)) in omega arith))
     (cases_lt r (2 ^ i))
 
 -- there is a peak for each 1 among the digits
@@ -43,7 +44,8 @@ mmr_next_count (suc i) r h = ⊎_elim
     let e : r + 1 - 2 ^ i ≡ 0 = omega arith in rw (e, mmr_none i) (omega arith)))
     (λ c. rw (mmr_big i (r + 1) b, mmr_big i r c) (
     let e : r + 1 - 2 ^ i ≡ r - 2 ^ i + 1 = omega arith in
-    rw e (let ih : length (mmr_below i (r - 2 ^ i + 1)) ≤ length (mmr_below i (r - 2 ^ i)) + 1 = mmr_next_count i (r - 2 ^ i) (omega (arith, pow_two i)) in omega arith)))
+    rw e
+    (let ih : length (mmr_below i (r - 2 ^ i + 1)) ≤ length (mmr_below i (r - 2 ^ i)) + 1 = mmr_next_count i (r - 2 ^ i) (omega (arith, pow_two i)) in omega arith)))
     (cases_lt r (2 ^ i)))
     (cases_lt (r + 1) (2 ^ i))
 
@@ -83,7 +85,8 @@ ones_join a r k ha hr =
 
 pub ones_full : (a k : ℕ) → a % 2 ^ k ≡ 0 → ones (a + 2 ^ k) ≤ ones a + 1
 ones_full a k ha =
-    let e : ones ((a / 2 ^ k + 1) * 2 ^ k + 0) ≡ ones (a / 2 ^ k + 1) + ones 0 = ones_cat k (a / 2 ^ k + 1) 0 (pow_pos k) in
+    let e : ones ((a / 2 ^ k + 1) * 2 ^ k + 0) ≡ ones (a / 2 ^ k + 1) + ones 0 =
+    ones_cat k (a / 2 ^ k + 1) 0 (pow_pos k) in
     let e0 : ones (a / 2 ^ k * 2 ^ k + 0) ≡ ones (a / 2 ^ k) + ones 0 = ones_cat k (a / 2 ^ k) 0 (pow_pos k) in
     let z : ones 0 ≡ 0 = ones-ones 0 in
     let f : ones (a + 2 ^ k) ≡ ones ((a / 2 ^ k + 1) * 2 ^ k + 0) = ap ones (omega (arith, quotient a (2 ^ k) ha)) in
@@ -102,7 +105,8 @@ ones_pow k =
 -- the last leaf before the birth stands k places before the node
 pub mmr_last : (a k : ℕ) → a % 2 ^ k ≡ 0 → mmr_position a k ≡ mmr_size (a + (2 ^ k - 1)) + k
 mmr_last a k ha =
-    let e : ones (a + (2 ^ k - 1)) ≡ ones a + ones (2 ^ k - 1) = ones_join a (2 ^ k - 1) k ha (omega (arith, pow_pos k)) in
+    let e : ones (a + (2 ^ k - 1)) ≡ ones a + ones (2 ^ k - 1) =
+    ones_join a (2 ^ k - 1) k ha (omega (arith, pow_pos k)) in
     let f : ones (2 ^ k - 1) ≡ k = ones-ones k in
     let g : k ≤ 2 ^ k - 1 = omega (arith, below_pow k) in
     omega (arith, mmr_size_is a, mmr_size_is (a + (2 ^ k - 1)), pow_two k, pow_pos k)
@@ -111,7 +115,8 @@ pub mmr_born : (n a k : ℕ) → a % 2 ^ k ≡ 0 → ((mmr_position a k < mmr_si
 mmr_born n a k ha = (
   (λ h. ⊎_elim
       (λ l. absurd (
-      let m : mmr_size n ≤ mmr_size (a + (2 ^ k - 1)) = grows_at_most mmr_size mmr_grows n (a + (2 ^ k - 1)) (omega (arith, pow_pos k)) in
+      let m : mmr_size n ≤ mmr_size (a + (2 ^ k - 1)) =
+      grows_at_most mmr_size mmr_grows n (a + (2 ^ k - 1)) (omega (arith, pow_pos k)) in
       omega (arith, mmr_last a k ha)))
       (λ g. g)
       (cases_lt n (a + 2 ^ k))),
@@ -120,18 +125,22 @@ mmr_born n a k ha = (
       omega (arith, mmr_size_is a, mmr_size_is (a + 2 ^ k), ones_full a k ha, pow_two k, pow_pos k)),
 )
 
-pub mmr_inside : (i r s a k : ℕ) → r < 2 ^ i → s % 2 ^ i ≡ 0 → a % 2 ^ k ≡ 0 → s ≤ a → a + 2 ^ k ≤ s + r → Inside (mmr_below i r) s a k
+pub mmr_inside : (i r s a k : ℕ) → r < 2 ^ i → s % 2 ^ i ≡ 0 → a % 2 ^ k ≡ 0 → s ≤ a → a + 2 ^ k ≤ s + r
+    → Inside (mmr_below i r) s a k
 unfolding mmr_below Inside
 mmr_inside zero r s a k hr hs ha le h = absurd (omega (arith, pow_pos k))
 mmr_inside (suc i) r s a k hr hs ha le h = ⊎_elim
     (λ l. rw (mmr_small i r l) (mmr_inside i r s a k l (multiple_down s i (suc i) (omega arith) hs) ha le h))
     (λ g. rw (mmr_big i r g) (
-    let ki : k ≤ i = ⊎_elim (λ (x : i < k). absurd (let p : 2 ^ suc i ≤ 2 ^ k = pow_le (suc i) k x in omega arith)) (λ x. x) (cases_lt i k) in
+    let ki : k ≤ i = ⊎_elim (λ (x : i < k). absurd (let p : 2 ^ suc i ≤ 2 ^ k = pow_le (suc i) k x in omega arith))
+    (λ x. x) (cases_lt i k) in
     let sk : s % 2 ^ k ≡ 0 = multiple_down s k (suc i) (omega arith) hs in
     let tk : (s + 2 ^ i) % 2 ^ k ≡ 0 = multiple_add s (2 ^ i) (2 ^ k) (pow_pos k) sk (power_multiple i k ki) in
     ⊎_elim
     (λ x. inl (le, next a (s + 2 ^ i) (2 ^ k) ha tk x))
-    (λ y. inr (mmr_inside i (r - 2 ^ i) (s + 2 ^ i) a k (omega (arith, pow_two i)) (multiple_add s (2 ^ i) (2 ^ i) (pow_pos i) (multiple_down s i (suc i) (omega arith) hs) (power_multiple i i (omega arith))) ha y (omega arith)))
+    (λ y. inr
+    (mmr_inside i (r - 2 ^ i) (s + 2 ^ i) a k (omega (arith, pow_two i)) (multiple_add s (2 ^ i) (2 ^ i) (pow_pos i)
+    (multiple_down s i (suc i) (omega arith) hs) (power_multiple i i (omega arith))) ha y (omega arith)))
     (cases_lt a (s + 2 ^ i))))
     (cases_lt r (2 ^ i))
 
@@ -141,14 +150,20 @@ mmr_aligned zero r s hr hs = tt
 mmr_aligned (suc i) r s hr hs = ⊎_elim
     (λ l. rw (mmr_small i r l) (mmr_aligned i r s l (multiple_down s i (suc i) (omega arith) hs)))
     (λ g. rw (mmr_big i r g) (
-    let si : s % 2 ^ i ≡ 0 = multiple_down s i (suc i) (omega arith) hs in
-    (si, mmr_aligned i (r - 2 ^ i) (s + 2 ^ i) (omega (arith, pow_two i)) (multiple_add s (2 ^ i) (2 ^ i) (pow_pos i) si (power_multiple i i (omega arith))))))
+    let si : s % 2 ^ i ≡ 0 = multiple_down s i (suc i) (omega arith) hs in (
+      si,
+      mmr_aligned i (r - 2 ^ i) (s + 2 ^ i) (omega (arith, pow_two i))
+          (multiple_add s (2 ^ i) (2 ^ i) (pow_pos i) si (power_multiple i i (omega arith))),
+    )))
     (cases_lt r (2 ^ i))
 
-pub mmr_injective : (a k b j : ℕ) → a % 2 ^ k ≡ 0 → b % 2 ^ j ≡ 0 → mmr_position a k ≡ mmr_position b j → (a ≡ b) × (k ≡ j)
+pub mmr_injective : (a k b j : ℕ) → a % 2 ^ k ≡ 0 → b % 2 ^ j ≡ 0 → mmr_position a k ≡ mmr_position b j
+    → (a ≡ b) × (k ≡ j)
 mmr_injective a k b j ha hb h =
-    let ba : mmr_position b j < mmr_size (a + 2 ^ k) = (let p : mmr_position a k < mmr_size (a + 2 ^ k) = (mmr_born (a + 2 ^ k) a k ha).1 (omega arith) in omega arith) in
-    let ab : mmr_position a k < mmr_size (b + 2 ^ j) = (let p : mmr_position b j < mmr_size (b + 2 ^ j) = (mmr_born (b + 2 ^ j) b j hb).1 (omega arith) in omega arith) in
+    let ba : mmr_position b j < mmr_size (a + 2 ^ k) =
+    (let p : mmr_position a k < mmr_size (a + 2 ^ k) = (mmr_born (a + 2 ^ k) a k ha).1 (omega arith) in omega arith) in
+    let ab : mmr_position a k < mmr_size (b + 2 ^ j) =
+    (let p : mmr_position b j < mmr_size (b + 2 ^ j) = (mmr_born (b + 2 ^ j) b j hb).1 (omega arith) in omega arith) in
     let x : a + 2 ^ k ≤ b + 2 ^ j = (mmr_born (b + 2 ^ j) a k ha).0 ab in
     let y : b + 2 ^ j ≤ a + 2 ^ k = (mmr_born (a + 2 ^ k) b j hb).0 ba in
     let e : a + (2 ^ k - 1) ≡ b + (2 ^ j - 1) = omega (arith, pow_pos k, pow_pos j) in
@@ -157,17 +172,30 @@ mmr_injective a k b j ha hb h =
     let p : 2 ^ k ≡ 2 ^ j = ap (λ (z : ℕ). 2 ^ z) kj in
     (omega arith, kj)
 
-mmr_children : (a k : ℕ) → a % 2 ^ suc k ≡ 0 → (mmr_position a k < mmr_position a (suc k)) × (mmr_position (a + 2 ^ k) k < mmr_position a (suc k))
+mmr_children : (a k : ℕ) → a % 2 ^ suc k ≡ 0
+    → (mmr_position a k < mmr_position a (suc k)) × (mmr_position (a + 2 ^ k) k < mmr_position a (suc k))
 mmr_children a k ha =
-    let e : ones (a + 2 ^ k) ≡ ones a + ones (2 ^ k) = ones_join a (2 ^ k) (suc k) ha (omega (arith, pow_two k, pow_pos k)) in
-    let f : ones (2 ^ k) ≡ 1 = ones_pow k in
-    (omega (arith, pow_two k, pow_two (suc k), pow_pos k), omega (arith, mmr_size_is a, mmr_size_is (a + 2 ^ k), mmr_ones_at_most a, pow_two k, pow_two (suc k), pow_pos k))
+    let e : ones (a + 2 ^ k) ≡ ones a + ones (2 ^ k) =
+    ones_join a (2 ^ k) (suc k) ha (omega (arith, pow_two k, pow_pos k)) in
+    let f : ones (2 ^ k) ≡ 1 = ones_pow k in (
+      omega (arith, pow_two k, pow_two (suc k), pow_pos k),
+      omega (
+        arith,
+        mmr_size_is a,
+        mmr_size_is (a + 2 ^ k),
+        mmr_ones_at_most a,
+        pow_two k,
+        pow_two (suc k),
+        pow_pos k,
+      ),
+    )
 
 -- ---- the first peak, and the rest
 
 pub mmr_top : (n i : ℕ) → 2 ^ i ≤ n → n < 2 * 2 ^ i → mmr_peaks n ≡ i ∷ mmr_peaks (n - 2 ^ i)
 mmr_top n i l u =
-    mmr_peaks_at (suc i) n (omega (arith, pow_two i)) ∙ mmr_big i n l ∙ ap (λ (x : List ℕ). i ∷ x) (sym (mmr_peaks_at i (n - 2 ^ i) (omega arith)))
+    mmr_peaks_at (suc i) n (omega (arith, pow_two i)) ∙ mmr_big i n l
+    ∙ ap (λ (x : List ℕ). i ∷ x) (sym (mmr_peaks_at i (n - 2 ^ i) (omega arith)))
 
 pub mmr_size_sum : (n : ℕ) → n + (n - ones n) ≡ size mmr n
 mmr_size_sum n = omega (arith, mmr_peaks_count n, mmr_ones_at_most n)
@@ -195,8 +223,10 @@ mmr_carry (suc o) n h =
     let b : ones ((m + 1) * 2 ^ 1 + 0) ≡ ones (m + 1) + ones 0 = ones_cat 1 (m + 1) 0 (omega arith) in
     let c : ones n ≡ ones (m * 2 ^ 1 + 1) = ap ones (omega arith) in
     let d : ones (n + 1) ≡ ones ((m + 1) * 2 ^ 1 + 0) = ap ones (omega arith) in
-    let ih = mmr_carry o m (omega arith) in
-    (ih.0, (let g : m + 1 ≡ ih.0 * 2 ^ o = ih.1 in let t : ih.0 * 2 ^ suc o ≡ ih.0 * 2 ^ o + ih.0 * 2 ^ o = twice_power ih.0 o in omega arith)))
+    let ih = mmr_carry o m (omega arith) in (
+      ih.0,
+      (let g : m + 1 ≡ ih.0 * 2 ^ o = ih.1 in let t : ih.0 * 2 ^ suc o ≡ ih.0 * 2 ^ o + ih.0 * 2 ^ o = twice_power ih.0 o in omega arith),
+    ))
     (cases_eq (n % 2) 0)
 
 pub record After (n o : ℕ) : Type 0 where
@@ -209,8 +239,11 @@ mmr_after n o h =
     let c = mmr_carry o n (omega (arith, mmr_size_is n, mmr_size_is (n + 1))) in
     let q : ℕ = c.0 in
     let e : n + 1 ≡ q * 2 ^ o = c.1 in
-    let p : 0 < q = ⊎_elim (λ (z : 0 < q). z) (λ (z : q ≤ 0). absurd (let y : q ≡ 0 = omega arith in let x : q * 2 ^ o ≡ 0 * 2 ^ o = ap (λ w. w * 2 ^ o) y in omega arith)) (cases_lt 0 q) in
-    let f : q * 2 ^ o ≡ (q - 1) * 2 ^ o + 2 ^ o = (let y : q ≡ q - 1 + 1 = omega arith in let x : q * 2 ^ o ≡ (q - 1 + 1) * 2 ^ o = ap (λ w. w * 2 ^ o) y in omega arith) in
+    let p : 0 < q = ⊎_elim (λ (z : 0 < q). z) (λ (z : q ≤ 0).
+    absurd (let y : q ≡ 0 = omega arith in let x : q * 2 ^ o ≡ 0 * 2 ^ o = ap (λ w. w * 2 ^ o) y in omega arith))
+    (cases_lt 0 q) in
+    let f : q * 2 ^ o ≡ (q - 1) * 2 ^ o + 2 ^ o =
+    (let y : q ≡ q - 1 + 1 = omega arith in let x : q * 2 ^ o ≡ (q - 1 + 1) * 2 ^ o = ap (λ w. w * 2 ^ o) y in omega arith) in
     let g : n + 1 - 2 ^ o ≡ (q - 1) * 2 ^ o = omega arith in
     let al : (n + 1 - 2 ^ o) % 2 ^ o ≡ 0 = ap (λ x. x % 2 ^ o) g ∙ is_multiple (q - 1) (2 ^ o) (pow_pos o) in
     let s : mmr_size (n + 1 - 2 ^ o + (2 ^ o - 1)) ≡ mmr_size n = ap mmr_size (omega (arith, pow_pos o)) in
@@ -222,13 +255,17 @@ pub mmr_position_is : (a k : ℕ) → mmr_position a k + 2 + ones a ≡ 2 * a + 
 mmr_position_is a k = omega (arith, mmr_size_is a, pow_two k, pow_pos k)
 
 pub mmr_height : (a k : ℕ) → mmr_position a k < 2 ^ 64 → k ≤ 63
-mmr_height a k h = ⊎_elim (λ (l : 63 < k). absurd (let p : 2 ^ 64 ≤ 2 ^ k = pow_le 64 k l in omega (arith, mmr_position_is a k, mmr_ones_at_most a))) (λ g. g) (cases_lt 63 k)
+mmr_height a k h = ⊎_elim (λ (l : 63 < k).
+    absurd (let p : 2 ^ 64 ≤ 2 ^ k = pow_le 64 k l in omega (arith, mmr_position_is a k, mmr_ones_at_most a))) (λ g. g)
+    (cases_lt 63 k)
 
 pub mmr_offset : (n o : ℕ) → n ≤ 2 ^ 62 → mmr_size n + o < mmr_size (n + 1) → o ≤ 62
-mmr_offset n o few h = let a = mmr_after n o h in ⊎_elim (λ (l : 62 < o). absurd (let p : 2 ^ 63 ≤ 2 ^ o = pow_le 63 o l in omega (arith, a.fits))) (λ g. g) (cases_lt 62 o)
+mmr_offset n o few h = let a = mmr_after n o h in ⊎_elim
+    (λ (l : 62 < o). absurd (let p : 2 ^ 63 ≤ 2 ^ o = pow_le 63 o l in omega (arith, a.fits))) (λ g. g) (cases_lt 62 o)
 
 pub mmr_birth_height : (a k : ℕ) → a + 2 ^ k ≤ 2 ^ 63 → k ≤ 63
-mmr_birth_height a k h = ⊎_elim (λ (l : 63 < k). absurd (let p : 2 ^ 64 ≤ 2 ^ k = pow_le 64 k l in omega arith)) (λ g. g) (cases_lt 63 k)
+mmr_birth_height a k h =
+    ⊎_elim (λ (l : 63 < k). absurd (let p : 2 ^ 64 ≤ 2 ^ k = pow_le 64 k l in omega arith)) (λ g. g) (cases_lt 63 k)
 
 pub mmr_laws : Laws mmr
 mmr_laws = record {
@@ -237,7 +274,8 @@ mmr_laws = record {
   few = λ n h. (let b : n < 2 ^ 63 = omega arith in omega (arith, mmr_peaks_count n, ones-le 63 n b));
   inside = λ n a k ha. (
     (λ i. let r = inside_between (mmr_peaks n) 0 a k i in omega (arith, r, mmr_peaks_sum n)),
-    (λ h. let g : a + 2 ^ k ≤ n = h in rw (mmr_peaks_at n n (below_pow n)) (mmr_inside n n 0 a k (below_pow n) (zero_multiple n) ha (omega arith) (omega arith))),
+    (λ h. let g : a + 2 ^ k ≤ n = h in rw (mmr_peaks_at n n (below_pow n))
+        (mmr_inside n n 0 a k (below_pow n) (zero_multiple n) ha (omega arith) (omega arith))),
   );
   grows = mmr_grows;
   born = mmr_born;

@@ -39,7 +39,8 @@ mmr_room (suc j) i r le h = ⊎_elim
 digits_off : (j c i n : ℕ) → j ≤ i → mmr_digits j (c * 2 ^ i + n) ≡ mmr_digits j n
 unfolding mmr_digits
 digits_off zero c i n l = refl
-digits_off (suc j) c i n l = rw (bit_at_cat_low c i n j l) (ap (λ (x : List ℕ). replicate (n / 2 ^ j % 2) j ++ x) (digits_off j c i n (omega arith)))
+digits_off (suc j) c i n l = rw (bit_at_cat_low c i n j l)
+    (ap (λ (x : List ℕ). replicate (n / 2 ^ j % 2) j ++ x) (digits_off j c i n (omega arith)))
 
 pub mmr_as_digits : (i r : ℕ) → r < 2 ^ i → mmr_below i r ≡ mmr_digits i r
 unfolding mmr_below mmr_digits
@@ -47,14 +48,16 @@ mmr_as_digits zero r h = refl
 mmr_as_digits (suc i) r h = ⊎_elim
     (λ s. rw (mmr_small i r s, top_digit r i 0 (omega arith) (omega arith)) (mmr_as_digits i r s))
     (λ b. rw (mmr_big i r b, top_digit r i 1 (omega arith) (omega (arith, pow_two i))) (
-    let ih : mmr_below i (r - 2 ^ i) ≡ mmr_digits i (r - 2 ^ i) = mmr_as_digits i (r - 2 ^ i) (omega (arith, pow_two i)) in
+    let ih : mmr_below i (r - 2 ^ i) ≡ mmr_digits i (r - 2 ^ i) =
+    mmr_as_digits i (r - 2 ^ i) (omega (arith, pow_two i)) in
     let e : 1 * 2 ^ i + (r - 2 ^ i) ≡ r = omega arith in
     ap (λ (x : List ℕ). i ∷ x) (ih ∙ sym (digits_off i 1 i (r - 2 ^ i) (omega arith)) ∙ ap (mmr_digits i) e)))
     (cases_lt r (2 ^ i))
 
 pub mmr_peaks_at : (i n : ℕ) → n < 2 ^ i → mmr_peaks n ≡ mmr_below i n
 unfolding mmr_peaks
-mmr_peaks_at i n h = sym (mmr_as_digits n n (below_pow n)) ∙ ⊎_elim (λ l. sym (mmr_room i n n (omega arith) (below_pow n))) (λ g. mmr_room n i n g h) (cases_lt n i)
+mmr_peaks_at i n h = sym (mmr_as_digits n n (below_pow n))
+    ∙ ⊎_elim (λ l. sym (mmr_room i n n (omega arith) (below_pow n))) (λ g. mmr_room n i n g h) (cases_lt n i)
 
 pub mmr_peaks_room : (n : ℕ) → mmr_peaks n ≡ mmr_below n n
 mmr_peaks_room n = mmr_peaks_at n n (below_pow n)

@@ -60,14 +60,20 @@ own_multi_proof h T content i ls = record {
   digests = map (tree_digest h T content) (needed_sites T ls (length content.elements));
 }
 
-module _ (h : HashFunction) (T : Layout) (b : Bagging) (proof : RangeProof) (claims : List Claim) (chunk : ℕ → List ℕ) where
+module _ (h : HashFunction) (T : Layout) (b : Bagging) (proof : RangeProof) (claims : List Claim)
+    (chunk : ℕ → List ℕ) where
   -- the proof's digests, the claimed elements, the given chunks
   abbrev pub multi_values : Values
-  multi_values = record { digest = look_up (h []) (needed_sites T (locations claims) proof.leaves) proof.digests; element = element_at claims; chunk = chunk }
+  multi_values = record {
+    digest = look_up (h []) (needed_sites T (locations claims) proof.leaves) proof.digests;
+    element = element_at claims;
+    chunk = chunk;
+  }
 
   -- the tree's own calculation, with the greatest nodes that hold no claimed location given
   abbrev pub multi_bag : Option Calc
-  multi_bag = bag (map (part T (untouched (locations claims))) (folded b proof.inactive (peaks_of T proof.leaves))) (map (part T (untouched (locations claims))) (unfolded b proof.inactive (peaks_of T proof.leaves)))
+  multi_bag = bag (map (part T (untouched (locations claims))) (folded b proof.inactive (peaks_of T proof.leaves)))
+      (map (part T (untouched (locations claims))) (unfolded b proof.inactive (peaks_of T proof.leaves)))
 
   abbrev pub multi_string : List ℕ
   multi_string = root_string h multi_values T b proof.leaves proof.inactive multi_bag
@@ -90,17 +96,20 @@ default_proof = record { leaves = 0; inactive = 0; digests = [] }
 -- where the check says yes: for no claims, to the default proof and the root of the empty tree alone
 abbrev pub IsMultiAccepted : HashFunction → Layout → Bagging → RangeProof → List Claim → (ℕ → List ℕ) → List ℕ → Type 0
 IsMultiAccepted h T b proof [] chunk root = (proof ≡ default_proof) × (empty_root h T b ≡ root)
-IsMultiAccepted h T b proof (c ∷ cs) chunk root = ClaimsFit h T b proof (c ∷ cs) chunk × (h (multi_string h T b proof (c ∷ cs) chunk) ≡ root)
+IsMultiAccepted h T b proof (c ∷ cs) chunk root =
+    ClaimsFit h T b proof (c ∷ cs) chunk × (h (multi_string h T b proof (c ∷ cs) chunk) ≡ root)
 
 -- the proof is the tree's own, field for field, and what is claimed stands in the tree
-pub record IsMultiOwn (h : HashFunction) (T : Layout) (proof : RangeProof) (claims : List Claim) (content : Content) (inactive : ℕ) : Type 0 where
+pub record IsMultiOwn (h : HashFunction) (T : Layout) (proof : RangeProof) (claims : List Claim) (content : Content)
+    (inactive : ℕ) : Type 0 where
   pub proof_is : proof ≡ own_multi_proof h T content inactive (locations claims)
   pub elements_stand : Stand content.elements claims
 
 -- Of each tree with that root, the proof is the tree's own and what it claims stands there, or a string of the check and a
 -- different one of the tree have one digest. Digests have d bytes and chunks N; which nodes have a chunk grafted may depend on
 -- the number of leaves.
-abbrev pub IsMultiProved : ℕ → HashFunction → Layout → Bagging → RangeProof → List Claim → (ℕ → List ℕ) → List ℕ → Type 0
+abbrev pub IsMultiProved : ℕ → HashFunction → Layout → Bagging → RangeProof → List Claim → (ℕ → List ℕ)
+    → List ℕ → Type 0
 IsMultiProved d h T b proof claims chunk root =
     (N : ℕ) (grafted : ℕ → ℕ → ℕ → Bool) →
     let over : ℕ → Layout = λ n. record { shape = T.shape; grafted = grafted n } in
@@ -109,19 +118,23 @@ IsMultiProved d h T b proof claims chunk root =
     length content.elements ≤ 2 ^ 62 → inactive ≤ length (T.shape.peaks (length content.elements)) →
     tree_root h (over (length content.elements)) b content inactive ≡ root →
     IsMultiOwn h (over (length content.elements)) proof claims content inactive
-    ⊎ Cross h (multi_strings h T b proof claims chunk) (tree_strings h (over (length content.elements)) b content inactive)
+    ⊎ Cross h (multi_strings h T b proof claims chunk)
+    (tree_strings h (over (length content.elements)) b content inactive)
 
 -- A multi proof that is accepted is the own one of each tree with that root, and its claims stand there.
 abbrev pub MultiProofsAreSound : Type 0
 MultiProofsAreSound =
     (d : ℕ) (h : HashFunction) → IsSized d h → (T : Layout) → Laws T.shape →
-    (b : Bagging) (proof : RangeProof) (claims : List Claim) (chunk : ℕ → List ℕ) (root : List ℕ) → AreDigests d proof.digests →
+    (b : Bagging) (proof : RangeProof) (claims : List Claim) (chunk : ℕ → List ℕ) (root : List ℕ)
+    → AreDigests d proof.digests →
     IsMultiAccepted h T b proof claims chunk root → IsMultiProved d h T b proof claims chunk root
 
 -- A tree's own proof of some claims that stand in it, in ascending order, is accepted against its root.
 abbrev pub OwnMultiProofsAreAccepted : Type 0
 OwnMultiProofsAreAccepted =
-    (h : HashFunction) (T : Layout) → Laws T.shape → (b : Bagging) (claims : List Claim) (content : Content) (inactive : ℕ) →
+    (h : HashFunction) (T : Layout) → Laws T.shape
+    → (b : Bagging) (claims : List Claim) (content : Content) (inactive : ℕ) →
     length content.elements ≤ 2 ^ 62 → inactive ≤ length (T.shape.peaks (length content.elements)) →
     0 < length claims → Ascend 0 (length content.elements) (locations claims) → Stand content.elements claims →
-    IsMultiAccepted h T b (own_multi_proof h T content inactive (locations claims)) claims content.chunk (tree_root h T b content inactive)
+    IsMultiAccepted h T b (own_multi_proof h T content inactive (locations claims)) claims content.chunk
+    (tree_root h T b content inactive)

@@ -9,9 +9,11 @@ use Rattle.storage_merkle.specs.RangeProofs.{RangeProof}
 use Rattle.storage_merkle.specs.Multi.{Claim, element_at, multi_string, ClaimsFit}
 
 -- the root that a check recomputes where the counts fit, and none where they don't
-abbrev pub IsMultiRecomputed : HashFunction → Layout → Bagging → RangeProof → List Claim → (ℕ → List ℕ) → Option (List ℕ) → Type 0
+abbrev pub IsMultiRecomputed : HashFunction → Layout → Bagging → RangeProof → List Claim → (ℕ → List ℕ)
+    → Option (List ℕ) → Type 0
 IsMultiRecomputed h T b proof claims chunk None = ClaimsFit h T b proof claims chunk → ⊥
-IsMultiRecomputed h T b proof claims chunk (Some root) = ClaimsFit h T b proof claims chunk × (root ≡ h (multi_string h T b proof claims chunk))
+IsMultiRecomputed h T b proof claims chunk (Some root) =
+    ClaimsFit h T b proof claims chunk × (root ≡ h (multi_string h T b proof claims chunk))
 
 -- what stands at the names of a calculation: digests, claimed elements, and chunks
 abbrev pub claimed_values : (Site → List ℕ) → List Claim → (ℕ → List ℕ) → Values

@@ -26,9 +26,11 @@ is_earlier start (node a k) = leb (a + 2 ^ k) start
 -- each digest of leaves before the start is the recomputed one
 abbrev pub Match : ℕ → (Site → List ℕ) → (Site → List ℕ) → List Site → Type 0
 Match start digest recomputed [] = Unit {0}
-Match start digest recomputed (s ∷ ss) = (is_earlier start s ≡ true → digest s ≡ recomputed s) × Match start digest recomputed ss
+Match start digest recomputed (s ∷ ss) =
+    (is_earlier start s ≡ true → digest s ≡ recomputed s) × Match start digest recomputed ss
 
-module _ (h : HashFunction) (T : Layout) (b : Bagging) (proof : RangeProof) (start : ℕ) (claim : Content) (pinned : List (List ℕ)) where
+module _ (h : HashFunction) (T : Layout) (b : Bagging) (proof : RangeProof) (start : ℕ) (claim : Content)
+    (pinned : List (List ℕ)) where
   -- the peaks over the leaves before the start, whose digests are pinned
   abbrev pub pinned_sites : List Site
   pinned_sites = peak_sites (peaks_of T start)
@@ -66,7 +68,8 @@ module _ (h : HashFunction) (T : Layout) (b : Bagging) (proof : RangeProof) (sta
   pub record IsPinnedAccepted (root : List ℕ) : Type 0 where
     pub accepted : IsAccepted h T b proof start claim root
     pub count : length pinned ≡ length pinned_sites
-    pub same : Match start (check_values h T b proof start claim).digest recomputed (range_sites h T b proof start claim)
+    pub same : Match start (check_values h T b proof start claim).digest recomputed
+        (range_sites h T b proof start claim)
 
   -- the proof is the tree's own, and the pinned digests are those of the peaks over the start
   pub record IsPinnedOwn (content : Content) (inactive : ℕ) : Type 0 where
@@ -75,20 +78,25 @@ module _ (h : HashFunction) (T : Layout) (b : Bagging) (proof : RangeProof) (sta
 
 -- Of each list with that root, the proof is the list's own, what it claims stands there and the pinned digests are those of the
 -- peaks over the start, or a string of the check and a different one of the list's tree have one digest.
-abbrev pub IsPinnedProved : HashFunction → Shape → Bagging → RangeProof → ℕ → List (List ℕ) → List (List ℕ) → List ℕ → Type 0
+abbrev pub IsPinnedProved : HashFunction → Shape → Bagging → RangeProof → ℕ → List (List ℕ) → List (List ℕ)
+    → List ℕ → Type 0
 IsPinnedProved h S b proof start elements pinned root =
     (list : List (List ℕ)) (inactive : ℕ) → length list ≤ 2 ^ 62 → inactive ≤ length (S.peaks (length list)) →
     tree_root h (ungrafted S) b (listed list) inactive ≡ root →
     IsPinnedOwn h (ungrafted S) b proof start (listed elements) pinned (listed list) inactive
-    ⊎ Cross h (pinned_strings h (ungrafted S) b proof start (listed elements) pinned) (tree_strings h (ungrafted S) b (listed list) inactive)
+    ⊎ Cross h (pinned_strings h (ungrafted S) b proof start (listed elements) pinned)
+    (tree_strings h (ungrafted S) b (listed list) inactive)
 
 -- Pinned digests that are accepted are those of the list's peaks over the start, and the proof is the list's own, or a string of
 -- the check and a different one of the list's tree have one digest.
 abbrev pub PinnedDigestsAreSound : Type 0
 PinnedDigestsAreSound =
     (d : ℕ) (h : HashFunction) → IsSized d h → (S : Shape) → Laws S →
-    (b : Bagging) (proof : RangeProof) (start : ℕ) (elements pinned : List (List ℕ)) → AreDigests d proof.digests → AreDigests d pinned →
+    (b : Bagging) (proof : RangeProof) (start : ℕ) (elements pinned : List (List ℕ)) → AreDigests d proof.digests
+    → AreDigests d pinned →
     (list : List (List ℕ)) (inactive : ℕ) → length list ≤ 2 ^ 62 → inactive ≤ length (S.peaks (length list)) →
-    IsPinnedAccepted h (ungrafted S) b proof start (listed elements) pinned (tree_root h (ungrafted S) b (listed list) inactive) →
+    IsPinnedAccepted h (ungrafted S) b proof start (listed elements) pinned
+    (tree_root h (ungrafted S) b (listed list) inactive) →
     IsPinnedOwn h (ungrafted S) b proof start (listed elements) pinned (listed list) inactive
-    ⊎ Cross h (pinned_strings h (ungrafted S) b proof start (listed elements) pinned) (tree_strings h (ungrafted S) b (listed list) inactive)
+    ⊎ Cross h (pinned_strings h (ungrafted S) b proof start (listed elements) pinned)
+    (tree_strings h (ungrafted S) b (listed list) inactive)

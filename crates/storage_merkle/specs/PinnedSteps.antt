@@ -27,7 +27,11 @@ pinned_digest S start pinned none a k = look_up none (peak_sites (peaks_from S 0
 -- the digest of a node before the start, from the pinned ones by node hashing
 abbrev pub digest_before : HashFunction → Layout → ℕ → List (List ℕ) → (ℕ → List ℕ) → ℕ → ℕ → List ℕ
 digest_before h T start pinned chunk a k =
-    eval h (record { digest = look_up (h []) (peak_sites (peaks_from T.shape 0 start)) pinned; element = λ j. []; chunk = chunk })
+    eval h (record {
+      digest = look_up (h []) (peak_sites (peaks_from T.shape 0 start)) pinned;
+      element = λ j. [];
+      chunk = chunk;
+    })
     (node_calc T (λ b j. eqb j 0 || is_pinned T.shape start b j) k a)
 
 -- some nodes stand at positions, and each is in the tree over n leaves
@@ -42,6 +46,8 @@ as_list None = []
 as_list (Some x) = x ∷ []
 
 -- the pinned digests are as many as the peaks over the leaves before the start, and the proof has the digests there that they give
-pub record AgreesWith (h : HashFunction) (T : Layout) (b : Bagging) (proof : RangeProof) (start : ℕ) (claim : Content) (pinned : List (List ℕ)) : Type 0 where
+pub record AgreesWith (h : HashFunction) (T : Layout) (b : Bagging) (proof : RangeProof) (start : ℕ) (claim : Content)
+    (pinned : List (List ℕ)) : Type 0 where
   pub count : length pinned ≡ length (pinned_sites h T b proof start claim pinned)
-  pub same : Match start (check_values h T b proof start claim).digest (recomputed h T b proof start claim pinned) (range_sites h T b proof start claim)
+  pub same : Match start (check_values h T b proof start claim).digest (recomputed h T b proof start claim pinned)
+      (range_sites h T b proof start claim)

@@ -26,7 +26,8 @@ pub record AreInOrder {D : Type 0} (positions : List ℕ) (digests : List D) : T
 -- the positions of these peaks are among the planned ones, where they are apart from the range; and those of all of them
 abbrev pub ArePlannedApart : Shape → ℕ → ℕ → List ℕ → List Peak → Type 0
 ArePlannedApart S low high positions [] = Unit {0}
-ArePlannedApart S low high positions (p ∷ ps) = (apart low high p.first p.height ≡ true → IsAmong positions (S.position p.first p.height)) × ArePlannedApart S low high positions ps
+ArePlannedApart S low high positions (p ∷ ps) = (apart low high p.first p.height ≡ true
+    → IsAmong positions (S.position p.first p.height)) × ArePlannedApart S low high positions ps
 
 abbrev pub ArePlannedAll : Shape → List ℕ → List Peak → Type 0
 ArePlannedAll S positions [] = Unit {0}
@@ -40,7 +41,8 @@ StandsAt (q ∷ qs) (e ∷ ds) p d = ((p ≡ q) × (d ≡ e)) ⊎ StandsAt qs ds
 
 -- the digests at the positions are those that `digest_of` gives nodes, by first leaf and height
 abbrev pub AreOf : {D : Type 0} → (D → List ℕ) → Shape → List ℕ → List D → (ℕ → ℕ → List ℕ) → Type 0
-AreOf {D} text S positions digests digest_of = (p a k : ℕ) (d : D) → StandsAt positions digests p d → IsNode S p a k → text d ≡ digest_of a k
+AreOf {D} text S positions digests digest_of =
+    (p a k : ℕ) (d : D) → StandsAt positions digests p d → IsNode S p a k → text d ≡ digest_of a k
 
 -- peaks folded from the left, and from the right
 abbrev pub digest_or : List ℕ → Option (List ℕ) → List ℕ

@@ -15,7 +15,8 @@ use Rattle.storage_merkle.specs.Siblings.{sibling_sites}
 -- p is the first of the positions for which the answer is none
 abbrev pub IsFirstAbsent : {D : Type 0} → (ℕ → Option D → Type 0) → List ℕ → ℕ → Type 0
 IsFirstAbsent answers [] p = ⊥
-IsFirstAbsent {D} answers (q ∷ qs) p = (answers q None × (p ≡ q)) ⊎ ((d : D) × answers q (Some d) × IsFirstAbsent answers qs p)
+IsFirstAbsent {D} answers (q ∷ qs) p =
+    (answers q None × (p ≡ q)) ⊎ ((d : D) × answers q (Some d) × IsFirstAbsent answers qs p)
 
 -- a range of leaves, from start to before end, of a tree
 pub record PlanOf : Type 0 where
@@ -41,11 +42,14 @@ abbrev pub planned : Shape → ℕ → ℕ → ℕ → List ℕ
 planned S n low high = map (position_of (ungrafted S)) (planned_sites (ungrafted S) n low high)
 
 -- what is answered for each of the positions is the digest of the node there of the tree over some content
-abbrev pub AnswersAre : {D : Type 0} → (D → List ℕ) → (ℕ → Option D → Type 0) → List ℕ → HashFunction → Layout → Content → Type 0
-AnswersAre {D} text answers positions h T content = (p a k : ℕ) (d : D) → Contains positions p → IsNode T.shape p a k → answers p (Some d) → text d ≡ tree_node h T content a k
+abbrev pub AnswersAre : {D : Type 0} → (D → List ℕ) → (ℕ → Option D → Type 0) → List ℕ → HashFunction → Layout
+    → Content → Type 0
+AnswersAre {D} text answers positions h T content = (p a k : ℕ) (d : D) → Contains positions p → IsNode T.shape p a k
+    → answers p (Some d) → text d ≡ tree_node h T content a k
 
 -- a proof with so many inactive peaks is the own one of each tree of which the answers for the planned positions are
-abbrev pub IsOwnOfEach : {D : Type 0} → (D → List ℕ) → (ℕ → Option D → Type 0) → HashFunction → Shape → Bagging → PlanOf → ℕ → RangeProof → Type 0
+abbrev pub IsOwnOfEach : {D : Type 0} → (D → List ℕ) → (ℕ → Option D → Type 0) → HashFunction → Shape → Bagging → PlanOf
+    → ℕ → RangeProof → Type 0
 IsOwnOfEach text answers h S b plan inactive proof =
     (T : Layout) (content : Content) → T.shape ≡ S → length content.elements ≡ plan.leaves →
     AnswersAre text answers (planned S plan.leaves plan.start plan.end) h T content →
@@ -75,7 +79,8 @@ pub record ArePeaks (S : Shape) (n s r : ℕ) : Type 0 where
 pub record IsGreatestApart (S : Shape) (n low high a k : ℕ) : Type 0 where
   pub tree : InTree S n a k
   pub outside : apart low high a k ≡ true
-  pub greatest : (b j : ℕ) → InTree S n b j → apart low high b j ≡ true → b ≤ a → a + 2 ^ k ≤ b + 2 ^ j → (b ≡ a) × (j ≡ k)
+  pub greatest : (b j : ℕ) → InTree S n b j → apart low high b j ≡ true → b ≤ a → a + 2 ^ k ≤ b + 2 ^ j
+      → (b ≡ a) × (j ≡ k)
 
 -- The planned positions are those of the greatest nodes that hold no leaf of the range.
 abbrev pub GreatestNodesArePlanned : Type 0

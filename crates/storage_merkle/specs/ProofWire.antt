@@ -1,10 +1,10 @@
 -- What range proofs are written as, and what reading answers.
-use Rattle.std.specs.Prelude.{◌≡◌, ℕ, zero, suc, ◌+◌, ◌<◌, ◌≤◌, ◌^◌, List, [], ◌∷◌, ◌++◌, length, Result, Ok, Err, nat_lt, if◌then◌else◌}
+use Rattle.std.specs.Prelude.{ℕ, zero, suc, ◌<◌, ◌≤◌, ◌^◌, List, [], ◌∷◌, ◌++◌, length, Ok, Err, nat_lt, if◌then◌else◌}
 use Rattle.storage_codec.specs.Codec.{Answer, mapped, front_at, varint_at}
 use Rattle.storage_codec.specs.Faults.{◌>>=◌, InvalidLength}
 use Rattle.storage_codec.specs.Parts.{varint_text}
 use Rattle.storage_merkle.specs.Wire.{location_at}
-use Rattle.storage_merkle.specs.RangeProofs.{RangeProof, AreDigests}
+use Rattle.storage_merkle.specs.RangeProofs.{RangeProof}
 
 -- digests one after another
 abbrev pub joined_text : List (List ℕ) → List ℕ
@@ -18,7 +18,8 @@ digests_at d (suc n) bytes = front_at d bytes >>= λ x. mapped (λ xs. x.0 ∷ x
 
 -- leaves, inactive peaks, the number of digests, the digests
 abbrev pub proof_text : RangeProof → List ℕ
-proof_text p = varint_text p.leaves ++ (varint_text p.inactive ++ (varint_text (length p.digests) ++ joined_text p.digests))
+proof_text p = varint_text p.leaves
+    ++ (varint_text p.inactive ++ (varint_text (length p.digests) ++ joined_text p.digests))
 
 -- the same with at most so many digests of d bytes
 abbrev pub proof_at : ℕ → ℕ → List ℕ → Answer RangeProof

@@ -78,7 +78,8 @@ module _ (T : Layout) (low high : ℕ) where
   sites_over xs ys =
       front_sites (leading low xs) ++ (sites_in T (apart low high) (leading low ys)
       ++ (sites_in T (apart low high) (trailing high (not_leading low xs)) ++ (back_sites (trailing high ys)
-      ++ by_position T (sites_in T (apart low high) (up_to high (not_leading low xs)) ++ sites_in T (apart low high) (up_to high (not_leading low ys))))))
+      ++ by_position T (sites_in T (apart low high) (up_to high (not_leading low xs))
+      ++ sites_in T (apart low high) (up_to high (not_leading low ys))))))
 
   -- over n leaves, with i inactive peaks
   abbrev pub sites : Bagging → ℕ → ℕ → List Site
@@ -99,7 +100,8 @@ abbrev pub check_bag : Layout → ℕ → ℕ → Bagging → ℕ → ℕ → Op
 check_bag T low high b n i =
     let xs = folded b i (peaks_of T n) in
     let ys = unfolded b i (peaks_of T n) in
-    bag (front_given (leading low xs) ++ map (part T (apart low high)) (not_leading low xs)) (map (part T (apart low high)) (up_to high ys) ++ back_given (trailing high ys))
+    bag (front_given (leading low xs) ++ map (part T (apart low high)) (not_leading low xs))
+    (map (part T (apart low high)) (up_to high ys) ++ back_given (trailing high ys))
 
 abbrev pub same_site : Site → Site → Bool
 same_site front front = true
@@ -119,10 +121,15 @@ module _ (h : HashFunction) (T : Layout) (b : Bagging) (proof : RangeProof) (sta
 
   -- the proof's digests, the claimed elements from `start` on, the claimed chunks
   abbrev pub check_values : Values
-  check_values = record { digest = look_up (h []) range_sites proof.digests; element = λ j. get_or claim.elements (j - start) []; chunk = claim.chunk }
+  check_values = record {
+    digest = look_up (h []) range_sites proof.digests;
+    element = λ j. get_or claim.elements (j - start) [];
+    chunk = claim.chunk;
+  }
 
   abbrev pub check_string : List ℕ
-  check_string = root_string h check_values T b proof.leaves proof.inactive (check_bag T start (start + length claim.elements) b proof.leaves proof.inactive)
+  check_string = root_string h check_values T b proof.leaves proof.inactive
+      (check_bag T start (start + length claim.elements) b proof.leaves proof.inactive)
 
   -- the root that the check recomputes
   abbrev pub recomputed_root : List ℕ
@@ -130,7 +137,8 @@ module _ (h : HashFunction) (T : Layout) (b : Bagging) (proof : RangeProof) (sta
 
   -- each string given to the digest function by the check
   abbrev pub check_strings : List (List ℕ)
-  check_strings = check_string ∷ strings_bag h check_values (check_bag T start (start + length claim.elements) b proof.leaves proof.inactive)
+  check_strings = check_string
+      ∷ strings_bag h check_values (check_bag T start (start + length claim.elements) b proof.leaves proof.inactive)
 
   -- the counts of a proof fit together and to a range of some elements
   pub record CountsFit : Type 0 where
@@ -161,8 +169,10 @@ fold_digest h v (Some c) = eval h v c
 
 -- the digest that a tree over n leaves with i inactive peaks has at each site of a range
 abbrev pub own_digest : HashFunction → Layout → Bagging → Content → ℕ → ℕ → ℕ → ℕ → Site → List ℕ
-own_digest h T b content n i low high front = fold_digest h (plain h content) (bag (map (whole T) (leading low (folded b i (peaks_of T n)))) [])
-own_digest h T b content n i low high back = fold_digest h (plain h content) (bag [] (map (whole T) (trailing high (unfolded b i (peaks_of T n)))))
+own_digest h T b content n i low high front = fold_digest h (plain h content)
+    (bag (map (whole T) (leading low (folded b i (peaks_of T n)))) [])
+own_digest h T b content n i low high back = fold_digest h (plain h content)
+    (bag [] (map (whole T) (trailing high (unfolded b i (peaks_of T n)))))
 own_digest h T b content n i low high (node a k) = tree_node h T content a k
 
 -- the tree's own proof of the range from low to high - 1
@@ -170,7 +180,8 @@ abbrev pub own_proof : HashFunction → Layout → Bagging → Content → ℕ �
 own_proof h T b content i low high = record {
   leaves = length content.elements;
   inactive = i;
-  digests = map (own_digest h T b content (length content.elements) i low high) (sites T low high b (length content.elements) i);
+  digests = map (own_digest h T b content (length content.elements) i low high)
+      (sites T low high b (length content.elements) i);
 }
 
 -- some elements stand in a list from `start` on
@@ -180,10 +191,12 @@ pub record StandAt (list : List (List ℕ)) (start : ℕ) (elements : List (List
 
 -- two contents have the same chunk over each grafted node that shares a leaf with the range
 abbrev pub SameChunks : Layout → ℕ → ℕ → ℕ → Content → Content → Type 0
-SameChunks T n low high c e = (a k : ℕ) → 1 ≤ k → T.grafted a k ≡ true → a % 2 ^ k ≡ 0 → Inside (T.shape.peaks n) 0 a k → apart low high a k ≡ false → c.chunk a ≡ e.chunk a
+SameChunks T n low high c e = (a k : ℕ) → 1 ≤ k → T.grafted a k ≡ true → a % 2 ^ k ≡ 0 → Inside (T.shape.peaks n) 0 a k
+    → apart low high a k ≡ false → c.chunk a ≡ e.chunk a
 
 -- the proof is the tree's own, field for field, and what is claimed stands in the tree
-pub record IsOwn (h : HashFunction) (T : Layout) (b : Bagging) (proof : RangeProof) (start : ℕ) (claim content : Content) (inactive : ℕ) : Type 0 where
+pub record IsOwn (h : HashFunction) (T : Layout) (b : Bagging) (proof : RangeProof) (start : ℕ)
+    (claim content : Content) (inactive : ℕ) : Type 0 where
   pub proof_is : proof ≡ own_proof h T b content inactive start (start + length claim.elements)
   pub elements_are : StandAt content.elements start claim.elements
   pub chunks_are : SameChunks T (length content.elements) start (start + length claim.elements) claim content

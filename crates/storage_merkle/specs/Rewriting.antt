@@ -8,9 +8,12 @@ abbrev pub over : ℕ → ℕ → ℕ
 over place k = place / 2 ^ k * 2 ^ k
 
 -- the digests kept of the nodes below some position are these nodes', save over dirty leaves, and save over one leaf from some height on
-pub record WrittenBelow (S : Shape) (node : ℕ → ℕ → List ℕ) (dirty : List ℕ) (place height boundary reach : ℕ) (pinned nodes : List (List ℕ)) : Type 0 where
+pub record WrittenBelow (S : Shape) (node : ℕ → ℕ → List ℕ) (dirty : List ℕ) (place height boundary reach : ℕ)
+    (pinned nodes : List (List ℕ)) : Type 0 where
   pub peaks : pinned ≡ at_peaks node 0 (S.peaks boundary)
-  pub from : (a k : ℕ) → a % 2 ^ k ≡ 0 → size S boundary ≤ S.position a k → S.position a k < reach → IsClean dirty a k → (k < height) ⊎ (a ≤ place → place < a + 2 ^ k → ⊥) → get_or nodes (S.position a k - size S boundary) [] ≡ node k a
+  pub from : (a k : ℕ) → a % 2 ^ k ≡ 0 → size S boundary ≤ S.position a k → S.position a k < reach → IsClean dirty a k
+      → (k < height) ⊎ (a ≤ place → place < a + 2 ^ k → ⊥)
+      → get_or nodes (S.position a k - size S boundary) [] ≡ node k a
 
 -- the next leaf, if there is one, is among the dirty ones
 abbrev pub IsNext : Option ℕ → List ℕ → Type 0

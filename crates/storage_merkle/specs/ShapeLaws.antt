@@ -18,7 +18,8 @@ pub inside_between : (hs : List ℕ) (s a k : ℕ) → Inside hs s a k → (s �
 unfolding leaves_of Inside
 inside_between [] s a k h = absurd h
 inside_between (h ∷ hs) s a k (inl p) = (p.0, omega (arith, p.1))
-inside_between (h ∷ hs) s a k (inr q) = let r = inside_between hs (s + 2 ^ h) a k q in (omega (arith, r), omega (arith, r))
+inside_between (h ∷ hs) s a k (inr q) = let r = inside_between hs (s + 2 ^ h) a k q in
+    (omega (arith, r), omega (arith, r))
 
 -- a number that grows at each step
 module _ (f : ℕ → ℕ) (grows : (n : ℕ) → f n < f (n + 1)) where
@@ -35,7 +36,8 @@ module _ (f : ℕ → ℕ) (grows : (n : ℕ) → f n < f (n + 1)) where
       (λ q. let e : m ≡ n = omega arith in rw e (omega arith)) (cases_lt m n)
 
   pub grows_back : (m n : ℕ) → f m < f n → m < n
-  grows_back m n h = ⊎_elim (λ l. l) (λ q. absurd (let r : f n ≤ f m = grows_at_most n m q in omega arith)) (cases_lt m n)
+  grows_back m n h =
+      ⊎_elim (λ l. l) (λ q. absurd (let r : f n ≤ f m = grows_at_most n m q in omega arith)) (cases_lt m n)
 
 -- ---- what follows from the laws
 
@@ -50,7 +52,8 @@ module _ (S : Shape) (L : Laws S) where
   valid_leaves a k ha h = omega (arith, valid_birth a k ha h, L.late a k)
 
   pub valid_height : (a k : ℕ) → a % 2 ^ k ≡ 0 → S.position a k ≤ size S (2 ^ 62) → k ≤ 62
-  valid_height a k ha h = ⊎_elim (λ (l : 62 < k). absurd (let p : 2 ^ 63 ≤ 2 ^ k = pow_le 63 k l in omega (arith, valid_leaves a k ha h))) (λ g. g) (cases_lt 62 k)
+  valid_height a k ha h = ⊎_elim (λ (l : 62 < k).
+      absurd (let p : 2 ^ 63 ≤ 2 ^ k = pow_le 63 k l in omega (arith, valid_leaves a k ha h))) (λ g. g) (cases_lt 62 k)
 
   -- a node over few leaves has a position that fits
   pub early_fits : (a k : ℕ) → a % 2 ^ k ≡ 0 → a + 2 * 2 ^ k ≤ 2 ^ 63 → S.position a k < 2 ^ 64
@@ -61,18 +64,26 @@ module _ (S : Shape) (L : Laws S) where
   pub chunk_birth : (g : ℕ) → g ≤ 62 → S.birth 0 g ≤ 2 ^ 63
   chunk_birth g h = let p : 2 ^ g ≤ 2 ^ 62 = pow_le g 62 h in omega (arith, L.soon 0 g)
 
-  chunk_inside : (n g j : ℕ) → (Inside (S.peaks n) 0 (j * 2 ^ g) g → j * 2 ^ g + S.birth 0 g ≤ n) × (j * 2 ^ g + S.birth 0 g ≤ n → Inside (S.peaks n) 0 (j * 2 ^ g) g)
+  chunk_inside : (n g j : ℕ) → (Inside (S.peaks n) 0 (j * 2 ^ g) g → j * 2 ^ g + S.birth 0 g ≤ n)
+      × (j * 2 ^ g + S.birth 0 g ≤ n → Inside (S.peaks n) 0 (j * 2 ^ g) g)
   chunk_inside n g j =
-      let l = L.inside n (j * 2 ^ g) g (is_multiple j (2 ^ g) (pow_pos g)) in
-      ((λ i. let b : S.birth (j * 2 ^ g) g ≤ n = l.0 i in omega (arith, L.moves (j * 2 ^ g) g)), (λ h. l.1 (omega (arith, L.moves (j * 2 ^ g) g))))
+      let l = L.inside n (j * 2 ^ g) g (is_multiple j (2 ^ g) (pow_pos g)) in (
+        (λ i. let b : S.birth (j * 2 ^ g) g ≤ n = l.0 i in
+            omega (arith, L.moves (j * 2 ^ g) g)),
+        (λ h. l.1 (omega (arith, L.moves (j * 2 ^ g) g))),
+      )
 
   pub graftable_none : (n g : ℕ) → n < S.birth 0 g → (j : ℕ) → (Inside (S.peaks n) 0 (j * 2 ^ g) g ↔ (j < 0))
-  graftable_none n g h j = ((λ i. absurd (let b = (chunk_inside n g j).0 i in omega (arith, b))), (λ z. absurd (omega arith)))
+  graftable_none n g h j =
+      ((λ i. absurd (let b = (chunk_inside n g j).0 i in omega (arith, b))), (λ z. absurd (omega arith)))
 
-  pub graftable_some : (n g : ℕ) → S.birth 0 g ≤ n → (j : ℕ) → (Inside (S.peaks n) 0 (j * 2 ^ g) g ↔ (j < (n - S.birth 0 g) / 2 ^ g + 1))
+  pub graftable_some : (n g : ℕ) → S.birth 0 g ≤ n → (j : ℕ)
+      → (Inside (S.peaks n) 0 (j * 2 ^ g) g ↔ (j < (n - S.birth 0 g) / 2 ^ g + 1))
   graftable_some n g h j = (
-    (λ i. let b : j * 2 ^ g + S.birth 0 g ≤ n = (chunk_inside n g j).0 i in let d : j ≤ (n - S.birth 0 g) / 2 ^ g = le-div j (n - S.birth 0 g) (2 ^ g) (pow_pos g) (omega arith) in omega arith),
-    (λ l. (chunk_inside n g j).1 (let q : j * 2 ^ g ≤ n - S.birth 0 g = quotient_at_least j (n - S.birth 0 g) g (omega arith) in omega arith)),
+    (λ i. let b : j * 2 ^ g + S.birth 0 g ≤ n = (chunk_inside n g j).0 i in let d : j ≤ (n - S.birth 0 g) / 2 ^ g =
+        le-div j (n - S.birth 0 g) (2 ^ g) (pow_pos g) (omega arith) in omega arith),
+    (λ l. (chunk_inside n g j).1
+        (let q : j * 2 ^ g ≤ n - S.birth 0 g = quotient_at_least j (n - S.birth 0 g) g (omega arith) in omega arith)),
   )
 
   pub covers_down : (a k g p q : ℕ) → IsNode S p a k → g ≤ k → S.position (a / 2 ^ g) (k - g) ≡ q → CoversSame S g q p
@@ -87,22 +98,26 @@ module _ (S : Shape) (L : Laws S) where
       }
 
   pub covers_up : (a k g p q : ℕ) → IsNode S q a k → S.position (a * 2 ^ g) (k + g) ≡ p → CoversSame S g q p
-  covers_up a k g p q n h = record { first = a; height = k; grafted = n; node = record { aligned = out_of_units a k g n.aligned; at = h } }
+  covers_up a k g p q n h =
+      record { first = a; height = k; grafted = n; node = record { aligned = out_of_units a k g n.aligned; at = h } }
 
   -- a complete chunk is graftable once the next one is complete
   next_complete : (n g j : ℕ) → (j + 2) * 2 ^ g ≤ n → Inside (S.peaks n) 0 (j * 2 ^ g) g
-  next_complete n g j h = (L.inside n (j * 2 ^ g) g (is_multiple j (2 ^ g) (pow_pos g))).1 (omega (arith, L.soon (j * 2 ^ g) g))
+  next_complete n g j h =
+      (L.inside n (j * 2 ^ g) g (is_multiple j (2 ^ g) (pow_pos g))).1 (omega (arith, L.soon (j * 2 ^ g) g))
 
   -- graftable chunks are complete
   graftable_complete : (n g j : ℕ) → Inside (S.peaks n) 0 (j * 2 ^ g) g → j * 2 ^ g + 2 ^ g ≤ n
-  graftable_complete n g j i = let b : S.birth (j * 2 ^ g) g ≤ n = (L.inside n (j * 2 ^ g) g (is_multiple j (2 ^ g) (pow_pos g))).0 i in omega (arith, L.late (j * 2 ^ g) g)
+  graftable_complete n g j i = let b : S.birth (j * 2 ^ g) g ≤ n =
+      (L.inside n (j * 2 ^ g) g (is_multiple j (2 ^ g) (pow_pos g))).0 i in omega (arith, L.late (j * 2 ^ g) g)
 
   -- all complete chunks are graftable but at most one, which is pending
   pub one_pending : (n g r : ℕ) → AreGraftable S n g r → (r ≤ n / 2 ^ g) × (n / 2 ^ g ≤ r + 1)
   one_pending n g zero h = (
     omega arith,
     ⊎_elim
-        (λ (l : 1 < n / 2 ^ g). absurd (let i : 0 < 0 = (h 0).0 (next_complete n g 0 (quotient_at_least 2 n g (omega arith))) in omega arith))
+        (λ (l : 1 < n / 2 ^ g).
+        absurd (let i : 0 < 0 = (h 0).0 (next_complete n g 0 (quotient_at_least 2 n g (omega arith))) in omega arith))
         (λ (q : n / 2 ^ g ≤ 1). omega arith)
         (cases_lt 1 (n / 2 ^ g)),
   )
@@ -111,7 +126,8 @@ module _ (S : Shape) (L : Laws S) where
       let d : suc r ≤ n / 2 ^ g = le-div (suc r) n (2 ^ g) (pow_pos g) (omega arith) in (
         d,
         ⊎_elim
-            (λ (l : suc r + 1 < n / 2 ^ g). absurd (let i : suc r < suc r = (h (suc r)).0 (next_complete n g (suc r) (quotient_at_least (suc r + 2) n g (omega arith))) in omega arith))
+            (λ (l : suc r + 1 < n / 2 ^ g).
+            absurd (let i : suc r < suc r = (h (suc r)).0 (next_complete n g (suc r) (quotient_at_least (suc r + 2) n g (omega arith))) in omega arith))
             (λ (q : n / 2 ^ g ≤ suc r + 1). q)
             (cases_lt (suc r + 1) (n / 2 ^ g)),
       )
@@ -142,7 +158,11 @@ module _ (S : Shape) (L : Laws S) where
       let x : a + 2 ^ k ≤ 2 ^ 62 + 1 = valid_leaves a k n.aligned v' in
       let y : 2 ^ suc (k - g) ≤ 2 ^ k = pow_le (suc (k - g)) k (omega arith) in
       let z : a / 2 ^ g ≤ a = shr_le a g in
-      record { small = valid_height a k n.aligned v'; units = u.1; fits = early_fits (a / 2 ^ g) (k - g) u.1 (omega (arith, pow_two (k - g))) }
+      record {
+        small = valid_height a k n.aligned v';
+        units = u.1;
+        fits = early_fits (a / 2 ^ g) (k - g) u.1 (omega (arith, pow_two (k - g)));
+      }
 
   -- what the way up needs
   pub record Up (a k g : ℕ) : Type 0 where
@@ -154,15 +174,23 @@ module _ (S : Shape) (L : Laws S) where
   pub up : (a k g q : ℕ) → IsNode S q a k → ((p : ℕ) → CoversSame S g q p → p ≤ size S (2 ^ 62)) → Up a k g
   up a k g q n v =
       let o : a * 2 ^ g % 2 ^ (k + g) ≡ 0 = out_of_units a k g n.aligned in
-      let v' : S.position (a * 2 ^ g) (k + g) ≤ size S (2 ^ 62) = v (S.position (a * 2 ^ g) (k + g)) (covers_up a k g _ q n refl) in
+      let v' : S.position (a * 2 ^ g) (k + g) ≤ size S (2 ^ 62) =
+      v (S.position (a * 2 ^ g) (k + g)) (covers_up a k g _ q n refl) in
       let x : a * 2 ^ g + 2 ^ (k + g) ≤ 2 ^ 62 + 1 = valid_leaves (a * 2 ^ g) (k + g) o v' in
-      record { small = valid_height (a * 2 ^ g) (k + g) o v'; first = omega (arith, pow_pos (k + g)); units = o; fits = omega arith }
+      record {
+        small = valid_height (a * 2 ^ g) (k + g) o v';
+        first = omega (arith, pow_pos (k + g));
+        units = o;
+        fits = omega arith;
+      }
 
   -- there and back
   pub covers_once : (g p q q' : ℕ) → CoversSame S g q p → CoversSame S g q' p → q ≡ q'
   covers_once g p q q' x y =
-      let e : S.position (x.first * 2 ^ g) (x.height + g) ≡ S.position (y.first * 2 ^ g) (y.height + g) = x.node.at ∙ sym y.node.at in
-      let i = L.injective (x.first * 2 ^ g) (x.height + g) (y.first * 2 ^ g) (y.height + g) x.node.aligned y.node.aligned e in
+      let e : S.position (x.first * 2 ^ g) (x.height + g) ≡ S.position (y.first * 2 ^ g) (y.height + g) =
+      x.node.at ∙ sym y.node.at in
+      let i = L.injective (x.first * 2 ^ g) (x.height + g) (y.first * 2 ^ g)
+      (y.height + g) x.node.aligned y.node.aligned e in
       let f : x.first ≡ y.first = sym (shl-shr x.first g) ∙ ap (λ w. w / 2 ^ g) i.0 ∙ shl-shr y.first g in
       let h : x.height ≡ y.height = omega (arith, i.1) in
       sym x.grafted.at ∙ ap (λ w. S.position w x.height) f ∙ ap (λ w. S.position y.first w) h ∙ y.grafted.at
@@ -171,7 +199,8 @@ module _ (S : Shape) (L : Laws S) where
   covers_back g p p' q x y =
       let e : S.position x.first x.height ≡ S.position y.first y.height = x.grafted.at ∙ sym y.grafted.at in
       let i = L.injective x.first x.height y.first y.height x.grafted.aligned y.grafted.aligned e in
-      sym x.node.at ∙ ap (λ w. S.position (w * 2 ^ g) (x.height + g)) i.0 ∙ ap (λ w. S.position (y.first * 2 ^ g) (w + g)) i.1 ∙ y.node.at
+      sym x.node.at ∙ ap (λ w. S.position (w * 2 ^ g) (x.height + g)) i.0
+      ∙ ap (λ w. S.position (y.first * 2 ^ g) (w + g)) i.1 ∙ y.node.at
 
   no_peaks_of : (hs : List ℕ) → leaves_of hs ≡ 0 → hs ≡ []
   unfolding leaves_of
@@ -195,12 +224,19 @@ module _ (S : Shape) (L : Laws S) where
       let x : leaves_of (h ∷ S.peaks (r - 2 ^ h)) ≡ r = ap leaves_of (sym e) ∙ L.sum r in
       let w : 2 ^ h ≤ r = omega arith in
       let y = rw e at al in
-      record { within = w; small = pow_order h 62 (let z : 2 ^ h ≤ 2 ^ 62 = omega arith in z); aligned = y.0; fits = early_fits s h y.0 (omega arith); rest = y.1 }
+      record {
+        within = w;
+        small = pow_order h 62 (let z : 2 ^ h ≤ 2 ^ 62 = omega arith in z);
+        aligned = y.0;
+        fits = early_fits s h y.0 (omega arith);
+        rest = y.1;
+      }
 
   -- the number of leaves of a size
   pub leaves_of_size : (m n p : ℕ) → size S n ≡ p → size S m ≤ p → p < size S (m + 1) → m ≡ n
   leaves_of_size m n p e lo hi =
-      let a : m < n + 1 = grows_back (size S) L.grows m (n + 1) (let g : size S n < size S (n + 1) = L.grows n in omega arith) in
+      let a : m < n + 1 =
+      grows_back (size S) L.grows m (n + 1) (let g : size S n < size S (n + 1) = L.grows n in omega arith) in
       let b : n < m + 1 = grows_back (size S) L.grows n (m + 1) (omega arith) in
       omega arith
 
@@ -262,7 +298,8 @@ module _ (S : Shape) (L : Laws S) where
       (b.0, b.1, record { aligned = b.2; at = b.3 ∙ e })
 
   -- a node that is born before another stands before it
-  pub before : (a k b j : ℕ) → a % 2 ^ k ≡ 0 → b % 2 ^ j ≡ 0 → S.birth a k < S.birth b j → S.position a k < S.position b j
+  pub before : (a k b j : ℕ) → a % 2 ^ k ≡ 0 → b % 2 ^ j ≡ 0 → S.birth a k < S.birth b j
+      → S.position a k < S.position b j
   before a k b j ha hb h = ⊎_elim
       (λ l. l)
       (λ (g : S.position b j ≤ S.position a k). absurd (
@@ -273,22 +310,27 @@ module _ (S : Shape) (L : Laws S) where
 
   -- what the node at a valid position needs
   pub node_small : (a k p : ℕ) → IsNode S p a k → p ≤ size S (2 ^ 62) → (k ≤ 62) × (a + 2 ^ k ≤ 2 ^ 62 + 1)
-  node_small a k p n v = let v' : S.position a k ≤ size S (2 ^ 62) = omega (arith, n.at) in (valid_height a k n.aligned v', valid_leaves a k n.aligned v')
+  node_small a k p n v = let v' : S.position a k ≤ size S (2 ^ 62) = omega (arith, n.at) in
+      (valid_height a k n.aligned v', valid_leaves a k n.aligned v')
 
   pub node_birth : (a k p : ℕ) → IsNode S p a k → p ≤ size S (2 ^ 62) → S.birth a k ≤ 2 ^ 62 + 1
-  node_birth a k p n v = valid_birth a k n.aligned (let v' : S.position a k ≤ size S (2 ^ 62) = omega (arith, n.at) in v')
+  node_birth a k p n v =
+      valid_birth a k n.aligned (let v' : S.position a k ≤ size S (2 ^ 62) = omega (arith, n.at) in v')
 
   -- the children of a node, by their places
-  pub child_nodes : (a k p : ℕ) → IsNode S p a k → 1 ≤ k → IsNode S (S.position a (k - 1)) a (k - 1) × IsNode S (S.position (a + 2 ^ (k - 1)) (k - 1)) (a + 2 ^ (k - 1)) (k - 1)
+  pub child_nodes : (a k p : ℕ) → IsNode S p a k → 1 ≤ k → IsNode S (S.position a (k - 1)) a (k - 1)
+      × IsNode S (S.position (a + 2 ^ (k - 1)) (k - 1)) (a + 2 ^ (k - 1)) (k - 1)
   child_nodes a zero p n one = absurd (omega arith)
   child_nodes a (suc k) p n one =
       let e : suc k - 1 ≡ k = omega arith in
       let l : a % 2 ^ k ≡ 0 = multiple_down a k (suc k) (omega arith) n.aligned in
-      let r : (a + 2 ^ k) % 2 ^ k ≡ 0 = multiple_add a (2 ^ k) (2 ^ k) (pow_pos k) l (power_multiple k k (omega arith)) in
+      let r : (a + 2 ^ k) % 2 ^ k ≡ 0 =
+      multiple_add a (2 ^ k) (2 ^ k) (pow_pos k) l (power_multiple k k (omega arith)) in
       rw e (record { aligned = l; at = refl }, record { aligned = r; at = refl })
 
   -- the children of the one node at a position, whichever way it was found
-  pub children_of : (p a b k l r : ℕ) → IsNode S p a k → IsNode S p b k → 1 ≤ k → l ≡ S.position b (k - 1) → r ≡ S.position (b + 2 ^ (k - 1)) (k - 1) → IsNode S l a (k - 1) × IsNode S r (a + 2 ^ (k - 1)) (k - 1)
+  pub children_of : (p a b k l r : ℕ) → IsNode S p a k → IsNode S p b k → 1 ≤ k → l ≡ S.position b (k - 1)
+      → r ≡ S.position (b + 2 ^ (k - 1)) (k - 1) → IsNode S l a (k - 1) × IsNode S r (a + 2 ^ (k - 1)) (k - 1)
   children_of p a b k l r x y one el er =
       let e : b ≡ a = sym (same_node p a k b k x y).0 in
       rw (el, er, e) (child_nodes a k p x one)
@@ -297,7 +339,8 @@ module _ (S : Shape) (L : Laws S) where
   pub brought : (n p a k : ℕ) → IsNode S p a k → size S n ≤ p → p < size S (n + 1) → S.birth a k ≡ n + 1
   brought n p a k x lo hi =
       let up : S.birth a k ≤ n + 1 = (L.born (n + 1) a k x.aligned).0 (omega (arith, x.at)) in
-      let no : S.birth a k ≤ n → ⊥ = λ h. let q : S.position a k < size S n = (L.born n a k x.aligned).1 h in omega (arith, x.at) in
+      let no : S.birth a k ≤ n → ⊥ = λ h. let q : S.position a k < size S n = (L.born n a k x.aligned).1 h in
+      omega (arith, x.at) in
       omega arith
 
   -- ---- the nodes of one tree
@@ -317,7 +360,8 @@ module _ (S : Shape) (L : Laws S) where
   size_order m n h = grows_at_most (size S) L.grows m n h
 
   -- a node of a tree over at most 2 ^ 62 leaves: its position is valid, and fits in 63 bits
-  pub inside_valid : (n a k : ℕ) → n ≤ 2 ^ 62 → a % 2 ^ k ≡ 0 → Inside (S.peaks n) 0 a k → S.position a k ≤ size S (2 ^ 62)
+  pub inside_valid : (n a k : ℕ) → n ≤ 2 ^ 62 → a % 2 ^ k ≡ 0 → Inside (S.peaks n) 0 a k
+      → S.position a k ≤ size S (2 ^ 62)
   inside_valid n a k few ha i = omega (arith, inside_before n a k ha i, size_order n (2 ^ 62) few)
 
   pub inside_fits : (n a k : ℕ) → n ≤ 2 ^ 62 → a % 2 ^ k ≡ 0 → Inside (S.peaks n) 0 a k → S.position a k < 2 ^ 63
@@ -334,26 +378,32 @@ module _ (S : Shape) (L : Laws S) where
   height_apart a k b j ha hb h e = h (L.injective a k b j ha hb e).1
 
   -- a node stands behind every node below it
-  pub below_before : (d a k b j : ℕ) → d + j ≡ k → 0 < d → a % 2 ^ k ≡ 0 → b % 2 ^ j ≡ 0 → a ≤ b → b + 2 ^ j ≤ a + 2 ^ k → S.position b j < S.position a k
+  pub below_before : (d a k b j : ℕ) → d + j ≡ k → 0 < d → a % 2 ^ k ≡ 0 → b % 2 ^ j ≡ 0 → a ≤ b → b + 2 ^ j ≤ a + 2 ^ k
+      → S.position b j < S.position a k
   below_before zero a k b j e p ha hb lo hi = absurd (omega arith)
   below_before (suc d) a zero b j e p ha hb lo hi = absurd (omega arith)
   below_before (suc d) a (suc k) b j e p ha hb lo hi =
       let c = L.children a k ha in
       let l : a % 2 ^ k ≡ 0 = multiple_down a k (suc k) (omega arith) ha in
-      let r : (a + 2 ^ k) % 2 ^ k ≡ 0 = multiple_add a (2 ^ k) (2 ^ k) (pow_pos k) l (power_multiple k k (omega arith)) in
+      let r : (a + 2 ^ k) % 2 ^ k ≡ 0 =
+      multiple_add a (2 ^ k) (2 ^ k) (pow_pos k) l (power_multiple k k (omega arith)) in
       let rj : (a + 2 ^ k) % 2 ^ j ≡ 0 = multiple_down (a + 2 ^ k) j k (omega arith) r in
       let same : d ≡ 0 → j ≡ k = λ z. omega arith in
       ⊎_elim
       (λ (h : b < a + 2 ^ k).
       let x : b + 2 ^ j ≤ a + 2 ^ k = next b (a + 2 ^ k) (2 ^ j) hb rj h in
       ⊎_elim
-      (λ (q : 0 < d). let y : S.position b j < S.position a k = below_before d a k b j (omega arith) q l hb lo x in omega (arith, c))
-      (λ (q : d ≤ 0). let jk : j ≡ k = omega arith in let w : 2 ^ j ≡ 2 ^ k = ap (λ z. 2 ^ z) jk in let ab : b ≡ a = omega arith in rw (jk, ab) c.0)
+      (λ (q : 0 < d). let y : S.position b j < S.position a k = below_before d a k b j (omega arith) q l hb lo x in
+      omega (arith, c))
+      (λ (q : d ≤ 0). let jk : j ≡ k = omega arith in let w : 2 ^ j ≡ 2 ^ k = ap (λ z. 2 ^ z) jk in
+      let ab : b ≡ a = omega arith in rw (jk, ab) c.0)
       (cases_lt 0 d))
       (λ (h : a + 2 ^ k ≤ b).
       ⊎_elim
-      (λ (q : 0 < d). let y : S.position b j < S.position (a + 2 ^ k) k = below_before d (a + 2 ^ k) k b j (omega arith) q r hb h (omega (arith, pow_two k)) in omega (arith, c))
-      (λ (q : d ≤ 0). let jk : j ≡ k = omega arith in let w : 2 ^ j ≡ 2 ^ k = ap (λ z. 2 ^ z) jk in let ab : b ≡ a + 2 ^ k = omega (arith, pow_two k) in rw (jk, ab) c.1)
+      (λ (q : 0 < d). let y : S.position b j < S.position (a + 2 ^ k) k =
+      below_before d (a + 2 ^ k) k b j (omega arith) q r hb h (omega (arith, pow_two k)) in omega (arith, c))
+      (λ (q : d ≤ 0). let jk : j ≡ k = omega arith in let w : 2 ^ j ≡ 2 ^ k = ap (λ z. 2 ^ z) jk in
+      let ab : b ≡ a + 2 ^ k = omega (arith, pow_two k) in rw (jk, ab) c.1)
       (cases_lt 0 d))
       (cases_lt b (a + 2 ^ k))
 
@@ -363,12 +413,15 @@ module _ (S : Shape) (L : Laws S) where
   low_fits q g p hq hg c =
       let n : ℕ = 1001 in
       let l : length (S.peaks 1001) ≤ 1001 = omega (arith, length_at_most (S.peaks 1001), L.sum 1001) in
-      let b : S.birth c.first c.height ≤ 1001 = (L.born 1001 c.first c.height c.grafted.aligned).0 (omega (arith, c.grafted.at)) in
+      let b : S.birth c.first c.height ≤ 1001 =
+      (L.born 1001 c.first c.height c.grafted.aligned).0 (omega (arith, c.grafted.at)) in
       let d : c.first + 2 ^ c.height ≤ 1001 = omega (arith, L.late c.first c.height) in
       let w : 2 ^ g ≤ 1048576 = pow_le g 20 hg in
       let x : c.first * 2 ^ g ≤ 1001 * 1048576 = mul-le c.first (2 ^ g) 1001 1048576 (omega arith) w in
       let y : 2 ^ c.height * 2 ^ g ≤ 1001 * 1048576 = mul-le (2 ^ c.height) (2 ^ g) 1001 1048576 (omega arith) w in
       let e : 2 ^ (c.height + g) ≡ 2 ^ c.height * 2 ^ g = pow-add 2 c.height g in
-      let z : S.birth (c.first * 2 ^ g) (c.height + g) ≤ 2 ^ 62 = omega (arith, L.soon (c.first * 2 ^ g) (c.height + g)) in
-      let v : S.position (c.first * 2 ^ g) (c.height + g) < size S (2 ^ 62) = (L.born (2 ^ 62) (c.first * 2 ^ g) (c.height + g) c.node.aligned).1 z in
+      let z : S.birth (c.first * 2 ^ g) (c.height + g) ≤ 2 ^ 62 =
+      omega (arith, L.soon (c.first * 2 ^ g) (c.height + g)) in
+      let v : S.position (c.first * 2 ^ g) (c.height + g) < size S (2 ^ 62) =
+      (L.born (2 ^ 62) (c.first * 2 ^ g) (c.height + g) c.node.aligned).1 z in
       omega (arith, c.node.at)

@@ -17,19 +17,23 @@ RangeProofsAreSound =
     (d N : ℕ) (h : HashFunction) → IsSized d h → N ≢ 8 + d →
     (S : Shape) → Laws S → (grafted : ℕ → ℕ → ℕ → Bool) →
     let over : ℕ → Layout = λ n. record { shape = S; grafted = grafted n } in
-    (b : Bagging) (proof : RangeProof) (start : ℕ) (claim : Content) → AreDigests d proof.digests → ((a : ℕ) → length (claim.chunk a) ≡ N) →
+    (b : Bagging) (proof : RangeProof) (start : ℕ) (claim : Content) → AreDigests d proof.digests
+    → ((a : ℕ) → length (claim.chunk a) ≡ N) →
     (content : Content) (inactive : ℕ) → ((a : ℕ) → length (content.chunk a) ≡ N) →
     length content.elements ≤ 2 ^ 62 → inactive ≤ length (S.peaks (length content.elements)) →
-    IsAccepted h (over proof.leaves) b proof start claim (tree_root h (over (length content.elements)) b content inactive) →
+    IsAccepted h (over proof.leaves) b proof start claim
+    (tree_root h (over (length content.elements)) b content inactive) →
     IsOwn h (over (length content.elements)) b proof start claim content inactive
-    ⊎ Cross h (check_strings h (over proof.leaves) b proof start claim) (tree_strings h (over (length content.elements)) b content inactive)
+    ⊎ Cross h (check_strings h (over proof.leaves) b proof start claim)
+    (tree_strings h (over (length content.elements)) b content inactive)
 
 -- A tree's own proof of some elements that stand in it is accepted against its root.
 abbrev pub OwnRangeProofsAreAccepted : Type 0
 OwnRangeProofsAreAccepted =
     (h : HashFunction) (T : Layout) → Laws T.shape →
     (b : Bagging) (proof : RangeProof) (start : ℕ) (claim content : Content) (inactive : ℕ) →
-    length content.elements ≤ 2 ^ 62 → inactive ≤ length (T.shape.peaks (length content.elements)) → 0 < length claim.elements →
+    length content.elements ≤ 2 ^ 62 → inactive ≤ length (T.shape.peaks (length content.elements))
+    → 0 < length claim.elements →
     IsOwn h T b proof start claim content inactive →
     IsAccepted h T b proof start claim (tree_root h T b content inactive)
 
@@ -60,7 +64,8 @@ pub record EndsAscending (T : Layout) (b : Bagging) (n i low high : ℕ) : Type 
   pub before : List Site
   pub siblings : List Site
   pub all : sites T low high b n i ≡ before ++ siblings
-  pub inside : IsPermutation (sites_in T (apart low high) (up_to high (not_leading low (folded b i (peaks_of T n)))) ++ sites_in T (apart low high) (up_to high (not_leading low (unfolded b i (peaks_of T n))))) siblings
+  pub inside : IsPermutation (sites_in T (apart low high) (up_to high (not_leading low (folded b i (peaks_of T n))))
+      ++ sites_in T (apart low high) (up_to high (not_leading low (unfolded b i (peaks_of T n))))) siblings
   pub ascending : Ascends T siblings
 
 abbrev pub SiblingsAscend : Type 0
@@ -71,4 +76,5 @@ abbrev pub RootsAreOfLeaves : Type 0
 RootsAreOfLeaves =
     (h : HashFunction) (T : Layout) → Laws T.shape → (b : Bagging) (content : Content) (inactive : ℕ) →
     let leaves : List (List ℕ) = leaf_digests h T 0 content.elements in
-    tree_root h T b content inactive ≡ root_of h T b (length content.elements) inactive (peak_digests h T content.chunk leaves (length content.elements))
+    tree_root h T b content inactive ≡ root_of h T b (length content.elements) inactive
+    (peak_digests h T content.chunk leaves (length content.elements))

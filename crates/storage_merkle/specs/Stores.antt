@@ -37,7 +37,8 @@ or_else d (Some x) = x
 
 -- the nodes kept of a check of the range from low to high - 1: those read or computed, and each peak apart that no fold holds
 abbrev pub kept_sites : Layout → Bagging → ℕ → ℕ → ℕ → ℕ → List Site
-kept_sites T b n i low high = by_position T (nodes_in (apart low high) (not_leading low (folded b i (peaks_of T n)) ++ up_to high (unfolded b i (peaks_of T n))))
+kept_sites T b n i low high = by_position T (nodes_in (apart low high)
+    (not_leading low (folded b i (peaks_of T n)) ++ up_to high (unfolded b i (peaks_of T n))))
 
 -- ---- range proofs
 
@@ -62,12 +63,18 @@ module _ (h : HashFunction) (T : Layout) (store : Store) where
 
   -- the digest at a site of a proof of the range from low to high - 1: the folds are extended by kept peaks
   abbrev pub store_digest : ℕ → ℕ → Site → List ℕ
-  store_digest low high front = fold_digest h store_values (bag (front_given (leading store.start fore) ++ map peak_given (leading low (not_leading store.start fore))) [])
-  store_digest low high back = fold_digest h store_values (bag [] (map peak_given (up_to store.past (trailing high aft)) ++ back_given (trailing store.past aft)))
+  store_digest low high front = fold_digest h store_values
+      (bag (front_given (leading store.start fore) ++ map peak_given (leading low (not_leading store.start fore))) [])
+  store_digest low high back = fold_digest h store_values
+      (bag [] (map peak_given (up_to store.past (trailing high aft)) ++ back_given (trailing store.past aft)))
   store_digest low high (node a k) = kept_at (node a k)
 
   abbrev pub store_proof : ℕ → ℕ → RangeProof
-  store_proof low high = record { leaves = store.leaves; inactive = store.inactive; digests = map (store_digest low high) (sites T low high store.bagging store.leaves store.inactive) }
+  store_proof low high = record {
+    leaves = store.leaves;
+    inactive = store.inactive;
+    digests = map (store_digest low high) (sites T low high store.bagging store.leaves store.inactive);
+  }
 
 -- the first of two refusals
 abbrev pub first_of : {A : Type 0} → Option A → Option A → Option A
@@ -78,7 +85,8 @@ first_of (Some q) r = Some q
 abbrev pub range_refusal : (F : Type 0) → Shape → Store → ℕ → ℕ → Option (Error F)
 range_refusal F S store low high =
     first_of (refusal F store.leaves low high)
-    (if leb store.start low && ltb low store.past then (if leb high store.past then None else Some (ElementPruned (S.position store.past 0)))
+    (if leb store.start low && ltb low store.past
+    then (if leb high store.past then None else Some (ElementPruned (S.position store.past 0)))
     else Some (ElementPruned (S.position low 0)))
 
 -- ---- multi proofs
@@ -95,7 +103,8 @@ location_refusal F first n (l ∷ ls) =
 
 -- the positions of the peaks inside the fold past the source's range, ascending
 abbrev pub suffix_positions : Shape → Store → List ℕ
-suffix_positions S store = map (position_of (ungrafted S)) (by_position (ungrafted S) (map (λ p. node p.first p.height) (trailing store.past (unfolded store.bagging store.inactive (peaks_of (ungrafted S) store.leaves)))))
+suffix_positions S store = map (position_of (ungrafted S)) (by_position (ungrafted S) (map (λ p. node p.first p.height)
+    (trailing store.past (unfolded store.bagging store.inactive (peaks_of (ungrafted S) store.leaves)))))
 
 abbrev pub is_among : ℕ → List ℕ → Bool
 is_among p qs = list_any (λ q. eqb q p) qs
@@ -115,15 +124,21 @@ unless_there (Some d) e later = later
 -- the first position with no digest: of a folded peak, or pruned
 abbrev pub needed_refusal : (F : Type 0) → Store → List (ℕ × List ℕ) → List ℕ → List ℕ → Option (Error F)
 needed_refusal F store peaks suffix [] = None
-needed_refusal F store peaks suffix (p ∷ ps) = unless_there (found_at store peaks p) (if is_among p suffix then CompressedDigest p else ElementPruned p) (needed_refusal F store peaks suffix ps)
+needed_refusal F store peaks suffix (p ∷ ps) = unless_there (found_at store peaks p)
+    (if is_among p suffix then CompressedDigest p else ElementPruned p) (needed_refusal F store peaks suffix ps)
 
 -- why a store gives no proof of some locations, with the digests of some peaks
 abbrev pub multi_refusal : (F : Type 0) → Shape → Store → List (ℕ × List ℕ) → List ℕ → Option (Error F)
 multi_refusal F S store peaks [] = Some Empty
-multi_refusal F S store peaks (l ∷ ls) = first_of (location_refusal F 0 store.leaves (l ∷ ls)) (needed_refusal F store peaks (suffix_positions S store) (needed_positions S (l ∷ ls) store.leaves))
+multi_refusal F S store peaks (l ∷ ls) = first_of (location_refusal F 0 store.leaves (l ∷ ls))
+    (needed_refusal F store peaks (suffix_positions S store) (needed_positions S (l ∷ ls) store.leaves))
 
 abbrev pub store_multi_proof : Shape → Store → List (ℕ × List ℕ) → List ℕ → RangeProof
-store_multi_proof S store peaks ls = record { leaves = store.leaves; inactive = store.inactive; digests = map (λ p. or_else [] (found_at store peaks p)) (needed_positions S ls store.leaves) }
+store_multi_proof S store peaks ls = record {
+  leaves = store.leaves;
+  inactive = store.inactive;
+  digests = map (λ p. or_else [] (found_at store peaks p)) (needed_positions S ls store.leaves);
+}
 
 -- ---- what a store stands for
 
@@ -131,9 +146,12 @@ store_multi_proof S store peaks ls = record { leaves = store.leaves; inactive = 
 pub record IsStoreOf (h : HashFunction) (T : Layout) (store : Store) (content : Content) (inactive : ℕ) : Type 0 where
   pub leaves_are : store.leaves ≡ length content.elements
   pub inactive_are : store.inactive ≡ inactive
-  pub front_is : 0 < length (leading store.start (fore h T store)) → store.front_fold ≡ own_digest h T store.bagging content store.leaves store.inactive store.start store.past front
-  pub back_is : 0 < length (trailing store.past (aft h T store)) → store.back_fold ≡ own_digest h T store.bagging content store.leaves store.inactive store.start store.past back
-  pub kept_are : store.kept ≡ entries T (tree_digest h T content) (kept_sites T store.bagging store.leaves store.inactive store.start store.past)
+  pub front_is : 0 < length (leading store.start (fore h T store))
+      → store.front_fold ≡ own_digest h T store.bagging content store.leaves store.inactive store.start store.past front
+  pub back_is : 0 < length (trailing store.past (aft h T store))
+      → store.back_fold ≡ own_digest h T store.bagging content store.leaves store.inactive store.start store.past back
+  pub kept_are : store.kept ≡ entries T (tree_digest h T content)
+      (kept_sites T store.bagging store.leaves store.inactive store.start store.past)
 
 -- the store of an accepted proof
 abbrev pub store_of : HashFunction → Layout → Bagging → RangeProof → ℕ → Content → Store
@@ -145,19 +163,23 @@ store_of h T b proof start claim = record {
   past = start + length claim.elements;
   front_fold = (check_values h T b proof start claim).digest front;
   back_fold = (check_values h T b proof start claim).digest back;
-  kept = entries T (digest_at h (check_values h T b proof start claim) T (apart start (start + length claim.elements))) (kept_sites T b proof.leaves proof.inactive start (start + length claim.elements));
+  kept = entries T (digest_at h (check_values h T b proof start claim) T (apart start (start + length claim.elements)))
+      (kept_sites T b proof.leaves proof.inactive start (start + length claim.elements));
 }
 
 -- the store is that of an accepted proof, and one of each tree with that root, or a string of the check and a different one of the
 -- tree have one digest
-pub record IsMadeOf (d : ℕ) (h : HashFunction) (T : Layout) (b : Bagging) (proof : RangeProof) (start : ℕ) (claim : Content) (root : List ℕ) (store : Store) : Type 0 where
+pub record IsMadeOf (d : ℕ) (h : HashFunction) (T : Layout) (b : Bagging) (proof : RangeProof) (start : ℕ)
+    (claim : Content) (root : List ℕ) (store : Store) : Type 0 where
   pub accepted : IsAccepted h T b proof start claim root
   pub all : store ≡ store_of h T b proof start claim
-  pub of_trees : HoldsOfEach d h T b proof.leaves claim (check_strings h T b proof start claim) root (λ U content inactive. IsStoreOf h U store content inactive)
+  pub of_trees : HoldsOfEach d h T b proof.leaves claim (check_strings h T b proof start claim) root
+      (λ U content inactive. IsStoreOf h U store content inactive)
 
 -- given digests that are a tree's, where they stand at the place of one of its nodes
 abbrev pub AreTrueAt : HashFunction → Layout → Content → List (ℕ × List ℕ) → Type 0
-AreTrueAt h T content peaks = (p a k : ℕ) (x : List ℕ) → IsNode T.shape p a k → entry_at p peaks ≡ Some x → x ≡ tree_node h T content a k
+AreTrueAt h T content peaks =
+    (p a k : ℕ) (x : List ℕ) → IsNode T.shape p a k → entry_at p peaks ≡ Some x → x ≡ tree_node h T content a k
 
 -- What a store of a tree gives of a range is the tree's own proof.
 abbrev pub StoresGiveOwnProofs : Type 0 → Type 0
@@ -180,7 +202,8 @@ StoresGiveOwnMultiProofs F =
 -- tree have one digest.
 abbrev pub StoresOfAcceptedProofsAreTrue : Type 0
 StoresOfAcceptedProofsAreTrue =
-    (d : ℕ) (h : HashFunction) (T : Layout) (b : Bagging) (proof : RangeProof) (start : ℕ) (claim : Content) (root : List ℕ) →
+    (d : ℕ) (h : HashFunction) (T : Layout) (b : Bagging) (proof : RangeProof) (start : ℕ) (claim : Content)
+    (root : List ℕ) →
     IsSized d h → Laws T.shape → AreDigests d proof.digests → IsAccepted h T b proof start claim root →
     HoldsOfEach d h T b proof.leaves claim (check_strings h T b proof start claim) root
     (λ U content inactive. IsStoreOf h U (store_of h T b proof start claim) content inactive)

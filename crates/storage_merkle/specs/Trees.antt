@@ -1,8 +1,8 @@
 -- Trees over lists of elements: peaks, nodes, bagging and roots.
-use Rattle.std.specs.Prelude.{◌≡◌, ℕ, zero, suc, ◌+◌, ◌^◌, List, [], ◌∷◌, ◌++◌, length, map, take, drop, get_or, Bool, true, false, if◌then◌else◌, Option, Some, None}
+use Rattle.std.specs.Prelude.{ℕ, zero, suc, ◌+◌, ◌^◌, List, [], ◌∷◌, ◌++◌, length, map, take, drop, get_or, Bool, false, if◌then◌else◌, Option, Some, None}
 use Rattle.storage_codec.specs.Digests.{HashFunction}
 use Rattle.storage_merkle.specs.Shape.{Shape}
-use Rattle.storage_merkle.specs.Calc.{Site, node, Calc, given, leaf, pair, graft, be8, Values, eval, strings}
+use Rattle.storage_merkle.specs.Calc.{node, Calc, given, leaf, pair, graft, be8, Values, eval, strings}
 use Rattle.storage_merkle.specs.declared.merkle.bagging.Bagging.{Bagging}
 use Rattle.storage_merkle.specs.declared.merkle.bagging.Bagging.TheVariants.{ForwardFold, BackwardFold}
 
@@ -20,6 +20,9 @@ pub record Content : Type 0 where
   pub elements : List (List ℕ)
   pub chunk : ℕ → List ℕ
 
+abbrev pub content_of : List (List ℕ) → (ℕ → List ℕ) → Content
+content_of list chunk = record { elements = list; chunk = chunk }
+
 -- a list of elements, with no chunks
 abbrev pub listed : List (List ℕ) → Content
 listed list = record { elements = list; chunk = λ a. [] }
@@ -28,12 +31,14 @@ listed list = record { elements = list; chunk = λ a. [] }
 
 -- a node from its halves: their digests after its position, with the chunk grafted where the layout says so
 abbrev pub join_calc : Layout → ℕ → ℕ → Calc → Calc → Calc
-join_calc T a k l r = if T.grafted a k then graft a (T.shape.position a k) l r else pair (be8 (T.shape.position a k)) l r
+join_calc T a k l r = if T.grafted a k then graft a (T.shape.position a k) l r
+    else pair (be8 (T.shape.position a k)) l r
 
 -- the node of height k over the leaves from a on: its digest is given where `cut` names the node, else calculated
 abbrev pub node_calc : Layout → (ℕ → ℕ → Bool) → ℕ → ℕ → Calc
 node_calc T cut zero a = if cut a zero then given (node a zero) else leaf (be8 (T.shape.position a zero)) a
-node_calc T cut (suc k) a = if cut a (suc k) then given (node a (suc k)) else join_calc T a (suc k) (node_calc T cut k a) (node_calc T cut k (a + 2 ^ k))
+node_calc T cut (suc k) a = if cut a (suc k) then given (node a (suc k))
+    else join_calc T a (suc k) (node_calc T cut k a) (node_calc T cut k (a + 2 ^ k))
 
 -- nothing is given
 abbrev pub never : ℕ → ℕ → Bool
@@ -126,7 +131,8 @@ abbrev pub tree_node : HashFunction → Layout → Content → ℕ → ℕ → L
 tree_node h T content a k = eval h (plain h content) (node_calc T never k a)
 
 abbrev pub tree_string : HashFunction → Layout → Bagging → Content → ℕ → List ℕ
-tree_string h T b content i = root_string h (plain h content) T b (length content.elements) i (tree_bag T b (length content.elements) i)
+tree_string h T b content i = root_string h (plain h content) T b (length content.elements) i
+    (tree_bag T b (length content.elements) i)
 
 -- the root of the tree over some content, of whose peaks i are inactive
 abbrev pub tree_root : HashFunction → Layout → Bagging → Content → ℕ → List ℕ
@@ -134,4 +140,5 @@ tree_root h T b content i = h (tree_string h T b content i)
 
 -- each string given to the digest function there
 abbrev pub tree_strings : HashFunction → Layout → Bagging → Content → ℕ → List (List ℕ)
-tree_strings h T b content i = tree_string h T b content i ∷ strings_bag h (plain h content) (tree_bag T b (length content.elements) i)
+tree_strings h T b content i = tree_string h T b content i
+    ∷ strings_bag h (plain h content) (tree_bag T b (length content.elements) i)

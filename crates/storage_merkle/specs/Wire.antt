@@ -1,5 +1,5 @@
 -- What places and pending slots are written as, and what reading answers.
-use Rattle.std.specs.Prelude.{◌≡◌, ℕ, ◌^◌, Bool, true, false, List, [], Option, Some, None, Result, Ok, Err, codes, nat_lt, if◌then◌else◌}
+use Rattle.std.specs.Prelude.{◌≡◌, ℕ, ◌^◌, Bool, true, false, List, [], Option, None, Ok, Err, codes, nat_lt, if◌then◌else◌}
 use Rattle.storage_codec.specs.Codec.{Answer, option_at, varint_at}
 use Rattle.storage_codec.specs.Faults.{◌>>=◌, Invalid}
 use Rattle.storage_codec.specs.Parts.{option_text}

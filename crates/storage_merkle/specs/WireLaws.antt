@@ -1,9 +1,9 @@
 -- What was written is read again, and what is read was written so.
-use Rattle.std.proofs.Common.{◌≡◌, ℕ, ◌+◌, ◌^◌, ◌<◌, ◌≤◌, Bool, true, false, cond, ltb, List, [], ◌∷◌, ◌++◌, length, Option, Some, None, Result, Ok, Err, refl, sym, ap, ◌∙◌, arith}
+use Rattle.std.proofs.Common.{◌≡◌, ℕ, ◌^◌, ◌≤◌, Bool, true, false, cond, ltb, List, ◌++◌, length, Option, Some, None, Ok, Err, refl, ◌∙◌, arith}
 use Rattle.std.specs.Prelude.{IfSome, option_map, codes}
 use Rattle.std.proofs.lemmas.Bool.{le-ltb}
-use Rattle.storage_codec.specs.Faults.{Fault, ◌>>=◌, Invalid}
-use Rattle.storage_codec.specs.Parts.{IsBytes, option_text, varint_text}
+use Rattle.storage_codec.specs.Faults.{◌>>=◌, Invalid}
+use Rattle.storage_codec.specs.Parts.{IsBytes, varint_text}
 use Rattle.storage_codec.specs.Codec.{Answer, varint_at, front_at}
 use Rattle.storage_codec.specs.Laws.{answer_of, bind_ok, not_fault, ok_is, snd_is, option_again, option_back, front_again, front_back}
 use Rattle.storage_codec.specs.VarintLaws.{varint_again, varint_back}
@@ -20,7 +20,8 @@ unguarded answer n rest e =
     let b = bind_ok {B = ℕ × List ℕ} answer (λ x. cond (ltb (2 ^ 62) x.0) (Err (Invalid (codes "location") (codes "past the limit"))) (answer_of x.0 x.1)) (n, rest) e in
     b.1 ∙ not_fault (ltb (2 ^ 62) b.0.0) (Invalid (codes "location") (codes "past the limit")) (answer_of b.0.0 b.0.1) (n, rest) b.2
 
-pub location_back : (bytes : List ℕ) (n : ℕ) (rest : List ℕ) → IsBytes bytes → location_at bytes ≡ Ok (n, rest) → bytes ≡ varint_text n ++ rest
+pub location_back : (bytes : List ℕ) (n : ℕ) (rest : List ℕ) → IsBytes bytes → location_at bytes ≡ Ok (n, rest)
+    → bytes ≡ varint_text n ++ rest
 location_back bytes n rest fits e = varint_back bytes n rest fits (unguarded (varint_at bytes) n rest e)
 
 -- the pending slot: written and read, and read and written
@@ -33,7 +34,8 @@ slot_again text view parse admits again false (Some x) rest s h = absurd cc
 slot_again text view parse admits again true slot rest s h = option_again text view parse admits again slot rest h
 
 pub slot_back : {A V : Type 0} (text : A → List ℕ) (view : A → V) (parse : List ℕ → Answer V)
-    → ((bytes : List ℕ) (x : A) (rest : List ℕ) → IsBytes bytes → parse bytes ≡ Ok (view x, rest) → bytes ≡ text x ++ rest)
+    → ((bytes : List ℕ) (x : A) (rest : List ℕ) → IsBytes bytes → parse bytes ≡ Ok (view x, rest)
+    → bytes ≡ text x ++ rest)
     → (there : Bool) (bytes : List ℕ) (slot : Option A) (rest : List ℕ) → IsBytes bytes
     → slot_at there parse bytes ≡ Ok (option_map view slot, rest) → bytes ≡ slot_text there text slot ++ rest
 slot_back {V = V} text view parse back false bytes slot rest fits e =
@@ -50,9 +52,11 @@ pub digest_slot_again : {A : Type 0} (text : A → List ℕ) (size : ℕ) → ((
     → (there : Bool) (slot : Option A) (rest : List ℕ) → IsSlot there slot
     → slot_at there (front_at size) (slot_text there text slot ++ rest) ≡ Ok (option_map text slot, rest)
 digest_slot_again text size sized there slot rest s =
-    slot_again text text (front_at size) (λ _. Unit {0}) (λ x r _. front_again size (text x) r (sized x)) there slot rest s (always slot)
+    slot_again text text (front_at size) (λ _. Unit {0})
+    (λ x r _. front_again size (text x) r (sized x)) there slot rest s (always slot)
 
-pub digest_slot_back : {A : Type 0} (text : A → List ℕ) (size : ℕ) (there : Bool) (bytes : List ℕ) (slot : Option A) (rest : List ℕ) → IsBytes bytes
+pub digest_slot_back : {A : Type 0} (text : A → List ℕ) (size : ℕ) (there : Bool) (bytes : List ℕ) (slot : Option A)
+    (rest : List ℕ) → IsBytes bytes
     → slot_at there (front_at size) bytes ≡ Ok (option_map text slot, rest) → bytes ≡ slot_text there text slot ++ rest
 digest_slot_back text size there bytes slot rest fits e =
     slot_back text text (front_at size) (λ b x r _ q. front_back size b (text x) r q) there bytes slot rest fits e

@@ -1,5 +1,5 @@
 -- Answers of a check, handed on.
-use Rattle.std.proofs.Common.{◌≡◌, ◌⊎◌, inl, inr, Result, Ok, Err, IfErr}
+use Rattle.std.proofs.Common.{◌⊎◌, inl, inr, Result, Ok, Err, IfErr}
 
 pub on_err : {A E : Type 0} (P Q : E → Type 0) (r : Result A E) → ((e : E) → P e → Q e) → IfErr r P → IfErr r Q
 on_err P Q (Ok x) f p = tt

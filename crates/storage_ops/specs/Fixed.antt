@@ -19,7 +19,8 @@ presence_text value (Some text) = 1 ∷ text
 abbrev pub fixed_operation_text : ℕ → ℕ → ℕ → OperationView (List ℕ) (List ℕ) (List ℕ) → List ℕ
 fixed_operation_text ks us vs (Delete k) = 0xD1 ∷ k ++ replicate (fixed_size ks us vs - (1 + ks)) 0
 fixed_operation_text ks us vs (Update u) = 0xD2 ∷ u ++ replicate (fixed_size ks us vs - (1 + us)) 0
-fixed_operation_text ks us vs (CommitFloor v n) = 0xD3 ∷ presence_text vs v ++ to_be_bytes w64 n ++ replicate (fixed_size ks us vs - (10 + vs)) 0
+fixed_operation_text ks us vs (CommitFloor v n) = 0xD3 ∷ presence_text vs v ++ to_be_bytes w64 n
+    ++ replicate (fixed_size ks us vs - (10 + vs)) 0
 
 -- a truth value, and then the value or zeros
 abbrev pub presence_at : {V : Type 0} → (List ℕ → Answer V) → ℕ → List ℕ → Answer (Option V)
@@ -40,7 +41,8 @@ abbrev pub padded : {W : Type 0} → ℕ → Answer W → Answer W
 padded n answer = answer >>= λ x. mapped (λ _. x.0) (zeros_at n x.1)
 
 -- what follows the tag
-abbrev pub fixed_payload_at : {K U V : Type 0} → (List ℕ → Answer K) → (List ℕ → Answer U) → (List ℕ → Answer V) → ℕ → ℕ → ℕ → ℕ → List ℕ → Answer (OperationView K U V)
+abbrev pub fixed_payload_at : {K U V : Type 0} → (List ℕ → Answer K) → (List ℕ → Answer U) → (List ℕ → Answer V) → ℕ → ℕ
+    → ℕ → ℕ → List ℕ → Answer (OperationView K U V)
 fixed_payload_at key update value ks us vs tag rest =
     if tag == 0xD1 then padded (fixed_size ks us vs - (1 + ks)) (mapped Delete (key rest))
     else if tag == 0xD2 then padded (fixed_size ks us vs - (1 + us)) (mapped Update (update rest))
@@ -48,7 +50,8 @@ fixed_payload_at key update value ks us vs tag rest =
     else Err (InvalidEnum tag)
 
 -- an operation: at least its size of bytes, the tag, and what follows it
-abbrev pub fixed_operation_at : {K U V : Type 0} → (List ℕ → Answer K) → (List ℕ → Answer U) → (List ℕ → Answer V) → ℕ → ℕ → ℕ → List ℕ → Answer (OperationView K U V)
+abbrev pub fixed_operation_at : {K U V : Type 0} → (List ℕ → Answer K) → (List ℕ → Answer U) → (List ℕ → Answer V) → ℕ
+    → ℕ → ℕ → List ℕ → Answer (OperationView K U V)
 fixed_operation_at key update value ks us vs bytes =
     if nat_lt (length bytes) (fixed_size ks us vs) then Err EndOfBuffer
     else byte_at bytes >>= λ tag. fixed_payload_at key update value ks us vs tag.0 tag.1

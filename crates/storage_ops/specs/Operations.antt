@@ -1,5 +1,5 @@
 -- Operations, whatever their parts are seen as.
-use Rattle.std.specs.Prelude.{ℕ, Bool, true, false, List, Option, Some, None, IfSome, option_map}
+use Rattle.std.specs.Prelude.{ℕ, Bool, true, false, Option, Some, None, IfSome, option_map}
 use Rattle.storage_ops.specs.declared.qmdb.any.operation.Operation.{Operation}
 use Rattle.storage_ops.specs.declared.qmdb.any.operation.Operation.TheVariants as code
 
@@ -16,13 +16,15 @@ parts (code.Update u) = Update u
 parts (code.CommitFloor v n) = CommitFloor v n
 
 -- the same operation, its parts seen by three functions
-abbrev pub operation_map : {K U V X Y Z : Type 0} → (K → X) → (U → Y) → (V → Z) → OperationView K U V → OperationView X Y Z
+abbrev pub operation_map : {K U V X Y Z : Type 0} → (K → X) → (U → Y) → (V → Z) → OperationView K U V
+    → OperationView X Y Z
 operation_map key update value (Delete k) = Delete (key k)
 operation_map key update value (Update u) = Update (update u)
 operation_map key update value (CommitFloor v n) = CommitFloor (option_map value v) n
 
 -- Its parts and its floor are admitted.
-abbrev pub is_admitted : {K U V : Type 0} → (K → Type 0) → (U → Type 0) → (V → Type 0) → (ℕ → Type 0) → OperationView K U V → Type 0
+abbrev pub is_admitted : {K U V : Type 0} → (K → Type 0) → (U → Type 0) → (V → Type 0) → (ℕ → Type 0)
+    → OperationView K U V → Type 0
 is_admitted key update value floor (Delete k) = key k
 is_admitted key update value floor (Update u) = update u
 is_admitted key update value floor (CommitFloor v n) = IfSome v value × floor n

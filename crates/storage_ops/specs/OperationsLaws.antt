@@ -1,5 +1,5 @@
 -- Operations by cases: what equal views, or a view of one case, say of the parts.
-use Rattle.std.proofs.Common.{◌≡◌, ℕ, Option, Some, None, List, Ok, refl, sym, ap, subst, ◌∙◌}
+use Rattle.std.proofs.Common.{◌≡◌, ℕ, Option, List, Ok, refl, subst}
 use Rattle.std.specs.Prelude.{option_map}
 use Rattle.storage_codec.specs.Faults.{◌>>=◌}
 use Rattle.storage_codec.specs.Codec.{Answer, mapped}
@@ -32,19 +32,22 @@ operation_same key update value seen same (CommitFloor a m) (Update b) e = absur
 operation_same key update value seen same (CommitFloor a m) (CommitFloor b n) e = cc
 
 -- a deletion that an answer was seen as
-pub record DeleteIs {K U V X : Type 0} (kview : K → X) (answer : Answer X) (op : OperationView K U V) (rest : List ℕ) : Type 0 where
+pub record DeleteIs {K U V X : Type 0} (kview : K → X) (answer : Answer X) (op : OperationView K U V)
+    (rest : List ℕ) : Type 0 where
   pub key : K
   pub op_is : op ≡ Delete key
   pub read : answer ≡ Ok (kview key, rest)
 
 -- an update that an answer was seen as
-pub record UpdateIs {K U V Y : Type 0} (uview : U → Y) (answer : Answer Y) (op : OperationView K U V) (rest : List ℕ) : Type 0 where
+pub record UpdateIs {K U V Y : Type 0} (uview : U → Y) (answer : Answer Y) (op : OperationView K U V)
+    (rest : List ℕ) : Type 0 where
   pub update : U
   pub op_is : op ≡ Update update
   pub read : answer ≡ Ok (uview update, rest)
 
 -- a commit that two answers were seen as
-pub record CommitIs {K U V Z : Type 0} (vview : V → Z) (first : Answer (Option Z)) (next : List ℕ → Answer ℕ) (op : OperationView K U V) (rest : List ℕ) : Type 0 where
+pub record CommitIs {K U V Z : Type 0} (vview : V → Z) (first : Answer (Option Z)) (next : List ℕ → Answer ℕ)
+    (op : OperationView K U V) (rest : List ℕ) : Type 0 where
   pub value : Option V
   pub floor : ℕ
   pub mid : List ℕ
@@ -52,8 +55,10 @@ pub record CommitIs {K U V Z : Type 0} (vview : V → Z) (first : Answer (Option
   pub read : first ≡ Ok (option_map vview value, mid)
   pub floor_read : next mid ≡ Ok (floor, rest)
 
-pub delete_is : {K U V X Y Z : Type 0} (kview : K → X) (uview : U → Y) (vview : V → Z) (answer : Answer X) (op : OperationView K U V) (rest : List ℕ)
-    → mapped (λ k. delete_of Y Z k) answer ≡ Ok (operation_map kview uview vview op, rest) → DeleteIs kview answer op rest
+pub delete_is : {K U V X Y Z : Type 0} (kview : K → X) (uview : U → Y) (vview : V → Z) (answer : Answer X)
+    (op : OperationView K U V) (rest : List ℕ)
+    → mapped (λ k. delete_of Y Z k) answer ≡ Ok (operation_map kview uview vview op, rest)
+    → DeleteIs kview answer op rest
 delete_is {Y = Y} {Z = Z} kview uview vview answer (Delete k) rest e =
     let m = mapped_ok (λ x. delete_of Y Z x) answer (Delete (kview k)) rest e in
     let p = m.2 in
@@ -63,10 +68,13 @@ delete_is {Y = Y} {Z = Z} kview uview vview answer (Delete k) rest e =
 delete_is {Y = Y} {Z = Z} kview uview vview answer (Update u) rest e =
     let m = mapped_ok (λ x. delete_of Y Z x) answer (Update (uview u)) rest e in absurd (let p = m.2 in cc)
 delete_is {Y = Y} {Z = Z} kview uview vview answer (CommitFloor o n) rest e =
-    let m = mapped_ok (λ x. delete_of Y Z x) answer (CommitFloor (option_map vview o) n) rest e in absurd (let p = m.2 in cc)
+    let m = mapped_ok (λ x. delete_of Y Z x) answer (CommitFloor (option_map vview o) n) rest e in
+    absurd (let p = m.2 in cc)
 
-pub update_is : {K U V X Y Z : Type 0} (kview : K → X) (uview : U → Y) (vview : V → Z) (answer : Answer Y) (op : OperationView K U V) (rest : List ℕ)
-    → mapped (λ u. update_of X Z u) answer ≡ Ok (operation_map kview uview vview op, rest) → UpdateIs uview answer op rest
+pub update_is : {K U V X Y Z : Type 0} (kview : K → X) (uview : U → Y) (vview : V → Z) (answer : Answer Y)
+    (op : OperationView K U V) (rest : List ℕ)
+    → mapped (λ u. update_of X Z u) answer ≡ Ok (operation_map kview uview vview op, rest)
+    → UpdateIs uview answer op rest
 update_is {X = X} {Z = Z} kview uview vview answer (Delete k) rest e =
     let m = mapped_ok (λ x. update_of X Z x) answer (Delete (kview k)) rest e in absurd (let p = m.2 in cc)
 update_is {X = X} {Z = Z} kview uview vview answer (Update u) rest e =
@@ -76,10 +84,12 @@ update_is {X = X} {Z = Z} kview uview vview answer (Update u) rest e =
     let read = m.1 in
     record { update = u; op_is = refl; read = rw same at read }
 update_is {X = X} {Z = Z} kview uview vview answer (CommitFloor o n) rest e =
-    let m = mapped_ok (λ x. update_of X Z x) answer (CommitFloor (option_map vview o) n) rest e in absurd (let p = m.2 in cc)
+    let m = mapped_ok (λ x. update_of X Z x) answer (CommitFloor (option_map vview o) n) rest e in
+    absurd (let p = m.2 in cc)
 
 -- the two steps of a commit
-record Steps {Z : Type 0} (X Y : Type 0) (first : Answer (Option Z)) (next : List ℕ → Answer ℕ) (x : OperationView X Y Z) (rest : List ℕ) : Type 0 where
+record Steps {Z : Type 0} (X Y : Type 0) (first : Answer (Option Z)) (next : List ℕ → Answer ℕ)
+    (x : OperationView X Y Z) (rest : List ℕ) : Type 0 where
   value : Option Z
   floor : ℕ
   mid : List ℕ
@@ -87,14 +97,17 @@ record Steps {Z : Type 0} (X Y : Type 0) (first : Answer (Option Z)) (next : Lis
   floor_read : next mid ≡ Ok (floor, rest)
   is : commit_of X Y value floor ≡ x
 
-steps : {Z : Type 0} (X Y : Type 0) (first : Answer (Option Z)) (next : List ℕ → Answer ℕ) (x : OperationView X Y Z) (rest : List ℕ)
+steps : {Z : Type 0} (X Y : Type 0) (first : Answer (Option Z)) (next : List ℕ → Answer ℕ) (x : OperationView X Y Z)
+    (rest : List ℕ)
     → (first >>= λ v. mapped (λ n. commit_of X Y v.0 n) (next v.1)) ≡ Ok (x, rest) → Steps X Y first next x rest
 steps {Z} X Y first next x rest e =
-    let a = bind_ok {B = OperationView X Y Z × List ℕ} first (λ v. mapped (λ n. commit_of X Y v.0 n) (next v.1)) (x, rest) e in
+    let a = bind_ok {B = OperationView X Y Z × List ℕ} first (λ v. mapped (λ n. commit_of X Y v.0 n) (next v.1))
+    (x, rest) e in
     let m = mapped_ok (λ n. commit_of X Y a.0.0 n) (next a.0.1) x rest a.2 in
     record { value = a.0.0; floor = m.0; mid = a.0.1; read = a.1; floor_read = m.1; is = m.2 }
 
-commit_from : {K U V X Y Z : Type 0} (kview : K → X) (uview : U → Y) (vview : V → Z) (first : Answer (Option Z)) (next : List ℕ → Answer ℕ) (op : OperationView K U V) (rest : List ℕ)
+commit_from : {K U V X Y Z : Type 0} (kview : K → X) (uview : U → Y) (vview : V → Z) (first : Answer (Option Z))
+    (next : List ℕ → Answer ℕ) (op : OperationView K U V) (rest : List ℕ)
     → Steps X Y first next (operation_map kview uview vview op) rest → CommitIs vview first next op rest
 commit_from kview uview vview first next (Delete k) rest s = absurd (let p = s.is in cc)
 commit_from kview uview vview first next (Update u) rest s = absurd (let p = s.is in cc)
@@ -103,9 +116,18 @@ commit_from kview uview vview first next (CommitFloor o n) rest s =
     let a : s.value ≡ option_map vview o = cc in
     let b : s.floor ≡ n = cc in
     let read = s.read in
-    record { value = o; floor = n; mid = s.mid; op_is = refl; read = rw a at read; floor_read = subst (λ (m : ℕ). next s.mid ≡ Ok (m, rest)) b s.floor_read }
+    record {
+      value = o;
+      floor = n;
+      mid = s.mid;
+      op_is = refl;
+      read = rw a at read;
+      floor_read = subst (λ (m : ℕ). next s.mid ≡ Ok (m, rest)) b s.floor_read;
+    }
 
-pub commit_is : {K U V X Y Z : Type 0} (kview : K → X) (uview : U → Y) (vview : V → Z) (first : Answer (Option Z)) (next : List ℕ → Answer ℕ) (op : OperationView K U V) (rest : List ℕ)
-    → (first >>= λ v. mapped (λ n. commit_of X Y v.0 n) (next v.1)) ≡ Ok (operation_map kview uview vview op, rest) → CommitIs vview first next op rest
+pub commit_is : {K U V X Y Z : Type 0} (kview : K → X) (uview : U → Y) (vview : V → Z) (first : Answer (Option Z))
+    (next : List ℕ → Answer ℕ) (op : OperationView K U V) (rest : List ℕ)
+    → (first >>= λ v. mapped (λ n. commit_of X Y v.0 n) (next v.1)) ≡ Ok (operation_map kview uview vview op, rest)
+    → CommitIs vview first next op rest
 commit_is {X = X} {Y = Y} kview uview vview first next op rest e =
     commit_from kview uview vview first next op rest (steps X Y first next (operation_map kview uview vview op) rest e)

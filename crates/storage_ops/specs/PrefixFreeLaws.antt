@@ -42,9 +42,12 @@ two_parts text view is x y r s e =
     (same, append_cancel_left (text y) r s (subst (λ (t : List ℕ). t ++ r ≡ text y ++ s) same e))
 
 -- a key, a value, a next key
-pub three_parts : {K V X Y : Type 0} (key : K → List ℕ) (value : V → List ℕ) (kview : K → X) (vview : V → Y) → IsPrefixFree key kview → IsPrefixFree value vview
-    → (a b : K) (v w : V) (m n : K) → key a ++ value v ++ key m ≡ key b ++ value w ++ key n → (key a ≡ key b) × (value v ≡ value w) × (key m ≡ key n)
+pub three_parts : {K V X Y : Type 0} (key : K → List ℕ) (value : V → List ℕ) (kview : K → X) (vview : V → Y)
+    → IsPrefixFree key kview → IsPrefixFree value vview
+    → (a b : K) (v w : V) (m n : K) → key a ++ value v ++ key m ≡ key b ++ value w ++ key n
+    → (key a ≡ key b) × (value v ≡ value w) × (key m ≡ key n)
 three_parts key value kview vview kis vis a b v w m n e =
-    let first = two_parts key kview kis a b (value v ++ key m) (value w ++ key n) (sym (append_assoc (key a) (value v) (key m)) ∙ e ∙ append_assoc (key b) (value w) (key n)) in
+    let first = two_parts key kview kis a b (value v ++ key m) (value w ++ key n)
+    (sym (append_assoc (key a) (value v) (key m)) ∙ e ∙ append_assoc (key b) (value w) (key n)) in
     let second = two_parts value vview vis v w (key m) (key n) first.1 in
     (first.0, second.0, second.1)

@@ -4,26 +4,31 @@ use Rattle.storage_codec.specs.Faults.{Fault, ◌>>=◌}
 use Rattle.storage_codec.specs.Parts.{IsBytes}
 use Rattle.storage_codec.specs.Codec.{Answer, mapped}
 use Rattle.storage_codec.specs.CodecLaws.{one_front}
-use Rattle.storage_ops.specs.Operations.{OperationView}
 use Rattle.storage_ops.specs.OperationsLaws.{commit_of}
 
 -- What was written is read again, and what follows is left.
-pub record IsRead {A V : Type 0} (text : A → List ℕ) (view : A → V) (parse : List ℕ → Answer V) (admits : A → Type 0) : Type 0 where
+pub record IsRead {A V : Type 0} (text : A → List ℕ) (view : A → V) (parse : List ℕ → Answer V)
+    (admits : A → Type 0) : Type 0 where
   pub again : (x : A) (rest : List ℕ) → admits x → parse (text x ++ rest) ≡ Ok (view x, rest)
 
 -- What is read was written so.
 pub record IsSpelled {A V : Type 0} (text : A → List ℕ) (view : A → V) (parse : List ℕ → Answer V) : Type 0 where
-  pub back : (bytes : List ℕ) (x : A) (rest : List ℕ) → IsBytes bytes → parse bytes ≡ Ok (view x, rest) → bytes ≡ text x ++ rest
+  pub back : (bytes : List ℕ) (x : A) (rest : List ℕ) → IsBytes bytes → parse bytes ≡ Ok (view x, rest)
+      → bytes ≡ text x ++ rest
 
 -- Two encodings in front of the same bytes are of one value.
-pub read_same : {A V : Type 0} (text : A → List ℕ) (view : A → V) (parse : List ℕ → Answer V) (admits : A → Type 0) → IsRead text view parse admits
+pub read_same : {A V : Type 0} (text : A → List ℕ) (view : A → V) (parse : List ℕ → Answer V) (admits : A → Type 0)
+    → IsRead text view parse admits
     → (a b : A) (r s : List ℕ) → admits a → admits b → text a ++ r ≡ text b ++ s → (view a ≡ view b) × (r ≡ s)
-read_same text view parse admits is a b r s p q e = one_front text view parse a b r s (is.again a r p) (is.again b s q) e
+read_same text view parse admits is a b r s p q e = one_front text view parse a b r s (is.again a r p)
+    (is.again b s q) e
 
-pub mapped_again : {V W : Type 0} (f : V → W) (answer : Answer V) (x : V) (rest : List ℕ) → answer ≡ Ok (x, rest) → mapped f answer ≡ Ok (f x, rest)
+pub mapped_again : {V W : Type 0} (f : V → W) (answer : Answer V) (x : V) (rest : List ℕ) → answer ≡ Ok (x, rest)
+    → mapped f answer ≡ Ok (f x, rest)
 mapped_again f answer x rest e = rw e refl
 
-pub commit_steps : {V : Type 0} (K U : Type 0) (first : Answer (Option V)) (next : List ℕ → Answer ℕ) (o : Option V) (n : ℕ) (mid rest : List ℕ) → first ≡ Ok (o, mid) → next mid ≡ Ok (n, rest)
+pub commit_steps : {V : Type 0} (K U : Type 0) (first : Answer (Option V)) (next : List ℕ → Answer ℕ) (o : Option V)
+    (n : ℕ) (mid rest : List ℕ) → first ≡ Ok (o, mid) → next mid ≡ Ok (n, rest)
     → (first >>= λ v. mapped (λ k. commit_of K U v.0 k) (next v.1)) ≡ Ok (commit_of K U o n, rest)
 commit_steps K U first next o n mid rest p q = rw (p, q) refl
 

@@ -1,5 +1,5 @@
 -- Operations with no padding.
-use Rattle.std.specs.Prelude.{◌==◌, ℕ, List, [], ◌∷◌, ◌++◌, Option, Some, None, Ok, Err, if◌then◌else◌}
+use Rattle.std.specs.Prelude.{◌==◌, ℕ, List, [], ◌∷◌, ◌++◌, Option, Some, None, Err, if◌then◌else◌}
 use Rattle.storage_codec.specs.Faults.{◌>>=◌, InvalidEnum}
 use Rattle.storage_codec.specs.Parts.{varint_text}
 use Rattle.storage_codec.specs.Codec.{Answer, mapped, byte_at, option_at}
@@ -22,7 +22,8 @@ abbrev pub variable_commit_at : {K U V : Type 0} → (List ℕ → Answer V) →
 variable_commit_at value bytes = option_at value bytes >>= λ v. mapped (λ n. CommitFloor v.0 n) (location_at v.1)
 
 -- what follows the tag
-abbrev pub variable_payload_at : {K U V : Type 0} → (List ℕ → Answer K) → (List ℕ → Answer U) → (List ℕ → Answer V) → ℕ → List ℕ → Answer (OperationView K U V)
+abbrev pub variable_payload_at : {K U V : Type 0} → (List ℕ → Answer K) → (List ℕ → Answer U) → (List ℕ → Answer V) → ℕ
+    → List ℕ → Answer (OperationView K U V)
 variable_payload_at key update value tag rest =
     if tag == 0xD1 then mapped Delete (key rest)
     else if tag == 0xD2 then mapped Update (update rest)
@@ -30,5 +31,6 @@ variable_payload_at key update value tag rest =
     else Err (InvalidEnum tag)
 
 -- an operation: the tag, and what follows it
-abbrev pub variable_operation_at : {K U V : Type 0} → (List ℕ → Answer K) → (List ℕ → Answer U) → (List ℕ → Answer V) → List ℕ → Answer (OperationView K U V)
+abbrev pub variable_operation_at : {K U V : Type 0} → (List ℕ → Answer K) → (List ℕ → Answer U) → (List ℕ → Answer V)
+    → List ℕ → Answer (OperationView K U V)
 variable_operation_at key update value bytes = byte_at bytes >>= λ tag. variable_payload_at key update value tag.0 tag.1

@@ -2,57 +2,17 @@
 
 ghost use Rattle.storage_bitmap.specs.Chunks.{IsChunkSize};
 
+use crate::bitmaps::{empty, merkleized, push};
 use crate::granted::told;
 use crate::served::Digest;
-use commonware_storage::bitmap::authenticated::{
-    BitMap, MerkleizedBitMap, PrunedState, UnmerkleizedBitMap,
-};
+use commonware_storage::bitmap::authenticated::MerkleizedBitMap;
 use commonware_storage::digest::{Hasher, Sha256};
 use commonware_storage::merkle::hasher::Standard;
-use commonware_storage::merkle::{Bagging, Location, MAX_LEAVES, Proof, mmr};
+use commonware_storage::merkle::{Bagging, Location, Proof, mmr};
 use std::alloc::Global;
 use std::test::Fail;
 
 const BAGGINGS: [Bagging; 2] = [Bagging::ForwardFold, Bagging::BackwardFold];
-
-/// The bitmap of no bits, open to changes.
-fn empty<const N: usize>(
-    alloc: Global,
-    hasher: &Standard<Sha256>,
-) -> Result<UnmerkleizedBitMap<Digest, N>, Fail>
-    requires { IsChunkSize N }
-{
-    let state = PrunedState {
-        pruned_chunks: 0,
-        pinned: Vec::new(alloc),
-    };
-    match BitMap::init(alloc, hasher, state) {
-        Ok(bitmap) => Ok(bitmap.into_dirty()),
-        Err(refusal) => Err(told(&refusal)),
-    }
-}
-
-/// Appends a bit.
-fn push<const N: usize>(bitmap: &mut UnmerkleizedBitMap<Digest, N>, bit: bool) -> Result<(), Fail> {
-    if bitmap.len() >= MAX_LEAVES {
-        return Err(Fail::new("too many bits"));
-    }
-    match bitmap.push(bit) {
-        Ok(()) => Ok(()),
-        Err(refusal) => Err(told(&refusal)),
-    }
-}
-
-/// The bitmap with its root.
-fn merkleized<const N: usize>(
-    bitmap: UnmerkleizedBitMap<Digest, N>,
-    hasher: &Standard<Sha256>,
-) -> Result<MerkleizedBitMap<Digest, N>, Fail> {
-    match bitmap.merkleize(hasher) {
-        Ok(bitmap) => Ok(bitmap),
-        Err(refusal) => Err(told(&refusal)),
-    }
-}
 
 /// The bitmap of so many bits, of which each third one from the first on is set.
 fn each_third<const N: usize>(
@@ -62,7 +22,7 @@ fn each_third<const N: usize>(
 ) -> Result<MerkleizedBitMap<Digest, N>, Fail>
     requires { IsChunkSize N }
 {
-    let mut bitmap = empty(alloc, hasher)?;
+    let mut bitmap = empty(alloc, hasher)?.into_dirty();
     for bit in 0..length {
         push(&mut bitmap, bit % 3 == 0)?;
     }
@@ -153,7 +113,7 @@ fn bitmap_pruned(rt: HostRuntime) -> Result<(), Fail> {
     let alloc = rt.alloc();
     for bagging in BAGGINGS {
         let hasher = Standard::new(bagging);
-        let mut bitmap = empty::<32>(alloc, &hasher)?;
+        let mut bitmap = empty::<32>(alloc, &hasher)?.into_dirty();
         push(&mut bitmap, true)?;
         for counter in 0..255u64 {
             push(&mut bitmap, counter % 2 == 1)?;

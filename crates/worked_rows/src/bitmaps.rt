@@ -33,7 +33,7 @@ fn restored<const N: usize>(
 }
 
 /// The bitmap of no bits.
-fn empty<const N: usize>(
+pub fn empty<const N: usize>(
     alloc: Global,
     hasher: &Standard<Sha256>,
 ) -> Result<MerkleizedBitMap<Digest, N>, Fail>
@@ -46,7 +46,10 @@ fn empty<const N: usize>(
 }
 
 /// Appends a bit.
-fn push<const N: usize>(bitmap: &mut UnmerkleizedBitMap<Digest, N>, bit: bool) -> Result<(), Fail> {
+pub fn push<const N: usize>(
+    bitmap: &mut UnmerkleizedBitMap<Digest, N>,
+    bit: bool,
+) -> Result<(), Fail> {
     if bitmap.len() >= MAX_LEAVES {
         return Err(Fail::new("too many bits"));
     }
@@ -68,7 +71,7 @@ fn set<const N: usize>(bitmap: &mut UnmerkleizedBitMap<Digest, N>, bit: u64) -> 
 }
 
 /// The bitmap with its root.
-fn merkleized<const N: usize>(
+pub fn merkleized<const N: usize>(
     bitmap: UnmerkleizedBitMap<Digest, N>,
     hasher: &Standard<Sha256>,
 ) -> Result<MerkleizedBitMap<Digest, N>, Fail> {

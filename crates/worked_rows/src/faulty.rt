@@ -37,7 +37,8 @@ impl<F: Family> Faulty<F> {
 
     /// The digest at a position.
     fn look_up(&self, position: Position<F>) -> Option<Digest>
-        ensures { result ≡ (if eqb position self.now.lacks then None else kept_at F.shape self.now.tree.boundary self.now.tree.pinned self.now.tree.nodes position) }
+        ensures { result ≡ (if eqb position self.now.lacks then None else kept_at F.shape
+            self.now.tree.boundary self.now.tree.pinned self.now.tree.nodes position) }
     {
         if position.as_u64() == self.lacks {
             None
@@ -48,8 +49,13 @@ impl<F: Family> Faulty<F> {
 
     /// The digests at positions, as far as they are there.
     fn look_up_all(&self, alloc: Global, positions: &[Position<F>]) -> Result<Vec<Digest>, Error<F>>
-        ensures served { let node = λ (p : ℕ). (if eqb p self.now.lacks then None else kept_at F.shape self.now.tree.boundary self.now.tree.pinned self.now.tree.nodes p) in IfOk result (λ v. map Some v.items ≡ map node positions.now) }
-        ensures why { let node = λ (p : ℕ). (if eqb p self.now.lacks then None else kept_at F.shape self.now.tree.boundary self.now.tree.pinned self.now.tree.nodes p) in IfErr result (λ e. ((p : ℕ) × (e ≡ Error.ElementPruned p) × IsFirstAbsent (λ q a. a ≡ node q) positions.now p) ⊎ (e ≡ Error.Memory)) }
+        ensures served { let node = λ (p : ℕ). (if eqb p self.now.lacks then None else kept_at
+            F.shape self.now.tree.boundary self.now.tree.pinned self.now.tree.nodes p) in
+            IfOk result (λ v. map Some v.items ≡ map node positions.now) }
+        ensures why { let node = λ (p : ℕ). (if eqb p self.now.lacks then None else kept_at F.shape
+            self.now.tree.boundary self.now.tree.pinned self.now.tree.nodes p) in
+            IfErr result (λ e. ((p : ℕ) × (e ≡ Error.ElementPruned p)
+            × IsFirstAbsent (λ q a. a ≡ node q) positions.now p) ⊎ (e ≡ Error.Memory)) }
     {
         let mut digests = Vec::new(alloc);
         let mut left = positions;
@@ -69,7 +75,8 @@ impl<F: Family> Storage<F> for Faulty<F> {
 
     ghost nodes = { λ s. size F.shape s.tree.leaves };
 
-    ghost node = { λ s p. (if eqb p s.lacks then None else kept_at F.shape s.tree.boundary s.tree.pinned s.tree.nodes p) };
+    ghost node = { λ s p. (if eqb p s.lacks then None
+        else kept_at F.shape s.tree.boundary s.tree.pinned s.tree.nodes p) };
 
     ghost failed = { λ s. s.failures };
 
@@ -83,11 +90,18 @@ impl<F: Family> Storage<F> for Faulty<F> {
 
     fn get_node(&mut self, position: Position<F>) -> Result<Option<Digest>, Error<F>>
         requires { self.old.failures + 1 < 2 ^ 64 }
-        ensures answer { MatchResult result (λ d. d ≡ (if eqb position self.old.lacks then None else kept_at F.shape self.old.tree.boundary self.old.tree.pinned self.old.tree.nodes position)) (λ e. ((code : ℕ) × (e ≡ Error.Source code)) ⊎ (e ≡ Error.Memory)) }
-        ensures failure { ((code : ℕ) × (result ≡ Err (Error.Source code))) ↔ (self.new.failures ≡ self.old.failures + 1) }
-        ensures count { (self.new.failures ≡ self.old.failures) ⊎ (self.new.failures ≡ self.old.failures + 1) }
+        ensures answer { MatchResult result (λ d. d ≡ (if eqb position self.old.lacks then None
+            else kept_at F.shape self.old.tree.boundary self.old.tree.pinned self.old.tree.nodes
+            position)) (λ e. ((code : ℕ) × (e ≡ Error.Source code)) ⊎ (e ≡ Error.Memory)) }
+        ensures failure { ((code : ℕ) × (result ≡ Err (Error.Source code)))
+            ↔ (self.new.failures ≡ self.old.failures + 1) }
+        ensures count { (self.new.failures ≡ self.old.failures)
+            ⊎ (self.new.failures ≡ self.old.failures + 1) }
         ensures same_size { size F.shape self.new.tree.leaves ≡ size F.shape self.old.tree.leaves }
-        ensures same { (p : ℕ) → (if eqb p self.new.lacks then None else kept_at F.shape self.new.tree.boundary self.new.tree.pinned self.new.tree.nodes p) ≡ (if eqb p self.old.lacks then None else kept_at F.shape self.old.tree.boundary self.old.tree.pinned self.old.tree.nodes p) }
+        ensures same { (p : ℕ) → (if eqb p self.new.lacks then None
+            else kept_at F.shape self.new.tree.boundary self.new.tree.pinned self.new.tree.nodes p)
+            ≡ (if eqb p self.old.lacks then None else kept_at F.shape self.old.tree.boundary
+            self.old.tree.pinned self.old.tree.nodes p) }
     {
         if self.calls == 0 {
             self.failures += 1;
@@ -103,11 +117,20 @@ impl<F: Family> Storage<F> for Faulty<F> {
         positions: &[Position<F>],
     ) -> Result<Vec<Digest>, Error<F>>
         requires { self.old.failures + 1 < 2 ^ 64 }
-        ensures answers { let node = λ (p : ℕ). (if eqb p self.old.lacks then None else kept_at F.shape self.old.tree.boundary self.old.tree.pinned self.old.tree.nodes p) in MatchResult result (λ v. map Some v.items ≡ map node positions.now) (λ e. ((p : ℕ) × (e ≡ Error.ElementPruned p) × IsFirstAbsent (λ q a. a ≡ node q) positions.now p) ⊎ (((code : ℕ) × (e ≡ Error.Source code)) ⊎ (e ≡ Error.Memory))) }
-        ensures failure { ((code : ℕ) × (result ≡ Err (Error.Source code))) ↔ (self.new.failures ≡ self.old.failures + 1) }
-        ensures count { (self.new.failures ≡ self.old.failures) ⊎ (self.new.failures ≡ self.old.failures + 1) }
+        ensures answers { let node = λ (p : ℕ). (if eqb p self.old.lacks then None else kept_at
+            F.shape self.old.tree.boundary self.old.tree.pinned self.old.tree.nodes p) in
+            MatchResult result (λ v. map Some v.items ≡ map node positions.now) (λ e. ((p : ℕ)
+            × (e ≡ Error.ElementPruned p) × IsFirstAbsent (λ q a. a ≡ node q) positions.now p)
+            ⊎ (((code : ℕ) × (e ≡ Error.Source code)) ⊎ (e ≡ Error.Memory))) }
+        ensures failure { ((code : ℕ) × (result ≡ Err (Error.Source code)))
+            ↔ (self.new.failures ≡ self.old.failures + 1) }
+        ensures count { (self.new.failures ≡ self.old.failures)
+            ⊎ (self.new.failures ≡ self.old.failures + 1) }
         ensures same_size { size F.shape self.new.tree.leaves ≡ size F.shape self.old.tree.leaves }
-        ensures same { (p : ℕ) → (if eqb p self.new.lacks then None else kept_at F.shape self.new.tree.boundary self.new.tree.pinned self.new.tree.nodes p) ≡ (if eqb p self.old.lacks then None else kept_at F.shape self.old.tree.boundary self.old.tree.pinned self.old.tree.nodes p) }
+        ensures same { (p : ℕ) → (if eqb p self.new.lacks then None
+            else kept_at F.shape self.new.tree.boundary self.new.tree.pinned self.new.tree.nodes p)
+            ≡ (if eqb p self.old.lacks then None else kept_at F.shape self.old.tree.boundary
+            self.old.tree.pinned self.old.tree.nodes p) }
     {
         if self.calls == 0 {
             self.failures += 1;

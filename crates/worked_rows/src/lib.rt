@@ -13,8 +13,6 @@ mod built;
 #[cfg(test)]
 mod combined;
 #[cfg(test)]
-mod digests;
-#[cfg(test)]
 mod faulty;
 #[cfg(test)]
 mod floors;

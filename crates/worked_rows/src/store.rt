@@ -78,7 +78,8 @@ fn look_up_all(
     positions: &[Position<mmr::Family>],
 ) -> Result<Vec<Digest>, Error<mmr::Family>>
     ensures served { IfOk result (λ v. map Some v.items ≡ map (slice_get nodes.now) positions.now) }
-    ensures why { IfErr result (λ e. ((p : ℕ) × (e ≡ Error.ElementPruned p) × IsFirstAbsent (λ q a. a ≡ slice_get nodes.now q) positions.now p) ⊎ (e ≡ Error.Memory)) }
+    ensures why { IfErr result (λ e. ((p : ℕ) × (e ≡ Error.ElementPruned p)
+        × IsFirstAbsent (λ q a. a ≡ slice_get nodes.now q) positions.now p) ⊎ (e ≡ Error.Memory)) }
 {
     let mut digests = Vec::new(alloc);
     for position in positions {
@@ -112,11 +113,15 @@ impl Storage<mmr::Family> for Store {
         position: Position<mmr::Family>,
     ) -> Result<Option<Digest>, Error<mmr::Family>>
         requires { self.old.failures + 1 < 2 ^ 64 }
-        ensures answer { MatchResult result (λ d. d ≡ slice_get self.old.nodes.items position) (λ e. ((code : ℕ) × (e ≡ Error.Source code)) ⊎ (e ≡ Error.Memory)) }
-        ensures failure { ((code : ℕ) × (result ≡ Err (Error.Source code))) ↔ (self.new.failures ≡ self.old.failures + 1) }
-        ensures count { (self.new.failures ≡ self.old.failures) ⊎ (self.new.failures ≡ self.old.failures + 1) }
+        ensures answer { MatchResult result (λ d. d ≡ slice_get self.old.nodes.items position) (λ e.
+            ((code : ℕ) × (e ≡ Error.Source code)) ⊎ (e ≡ Error.Memory)) }
+        ensures failure { ((code : ℕ) × (result ≡ Err (Error.Source code)))
+            ↔ (self.new.failures ≡ self.old.failures + 1) }
+        ensures count { (self.new.failures ≡ self.old.failures)
+            ⊎ (self.new.failures ≡ self.old.failures + 1) }
         ensures same_size { self.new.size ≡ self.old.size }
-        ensures same { (p : ℕ) → slice_get self.new.nodes.items p ≡ slice_get self.old.nodes.items p }
+        ensures same { (p : ℕ)
+            → slice_get self.new.nodes.items p ≡ slice_get self.old.nodes.items p }
     {
         if self.left < 1 {
             self.failures += 1;
@@ -132,11 +137,18 @@ impl Storage<mmr::Family> for Store {
         positions: &[Position<mmr::Family>],
     ) -> Result<Vec<Digest>, Error<mmr::Family>>
         requires { self.old.failures + 1 < 2 ^ 64 }
-        ensures answers { MatchResult result (λ v. map Some v.items ≡ map (slice_get self.old.nodes.items) positions.now) (λ e. ((p : ℕ) × (e ≡ Error.ElementPruned p) × IsFirstAbsent (λ q a. a ≡ slice_get self.old.nodes.items q) positions.now p) ⊎ (((code : ℕ) × (e ≡ Error.Source code)) ⊎ (e ≡ Error.Memory))) }
-        ensures failure { ((code : ℕ) × (result ≡ Err (Error.Source code))) ↔ (self.new.failures ≡ self.old.failures + 1) }
-        ensures count { (self.new.failures ≡ self.old.failures) ⊎ (self.new.failures ≡ self.old.failures + 1) }
+        ensures answers { MatchResult result
+            (λ v. map Some v.items ≡ map (slice_get self.old.nodes.items) positions.now) (λ e.
+            ((p : ℕ) × (e ≡ Error.ElementPruned p)
+            × IsFirstAbsent (λ q a. a ≡ slice_get self.old.nodes.items q) positions.now p)
+            ⊎ (((code : ℕ) × (e ≡ Error.Source code)) ⊎ (e ≡ Error.Memory))) }
+        ensures failure { ((code : ℕ) × (result ≡ Err (Error.Source code)))
+            ↔ (self.new.failures ≡ self.old.failures + 1) }
+        ensures count { (self.new.failures ≡ self.old.failures)
+            ⊎ (self.new.failures ≡ self.old.failures + 1) }
         ensures same_size { self.new.size ≡ self.old.size }
-        ensures same { (p : ℕ) → slice_get self.new.nodes.items p ≡ slice_get self.old.nodes.items p }
+        ensures same { (p : ℕ)
+            → slice_get self.new.nodes.items p ≡ slice_get self.old.nodes.items p }
     {
         let count = positions.len() as u64;
         if self.left < count {

@@ -8,8 +8,8 @@ ghost use Rattle.storage_current.specs.Held.{operation_of};
 ghost use Rattle.storage_current.specs.HeldKeys.{exclusion_of};
 ghost use Rattle.storage_current.specs.KeyProofs.{Allows, Exclusion, proof_of, shown_text};
 ghost use Rattle.storage_current.specs.KeyWire.{IsAdmittedExclusion, exclusion_text};
-ghost use Rattle.storage_current.specs.Keys.{Keyed, Updates};
-ghost use Rattle.storage_current.specs.Snapshots.{Grafting, IsActive, IsSnapshot, Snapshot, canonical_root, own_operation_proof};
+ghost use Rattle.storage_current.specs.Keys.{Keyed, Updates, keyed_by};
+ghost use Rattle.storage_current.specs.Snapshots.{IsActive, IsSnapshot, Snapshot, canonical_root, own_operation_proof, grafting_of};
 ghost use Rattle.commonware_storage.specs.LightKeys.{IsAcceptedAbsence, IsAcceptedValue, OwnExclusionsAreAccepted, OwnValuesAreAccepted};
 
 use crate::light::{check_absence, check_value};
@@ -30,7 +30,8 @@ use storage_ops::qmdb::operation::Key;
 /// What a snapshot's own proof of the active update of a key is written as, with the next key that the update names, is
 /// accepted for the key and the value, where the reader of the next key admits it.
 pub fn own_values_are_accepted<F: Family, K: Key, V: OperationCodec<F, Ordered<K, V>>>()
-    ensures { let e : Keyed K V.Value = record { key = K.text; value = V.Value.text; operation = V.operation_text; cmp = K.cmp } in (cfg : K.Cfg) → OwnValuesAreAccepted e K.view (K.parse cfg) (K.admits cfg) }
+    ensures { let e = keyed_by K.text V.Value.text V.operation_text K.cmp in
+        (cfg : K.Cfg) → OwnValuesAreAccepted e K.view (K.parse cfg) (K.admits cfg) }
 {
     own_operation_proofs_are_accepted();
     own_operation_proofs_are_read_again();
@@ -43,7 +44,11 @@ pub fn own_exclusions_are_accepted<
     K: Key,
     V: OperationCodec<F, Ordered<K, V>> + UpdateCodec<K>,
 >()
-    ensures { let e : Keyed K V.Value = record { key = K.text; value = V.Value.text; operation = V.operation_text; cmp = K.cmp } in (update : V.UpdateCfg) (cfg : V.Value.Cfg) → OwnExclusionsAreAccepted e K.view V.Value.view (ordered_at (K.parse (V.key_cfg update)) (V.Value.parse (V.value_cfg update))) (V.Value.parse cfg) (λ u. K.admits (V.key_cfg update) u.0 × V.Value.admits (V.value_cfg update) u.1 × K.admits (V.key_cfg update) u.2) (V.Value.admits cfg) }
+    ensures { let e = keyed_by K.text V.Value.text V.operation_text K.cmp in
+        (update : V.UpdateCfg) (cfg : V.Value.Cfg) → OwnExclusionsAreAccepted e K.view V.Value.view
+        (ordered_at (K.parse (V.key_cfg update)) (V.Value.parse (V.value_cfg update)))
+        (V.Value.parse cfg) (λ u. K.admits (V.key_cfg update) u.0 × V.Value.admits
+        (V.value_cfg update) u.1 × K.admits (V.key_cfg update) u.2) (V.Value.admits cfg) }
 {
     own_operation_proofs_are_accepted();
     own_operation_proofs_are_read_again();
@@ -66,8 +71,21 @@ pub fn written_values_are_accepted<
     root: &H::Digest,
 ) -> Result<bool, NoMemory>
     requires size { IsChunkSize N }
-    ensures asked { let e : Keyed K V.Value = record { key = K.text; value = V.Value.text; operation = V.operation_text; cmp = K.cmp } in let g : Grafting = record { shape = F.shape; bytes = N } in IfOk result (λ yes. IsTrue yes ↔ IsAcceptedValue e K.view (K.parse cfg.now) H.hash_of g F.has_pending H.Digest.size (operation_text F.has_pending (operation_of H.Digest.text (λ c. c) proof.now.proof) ++ K.text proof.now.next_key) key value (H.Digest.text root.now)) }
-    ensures accepted { let e : Keyed K V.Value = record { key = K.text; value = V.Value.text; operation = V.operation_text; cmp = K.cmp } in let g : Grafting = record { shape = F.shape; bytes = N } in (s : Snapshot) → IsSnapshot s → (location : ℕ) → operation_of H.Digest.text (λ c. c) proof.now.proof ≡ own_operation_proof H.hash_of g s location → Updates e s location key value proof.now.next_key → K.admits cfg.now proof.now.next_key → H.Digest.text root.now ≡ canonical_root H.hash_of g s → IfOk result (λ yes. yes ≡ true) }
+    ensures asked { let e = keyed_by K.text V.Value.text V.operation_text K.cmp in
+        let g = grafting_of F.shape N in
+        IfOk result (λ yes. IsTrue yes
+        ↔ IsAcceptedValue e K.view (K.parse cfg.now) H.hash_of g F.has_pending H.Digest.size
+        (operation_text F.has_pending (operation_of H.Digest.text (λ c. c) proof.now.proof)
+        ++ K.text proof.now.next_key) key value (H.Digest.text root.now)) }
+    ensures accepted { let e = keyed_by K.text V.Value.text V.operation_text K.cmp in
+        let g = grafting_of F.shape N in
+        (s : Snapshot) → IsSnapshot s
+        → (location : ℕ) → operation_of H.Digest.text (λ c. c) proof.now.proof
+        ≡ own_operation_proof H.hash_of g s location
+        → Updates e s location key value proof.now.next_key
+        → K.admits cfg.now proof.now.next_key
+        → H.Digest.text root.now ≡ canonical_root H.hash_of g s
+        → IfOk result (λ yes. yes ≡ true) }
 {
     own_values_are_accepted::<F, K, V>();
     let mut bytes = Vec::new(alloc);
@@ -92,8 +110,28 @@ pub fn written_exclusions_are_accepted<
     root: &H::Digest,
 ) -> Result<bool, NoMemory>
     requires size { IsChunkSize N }
-    ensures asked { let e : Keyed K V.Value = record { key = K.text; value = V.Value.text; operation = V.operation_text; cmp = K.cmp } in let g : Grafting = record { shape = F.shape; bytes = N } in let x : Exclusion (K × V.Value × K) V.Value = exclusion_of H.Digest.text (λ c. c) proof.now in IfOk result (λ yes. IsTrue yes ↔ IsAcceptedAbsence e K.view V.Value.view (ordered_at (K.parse (V.key_cfg cfgs.now.0)) (V.Value.parse (V.value_cfg cfgs.now.0))) (V.Value.parse cfgs.now.1) H.hash_of g F.has_pending H.Digest.size (exclusion_text F.has_pending (λ u. K.text u.0 ++ V.Value.text u.1 ++ K.text u.2) V.Value.text x) key.now (H.Digest.text root.now)) }
-    ensures accepted { let e : Keyed K V.Value = record { key = K.text; value = V.Value.text; operation = V.operation_text; cmp = K.cmp } in let g : Grafting = record { shape = F.shape; bytes = N } in let x : Exclusion (K × V.Value × K) V.Value = exclusion_of H.Digest.text (λ c. c) proof.now in (s : Snapshot) → IsSnapshot s → proof_of x ≡ own_operation_proof H.hash_of g s (proof_of x).location → IsActive s (proof_of x).location (shown_text e x) → Allows e x key.now → IsAdmittedExclusion (λ _. Unit {0}) (λ u. K.admits (V.key_cfg cfgs.now.0) u.0 × V.Value.admits (V.value_cfg cfgs.now.0) u.1 × K.admits (V.key_cfg cfgs.now.0) u.2) (V.Value.admits cfgs.now.1) x → H.Digest.text root.now ≡ canonical_root H.hash_of g s → IfOk result (λ yes. yes ≡ true) }
+    ensures asked { let e = keyed_by K.text V.Value.text V.operation_text K.cmp in
+        let g = grafting_of F.shape N in
+        let x : Exclusion (K × V.Value × K) V.Value = exclusion_of H.Digest.text
+        (λ c. c) proof.now in
+        IfOk result (λ yes. IsTrue yes ↔ IsAcceptedAbsence e K.view V.Value.view
+        (ordered_at (K.parse (V.key_cfg cfgs.now.0)) (V.Value.parse (V.value_cfg cfgs.now.0)))
+        (V.Value.parse cfgs.now.1) H.hash_of g F.has_pending H.Digest.size
+        (exclusion_text F.has_pending (λ u. K.text u.0 ++ V.Value.text u.1
+        ++ K.text u.2) V.Value.text x) key.now (H.Digest.text root.now)) }
+    ensures accepted { let e = keyed_by K.text V.Value.text V.operation_text K.cmp in
+        let g = grafting_of F.shape N in
+        let x : Exclusion (K × V.Value × K) V.Value = exclusion_of H.Digest.text
+        (λ c. c) proof.now in
+        (s : Snapshot) → IsSnapshot s
+        → proof_of x ≡ own_operation_proof H.hash_of g s (proof_of x).location
+        → IsActive s (proof_of x).location (shown_text e x)
+        → Allows e x key.now
+        → IsAdmittedExclusion (λ _. Unit {0}) (λ u. K.admits (V.key_cfg cfgs.now.0) u.0
+        × V.Value.admits (V.value_cfg cfgs.now.0) u.1 × K.admits (V.key_cfg cfgs.now.0) u.2)
+        (V.Value.admits cfgs.now.1) x
+        → H.Digest.text root.now ≡ canonical_root H.hash_of g s
+        → IfOk result (λ yes. yes ≡ true) }
 {
     own_exclusions_are_accepted::<F, K, V>();
     let mut bytes = Vec::new(alloc);

@@ -3,8 +3,8 @@
 ghost use Rattle.std.specs.Prelude.{◌≡◌, ◌↔◌, ◌⊎◌, IfOk, IsTrue, Ok, false};
 ghost use Rattle.storage_bitmap.specs.Chunks.{IsChunkSize};
 ghost use Rattle.storage_ops.specs.Updates.{ordered_at};
-ghost use Rattle.storage_current.specs.Keys.{Keyed};
-ghost use Rattle.storage_current.specs.Snapshots.{Grafting};
+ghost use Rattle.storage_current.specs.Keys.{Keyed, keyed_by};
+ghost use Rattle.storage_current.specs.Snapshots.{grafting_of};
 ghost use Rattle.commonware_storage.specs.LightKeys.{IsAcceptedAbsence, IsAcceptedValue, IsTrueAbsence, IsTrueValue};
 
 use crate::light::MAX_DIGESTS;
@@ -35,8 +35,15 @@ pub fn check_value<F: Graftable, H: Hasher, K: Key, V: OperationCodec<F, Ordered
     root: &H::Digest,
 ) -> Result<bool, NoMemory>
     ensures refused { ¬ IsChunkSize chunk_size → result ≡ Ok false }
-    ensures exact { let e : Keyed K V.Value = record { key = K.text; value = V.Value.text; operation = V.operation_text; cmp = K.cmp } in IfOk result (λ yes. IsTrue yes ↔ IsAcceptedValue e K.view (K.parse cfg.now) H.hash_of (record { shape = F.shape; bytes = chunk_size }) F.has_pending H.Digest.size proof.now key value (H.Digest.text root.now)) }
-    ensures meaning { let e : Keyed K V.Value = record { key = K.text; value = V.Value.text; operation = V.operation_text; cmp = K.cmp } in (H.Digest.size ≡ 32) ⊎ (H.Digest.size ≡ 64) → IfOk result (λ yes. IsTrue yes → IsTrueValue e K.view (K.parse cfg.now) H.hash_of (record { shape = F.shape; bytes = chunk_size }) F.has_pending H.Digest.size proof.now key value (H.Digest.text root.now)) }
+    ensures exact { let e = keyed_by K.text V.Value.text V.operation_text K.cmp in
+        IfOk result (λ yes. IsTrue yes
+        ↔ IsAcceptedValue e K.view (K.parse cfg.now) H.hash_of (grafting_of F.shape chunk_size)
+        F.has_pending H.Digest.size proof.now key value (H.Digest.text root.now)) }
+    ensures meaning { let e = keyed_by K.text V.Value.text V.operation_text K.cmp in
+        (H.Digest.size ≡ 32) ⊎ (H.Digest.size ≡ 64)
+        → IfOk result (λ yes. IsTrue yes
+        → IsTrueValue e K.view (K.parse cfg.now) H.hash_of (grafting_of F.shape chunk_size)
+        F.has_pending H.Digest.size proof.now key value (H.Digest.text root.now)) }
 {
     if grafting::chunk_height(chunk_size).is_none() {
         return Ok(false);
@@ -68,8 +75,17 @@ pub fn check_absence<
     root: &H::Digest,
 ) -> Result<bool, NoMemory>
     ensures refused { ¬ IsChunkSize chunk_size → result ≡ Ok false }
-    ensures exact { let e : Keyed K V.Value = record { key = K.text; value = V.Value.text; operation = V.operation_text; cmp = K.cmp } in IfOk result (λ yes. IsTrue yes ↔ IsAcceptedAbsence e K.view V.Value.view (ordered_at (K.parse (V.key_cfg cfgs.now.0)) (V.Value.parse (V.value_cfg cfgs.now.0))) (V.Value.parse cfgs.now.1) H.hash_of (record { shape = F.shape; bytes = chunk_size }) F.has_pending H.Digest.size proof.now key.now (H.Digest.text root.now)) }
-    ensures meaning { let e : Keyed K V.Value = record { key = K.text; value = V.Value.text; operation = V.operation_text; cmp = K.cmp } in (H.Digest.size ≡ 32) ⊎ (H.Digest.size ≡ 64) → IfOk result (λ yes. IsTrue yes → IsTrueAbsence e K.view V.Value.view (ordered_at (K.parse (V.key_cfg cfgs.now.0)) (V.Value.parse (V.value_cfg cfgs.now.0))) (V.Value.parse cfgs.now.1) H.hash_of (record { shape = F.shape; bytes = chunk_size }) F.has_pending H.Digest.size proof.now key.now (H.Digest.text root.now)) }
+    ensures exact { let e = keyed_by K.text V.Value.text V.operation_text K.cmp in
+        IfOk result (λ yes. IsTrue yes ↔ IsAcceptedAbsence e K.view V.Value.view
+        (ordered_at (K.parse (V.key_cfg cfgs.now.0)) (V.Value.parse (V.value_cfg cfgs.now.0)))
+        (V.Value.parse cfgs.now.1) H.hash_of (grafting_of F.shape chunk_size) F.has_pending
+        H.Digest.size proof.now key.now (H.Digest.text root.now)) }
+    ensures meaning { let e = keyed_by K.text V.Value.text V.operation_text K.cmp in
+        (H.Digest.size ≡ 32) ⊎ (H.Digest.size ≡ 64)
+        → IfOk result (λ yes. IsTrue yes → IsTrueAbsence e K.view V.Value.view
+        (ordered_at (K.parse (V.key_cfg cfgs.now.0)) (V.Value.parse (V.value_cfg cfgs.now.0)))
+        (V.Value.parse cfgs.now.1) H.hash_of (grafting_of F.shape chunk_size) F.has_pending
+        H.Digest.size proof.now key.now (H.Digest.text root.now)) }
 {
     if grafting::chunk_height(chunk_size).is_none() {
         return Ok(false);

@@ -18,11 +18,9 @@ use storage_merkle::merkle::{ElementPlan, Graftable, Location, MAX_LEAVES};
 /// Reads a line `0` or `1`, one blank, and hexadecimal of at least one byte: answers the bit, and puts the bytes in the place
 /// of those in `bytes`. None where the line is none such, and then `bytes` may hold anything.
 pub(crate) fn parse_operation(line: &[u8], bytes: &mut Vec<u8>) -> Result<Option<bool>, Fault>
-    ensures { MatchResult result
-        (λ found. MatchOption found
-        ((active : Bool) (bytes : List ℕ) → IsOperationLine line.now active bytes → ⊥)
-        (λ active. IsOperationLine line.now active bytes.new.items))
-        (λ fault. fault ≡ Memory) }
+    ensures { MatchResult result (λ found. MatchOption found ((active : Bool) (bytes : List ℕ)
+        → IsOperationLine line.now active bytes → ⊥)
+        (λ active. IsOperationLine line.now active bytes.new.items)) (λ fault. fault ≡ Memory) }
 {
     let (active, digits) = match line {
         [b'0', b' ', digits @ ..] => (false, digits),
@@ -39,7 +37,8 @@ pub(crate) fn parse_operation(line: &[u8], bytes: &mut Vec<u8>) -> Result<Option
 /// Puts the bytes that hexadecimal digits spell in the place of those in `bytes`, and answers whether they spell any. Where
 /// they do not, `bytes` may hold anything.
 fn decode(digits: &[u8], bytes: &mut Vec<u8>) -> Result<bool, AllocError>
-    ensures { IfOk result (λ whole. MatchResult (decode_of digits.now) (λ spelled. (whole ≡ true) × (bytes.new.items ≡ spelled)) (λ _. whole ≡ false)) }
+    ensures { IfOk result (λ whole. MatchResult (decode_of digits.now) (λ spelled. (whole ≡ true)
+        × (bytes.new.items ≡ spelled)) (λ _. whole ≡ false)) }
 {
     bytes.resize(digits.len() / 2, 0)?;
     Ok(hex::decode_to_slice(digits, bytes.as_mut_slice()).is_ok())

@@ -60,7 +60,8 @@ impl<F: Family, H: digest::Hasher> Hasher<F> for Counting<H> {
     }
 
     fn node_digest(&self, position: Position<F>, left: &H::Digest, right: &H::Digest) -> H::Digest
-        ensures { H.Digest.text result ≡ H.hash_of (be8 position ++ (H.Digest.text left.now ++ H.Digest.text right.now)) }
+        ensures { H.Digest.text result
+            ≡ H.hash_of (be8 position ++ (H.Digest.text left.now ++ H.Digest.text right.now)) }
     {
         self.nodes.set(self.nodes.get().saturating_add(1));
         self.standard.node_digest(position, left, right)

@@ -105,8 +105,10 @@ impl<D: Digest, const N: usize, M: State<D>> BitMap<D, N, M> {
 
     /// The last chunk that is not pruned, and how many bits it has, from 1 on; a clear chunk and 0 where none is left.
     pub fn last_chunk(&self) -> (&[u8; N], u64)
-        ensures chunk { result.0.now ≡ chunk_of N self.now.retained.bits ((length self.now.retained.bits - 1) / (8 * N)) }
-        ensures count { result.1 ≡ length self.now.retained.bits - (length self.now.retained.bits - 1) / (8 * N) * (8 * N) }
+        ensures chunk { result.0.now
+            ≡ chunk_of N self.now.retained.bits ((length self.now.retained.bits - 1) / (8 * N)) }
+        ensures count { result.1 ≡ length self.now.retained.bits
+            - (length self.now.retained.bits - 1) / (8 * N) * (8 * N) }
     {
         let Some(last) = self.bits.last_chunk() else {
             return (&self.clear.bytes, 0);
@@ -120,7 +122,8 @@ impl<D: Digest, const N: usize, M: State<D>> BitMap<D, N, M> {
     pub fn get_chunk_containing(&self, bit: u64) -> [u8; N]
         requires kept { self.now.retained.pruned * (8 * N) ≤ bit }
         requires within { bit < bit_count N self.now.retained }
-        ensures { result ≡ chunk_of N self.now.retained.bits (bit / (8 * N) - self.now.retained.pruned) }
+        ensures { result
+            ≡ chunk_of N self.now.retained.bits (bit / (8 * N) - self.now.retained.pruned) }
     {
         self.bits.get_chunk((bit / (8 * N as u64)) as usize)
     }
@@ -129,7 +132,8 @@ impl<D: Digest, const N: usize, M: State<D>> BitMap<D, N, M> {
     pub fn get_bit(&self, bit: u64) -> bool
         requires kept { self.now.retained.pruned * (8 * N) ≤ bit }
         requires within { bit < bit_count N self.now.retained }
-        ensures { result ≡ slice_index_or self.now.retained.bits (bit - self.now.retained.pruned * (8 * N)) false }
+        ensures { result ≡ slice_index_or self.now.retained.bits
+            (bit - self.now.retained.pruned * (8 * N)) false }
     {
         self.bits.get_bit(bit)
     }
@@ -138,7 +142,8 @@ impl<D: Digest, const N: usize, M: State<D>> BitMap<D, N, M> {
     pub fn get_bit_from_chunk(chunk: &[u8; N], bit: u64) -> bool
         requires { IsChunkSize N }
         ensures value { result ≡ bit_in chunk.now (bit % (8 * N)) }
-        ensures means { (bits : List Bool) → chunk.now ≡ chunk_of N bits (bit / (8 * N)) → result ≡ slice_index_or bits bit false }
+        ensures means { (bits : List Bool) → chunk.now ≡ chunk_of N bits (bit / (8 * N))
+            → result ≡ slice_index_or bits bit false }
     {
         read(chunk, bit % (8 * N as u64))
     }

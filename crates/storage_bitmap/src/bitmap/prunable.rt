@@ -1,6 +1,6 @@
 //! A list of bits whose front may be forgotten.
 
-ghost use Rattle.std.specs.Prelude.{◌≡◌, ◌≢◌, ℕ, ◌+◌, ◌-◌, ◌*◌, ◌/◌, ◌%◌, ◌^◌, ◌<◌, ◌≤◌, [], ◌∷◌, ◌++◌, length, drop, slice_set, slice_index, slice_index_or, false, MatchOption, OnOk, OnErr};
+ghost use Rattle.std.specs.Prelude.{◌≡◌, ◌≢◌, ℕ, ◌+◌, ◌-◌, ◌*◌, ◌/◌, ◌%◌, ◌^◌, ◌<◌, ◌≤◌, ◌↔◌, [], ◌∷◌, ◌++◌, length, drop, replicate, slice_set, slice_index, slice_index_or, false, MatchOption, OnOk, OnErr};
 ghost use Rattle.std.specs.Int.{bit_at};
 ghost use Rattle.storage_bitmap.specs.Chunks.{IsChunkSize, Retained, bit_count, chunk, digit, pruned_to};
 ghost use Rattle.storage_bitmap.specs.Packed.{HasRoom, IsPacked, IsWritten, bit_in, bits_in};
@@ -70,7 +70,10 @@ impl<const N: usize> Prunable<N> {
     pub fn set_bit(&mut self, bit: u64, value: bool)
         requires kept { self.old.pruned * (8 * N) ≤ bit }
         requires within { bit < bit_count N self.old }
-        ensures { self.new ≡ record self.old { bits = slice_set self.old.bits (bit - self.old.pruned * (8 * N)) value } }
+        ensures { self.new ≡ record self.old {
+          bits = slice_set self.old.bits
+              (bit - self.old.pruned * (8 * N)) value;
+        } }
     {
         let place = bit - pruned_bits::<N>(self.pruned);
         write(&mut self.bytes, place, value);
@@ -88,7 +91,8 @@ impl<const N: usize> Prunable<N> {
 
     /// The last chunk that is left; `None` where there is none. What is past the bits is 0.
     pub fn last_chunk(&self) -> Option<&[u8; N]>
-        ensures { MatchOption result (self.now.bits ≡ []) (λ last. (self.now.bits ≢ []) × (last.now ≡ chunk N self.now.bits ((length self.now.bits - 1) / (8 * N)))) }
+        ensures { MatchOption result (self.now.bits ≡ []) (λ last. (self.now.bits ≢ [])
+            × (last.now ≡ chunk N self.now.bits ((length self.now.bits - 1) / (8 * N)))) }
     {
         self.bytes.last_chunk()
     }
@@ -150,14 +154,26 @@ fn pruned_bits<const N: usize>(chunks: usize) -> u64
 
 /// Makes room for one bit more than so many: a clear chunk, where there is none.
 fn make_room<const N: usize>(bytes: &mut Vec<u8>, kept: u64) -> Result<(), NoMemory>
-    requires { 8 * (length bytes.old.items + N) < 2 ^ 64 }
+    requires few { 8 * (length bytes.old.items + N) < 2 ^ 64 }
+    requires whole { (kept % (8 * N) ≡ 0) ↔ (kept ≡ 8 * length bytes.old.items) }
     ensures ok { OnOk result (HasRoom N bytes.old.items bytes.new.items kept) }
     ensures err { OnErr result (bytes.new.items ≡ bytes.old.items) }
 {
-    let count = bytes.len();
-    if kept == 8 * count as u64 {
-        bytes.resize(count + N, 0)?;
+    if kept.is_multiple_of(8 * N as u64) {
+        add_clear::<N>(bytes)?;
     }
+    Ok(())
+}
+
+/// Appends a clear chunk.
+#[cold]
+fn add_clear<const N: usize>(bytes: &mut Vec<u8>) -> Result<(), NoMemory>
+    requires { length bytes.old.items + N < 2 ^ 64 }
+    ensures ok { OnOk result (bytes.new.items ≡ bytes.old.items ++ replicate N 0) }
+    ensures err { OnErr result (bytes.new.items ≡ bytes.old.items) }
+{
+    let count = bytes.len();
+    bytes.resize(count + N, 0)?;
     Ok(())
 }
 
@@ -184,18 +200,9 @@ fn fill(bytes: &mut Vec<u8>, place: u64, bit: bool)
     requires clear { bit_in bytes.old.items place ≡ false }
     ensures { IsWritten bytes.old.items bytes.new.items place bit }
 {
-    let index = (place / 8) as usize;
-    bytes[index] = filled(bytes[index], (place % 8) as u32, bit);
-}
-
-/// A byte with one of its clear bits changed.
-fn filled(byte: u8, place: u32, bit: bool) -> u8
-    requires small { place < 8 }
-    requires clear { bit_at byte place ≡ 0 }
-    ensures there { bit_at result place ≡ digit bit }
-    ensures others { (i : ℕ) → i < 8 → i ≢ place → bit_at result i ≡ bit_at byte i }
-{
-    byte | (bit as u8) << place
+    if bit {
+        bytes[(place / 8) as usize] |= 1 << (place % 8);
+    }
 }
 
 /// A byte with one of its bits changed.

@@ -7,6 +7,7 @@ ghost use Rattle.storage_merkle.specs.Nodes.{CoversSame, IsNode};
 ghost use Rattle.storage_merkle.specs.Shape.{size};
 ghost use Rattle.storage_current.specs.Combined.{IsRaised, joined};
 ghost use Rattle.storage_current.specs.CombinedViews.{ChunksKeepPace, JoinedTreesAreTheView, JoinedTreesServeTheView};
+ghost use Rattle.storage_current.specs.Snapshots.{grafting_of};
 
 use storage_codec::digest::{self, Digest};
 use storage_merkle::laws::greatest_nodes_are_planned;
@@ -16,16 +17,31 @@ use storage_merkle::merkle::{Family, Graftable};
 /// Each node of a tree over chunks has a position among the operations' nodes, where the chunks have at most half of the
 /// operations that a tree may have: a hasher of a tree over chunks takes it where the hasher below takes that position.
 pub fn nodes_over_chunks_are_taken<F: Graftable, H: Hasher<F>>()
-    ensures { (hasher : H) (chunks height position : ℕ) → 1 ≤ height → chunks * (2 * 2 ^ height) ≤ 2 ^ 62 → position < size F.shape chunks → ((p : ℕ) → CoversSame F.shape height position p → H.takes hasher p) → IsRaised F.shape (H.takes hasher) height position }
+    ensures { (hasher : H) (chunks height position : ℕ) → 1 ≤ height
+        → chunks * (2 * 2 ^ height) ≤ 2 ^ 62
+        → position < size F.shape chunks
+        → ((p : ℕ) → CoversSame F.shape height position p → H.takes hasher p)
+        → IsRaised F.shape (H.takes hasher) height position }
 {}
 
 /// Two trees read as one have nothing at a position that is not valid or not in the tree; below the height of chunks what the
 /// tree over the operations has; and at and above it what the tree over chunks has at the position that covers the same
 /// operations.
 pub fn joined_trees_meet_at_a_height<F: Family, D: Digest>()
-    ensures none { (height nodes position : ℕ) (chunks operations : ℕ → Option D) → (nodes ≤ position) ⊎ (size F.shape (2 ^ 62) < position) → joined F.shape height nodes chunks operations position ≡ None }
-    ensures below { (height nodes position first own : ℕ) (chunks operations : ℕ → Option D) → position < nodes → position ≤ size F.shape (2 ^ 62) → IsNode F.shape position first own → own < height → joined F.shape height nodes chunks operations position ≡ operations position }
-    ensures above { (height nodes position over : ℕ) (chunks operations : ℕ → Option D) → position < nodes → position ≤ size F.shape (2 ^ 62) → CoversSame F.shape height over position → joined F.shape height nodes chunks operations position ≡ chunks over }
+    ensures none { (height nodes position : ℕ) (chunks operations : ℕ → Option D)
+        → (nodes ≤ position) ⊎ (size F.shape (2 ^ 62) < position)
+        → joined F.shape height nodes chunks operations position ≡ None }
+    ensures below { (height nodes position first own : ℕ) (chunks operations : ℕ → Option D)
+        → position < nodes
+        → position ≤ size F.shape (2 ^ 62)
+        → IsNode F.shape position first own
+        → own < height
+        → joined F.shape height nodes chunks operations position ≡ operations position }
+    ensures above { (height nodes position over : ℕ) (chunks operations : ℕ → Option D)
+        → position < nodes
+        → position ≤ size F.shape (2 ^ 62)
+        → CoversSame F.shape height over position
+        → joined F.shape height nodes chunks operations position ≡ chunks over }
 {}
 
 /// Both families: over each chunk's node that is in a tree, the tree over its graftable chunks has one.
@@ -36,13 +52,13 @@ pub fn chunks_keep_pace()
 /// A tree over chunks that stands for the digests of a snapshot's graftable chunks, and a tree over the operations that has each
 /// node, are both as one the snapshot's grafted view.
 pub fn joined_trees_are_the_view<F: Graftable, H: digest::Hasher, const N: usize>()
-    ensures { JoinedTreesAreTheView H.Digest.text H.hash_of (record { shape = F.shape; bytes = N }) }
+    ensures { JoinedTreesAreTheView H.Digest.text H.hash_of (grafting_of F.shape N) }
 {}
 
 /// From such trees both as one each proof of the snapshot's operations is made: every planned position has its digest, and what
 /// is proved is the snapshot's own.
 pub fn combined_stores_serve_the_view<F: Graftable, H: digest::Hasher, const N: usize>()
-    ensures { JoinedTreesServeTheView H.Digest.text H.hash_of (record { shape = F.shape; bytes = N }) }
+    ensures { JoinedTreesServeTheView H.Digest.text H.hash_of (grafting_of F.shape N) }
 {
     greatest_nodes_are_planned();
 }

@@ -36,23 +36,36 @@ pub fn mmb_is_lawful()
 
 /// A tree never loses a node while it grows: what lies inside the peaks over fewer leaves lies inside those over more.
 pub fn trees_keep_their_nodes<F: Family>()
-    ensures { (m n first height : ℕ) → m ≤ n → first % 2 ^ height ≡ 0 → Inside (F.shape.peaks m) 0 first height → Inside (F.shape.peaks n) 0 first height }
+    ensures { (m n first height : ℕ) → m ≤ n
+        → first % 2 ^ height ≡ 0
+        → Inside (F.shape.peaks m) 0 first height
+        → Inside (F.shape.peaks n) 0 first height }
 {}
 
 /// The peaks over fewer leaves nest in those over more: one that begins below a peak over more leaves ends there too.
 pub fn peaks_nest<F: Family>()
-    ensures { (m n a k b j : ℕ) → m ≤ n → HasPeak (F.shape.peaks m) 0 a k → HasPeak (F.shape.peaks n) 0 b j → b ≤ a → a < b + 2 ^ j → (k ≤ j) × (a + 2 ^ k ≤ b + 2 ^ j) }
+    ensures { (m n a k b j : ℕ) → m ≤ n
+        → HasPeak (F.shape.peaks m) 0 a k
+        → HasPeak (F.shape.peaks n) 0 b j → b ≤ a
+        → a < b + 2 ^ j
+        → (k ≤ j) × (a + 2 ^ k ≤ b + 2 ^ j) }
 {}
 
 /// No position names two nodes, and each position in a tree is a node's.
 pub fn positions_are_of_one_node<F: Family>()
-    ensures once { (position a k b j : ℕ) → IsNode F.shape position a k → IsNode F.shape position b j → (a ≡ b) × (k ≡ j) }
-    ensures every { (n position : ℕ) → position < size F.shape n → (a : ℕ) × (k : ℕ) × IsNode F.shape position a k }
+    ensures once { (position a k b j : ℕ) → IsNode F.shape position a k
+        → IsNode F.shape position b j
+        → (a ≡ b) × (k ≡ j) }
+    ensures every { (n position : ℕ) → position < size F.shape n
+        → (a : ℕ) × (k : ℕ) × IsNode F.shape position a k }
 {}
 
 /// All complete chunks of `2^height` leaves are graftable but at most one, which is pending; and none is where a family has
 /// no pending chunks.
 pub fn at_most_one_chunk_is_pending<F: Graftable>()
-    ensures one { (n height r : ℕ) → AreGraftable F.shape n height r → (r ≤ n / 2 ^ height) × (n / 2 ^ height ≤ r + 1) }
-    ensures none { F.has_pending ≡ false → (n height r : ℕ) → AreGraftable F.shape n height r → r ≡ n / 2 ^ height }
+    ensures one { (n height r : ℕ) → AreGraftable F.shape n height r
+        → (r ≤ n / 2 ^ height) × (n / 2 ^ height ≤ r + 1) }
+    ensures none { F.has_pending ≡ false
+        → (n height r : ℕ) → AreGraftable F.shape n height r
+        → r ≡ n / 2 ^ height }
 {}

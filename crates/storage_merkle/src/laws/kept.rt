@@ -12,7 +12,12 @@ use storage_codec::digest::Digest;
 /// A tree in memory that stands for a list of leaf digests has each of the list's nodes from the position of the boundary's leaf
 /// on.
 pub fn trees_keep_the_nodes_of_their_list<F: Family, D: Digest>(tree: &Mem<F, D>)
-    ensures { (N : NodesOver) (list : List (List ℕ)) → StandsFor D.text F.shape N tree.now list → (position first height : ℕ) → IsNode F.shape position first height → size F.shape tree.now.boundary ≤ position → position < size F.shape (length list) → option_map D.text (kept_at F.shape tree.now.boundary tree.now.pinned tree.now.nodes position) ≡ Some (N list height first) }
+    ensures { (N : NodesOver) (list : List (List ℕ)) → StandsFor D.text F.shape N tree.now list
+        → (position first height : ℕ) → IsNode F.shape position first height
+        → size F.shape tree.now.boundary ≤ position
+        → position < size F.shape (length list)
+        → option_map D.text (kept_at F.shape tree.now.boundary tree.now.pinned tree.now.nodes
+        position) ≡ Some (N list height first) }
 {
     tree.is_whole();
 }

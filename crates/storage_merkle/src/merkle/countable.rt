@@ -16,7 +16,8 @@ pub trait Countable: Family {
 /// How many leaves the tree with so many nodes has, also past [`MAX_LEAVES`](crate::merkle::MAX_LEAVES); `None` where no
 /// tree has so many nodes. Takes no memory.
 pub fn leaves_of<F: Countable>(nodes: Position<F>) -> Option<Location<F>>
-    ensures { MatchOption result ((n : ℕ) → size F.shape n ≡ nodes → ⊥) (λ n. size F.shape n ≡ nodes) }
+    ensures { MatchOption result ((n : ℕ) → size F.shape n ≡ nodes → ⊥)
+        (λ n. size F.shape n ≡ nodes) }
 {
     let nodes = nodes.as_u64();
     let mut low: u64 = 0;

@@ -75,7 +75,8 @@ pub trait Family: Copy {
     where
         Self: Sized,
         requires { (leaves : ℕ) × (leaves ≤ 2 ^ 62) × (size shape leaves ≡ nodes) }
-        ensures { (leaves : ℕ) → size shape leaves ≡ nodes → result ≡ placed shape 0 (shape.peaks leaves) }
+        ensures { (leaves : ℕ) → size shape leaves ≡ nodes
+            → result ≡ placed shape 0 (shape.peaks leaves) }
     {
         Peaks::over(leaves_within::<Self>(nodes.as_u64()))
     }
@@ -88,7 +89,9 @@ pub trait Family: Copy {
         requires inner { 1 ≤ height }
         requires valid { position ≤ size shape (2 ^ 62) }
         requires own { (first : ℕ) × IsNode shape position first height }
-        ensures { (first : ℕ) → IsNode shape position first height → IsNode shape result.0 first (height - 1) × IsNode shape result.1 (first + 2 ^ (height - 1)) (height - 1) }
+        ensures { (first : ℕ) → IsNode shape position first height
+            → IsNode shape result.0 first (height - 1)
+            × IsNode shape result.1 (first + 2 ^ (height - 1)) (height - 1) }
     {
         let (first, _) = node_at::<Self>(position.as_u64());
         let left = Self::position(first, height - 1);
@@ -147,7 +150,8 @@ pub trait Graftable: Family {
         requires inner { 1 ≤ height }
         requires valid { position ≤ size Self.shape (2 ^ 62) }
         requires own { (first : ℕ) × IsNode Self.shape position first height }
-        ensures { (first : ℕ) → IsNode Self.shape position first height → result ≡ Self.shape.birth first height }
+        ensures { (first : ℕ) → IsNode Self.shape position first height
+            → result ≡ Self.shape.birth first height }
     {
         let (first, _) = node_at::<Self>(position.as_u64());
         Self::birth(first, height)
@@ -162,8 +166,10 @@ pub trait Graftable: Family {
     final fn write_pending<D: Digest>(slot: &Option<D>, out: &mut Vec<u8>) -> Result<(), NoMemory>
     where
         Self: Sized,
-        ensures ok { OnOk result (out.new.items ≡ out.old.items ++ slot_text Self.has_pending D.text slot.now) }
-        ensures err { OnErr result (AppendsStart out.old.items out.new.items (slot_text Self.has_pending D.text slot.now)) }
+        ensures ok { OnOk result
+            (out.new.items ≡ out.old.items ++ slot_text Self.has_pending D.text slot.now) }
+        ensures err { OnErr result (AppendsStart out.old.items out.new.items
+            (slot_text Self.has_pending D.text slot.now)) }
     {
         if Self::has_pending() {
             slot.write(out)?;
@@ -180,7 +186,8 @@ pub trait Graftable: Family {
     ) -> Result<Option<D>, codec::Error>
     where
         Self: Sized,
-        ensures gives { Gives (option_map D.text) result (B.unread buf.new) (slot_at Self.has_pending (front_at D.size) (B.unread buf.old)) }
+        ensures gives { Gives (option_map D.text) result (B.unread buf.new)
+            (slot_at Self.has_pending (front_at D.size) (B.unread buf.old)) }
         ensures ends { IsEnding (B.unread buf.old) (B.unread buf.new) }
         ensures none { IfOk result (IsSlot Self.has_pending) }
     {

@@ -70,7 +70,9 @@ pub trait Hasher<F: Family> {
         right: &Self::Digest,
     ) -> Self::Digest
         requires { takes self.now position }
-        ensures { (first height : ℕ) → IsNode F.shape position first height → Self.Digest.text result ≡ join_digest hash_of (layout self.now) (chunk self.now) first height (Self.Digest.text left.now) (Self.Digest.text right.now) };
+        ensures { (first height : ℕ) → IsNode F.shape position first height
+            → Self.Digest.text result ≡ join_digest hash_of (layout self.now) (chunk self.now) first
+            height (Self.Digest.text left.now) (Self.Digest.text right.now) };
 
     /// The digests of two nodes: for each its position and those of its children.
     final fn node_digest_pair(
@@ -80,7 +82,9 @@ pub trait Hasher<F: Family> {
     where
         Self: Sized,
         requires { All (λ n. takes self.now n.0) nodes.now }
-        ensures { AllZip (λ n d. (first height : ℕ) → IsNode F.shape n.0 first height → Self.Digest.text d ≡ join_digest hash_of (layout self.now) (chunk self.now) first height (Self.Digest.text n.1.now) (Self.Digest.text n.2.now)) nodes.now result }
+        ensures { AllZip (λ n d. (first height : ℕ) → IsNode F.shape n.0 first height
+            → Self.Digest.text d ≡ join_digest hash_of (layout self.now) (chunk self.now) first
+            height (Self.Digest.text n.1.now) (Self.Digest.text n.2.now)) nodes.now result }
     {
         let (first, left, right) = nodes[0];
         let (second, second_left, second_right) = nodes[1];
@@ -101,7 +105,8 @@ pub trait Hasher<F: Family> {
     where
         Self: Sized,
         requires { inactive ≤ length peaks.now }
-        ensures { Self.Digest.text result ≡ root_of hash_of (layout self.now) (bagging self.now) leaves inactive (map Self.Digest.text peaks.now) }
+        ensures { Self.Digest.text result ≡ root_of hash_of (layout self.now)
+            (bagging self.now) leaves inactive (map Self.Digest.text peaks.now) }
     {
         let bag = bag_peaks(self, inactive, peaks);
         bagged_root(self, leaves.as_u64(), inactive, bag)
@@ -132,7 +137,8 @@ fn bag_peaks<F: Family, H: Hasher<F>>(
     peaks: &[H::Digest],
 ) -> Option<H::Digest>
     requires { inactive ≤ length peaks.now }
-    ensures { or_nothing (option_map H.Digest.text result) ≡ bagged_peaks H.hash_of (H.bagging hasher.now) inactive (map H.Digest.text peaks.now) }
+    ensures { or_nothing (option_map H.Digest.text result)
+        ≡ bagged_peaks H.hash_of (H.bagging hasher.now) inactive (map H.Digest.text peaks.now) }
 {
     match hasher.root_bagging() {
         Bagging::ForwardFold => bag_digests(hasher, peaks, &[]),
@@ -149,7 +155,8 @@ fn bag_digests<F: Family, H: Hasher<F>>(
     front: &[H::Digest],
     rest: &[H::Digest],
 ) -> Option<H::Digest>
-    ensures { or_nothing (option_map H.Digest.text result) ≡ bagged H.hash_of (map H.Digest.text front.now) (map H.Digest.text rest.now) }
+    ensures { or_nothing (option_map H.Digest.text result)
+        ≡ bagged H.hash_of (map H.Digest.text front.now) (map H.Digest.text rest.now) }
 {
     let folded = fold_onto(hasher, rest, None);
     match fold_forward(hasher, front) {
@@ -180,7 +187,8 @@ pub(crate) fn fold_onto<F: Family, H: Hasher<F>>(
     items: &[H::Digest],
     onto: Option<H::Digest>,
 ) -> Option<H::Digest>
-    ensures { option_map H.Digest.text result ≡ folded_onto H.hash_of (map H.Digest.text items.now) (option_map H.Digest.text onto) }
+    ensures { option_map H.Digest.text result
+        ≡ folded_onto H.hash_of (map H.Digest.text items.now) (option_map H.Digest.text onto) }
 {
     let mut folded = onto;
     let mut left = items;
@@ -197,7 +205,8 @@ pub(crate) fn append<F: Family, H: Hasher<F>>(
     folded: Option<H::Digest>,
     item: &H::Digest,
 ) -> H::Digest
-    ensures { H.Digest.text result ≡ appended H.hash_of (option_map H.Digest.text folded) (H.Digest.text item.now) }
+    ensures { H.Digest.text result
+        ≡ appended H.hash_of (option_map H.Digest.text folded) (H.Digest.text item.now) }
 {
     match folded {
         None => *item,
@@ -211,7 +220,8 @@ pub(crate) fn join<F: Family, H: Hasher<F>>(
     item: &H::Digest,
     onto: Option<H::Digest>,
 ) -> H::Digest
-    ensures { H.Digest.text result ≡ joined H.hash_of (H.Digest.text item.now) (option_map H.Digest.text onto) }
+    ensures { H.Digest.text result
+        ≡ joined H.hash_of (H.Digest.text item.now) (option_map H.Digest.text onto) }
 {
     match onto {
         None => *item,
@@ -227,7 +237,8 @@ pub(crate) fn bagged_root<F: Family, H: Hasher<F>>(
     inactive: usize,
     bag: Option<H::Digest>,
 ) -> H::Digest
-    ensures { H.Digest.text result ≡ H.hash_of (root_head (H.layout hasher.now) (H.bagging hasher.now) leaves inactive ++ or_nothing (option_map H.Digest.text bag)) }
+    ensures { H.Digest.text result ≡ H.hash_of (root_head (H.layout hasher.now)
+        (H.bagging hasher.now) leaves inactive ++ or_nothing (option_map H.Digest.text bag)) }
 {
     let head = [F::byte(), hasher.root_bagging().byte()];
     let leaves = leaves.to_be_bytes();
@@ -243,7 +254,8 @@ fn hash_parts<F: Family, H: Hasher<F>>(
     inactive: &[u8],
     bag: &[u8],
 ) -> H::Digest
-    ensures { H.Digest.text result ≡ H.hash_of (head.now ++ (leaves.now ++ (inactive.now ++ bag.now))) }
+    ensures { H.Digest.text result
+        ≡ H.hash_of (head.now ++ (leaves.now ++ (inactive.now ++ bag.now))) }
 {
     hasher.hash(&[head, leaves, inactive, bag])
 }
@@ -301,7 +313,8 @@ impl<F: Family, H: digest::Hasher> Hasher<F> for Standard<H> {
 
     #[tactic(auto, unfolding(crate::specs::Calc::be8))]
     fn node_digest(&self, position: Position<F>, left: &H::Digest, right: &H::Digest) -> H::Digest
-        ensures { H.Digest.text result ≡ H.hash_of (be8 position ++ (H.Digest.text left.now ++ H.Digest.text right.now)) }
+        ensures { H.Digest.text result
+            ≡ H.hash_of (be8 position ++ (H.Digest.text left.now ++ H.Digest.text right.now)) }
     {
         H::hash(&[
             &position.as_u64().to_be_bytes(),

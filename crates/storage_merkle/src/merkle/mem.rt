@@ -34,9 +34,15 @@ impl<F: Family, D: Digest> Model for Mem<F, D> {
 
     ghost Value = { Kept D };
 
-    ghost view = { λ m. record { leaves = m.leaves; boundary = m.boundary; pinned = m.pinned.items; nodes = m.nodes.items } };
+    ghost view = { λ m. record {
+      leaves = m.leaves;
+      boundary = m.boundary;
+      pinned = m.pinned.items;
+      nodes = m.nodes.items;
+    } };
 
-    ghost invariant = { λ m. IsWhole F.shape m.leaves m.boundary (vec_len m.pinned) (vec_len m.nodes) };
+    ghost invariant = { λ m.
+        IsWhole F.shape m.leaves m.boundary (vec_len m.pinned) (vec_len m.nodes) };
 }
 
 impl<F: Family, D: Digest> Mem<F, D> {
@@ -62,10 +68,22 @@ impl<F: Family, D: Digest> Mem<F, D> {
     /// `LocationOverflow` of the boundary where no tree has so many leaves; `MissingNode` of the first peak without a
     /// digest; `Memory`.
     pub fn init(alloc: Global, boundary: Location<F>, pinned: &[D]) -> Result<Self, Error<F>>
-        ensures kept { IfOk result (λ m. m ≡ record { leaves = boundary; boundary = boundary; pinned = take (length (F.shape.peaks boundary)) pinned.now; nodes = [] }) }
-        ensures stands { IfOk result (λ m. (N : NodesOver) (list : List (List ℕ)) → length list ≡ boundary → map D.text (take (length (F.shape.peaks boundary)) pinned.now) ≡ at_peaks (N list) 0 (F.shape.peaks boundary) → StandsFor D.text F.shape N m list) }
-        ensures fits { IfOk result (λ _. (boundary ≤ 2 ^ 62) × (length (F.shape.peaks boundary) ≤ length pinned.now)) }
-        ensures why { IfErr result (λ e. ((2 ^ 62 < boundary) × (e ≡ Error.LocationOverflow boundary)) ⊎ ((boundary ≤ 2 ^ 62) × (((length pinned.now < length (F.shape.peaks boundary)) × (e ≡ Error.MissingNode (slice_index (pins F.shape boundary) (length pinned.now)))) ⊎ ((length (F.shape.peaks boundary) ≤ length pinned.now) × (e ≡ Error.Memory))))) }
+        ensures kept { IfOk result (λ m. m ≡ record {
+          leaves = boundary;
+          boundary = boundary;
+          pinned = take (length (F.shape.peaks boundary)) pinned.now;
+          nodes = [];
+        }) }
+        ensures stands { IfOk result (λ m. (N : NodesOver) (list : List (List ℕ)) → length list
+            ≡ boundary → map D.text (take (length (F.shape.peaks boundary)) pinned.now)
+            ≡ at_peaks (N list) 0 (F.shape.peaks boundary) → StandsFor D.text F.shape N m list) }
+        ensures fits { IfOk result (λ _.
+            (boundary ≤ 2 ^ 62) × (length (F.shape.peaks boundary) ≤ length pinned.now)) }
+        ensures why { IfErr result (λ e.
+            ((2 ^ 62 < boundary) × (e ≡ Error.LocationOverflow boundary))
+            ⊎ ((boundary ≤ 2 ^ 62) × (((length pinned.now < length (F.shape.peaks boundary))
+            × (e ≡ Error.MissingNode (slice_index (pins F.shape boundary) (length pinned.now))))
+            ⊎ ((length (F.shape.peaks boundary) ≤ length pinned.now) × (e ≡ Error.Memory))))) }
     {
         if !boundary.is_valid() {
             return Err(Error::LocationOverflow(boundary));
@@ -109,14 +127,16 @@ impl<F: Family, D: Digest> Mem<F, D> {
 
     /// The digest at a position; `None` where it is not kept. Takes no memory.
     pub fn get_node(&self, position: Position<F>) -> Option<D>
-        ensures { result ≡ kept_at F.shape self.now.boundary self.now.pinned self.now.nodes position }
+        ensures { result
+            ≡ kept_at F.shape self.now.boundary self.now.pinned self.now.nodes position }
     {
         look_up::<F, D>(self.boundary, &self.pinned, &self.nodes, position.as_u64())
     }
 
     /// As many digests are kept as there are peaks over the boundary and nodes from it on. Does nothing.
     pub(crate) fn is_whole(&self)
-        ensures { IsWhole F.shape self.now.leaves self.now.boundary (length self.now.pinned) (length self.now.nodes) }
+        ensures { IsWhole F.shape self.now.leaves self.now.boundary (length self.now.pinned)
+            (length self.now.nodes) }
     {
         let _ = &self.leaves;
     }
@@ -127,9 +147,14 @@ impl<F: Family, D: Digest> Mem<F, D> {
     ///
     /// `InvalidProof` where more peaks are to be inactive than there are.
     pub fn root<H: Hasher<F, Digest = D>>(&self, hasher: &H, inactive: usize) -> Result<D, Error<F>>
-        ensures root { IfOk result (λ d. (list : List (List ℕ)) → StandsFor D.text F.shape (node_over H.hash_of (H.layout hasher.now) (H.chunk hasher.now)) self.now list → D.text d ≡ root_of H.hash_of (H.layout hasher.now) (H.bagging hasher.now) (length list) inactive (peak_digests H.hash_of (H.layout hasher.now) (H.chunk hasher.now) list (length list))) }
+        ensures root { IfOk result (λ d. (list : List (List ℕ)) → StandsFor D.text F.shape
+            (node_over H.hash_of (H.layout hasher.now) (H.chunk hasher.now)) self.now list
+            → D.text d ≡ root_of H.hash_of (H.layout hasher.now) (H.bagging hasher.now)
+            (length list) inactive (peak_digests H.hash_of (H.layout hasher.now)
+            (H.chunk hasher.now) list (length list))) }
         ensures fits { IfOk result (λ _. inactive ≤ length (F.shape.peaks self.now.leaves)) }
-        ensures why { IfErr result (λ e. (length (F.shape.peaks self.now.leaves) < inactive) × (e ≡ Error.InvalidProof)) }
+        ensures why { IfErr result (λ e.
+            (length (F.shape.peaks self.now.leaves) < inactive) × (e ≡ Error.InvalidProof)) }
     {
         if self.leaves == 0 {
             if inactive > 0 {
@@ -159,12 +184,21 @@ impl<F: Family, D: Digest> Mem<F, D> {
         hasher: &H,
         element: &[u8],
     ) -> Result<(), Error<F>>
-        requires { (p : ℕ) → self.old.leaves < 2 ^ 62 → size F.shape self.old.leaves ≤ p → p < size F.shape (self.old.leaves + 1) → H.takes hasher.now p }
-        ensures grown { let N = node_over H.hash_of (H.layout hasher.now) (H.chunk hasher.now) in IfOk result (λ _. (list : List (List ℕ)) (dirty : List ℕ) → StandsBut D.text F.shape N dirty self.old list → StandsBut D.text F.shape N dirty self.new (list ++ H.hash_of (be8 (size F.shape self.old.leaves) ++ element.now) ∷ [])) }
-        ensures place { OnOk result ((self.new.leaves ≡ self.old.leaves + 1) × (self.new.boundary ≡ self.old.boundary) × (self.new.pinned ≡ self.old.pinned)) }
+        requires { (p : ℕ) → self.old.leaves < 2 ^ 62
+            → size F.shape self.old.leaves ≤ p
+            → p < size F.shape (self.old.leaves + 1)
+            → H.takes hasher.now p }
+        ensures grown { let N = node_over H.hash_of (H.layout hasher.now) (H.chunk hasher.now) in
+            IfOk result (λ _. (list : List (List ℕ)) (dirty : List ℕ)
+            → StandsBut D.text F.shape N dirty self.old list → StandsBut D.text F.shape N dirty
+            self.new (list ++ H.hash_of (be8 (size F.shape self.old.leaves) ++ element.now) ∷ [])) }
+        ensures place { OnOk result ((self.new.leaves ≡ self.old.leaves + 1)
+            × (self.new.boundary ≡ self.old.boundary) × (self.new.pinned ≡ self.old.pinned)) }
         ensures fits { OnOk result (self.old.leaves < 2 ^ 62) }
         ensures same { OnErr result (self.new ≡ self.old) }
-        ensures why { IfErr result (λ e. ((self.old.leaves ≡ 2 ^ 62) × (e ≡ Error.LocationOverflow self.old.leaves)) ⊎ ((self.old.leaves < 2 ^ 62) × (e ≡ Error.Memory))) }
+        ensures why { IfErr result (λ e.
+            ((self.old.leaves ≡ 2 ^ 62) × (e ≡ Error.LocationOverflow self.old.leaves))
+            ⊎ ((self.old.leaves < 2 ^ 62) × (e ≡ Error.Memory))) }
     {
         if self.leaves >= MAX_LEAVES {
             return Err(Error::LocationOverflow(Location::new(self.leaves)));
@@ -198,12 +232,23 @@ impl<F: Family, D: Digest> Mem<F, D> {
         updates: &[(Location<F>, D)],
     ) -> Result<(), Error<F>>
         requires { (p : ℕ) → p < size F.shape self.old.leaves → H.takes hasher.now p }
-        ensures written { let N = node_over H.hash_of (H.layout hasher.now) (H.chunk hasher.now) in OnOk result ((list : List (List ℕ)) (dirty : List ℕ) → StandsBut D.text F.shape N (map (λ u. u.0) updates.now ++ dirty) self.old list → StandsBut D.text F.shape N dirty self.new (updated list (map (λ u. (u.0, D.text u.1)) updates.now))) }
-        ensures stands { let N = node_over H.hash_of (H.layout hasher.now) (H.chunk hasher.now) in OnOk result ((list : List (List ℕ)) → StandsFor D.text F.shape N self.old list → StandsFor D.text F.shape N self.new (updated list (map (λ u. (u.0, D.text u.1)) updates.now))) }
-        ensures place { OnOk result ((self.new.leaves ≡ self.old.leaves) × (self.new.boundary ≡ self.old.boundary) × (self.new.pinned ≡ self.old.pinned)) }
-        ensures fits { OnOk result (All (λ u. (self.old.boundary ≤ u.0) × (u.0 < self.old.leaves)) updates.now) }
+        ensures written { let N = node_over H.hash_of (H.layout hasher.now) (H.chunk hasher.now) in
+            OnOk result ((list : List (List ℕ)) (dirty : List ℕ) → StandsBut D.text F.shape N
+            (map (λ u. u.0) updates.now ++ dirty) self.old list → StandsBut D.text F.shape N dirty
+            self.new (updated list (map (λ u. (u.0, D.text u.1)) updates.now))) }
+        ensures stands { let N = node_over H.hash_of (H.layout hasher.now) (H.chunk hasher.now) in
+            OnOk result ((list : List (List ℕ)) → StandsFor D.text F.shape N self.old list
+            → StandsFor D.text F.shape N self.new
+            (updated list (map (λ u. (u.0, D.text u.1)) updates.now))) }
+        ensures place { OnOk result ((self.new.leaves ≡ self.old.leaves)
+            × (self.new.boundary ≡ self.old.boundary) × (self.new.pinned ≡ self.old.pinned)) }
+        ensures fits { OnOk result
+            (All (λ u. (self.old.boundary ≤ u.0) × (u.0 < self.old.leaves)) updates.now) }
         ensures same { OnErr result (self.new ≡ self.old) }
-        ensures why { IfErr result (λ e. (away : ℕ) × IsFirstAway self.old.leaves self.old.boundary (map (λ u. u.0) updates.now) away × (((self.old.leaves ≤ away) × (e ≡ Error.RangeOutOfBounds away)) ⊎ ((away < self.old.boundary) × (e ≡ Error.ElementPruned (size F.shape away))))) }
+        ensures why { IfErr result (λ e. (away : ℕ)
+            × IsFirstAway self.old.leaves self.old.boundary (map (λ u. u.0) updates.now) away
+            × (((self.old.leaves ≤ away) × (e ≡ Error.RangeOutOfBounds away))
+            ⊎ ((away < self.old.boundary) × (e ≡ Error.ElementPruned (size F.shape away))))) }
     {
         if let Some(away) = first_away(self.leaves, self.boundary, updates) {
             if away >= self.leaves {
@@ -229,11 +274,15 @@ impl<F: Family, D: Digest> Mem<F, D> {
     ///
     /// `RangeOutOfBounds` of the location where it is past the number of leaves; `Memory`.
     pub fn prune(&mut self, location: Location<F>) -> Result<(), Error<F>>
-        ensures stands { OnOk result ((N : NodesOver) (list : List (List ℕ)) → StandsFor D.text F.shape N self.old list → StandsFor D.text F.shape N self.new list) }
-        ensures place { OnOk result ((self.new.boundary ≡ max self.old.boundary location) × (self.new.leaves ≡ self.old.leaves)) }
+        ensures stands { OnOk result ((N : NodesOver) (list : List (List ℕ))
+            → StandsFor D.text F.shape N self.old list → StandsFor D.text F.shape N self.new list) }
+        ensures place { OnOk result ((self.new.boundary ≡ max self.old.boundary location)
+            × (self.new.leaves ≡ self.old.leaves)) }
         ensures fits { OnOk result (location ≤ self.old.leaves) }
         ensures same { OnErr result (self.new ≡ self.old) }
-        ensures why { IfErr result (λ e. ((self.old.leaves < location) × (e ≡ Error.RangeOutOfBounds location)) ⊎ ((location ≤ self.old.leaves) × (e ≡ Error.Memory))) }
+        ensures why { IfErr result (λ e.
+            ((self.old.leaves < location) × (e ≡ Error.RangeOutOfBounds location))
+            ⊎ ((location ≤ self.old.leaves) × (e ≡ Error.Memory))) }
     {
         let to = location.as_u64();
         if to > self.leaves {
@@ -263,7 +312,9 @@ fn first_away<F: Family, D: Digest>(
     boundary: u64,
     updates: &[(Location<F>, D)],
 ) -> Option<u64>
-    ensures { MatchOption result (All (λ u. (boundary ≤ u.0) × (u.0 < leaves)) updates.now) (λ p. IsFirstAway leaves boundary (map (λ u. u.0) updates.now) p × ((leaves ≤ p) ⊎ (p < boundary))) }
+    ensures { MatchOption result (All (λ u. (boundary ≤ u.0) × (u.0 < leaves)) updates.now) (λ p.
+        IsFirstAway leaves boundary (map (λ u. u.0) updates.now) p
+        × ((leaves ≤ p) ⊎ (p < boundary))) }
 {
     for (location, _) in updates {
         let place = location.as_u64();
@@ -278,7 +329,8 @@ fn first_away<F: Family, D: Digest>(
 fn needed<F: Family>(boundary: Location<F>, given: usize) -> Result<usize, Position<F>>
     requires { boundary ≤ 2 ^ 62 }
     ensures count { IfOk result (λ n. (n ≡ length (F.shape.peaks boundary)) × (n ≤ given)) }
-    ensures missing { IfErr result (λ p. (given < length (F.shape.peaks boundary)) × (p ≡ slice_index (pins F.shape boundary) given)) }
+    ensures missing { IfErr result (λ p. (given < length (F.shape.peaks boundary))
+        × (p ≡ slice_index (pins F.shape boundary) given)) }
 {
     let mut count = 0;
     for position in F::nodes_to_pin(boundary) {

@@ -3,6 +3,7 @@ ghost use Rattle.std.specs.Prelude.{◌≡◌, ℕ, ◌+◌, ◌-◌, ◌%◌, �
 ghost use Rattle.storage_merkle.specs.Calc.{Site, node, eval};
 ghost use Rattle.storage_merkle.specs.CheckSteps.{Present, Serves};
 ghost use Rattle.storage_merkle.specs.Hashers.{TakesTree};
+ghost use Rattle.storage_merkle.specs.Held.{range_of};
 ghost use Rattle.storage_merkle.specs.Multi.{Ascend, claims_of, locations, untouched};
 ghost use Rattle.storage_merkle.specs.MultiSteps.{AreGiven, IsMultiRecomputed, claimed_values};
 ghost use Rattle.storage_merkle.specs.Nodes.{IsNode};
@@ -32,7 +33,10 @@ pub(crate) fn recompute<F: Family, H: Hasher<F>, E: AsSlice<u8>>(
     claims: &[(E, Location<F>)],
 ) -> Result<Option<H::Digest>, NoMemory>
     requires { TakesTree (H.takes hasher.now) F.shape proof.now.leaves }
-    ensures { (H.layout hasher.now).shape ≡ F.shape → IfOk result (λ root. IsMultiRecomputed H.hash_of (H.layout hasher.now) (H.bagging hasher.now) (record { leaves = proof.now.leaves; inactive = proof.now.inactive_peaks; digests = map H.Digest.text proof.now.digests.items }) (claims_of E.items claims.now) (H.chunk hasher.now) (option_map H.Digest.text root)) }
+    ensures { (H.layout hasher.now).shape ≡ F.shape
+        → IfOk result (λ root. IsMultiRecomputed H.hash_of (H.layout hasher.now)
+        (H.bagging hasher.now) (range_of H.Digest.text proof.now) (claims_of E.items claims.now)
+        (H.chunk hasher.now) (option_map H.Digest.text root)) }
 {
     let leaves = proof.leaves.as_u64();
     if leaves > MAX_LEAVES || !ascend(claims, leaves) {
@@ -80,9 +84,18 @@ impl<F: Family, D: Digest> Given<'_, F, D> {
         requires peaks { ArePeaks F.shape self.now.leaves first left }
         requires takes { TakesTree (H.takes hasher.now) F.shape self.now.leaves }
         requires rising { Ascend first (first + left) (locations (claims_of E.items claims.now)) }
-        requires present { Present F.shape self.now.positions.now (sites_in (ungrafted F.shape) (untouched (locations (claims_of E.items claims.now))) (peaks_from F.shape first left)) }
-        ensures all { OnOk result (length peaks.new.items ≡ length peaks.old.items + length (F.shape.peaks left)) }
-        ensures exact { OnOk result ((digest : Site → List ℕ) → (H.layout hasher.now).shape ≡ F.shape → Serves F.shape digest self.now.positions.now (map D.text self.now.digests.now) → map D.text peaks.new.items ≡ map D.text peaks.old.items ++ map (λ p. eval H.hash_of (claimed_values digest (claims_of E.items claims.now) (H.chunk hasher.now)) (part (H.layout hasher.now) (untouched (locations (claims_of E.items claims.now))) p)) (peaks_from F.shape first left)) }
+        requires present { Present F.shape self.now.positions.now
+            (sites_in (ungrafted F.shape) (untouched (locations (claims_of E.items claims.now)))
+            (peaks_from F.shape first left)) }
+        ensures all { OnOk result
+            (length peaks.new.items ≡ length peaks.old.items + length (F.shape.peaks left)) }
+        ensures exact { OnOk result ((digest : Site → List ℕ)
+            → (H.layout hasher.now).shape ≡ F.shape
+            → Serves F.shape digest self.now.positions.now (map D.text self.now.digests.now)
+            → map D.text peaks.new.items ≡ map D.text peaks.old.items ++ map (λ p. eval H.hash_of
+            (claimed_values digest (claims_of E.items claims.now) (H.chunk hasher.now))
+            (part (H.layout hasher.now) (untouched (locations (claims_of E.items claims.now))) p))
+            (peaks_from F.shape first left)) }
     {
         if left == 0 {
             return Ok(());
@@ -106,9 +119,16 @@ impl<F: Family, D: Digest> Given<'_, F, D> {
         requires small { height ≤ 62 }
         requires within { InTree F.shape self.now.leaves first height }
         requires takes { TakesTree (H.takes hasher.now) F.shape self.now.leaves }
-        requires rising { Ascend first (first + 2 ^ height) (locations (claims_of E.items claims.now)) }
-        requires present { Present F.shape self.now.positions.now (sites_of (node_calc (ungrafted F.shape) (untouched (locations (claims_of E.items claims.now))) height first)) }
-        ensures { (digest : Site → List ℕ) → (H.layout hasher.now).shape ≡ F.shape → Serves F.shape digest self.now.positions.now (map D.text self.now.digests.now) → D.text result ≡ eval H.hash_of (claimed_values digest (claims_of E.items claims.now) (H.chunk hasher.now)) (node_calc (H.layout hasher.now) (untouched (locations (claims_of E.items claims.now))) height first) }
+        requires rising { Ascend first (first + 2 ^ height)
+            (locations (claims_of E.items claims.now)) }
+        requires present { Present F.shape self.now.positions.now
+            (sites_of (node_calc (ungrafted F.shape)
+            (untouched (locations (claims_of E.items claims.now))) height first)) }
+        ensures { (digest : Site → List ℕ) → (H.layout hasher.now).shape ≡ F.shape
+            → Serves F.shape digest self.now.positions.now (map D.text self.now.digests.now)
+            → D.text result ≡ eval H.hash_of (claimed_values digest (claims_of E.items claims.now)
+            (H.chunk hasher.now)) (node_calc (H.layout hasher.now)
+            (untouched (locations (claims_of E.items claims.now))) height first) }
     {
         let position = node_position(first, height);
         if claims.is_empty() {
@@ -129,7 +149,10 @@ impl<F: Family, D: Digest> Given<'_, F, D> {
     fn digest(&self, position: Position<F>) -> D
         requires given { AreGiven self.now.leaves self.now.positions.now self.now.digests.now }
         requires present { Contains self.now.positions.now position }
-        ensures { (digest : Site → List ℕ) (first height : ℕ) → Serves F.shape digest self.now.positions.now (map D.text self.now.digests.now) → IsNode F.shape position first height → D.text result ≡ digest (node first height) }
+        ensures { (digest : Site → List ℕ) (first height : ℕ)
+            → Serves F.shape digest self.now.positions.now (map D.text self.now.digests.now)
+            → IsNode F.shape position first height
+            → D.text result ≡ digest (node first height) }
     {
         let index = self.positions.binary_search(&position).unwrap();
         self.digests[index]

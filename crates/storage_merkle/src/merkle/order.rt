@@ -13,7 +13,8 @@ pub fn peaks_ascending<F: Family>(
     leaves: u64,
 ) -> Result<Vec<Position<F>>, AllocError>
     requires { leaves ≤ 2 ^ 62 }
-    ensures same { IfOk result (λ v. IsPermutation (map (λ p. p.0) (placed F.shape 0 (F.shape.peaks leaves))) v.items) }
+    ensures same { IfOk result (λ v.
+        IsPermutation (map (λ p. p.0) (placed F.shape 0 (F.shape.peaks leaves))) v.items) }
     ensures rising { IfOk result (λ v. IsNonDecreasing v.items) }
 {
     let mut positions: Vec<Position<F>> = NodesToPin::of(Peaks::over(leaves)).collect(alloc)?;

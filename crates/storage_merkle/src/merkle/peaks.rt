@@ -22,7 +22,8 @@ impl<F: Family> Model for Peaks<F> {
 
     ghost view = { λ s. placed F.shape s.first (F.shape.peaks s.left) };
 
-    ghost invariant = { λ s. (s.first + s.left ≤ 2 ^ 62) × AreAligned (F.shape.peaks s.left) s.first };
+    ghost invariant = { λ s.
+        (s.first + s.left ≤ 2 ^ 62) × AreAligned (F.shape.peaks s.left) s.first };
 }
 
 impl<F: Family> Peaks<F> {

@@ -2,6 +2,7 @@
 ghost use Rattle.std.specs.Prelude.{◌≡◌, ℕ, ◌+◌, ◌-◌, ◌*◌, ◌%◌, ◌^◌, ◌<◌, ◌≤◌, ◌++◌, ◌⊎◌, List, length, map, Some, None, Err, IfOk, IfErr, OnOk, MatchOption, MatchResult};
 ghost use Rattle.std.specs.List.{All, AllZip};
 ghost use Rattle.std.specs.List.Sorted.{IsStrictlyIncreasing};
+ghost use Rattle.storage_merkle.specs.Held.{range_of};
 ghost use Rattle.storage_merkle.specs.Shape.{AreAligned};
 ghost use Rattle.storage_merkle.specs.Plans.{ArePeaks, ArePlanned, IsFirstAbsent, IsOwnOfEach, PlanOf, planned, refusal};
 ghost use Rattle.storage_merkle.specs.PlanParts.{AreOf, site_digest, tops};
@@ -36,7 +37,8 @@ impl<F: Family> Model for RangePlan<F> {
 
     ghost view = { λ s. record { leaves = s.leaves; start = s.start; end = s.end } };
 
-    ghost invariant = { λ s. ArePlanned F.shape s.leaves s.start s.end s.positions.items s.siblings.items };
+    ghost invariant = { λ s.
+        ArePlanned F.shape s.leaves s.start s.end s.positions.items s.siblings.items };
 }
 
 impl<F: Family> RangePlan<F> {
@@ -52,7 +54,9 @@ impl<F: Family> RangePlan<F> {
         leaves: Location<F>,
         range: Range<Location<F>>,
     ) -> Result<Self, Error<F>>
-        ensures { MatchOption (refusal F leaves range.start range.end) (MatchResult result (λ plan. plan ≡ record { leaves = leaves; start = range.start; end = range.end }) (λ e. e ≡ Error.Memory)) (λ e. result ≡ Err e) }
+        ensures { MatchOption (refusal F leaves range.start range.end) (MatchResult result
+            (λ plan. plan ≡ record { leaves = leaves; start = range.start; end = range.end })
+            (λ e. e ≡ Error.Memory)) (λ e. result ≡ Err e) }
     {
         Self::over(alloc, leaves, range.start, range.end)
     }
@@ -64,7 +68,9 @@ impl<F: Family> RangePlan<F> {
         start: Location<F>,
         end: Location<F>,
     ) -> Result<Self, Error<F>>
-        ensures { MatchOption (refusal F leaves start end) (MatchResult result (λ plan. plan ≡ record { leaves = leaves; start = start; end = end }) (λ e. e ≡ Error.Memory)) (λ e. result ≡ Err e) }
+        ensures { MatchOption (refusal F leaves start end) (MatchResult result (λ plan. plan
+            ≡ record { leaves = leaves; start = start; end = end }) (λ e. e ≡ Error.Memory))
+            (λ e. result ≡ Err e) }
     {
         if let Err(error) = check_range(leaves, start, end) {
             return Err(error);
@@ -127,10 +133,17 @@ impl<F: Family> RangePlan<F> {
         get_node: G,
     ) -> Result<Proof<F, H::Digest>, Error<F>>
         requires { G.IsAlwaysCallable get_node }
-        ensures own { IfOk result (λ proof. IsOwnOfEach H.Digest.text (G.post get_node) H.hash_of F.shape (H.bagging hasher.now) self.now inactive (record { leaves = proof.leaves; inactive = proof.inactive_peaks; digests = map H.Digest.text proof.digests.items })) }
-        ensures answered { IfOk result (λ _. All (λ p. (d : _) × G.post get_node p (Some d)) (planned F.shape self.now.leaves self.now.start self.now.end)) }
-        ensures counts { IfOk result (λ proof. (proof.leaves ≡ self.now.leaves) × (proof.inactive_peaks ≡ inactive) × (inactive ≤ length (F.shape.peaks self.now.leaves))) }
-        ensures why { IfErr result (λ e. ((length (F.shape.peaks self.now.leaves) < inactive) × (e ≡ Error.InvalidProof)) ⊎ ((inactive ≤ length (F.shape.peaks self.now.leaves)) × (((p : ℕ) × (e ≡ Error.ElementPruned p) × IsFirstAbsent (G.post get_node) (planned F.shape self.now.leaves self.now.start self.now.end) p) ⊎ (e ≡ Error.Memory)))) }
+        ensures own { IfOk result (λ proof. IsOwnOfEach H.Digest.text (G.post get_node) H.hash_of
+            F.shape (H.bagging hasher.now) self.now inactive (range_of H.Digest.text proof)) }
+        ensures answered { IfOk result (λ _. All (λ p. (d : _) × G.post get_node p (Some d))
+            (planned F.shape self.now.leaves self.now.start self.now.end)) }
+        ensures counts { IfOk result (λ proof.
+            (proof.leaves ≡ self.now.leaves) × (proof.inactive_peaks ≡ inactive)
+            × (inactive ≤ length (F.shape.peaks self.now.leaves))) }
+        ensures why { IfErr result (λ e. ((length (F.shape.peaks self.now.leaves) < inactive)
+            × (e ≡ Error.InvalidProof)) ⊎ ((inactive ≤ length (F.shape.peaks self.now.leaves))
+            × (((p : ℕ) × (e ≡ Error.ElementPruned p) × IsFirstAbsent (G.post get_node) (planned
+            F.shape self.now.leaves self.now.start self.now.end) p) ⊎ (e ≡ Error.Memory)))) }
     {
         if inactive as u64 > peak_count::<F>(self.leaves.as_u64()) {
             return Err(Error::InvalidProof);
@@ -154,8 +167,17 @@ impl<F: Family> RangePlan<F> {
         inactive: usize,
         answered: &[H::Digest],
     ) -> Result<Vec<H::Digest>, AllocError>
-        requires { length answered.now ≡ length (planned F.shape self.now.leaves self.now.start self.now.end) }
-        ensures { let xs = folded (H.bagging hasher.now) inactive (peaks_from F.shape 0 self.now.leaves) in let ys = unfolded (H.bagging hasher.now) inactive (peaks_from F.shape 0 self.now.leaves) in IfOk result (λ v. (digest_of : ℕ → ℕ → List ℕ) → AreOf H.Digest.text F.shape (planned F.shape self.now.leaves self.now.start self.now.end) answered.now digest_of → map H.Digest.text v.items ≡ map (site_digest self.now.start self.now.end xs ys H.hash_of digest_of) (tops self.now.start self.now.end xs ys (ungrafted F.shape) ++ sibling_sites (ungrafted F.shape) self.now.leaves self.now.start self.now.end)) }
+        requires { length answered.now
+            ≡ length (planned F.shape self.now.leaves self.now.start self.now.end) }
+        ensures { let xs = folded (H.bagging hasher.now) inactive
+            (peaks_from F.shape 0 self.now.leaves) in
+            let ys = unfolded (H.bagging hasher.now) inactive
+            (peaks_from F.shape 0 self.now.leaves) in
+            IfOk result (λ v. (digest_of : ℕ → ℕ → List ℕ) → AreOf H.Digest.text F.shape
+            (planned F.shape self.now.leaves self.now.start self.now.end) answered.now digest_of
+            → map H.Digest.text v.items ≡ map (site_digest self.now.start self.now.end xs ys
+            H.hash_of digest_of) (tops self.now.start self.now.end xs ys (ungrafted F.shape)
+            ++ sibling_sites (ungrafted F.shape) self.now.leaves self.now.start self.now.end)) }
     {
         let nodes = Nodes {
             positions: &self.positions,
@@ -185,7 +207,8 @@ pub(crate) fn check_range<F: Family>(
     start: Location<F>,
     end: Location<F>,
 ) -> Result<(), Error<F>>
-    ensures { MatchResult result (λ _. refusal F leaves start end ≡ None) (λ e. refusal F leaves start end ≡ Some e) }
+    ensures { MatchResult result (λ _. refusal F leaves start end ≡ None)
+        (λ e. refusal F leaves start end ≡ Some e) }
 {
     if !leaves.is_valid() {
         return Err(Error::LocationOverflow(leaves));
@@ -214,8 +237,10 @@ fn answers<F: Family, D: Digest, G: Fn(Position<F>) -> Option<D>>(
     get_node: G,
 ) -> Result<Vec<D>, Error<F>>
     requires { G.IsAlwaysCallable get_node }
-    ensures served { IfOk result (λ v. AllZip (λ p d. G.post get_node p (Some d)) positions.now v.items) }
-    ensures why { IfErr result (λ e. ((p : ℕ) × (e ≡ Error.ElementPruned p) × IsFirstAbsent (G.post get_node) positions.now p) ⊎ (e ≡ Error.Memory)) }
+    ensures served { IfOk result (λ v.
+        AllZip (λ p d. G.post get_node p (Some d)) positions.now v.items) }
+    ensures why { IfErr result (λ e. ((p : ℕ) × (e ≡ Error.ElementPruned p)
+        × IsFirstAbsent (G.post get_node) positions.now p) ⊎ (e ≡ Error.Memory)) }
 {
     let mut answered = Vec::with_capacity(alloc, positions.len())?;
     for position in positions {
@@ -288,7 +313,8 @@ impl Rest {
         requires few { self.first + self.left ≤ 2 ^ 62 }
         requires peaks { ArePeaks F.shape (self.first + self.left) self.first self.left }
         ensures peaks { ArePeaks F.shape (self.first + self.left) result.first result.left }
-        ensures after { AreAfterLeading F.shape start self.first self.left self.folded result.first result.left result.folded }
+        ensures after { AreAfterLeading F.shape start self.first self.left self.folded result.first
+            result.left result.folded }
     {
         let mut rest = self;
         while rest.left > 0 && rest.folded > 0 {
@@ -324,7 +350,9 @@ impl<F: Family> ElementPlan<F> {
     /// The first of: `LocationOverflow(leaves)` past `MAX_LEAVES`; `LocationOverflow(location)` from `MAX_LEAVES` on;
     /// `RangeOutOfBounds(location)` from `leaves` on; `Memory`.
     pub fn new(alloc: Global, leaves: Location<F>, location: Location<F>) -> Result<Self, Error<F>>
-        ensures { MatchOption (refusal F leaves location (location + 1)) (MatchResult result (λ plan. plan ≡ record { leaves = leaves; start = location; end = location + 1 }) (λ e. e ≡ Error.Memory)) (λ e. result ≡ Err e) }
+        ensures { MatchOption (refusal F leaves location (location + 1)) (MatchResult result
+            (λ plan. plan ≡ record { leaves = leaves; start = location; end = location + 1 })
+            (λ e. e ≡ Error.Memory)) (λ e. result ≡ Err e) }
     {
         if !leaves.is_valid() {
             return Err(Error::LocationOverflow(leaves));
@@ -372,7 +400,8 @@ pub(crate) fn siblings<F: Family>(
     end: u64,
 ) -> Result<Vec<Position<F>>, AllocError>
     requires { leaves ≤ 2 ^ 62 }
-    ensures { IfOk result (λ v. v.items ≡ map (position_of (ungrafted F.shape)) (sibling_sites (ungrafted F.shape) leaves start end)) }
+    ensures { IfOk result (λ v. v.items ≡ map (position_of (ungrafted F.shape))
+        (sibling_sites (ungrafted F.shape) leaves start end)) }
 {
     let mut positions = Vec::new(alloc);
     let mut first = 0;
@@ -423,7 +452,9 @@ fn add_apart<F: Family>(
     requires aligned { first % 2 ^ height ≡ 0 }
     requires small { height ≤ 62 }
     requires within { first + 2 ^ height ≤ 2 ^ 62 }
-    ensures { OnOk result (positions.new.items ≡ positions.old.items ++ map (position_of (ungrafted F.shape)) (sites_of (node_calc (ungrafted F.shape) (apart start end) height first))) }
+    ensures { OnOk result
+        (positions.new.items ≡ positions.old.items ++ map (position_of (ungrafted F.shape))
+        (sites_of (node_calc (ungrafted F.shape) (apart start end) height first))) }
 {
     if is_apart(start, end, first, height) {
         positions.push(node_position(first, height))?;

@@ -2,9 +2,10 @@
 ghost use Rattle.std.specs.Prelude.{◌≡◌, ◌≢◌, ℕ, ◌+◌, ◌-◌, ◌*◌, ◌%◌, ◌^◌, ◌<◌, ◌≤◌, ◌↔◌, ◌⊎◌, List, [], ◌∷◌, length, map, option_map, Some, None, IsTrue, IsOk, IfOk, IfErr};
 ghost use Rattle.storage_merkle.specs.Checks.{IsRecomputed, IsProved};
 ghost use Rattle.storage_merkle.specs.Hashers.{TakesTree};
+ghost use Rattle.storage_merkle.specs.Held.{range_of};
 ghost use Rattle.storage_merkle.specs.Multi.{IsMultiAccepted, IsMultiProved, claims_of};
 ghost use Rattle.storage_merkle.specs.RangeProofs.{IsAccepted, IsEmptyProof};
-ghost use Rattle.storage_merkle.specs.Trees.{Content, empty_root};
+ghost use Rattle.storage_merkle.specs.Trees.{Content, empty_root, content_of};
 
 use crate::merkle::hasher::Hasher;
 use crate::merkle::{Error, Family, Location, multi};
@@ -51,7 +52,8 @@ impl<F: Family, D: Digest> Proof<F, D> {
 
     /// An equal proof.
     pub fn clone(&self) -> Result<Self, NoMemory>
-        ensures { IfOk result (λ copy. (copy.leaves ≡ self.now.leaves) × (copy.inactive_peaks ≡ self.now.inactive_peaks) × (copy.digests.items ≡ self.now.digests.items)) }
+        ensures { IfOk result (λ copy. (copy.leaves ≡ self.now.leaves) × (copy.inactive_peaks
+            ≡ self.now.inactive_peaks) × (copy.digests.items ≡ self.now.digests.items)) }
     {
         let mut digests = Vec::new(*self.digests.allocator());
         digests.extend_from_slice(&self.digests)?;
@@ -72,8 +74,14 @@ impl<F: Family, D: Digest> Proof<F, D> {
         root: &D,
     ) -> Result<bool, NoMemory>
         requires { TakesTree (H.takes hasher.now) F.shape self.now.leaves }
-        ensures exact { (H.layout hasher.now).shape ≡ F.shape → IfOk result (λ yes. IsTrue yes ↔ IsAccepted H.hash_of (H.layout hasher.now) (H.bagging hasher.now) (record { leaves = self.now.leaves; inactive = self.now.inactive_peaks; digests = map D.text self.now.digests.items }) location (record { elements = element.now ∷ []; chunk = H.chunk hasher.now }) (D.text root.now)) }
-        ensures means { (H.layout hasher.now).shape ≡ F.shape → IfOk result (λ yes. IsTrue yes → IsProved D.size H.hash_of (H.layout hasher.now) (H.bagging hasher.now) (record { leaves = self.now.leaves; inactive = self.now.inactive_peaks; digests = map D.text self.now.digests.items }) location (record { elements = element.now ∷ []; chunk = H.chunk hasher.now }) (D.text root.now)) }
+        ensures exact { (H.layout hasher.now).shape ≡ F.shape
+            → IfOk result (λ yes. IsTrue yes ↔ IsAccepted H.hash_of (H.layout hasher.now)
+            (H.bagging hasher.now) (range_of D.text self.now) location
+            (content_of (element.now ∷ []) (H.chunk hasher.now)) (D.text root.now)) }
+        ensures means { (H.layout hasher.now).shape ≡ F.shape
+            → IfOk result (λ yes. IsTrue yes → IsProved D.size H.hash_of (H.layout hasher.now)
+            (H.bagging hasher.now) (range_of D.text self.now) location
+            (content_of (element.now ∷ []) (H.chunk hasher.now)) (D.text root.now)) }
     {
         self.verify_range_inclusion(alloc, hasher, &[element], location, root)
     }
@@ -89,8 +97,14 @@ impl<F: Family, D: Digest> Proof<F, D> {
         root: &D,
     ) -> Result<bool, NoMemory>
         requires { TakesTree (H.takes hasher.now) F.shape self.now.leaves }
-        ensures exact { (H.layout hasher.now).shape ≡ F.shape → IfOk result (λ yes. IsTrue yes ↔ IsAccepted H.hash_of (H.layout hasher.now) (H.bagging hasher.now) (record { leaves = self.now.leaves; inactive = self.now.inactive_peaks; digests = map D.text self.now.digests.items }) start (record { elements = map E.items elements.now; chunk = H.chunk hasher.now }) (D.text root.now)) }
-        ensures means { (H.layout hasher.now).shape ≡ F.shape → IfOk result (λ yes. IsTrue yes → IsProved D.size H.hash_of (H.layout hasher.now) (H.bagging hasher.now) (record { leaves = self.now.leaves; inactive = self.now.inactive_peaks; digests = map D.text self.now.digests.items }) start (record { elements = map E.items elements.now; chunk = H.chunk hasher.now }) (D.text root.now)) }
+        ensures exact { (H.layout hasher.now).shape ≡ F.shape
+            → IfOk result (λ yes. IsTrue yes ↔ IsAccepted H.hash_of (H.layout hasher.now)
+            (H.bagging hasher.now) (range_of D.text self.now) start
+            (content_of (map E.items elements.now) (H.chunk hasher.now)) (D.text root.now)) }
+        ensures means { (H.layout hasher.now).shape ≡ F.shape
+            → IfOk result (λ yes. IsTrue yes → IsProved D.size H.hash_of (H.layout hasher.now)
+            (H.bagging hasher.now) (range_of D.text self.now) start
+            (content_of (map E.items elements.now) (H.chunk hasher.now)) (D.text root.now)) }
         ensures none { elements.now ≡ [] → IsOk result }
     {
         if elements.is_empty() {
@@ -110,8 +124,14 @@ impl<F: Family, D: Digest> Proof<F, D> {
         root: &D,
     ) -> Result<bool, NoMemory>
         requires { TakesTree (H.takes hasher.now) F.shape self.now.leaves }
-        ensures exact { (H.layout hasher.now).shape ≡ F.shape → IfOk result (λ yes. IsTrue yes ↔ IsMultiAccepted H.hash_of (H.layout hasher.now) (H.bagging hasher.now) (record { leaves = self.now.leaves; inactive = self.now.inactive_peaks; digests = map D.text self.now.digests.items }) (claims_of E.items elements.now) (H.chunk hasher.now) (D.text root.now)) }
-        ensures means { (H.layout hasher.now).shape ≡ F.shape → IfOk result (λ yes. IsTrue yes → IsMultiProved D.size H.hash_of (H.layout hasher.now) (H.bagging hasher.now) (record { leaves = self.now.leaves; inactive = self.now.inactive_peaks; digests = map D.text self.now.digests.items }) (claims_of E.items elements.now) (H.chunk hasher.now) (D.text root.now)) }
+        ensures exact { (H.layout hasher.now).shape ≡ F.shape
+            → IfOk result (λ yes. IsTrue yes ↔ IsMultiAccepted H.hash_of (H.layout hasher.now)
+            (H.bagging hasher.now) (range_of D.text self.now) (claims_of E.items elements.now)
+            (H.chunk hasher.now) (D.text root.now)) }
+        ensures means { (H.layout hasher.now).shape ≡ F.shape
+            → IfOk result (λ yes. IsTrue yes → IsMultiProved D.size H.hash_of (H.layout hasher.now)
+            (H.bagging hasher.now) (range_of D.text self.now) (claims_of E.items elements.now)
+            (H.chunk hasher.now) (D.text root.now)) }
         ensures none { elements.now ≡ [] → IsOk result }
     {
         if elements.is_empty() {
@@ -131,7 +151,10 @@ impl<F: Family, D: Digest> Proof<F, D> {
         start: Location<F>,
     ) -> Result<Option<D>, NoMemory>
         requires { TakesTree (H.takes hasher.now) F.shape self.now.leaves }
-        ensures { (H.layout hasher.now).shape ≡ F.shape → IfOk result (λ root. IsRecomputed H.hash_of (H.layout hasher.now) (H.bagging hasher.now) (record { leaves = self.now.leaves; inactive = self.now.inactive_peaks; digests = map D.text self.now.digests.items }) start (record { elements = map E.items elements.now; chunk = H.chunk hasher.now }) (option_map D.text root)) }
+        ensures { (H.layout hasher.now).shape ≡ F.shape
+            → IfOk result (λ root. IsRecomputed H.hash_of (H.layout hasher.now)
+            (H.bagging hasher.now) (range_of D.text self.now) start
+            (content_of (map E.items elements.now) (H.chunk hasher.now)) (option_map D.text root)) }
     {
         self.lent().recompute_root(alloc, hasher, elements, start)
     }
@@ -149,8 +172,14 @@ impl<F: Family, D: Digest> Proof<F, D> {
         start: Location<F>,
     ) -> Result<D, Error<F>>
         requires { TakesTree (H.takes hasher.now) F.shape self.now.leaves }
-        ensures root { (H.layout hasher.now).shape ≡ F.shape → IfOk result (λ root. IsRecomputed H.hash_of (H.layout hasher.now) (H.bagging hasher.now) (record { leaves = self.now.leaves; inactive = self.now.inactive_peaks; digests = map D.text self.now.digests.items }) start (record { elements = map E.items elements.now; chunk = H.chunk hasher.now }) (Some (D.text root))) }
-        ensures why { IfErr result (λ e. (e ≡ Error.Memory) ⊎ ((e ≡ Error.InvalidProof) × ((H.layout hasher.now).shape ≡ F.shape → IsRecomputed H.hash_of (H.layout hasher.now) (H.bagging hasher.now) (record { leaves = self.now.leaves; inactive = self.now.inactive_peaks; digests = map D.text self.now.digests.items }) start (record { elements = map E.items elements.now; chunk = H.chunk hasher.now }) None))) }
+        ensures root { (H.layout hasher.now).shape ≡ F.shape
+            → IfOk result (λ root. IsRecomputed H.hash_of (H.layout hasher.now)
+            (H.bagging hasher.now) (range_of D.text self.now) start
+            (content_of (map E.items elements.now) (H.chunk hasher.now)) (Some (D.text root))) }
+        ensures why { IfErr result (λ e. (e ≡ Error.Memory)
+            ⊎ ((e ≡ Error.InvalidProof) × ((H.layout hasher.now).shape ≡ F.shape → IsRecomputed
+            H.hash_of (H.layout hasher.now) (H.bagging hasher.now) (range_of D.text self.now) start
+            (content_of (map E.items elements.now) (H.chunk hasher.now)) None))) }
     {
         match self.recompute_root(alloc, hasher, elements, start)? {
             Some(root) => Ok(root),
@@ -178,14 +207,18 @@ impl<F: Family, D: Digest> Proof<F, D> {
         start: Location<F>,
         root: &D,
     ) -> bool
-        ensures { (claim : Content) → claim.elements ≡ [] → (IsTrue result ↔ (IsEmptyProof H.hash_of (H.layout hasher.now) (H.bagging hasher.now) (record { leaves = self.now.leaves; inactive = self.now.inactive_peaks; digests = map D.text self.now.digests.items }) start claim × (empty_root H.hash_of (H.layout hasher.now) (H.bagging hasher.now) ≡ D.text root.now))) }
+        ensures { (claim : Content) → claim.elements ≡ []
+            → (IsTrue result ↔ (IsEmptyProof H.hash_of (H.layout hasher.now) (H.bagging hasher.now)
+            (range_of D.text self.now) start claim × (empty_root H.hash_of (H.layout hasher.now)
+            (H.bagging hasher.now) ≡ D.text root.now))) }
     {
         start.as_u64() == 0 && self.is_default() && hasher.root(start, 0, &[]) == *root
     }
 
     /// Whether it is the proof of no elements in the tree without leaves.
     fn is_default(&self) -> bool
-        ensures { IsTrue result ↔ ((self.now.leaves ≡ 0) × (self.now.inactive_peaks ≡ 0) × (self.now.digests.items ≡ [])) }
+        ensures { IsTrue result ↔ ((self.now.leaves ≡ 0) × (self.now.inactive_peaks ≡ 0)
+            × (self.now.digests.items ≡ [])) }
     {
         self.leaves.as_u64() == 0 && self.inactive_peaks == 0 && self.digests.is_empty()
     }

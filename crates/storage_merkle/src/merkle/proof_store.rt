@@ -1,6 +1,7 @@
 //! What is kept of an accepted range proof, to give other proofs.
 ghost use Rattle.std.specs.Prelude.{◌≡◌, ◌≢◌, ℕ, ◌+◌, ◌-◌, ◌*◌, ◌%◌, ◌^◌, ◌<◌, ◌≤◌, ◌⊎◌, ◌++◌, ◌∷◌, [], List, drop, if◌then◌else◌, map, option_map, OnOk, Some, None, IfOk, IfErr, MatchResult};
 ghost use Rattle.storage_merkle.specs.Extracted.{texts};
+ghost use Rattle.storage_merkle.specs.Held.{range_of};
 ghost use Rattle.storage_merkle.specs.RangeProofs.{trailing};
 ghost use Rattle.storage_merkle.specs.Rests.{peaks_from};
 ghost use Rattle.storage_merkle.specs.Shape.{AreAligned};
@@ -39,7 +40,16 @@ impl<F: Family, D: Digest> Model for ProofStore<F, D> {
 
     ghost Value = { Store };
 
-    ghost view = { λ s. record { leaves = s.leaves; inactive = s.inactive_peaks; bagging = s.bagging; start = s.start; past = s.past; front_fold = D.text s.front_fold; back_fold = D.text s.back_fold; kept = texts D.text s.kept.items } };
+    ghost view = { λ s. record {
+      leaves = s.leaves;
+      inactive = s.inactive_peaks;
+      bagging = s.bagging;
+      start = s.start;
+      past = s.past;
+      front_fold = D.text s.front_fold;
+      back_fold = D.text s.back_fold;
+      kept = texts D.text s.kept.items;
+    } };
 
     ghost invariant = { λ s. (s.leaves ≤ 2 ^ 62) × IsNonDecreasing (map (λ e. e.0) s.kept.items) };
 }
@@ -60,8 +70,11 @@ impl<F: Family, D: Digest> ProofStore<F, D> {
         locations: &[Location<F>],
         peaks: &[(Position<F>, D)],
     ) -> Result<Proof<F, D>, Error<F>>
-        ensures given { IfOk result (λ proof. (multi_refusal F F.shape self.now (texts D.text peaks.now) locations.now ≡ None) × (record { leaves = proof.leaves; inactive = proof.inactive_peaks; digests = map D.text proof.digests.items } ≡ store_multi_proof F.shape self.now (texts D.text peaks.now) locations.now)) }
-        ensures why { IfErr result (λ e. (multi_refusal F F.shape self.now (texts D.text peaks.now) locations.now ≡ Some e) ⊎ (e ≡ Error.Memory)) }
+        ensures given { IfOk result (λ proof. (multi_refusal F F.shape self.now
+            (texts D.text peaks.now) locations.now ≡ None) × (range_of D.text proof
+            ≡ store_multi_proof F.shape self.now (texts D.text peaks.now) locations.now)) }
+        ensures why { IfErr result (λ e. (multi_refusal F F.shape self.now
+            (texts D.text peaks.now) locations.now ≡ Some e) ⊎ (e ≡ Error.Memory)) }
     {
         if locations.is_empty() {
             return Err(Error::Empty);
@@ -106,8 +119,11 @@ impl<F: Family, D: Digest> ProofStore<F, D> {
         positions: &[Position<F>],
         peaks: &[(Position<F>, D)],
     ) -> Result<Vec<D>, Error<F>>
-        ensures all { IfOk result (λ v. (needed_refusal F self.now (texts D.text peaks.now) (suffix_positions F.shape self.now) positions.now ≡ None) × (map D.text v.items ≡ map (λ p. or_else [] (found_at self.now (texts D.text peaks.now) p)) positions.now)) }
-        ensures why { IfErr result (λ e. (needed_refusal F self.now (texts D.text peaks.now) (suffix_positions F.shape self.now) positions.now ≡ Some e) ⊎ (e ≡ Error.Memory)) }
+        ensures all { IfOk result (λ v. (needed_refusal F self.now (texts D.text peaks.now)
+            (suffix_positions F.shape self.now) positions.now ≡ None) × (map D.text v.items
+            ≡ map (λ p. or_else [] (found_at self.now (texts D.text peaks.now) p)) positions.now)) }
+        ensures why { IfErr result (λ e. (needed_refusal F self.now (texts D.text peaks.now)
+            (suffix_positions F.shape self.now) positions.now ≡ Some e) ⊎ (e ≡ Error.Memory)) }
     {
         let mut digests = Vec::with_capacity(alloc, positions.len())?;
         for position in positions {
@@ -142,7 +158,9 @@ impl<F: Family, D: Digest> ProofStore<F, D> {
 
     /// Why there is no proof that needs a position whose digest is neither kept nor given; `Memory` where none was found.
     fn missing(&self, alloc: Global, position: Position<F>) -> Error<F>
-        ensures { (result ≡ (if is_among position (suffix_positions F.shape self.now) then Error.CompressedDigest position else Error.ElementPruned position)) ⊎ (result ≡ Error.Memory) }
+        ensures { (result ≡ (if is_among position (suffix_positions F.shape self.now)
+            then Error.CompressedDigest position else Error.ElementPruned position))
+            ⊎ (result ≡ Error.Memory) }
     {
         match self.suffix_peak_positions(alloc) {
             Ok(suffix) => {
@@ -177,7 +195,8 @@ fn first_at<F: Family, D: Digest>(position: Position<F>, entries: &[(Position<F>
 /// it, `RangeOutOfBounds` where there is no such leaf.
 fn check_locations<F: Family>(locations: &[Location<F>], leaves: u64) -> Result<(), Error<F>>
     requires { leaves ≤ 2 ^ 62 }
-    ensures { MatchResult result (λ _. location_refusal F 0 leaves locations.now ≡ None) (λ e. location_refusal F 0 leaves locations.now ≡ Some e) }
+    ensures { MatchResult result (λ _. location_refusal F 0 leaves locations.now ≡ None) (λ e.
+        location_refusal F 0 leaves locations.now ≡ Some e) }
 {
     let mut next = 0;
     for location in locations {
@@ -207,7 +226,9 @@ fn add_past<F: Family>(
 ) -> Result<(), AllocError>
     requires few { first + left ≤ 2 ^ 62 }
     requires aligned { AreAligned (F.shape.peaks left) first }
-    ensures { OnOk result (positions.new.items ≡ positions.old.items ++ map (λ p. F.shape.position p.first p.height) (trailing past (drop folded (peaks_from F.shape first left)))) }
+    ensures { OnOk result
+        (positions.new.items ≡ positions.old.items ++ map (λ p. F.shape.position p.first p.height)
+        (trailing past (drop folded (peaks_from F.shape first left)))) }
 {
     if left == 0 {
         return Ok(());

@@ -50,9 +50,12 @@ pub trait Storage<F: Family> {
     /// `Source` where the store failed, just where its count of failures grew, by one; `Memory`.
     fn get_node(&mut self, position: Position<F>) -> Result<Option<Self::Digest>, Error<F>>
         requires { failed self.old + 1 < 2 ^ 64 }
-        ensures answer { MatchResult result (λ d. d ≡ node self.old position) (λ e. ((code : ℕ) × (e ≡ Error.Source code)) ⊎ (e ≡ Error.Memory)) }
-        ensures failure { ((code : ℕ) × (result ≡ Err (Error.Source code))) ↔ (failed self.new ≡ failed self.old + 1) }
-        ensures count { (failed self.new ≡ failed self.old) ⊎ (failed self.new ≡ failed self.old + 1) }
+        ensures answer { MatchResult result (λ d. d ≡ node self.old position) (λ e.
+            ((code : ℕ) × (e ≡ Error.Source code)) ⊎ (e ≡ Error.Memory)) }
+        ensures failure { ((code : ℕ) × (result ≡ Err (Error.Source code)))
+            ↔ (failed self.new ≡ failed self.old + 1) }
+        ensures count { (failed self.new ≡ failed self.old)
+            ⊎ (failed self.new ≡ failed self.old + 1) }
         ensures same_size { nodes self.new ≡ nodes self.old }
         ensures same { (p : ℕ) → node self.new p ≡ node self.old p };
 
@@ -68,9 +71,14 @@ pub trait Storage<F: Family> {
         positions: &[Position<F>],
     ) -> Result<Vec<Self::Digest>, Error<F>>
         requires { failed self.old + 1 < 2 ^ 64 }
-        ensures answers { MatchResult result (λ v. map Some v.items ≡ map (node self.old) positions.now) (λ e. ((p : ℕ) × (e ≡ Error.ElementPruned p) × IsFirstAbsent (λ q a. a ≡ node self.old q) positions.now p) ⊎ (((code : ℕ) × (e ≡ Error.Source code)) ⊎ (e ≡ Error.Memory))) }
-        ensures failure { ((code : ℕ) × (result ≡ Err (Error.Source code))) ↔ (failed self.new ≡ failed self.old + 1) }
-        ensures count { (failed self.new ≡ failed self.old) ⊎ (failed self.new ≡ failed self.old + 1) }
+        ensures answers { MatchResult result (λ v. map Some v.items
+            ≡ map (node self.old) positions.now) (λ e. ((p : ℕ) × (e ≡ Error.ElementPruned p)
+            × IsFirstAbsent (λ q a. a ≡ node self.old q) positions.now p)
+            ⊎ (((code : ℕ) × (e ≡ Error.Source code)) ⊎ (e ≡ Error.Memory))) }
+        ensures failure { ((code : ℕ) × (result ≡ Err (Error.Source code)))
+            ↔ (failed self.new ≡ failed self.old + 1) }
+        ensures count { (failed self.new ≡ failed self.old)
+            ⊎ (failed self.new ≡ failed self.old + 1) }
         ensures same_size { nodes self.new ≡ nodes self.old }
         ensures same { (p : ℕ) → node self.new p ≡ node self.old p };
 }

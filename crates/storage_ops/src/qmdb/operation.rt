@@ -99,7 +99,8 @@ impl<const N: usize> Key for FixedBytes<N> {
 
     ghost clones = { λ x y e. (ap (λ k. k.bytes) e, ap (λ k. k.bytes) e) };
 
-    ghost prefix_free = { sized_prefix_free (λ k. k.bytes) (λ k. k.bytes) N (λ k. k.full) (λ x y e. e) };
+    ghost prefix_free = { sized_prefix_free (λ k. k.bytes) (λ k. k.bytes) N
+        (λ k. k.full) (λ x y e. e) };
 }
 
 impl Key for U64 {
@@ -113,7 +114,8 @@ impl Key for U64 {
 
     ghost clones = { λ x y e. (ap (λ k. k.0.bytes) e, ap (λ k. k.0.bytes) e) };
 
-    ghost prefix_free = { sized_prefix_free (λ k. k.0.bytes) (λ k. k.0.bytes) 8 (λ k. k.0.full) (λ x y e. e) };
+    ghost prefix_free = { sized_prefix_free (λ k. k.0.bytes) (λ k. k.0.bytes) 8
+        (λ k. k.0.full) (λ x y e. e) };
 }
 
 impl Key for Vec<u8> {

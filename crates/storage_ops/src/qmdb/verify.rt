@@ -4,6 +4,7 @@ ghost use Rattle.std.specs.Prelude.{◌≡◌, ◌↔◌, ◌⊎◌, [], map, If
 ghost use Rattle.storage_merkle.specs.declared.merkle.bagging.Bagging.TheVariants.{BackwardFold};
 ghost use Rattle.storage_merkle.specs.Checks.{IsProved};
 ghost use Rattle.storage_merkle.specs.Extracted.{AreHandedOut, Fits, texts};
+ghost use Rattle.storage_merkle.specs.Held.{range_of};
 ghost use Rattle.storage_merkle.specs.Pinned.{IsPinnedAccepted, IsPinnedProved};
 ghost use Rattle.storage_merkle.specs.RangeProofs.{IsAccepted};
 ghost use Rattle.storage_merkle.specs.Stores.{IsMadeOf};
@@ -31,8 +32,12 @@ pub fn verify_proof<H: Hasher, F: Family, Op: Encode>(
     operations: &[Op],
     root: &DigestOf<H>,
 ) -> Result<bool, NoMemory>
-    ensures exact { IfOk result (λ yes. IsTrue yes ↔ IsAccepted H.hash_of (ungrafted F.shape) BackwardFold (record { leaves = proof.now.leaves; inactive = proof.now.inactive_peaks; digests = map H.Digest.text proof.now.digests.items }) start (listed (map Op.text operations.now)) (H.Digest.text root.now)) }
-    ensures means { IfOk result (λ yes. IsTrue yes → IsProved H.Digest.size H.hash_of (ungrafted F.shape) BackwardFold (record { leaves = proof.now.leaves; inactive = proof.now.inactive_peaks; digests = map H.Digest.text proof.now.digests.items }) start (listed (map Op.text operations.now)) (H.Digest.text root.now)) }
+    ensures exact { IfOk result (λ yes. IsTrue yes
+        ↔ IsAccepted H.hash_of (ungrafted F.shape) BackwardFold (range_of H.Digest.text proof.now)
+        start (listed (map Op.text operations.now)) (H.Digest.text root.now)) }
+    ensures means { IfOk result (λ yes. IsTrue yes → IsProved H.Digest.size H.hash_of
+        (ungrafted F.shape) BackwardFold (range_of H.Digest.text proof.now) start
+        (listed (map Op.text operations.now)) (H.Digest.text root.now)) }
     ensures none { operations.now ≡ [] → IsOk result }
 {
     let elements = encode_all(alloc, operations)?;
@@ -49,8 +54,12 @@ pub fn verify_proof_and_pinned_nodes<H: Hasher, F: Family, Op: Encode>(
     pinned: &[DigestOf<H>],
     root: &DigestOf<H>,
 ) -> Result<bool, NoMemory>
-    ensures exact { IfOk result (λ yes. IsTrue yes ↔ IsPinnedAccepted H.hash_of (ungrafted F.shape) BackwardFold (record { leaves = proof.now.leaves; inactive = proof.now.inactive_peaks; digests = map H.Digest.text proof.now.digests.items }) start (listed (map Op.text operations.now)) (map H.Digest.text pinned.now) (H.Digest.text root.now)) }
-    ensures means { IfOk result (λ yes. IsTrue yes → IsPinnedProved H.hash_of F.shape BackwardFold (record { leaves = proof.now.leaves; inactive = proof.now.inactive_peaks; digests = map H.Digest.text proof.now.digests.items }) start (map Op.text operations.now) (map H.Digest.text pinned.now) (H.Digest.text root.now)) }
+    ensures exact { IfOk result (λ yes. IsTrue yes ↔ IsPinnedAccepted H.hash_of (ungrafted F.shape)
+        BackwardFold (range_of H.Digest.text proof.now) start (listed (map Op.text operations.now))
+        (map H.Digest.text pinned.now) (H.Digest.text root.now)) }
+    ensures means { IfOk result (λ yes. IsTrue yes
+        → IsPinnedProved H.hash_of F.shape BackwardFold (range_of H.Digest.text proof.now) start
+        (map Op.text operations.now) (map H.Digest.text pinned.now) (H.Digest.text root.now)) }
     ensures none { operations.now ≡ [] → IsOk result }
 {
     let elements = encode_all(alloc, operations)?;
@@ -71,8 +80,16 @@ pub fn verify_proof_and_extract_digests<H: Hasher, F: Family, Op: Encode>(
     operations: &[Op],
     root: &DigestOf<H>,
 ) -> Result<ExtractedDigests<F, H>, Error<F>>
-    ensures handed { IfOk result (λ v. AreHandedOut H.Digest.size H.hash_of (ungrafted F.shape) BackwardFold (record { leaves = proof.now.leaves; inactive = proof.now.inactive_peaks; digests = map H.Digest.text proof.now.digests.items }) start (listed (map Op.text operations.now)) (H.Digest.text root.now) (texts H.Digest.text v.items)) }
-    ensures why { IfErr result (λ e. (e ≡ Error.Memory) ⊎ (((e ≡ Error.InvalidProof) × (Fits H.hash_of (ungrafted F.shape) BackwardFold (record { leaves = proof.now.leaves; inactive = proof.now.inactive_peaks; digests = map H.Digest.text proof.now.digests.items }) start (listed (map Op.text operations.now)) → ⊥)) ⊎ ((e ≡ Error.RootMismatch) × (Fits H.hash_of (ungrafted F.shape) BackwardFold (record { leaves = proof.now.leaves; inactive = proof.now.inactive_peaks; digests = map H.Digest.text proof.now.digests.items }) start (listed (map Op.text operations.now)) × (IsAccepted H.hash_of (ungrafted F.shape) BackwardFold (record { leaves = proof.now.leaves; inactive = proof.now.inactive_peaks; digests = map H.Digest.text proof.now.digests.items }) start (listed (map Op.text operations.now)) (H.Digest.text root.now) → ⊥))))) }
+    ensures handed { IfOk result (λ v. AreHandedOut H.Digest.size H.hash_of (ungrafted F.shape)
+        BackwardFold (range_of H.Digest.text proof.now) start (listed (map Op.text operations.now))
+        (H.Digest.text root.now) (texts H.Digest.text v.items)) }
+    ensures why { IfErr result (λ e. (e ≡ Error.Memory)
+        ⊎ (((e ≡ Error.InvalidProof) × (Fits H.hash_of (ungrafted F.shape) BackwardFold
+        (range_of H.Digest.text proof.now) start (listed (map Op.text operations.now)) → ⊥))
+        ⊎ ((e ≡ Error.RootMismatch) × (Fits H.hash_of (ungrafted F.shape) BackwardFold
+        (range_of H.Digest.text proof.now) start (listed (map Op.text operations.now))
+        × (IsAccepted H.hash_of (ungrafted F.shape) BackwardFold (range_of H.Digest.text proof.now)
+        start (listed (map Op.text operations.now)) (H.Digest.text root.now) → ⊥))))) }
 {
     let elements = encode_all(alloc, operations)?;
     let hasher = qmdb::hasher::<H>();
@@ -92,8 +109,16 @@ pub fn create_proof_store<H: Hasher, F: Family, Op: Encode>(
     operations: &[Op],
     root: &DigestOf<H>,
 ) -> Result<ProofStore<F, DigestOf<H>>, Error<F>>
-    ensures made { IfOk result (λ store. IsMadeOf H.Digest.size H.hash_of (ungrafted F.shape) BackwardFold (record { leaves = proof.now.leaves; inactive = proof.now.inactive_peaks; digests = map H.Digest.text proof.now.digests.items }) start (listed (map Op.text operations.now)) (H.Digest.text root.now) store) }
-    ensures why { IfErr result (λ e. (e ≡ Error.Memory) ⊎ (((e ≡ Error.InvalidProof) × (Fits H.hash_of (ungrafted F.shape) BackwardFold (record { leaves = proof.now.leaves; inactive = proof.now.inactive_peaks; digests = map H.Digest.text proof.now.digests.items }) start (listed (map Op.text operations.now)) → ⊥)) ⊎ ((e ≡ Error.RootMismatch) × (Fits H.hash_of (ungrafted F.shape) BackwardFold (record { leaves = proof.now.leaves; inactive = proof.now.inactive_peaks; digests = map H.Digest.text proof.now.digests.items }) start (listed (map Op.text operations.now)) × (IsAccepted H.hash_of (ungrafted F.shape) BackwardFold (record { leaves = proof.now.leaves; inactive = proof.now.inactive_peaks; digests = map H.Digest.text proof.now.digests.items }) start (listed (map Op.text operations.now)) (H.Digest.text root.now) → ⊥))))) }
+    ensures made { IfOk result (λ store. IsMadeOf H.Digest.size H.hash_of
+        (ungrafted F.shape) BackwardFold (range_of H.Digest.text proof.now) start
+        (listed (map Op.text operations.now)) (H.Digest.text root.now) store) }
+    ensures why { IfErr result (λ e. (e ≡ Error.Memory)
+        ⊎ (((e ≡ Error.InvalidProof) × (Fits H.hash_of (ungrafted F.shape) BackwardFold
+        (range_of H.Digest.text proof.now) start (listed (map Op.text operations.now)) → ⊥))
+        ⊎ ((e ≡ Error.RootMismatch) × (Fits H.hash_of (ungrafted F.shape) BackwardFold
+        (range_of H.Digest.text proof.now) start (listed (map Op.text operations.now))
+        × (IsAccepted H.hash_of (ungrafted F.shape) BackwardFold (range_of H.Digest.text proof.now)
+        start (listed (map Op.text operations.now)) (H.Digest.text root.now) → ⊥))))) }
 {
     let elements = encode_all(alloc, operations)?;
     ProofStore::new(alloc, &qmdb::hasher::<H>(), proof, &elements, start, root)
@@ -101,7 +126,8 @@ pub fn create_proof_store<H: Hasher, F: Family, Op: Encode>(
 
 /// The encodings of operations. For none it takes no memory.
 fn encode_all<Op: Encode>(alloc: Global, operations: &[Op]) -> Result<Vec<Vec<u8>>, NoMemory>
-    ensures all { IfOk result (λ v. map (λ bytes. bytes.items) v.items ≡ map Op.text operations.now) }
+    ensures all { IfOk result (λ v.
+        map (λ bytes. bytes.items) v.items ≡ map Op.text operations.now) }
     ensures none { operations.now ≡ [] → IsOk result }
 {
     let mut encoded = Vec::new(alloc);

@@ -6,12 +6,14 @@ pub returns-then-places-eq0-clause-value : goal.returns-then-places-eq0-clause-v
 returns-then-places-eq0-clause-value t c = number_none c.args.places c.args.bits.now c.if-places-eq0.true
 
 pub returns-in-None-clause-value : goal.returns-in-None-clause-value
-returns-in-None-clause-value t c = let s : c.args.places ≡ suc (c.args.places - 1) = omega arith in number_empty (c.args.places - 1) c.args.places c.args.bits.now s c.in-None.ensures.cases
+returns-in-None-clause-value t c = let s : c.args.places ≡ suc (c.args.places - 1) = omega arith in
+    number_empty (c.args.places - 1) c.args.places c.args.bits.now s c.in-None.ensures.cases
 
 pub returns-in-Some-clause-value : goal.returns-in-Some-clause-value
 returns-in-Some-clause-value t c =
     let s : c.args.places ≡ suc (c.args.places - 1) = omega arith in
-    number_more (c.args.places - 1) c.args.places c.args.bits.now c.in-Some.rest.now c.in-Some.bit.now _ _ s c.in-Some.ensures.cases.0 c.bit_value.ensures.value c.number_of.ensures.value
+    number_more (c.args.places - 1) c.args.places c.args.bits.now c.in-Some.rest.now c.in-Some.bit.now _ _ s
+    c.in-Some.ensures.cases.0 c.bit_value.ensures.value c.number_of.ensures.value
 
 pub returns-in-Some-clause-small : goal.returns-in-Some-clause-small
 returns-in-Some-clause-small t c =

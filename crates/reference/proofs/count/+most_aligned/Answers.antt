@@ -13,10 +13,12 @@ pub returns-then-is_aligned : goal.returns-then-is_aligned
 returns-then-is_aligned t c =
     let s : c.args.bound ≡ suc (c.args.bound - 1) = omega arith in
     let ends : ℕ → Bool = λ e. leb e c.args.floor && eqb (e % 2 ^ c.args.height) 0 in
-    greatest_here (λ r. ends (leaves_of (take r c.args.heights.now))) (c.args.bound - 1) c.args.bound s (ap ends (sym c.leaves_of-end.ensures) ∙ sym c.if-is_aligned.ensures)
+    greatest_here (λ r. ends (leaves_of (take r c.args.heights.now))) (c.args.bound - 1) c.args.bound s
+    (ap ends (sym c.leaves_of-end.ensures) ∙ sym c.if-is_aligned.ensures)
 
 pub returns : goal.returns
 returns t c =
     let s : c.args.bound ≡ suc (c.args.bound - 1) = omega arith in
     let ends : ℕ → Bool = λ e. leb e c.args.floor && eqb (e % 2 ^ c.args.height) 0 in
-    greatest_lower (λ r. ends (leaves_of (take r c.args.heights.now))) (c.args.bound - 1) c.args.bound _ s (ap ends (sym c.leaves_of-end.ensures) ∙ sym c.if-is_aligned.ensures) c.most_aligned.ensures
+    greatest_lower (λ r. ends (leaves_of (take r c.args.heights.now))) (c.args.bound - 1) c.args.bound _ s
+    (ap ends (sym c.leaves_of-end.ensures) ∙ sym c.if-is_aligned.ensures) c.most_aligned.ensures

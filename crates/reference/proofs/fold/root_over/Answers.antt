@@ -4,4 +4,11 @@ use Rattle.reference.proofs.fold.root_over.Goals as goal
 
 pub returns : goal.returns
 unfolding be8
-returns g c = c.hash_four.ensures ∙ rw (c.to_be_bytes-leaves.ensures, c.to_be_bytes-inactive.ensures, c.bag_bytes.ensures, c.byte.ensures, c.byte-2.ensures, append_assoc) refl
+returns g c = c.hash_four.ensures ∙ rw (
+  c.to_be_bytes-leaves.ensures,
+  c.to_be_bytes-inactive.ensures,
+  c.bag_bytes.ensures,
+  c.byte.ensures,
+  c.byte-2.ensures,
+  append_assoc,
+) refl

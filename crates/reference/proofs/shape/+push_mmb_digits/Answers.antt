@@ -8,4 +8,5 @@ returns-then-places-eq0 t c = mmb_no_places c.args.places c.args.number c.args.h
 pub returns : goal.returns
 returns t c =
     let s : c.args.places ≡ suc (c.args.places - 1) = omega arith in
-    on_ok c.push_mmb_digits.result (mmb_place (c.args.places - 1) c.args.places c.args.number c.digit.result _ _ _ s c.digit.ensures.value c.in_ok-push.ensures.items) c.push_mmb_digits.ensures
+    on_ok c.push_mmb_digits.result (mmb_place (c.args.places - 1) c.args.places c.args.number c.digit.result _ _ _ s
+    c.digit.ensures.value c.in_ok-push.ensures.items) c.push_mmb_digits.ensures

@@ -9,4 +9,5 @@ use Rattle.reference.proofs.site.+push_sites.Goals as goal
 pub returns-then-is_apart : goal.returns-then-is_apart
 returns-then-is_apart t c = λ T.
     ap (map site_of) c.in_ok-push.ensures.items ∙ map-append site_of c.args.sites.now.items (Inner c.args.place ∷ [])
-    ∙ ap (λ s. map site_of c.args.sites.now.items ++ s) (sym (apart_sites T (apart c.args.low c.args.high) c.args.place.height c.args.place.first (sym c.if-is_apart.ensures)))
+    ∙ ap (λ s. map site_of c.args.sites.now.items ++ s) (sym (apart_sites T
+    (apart c.args.low c.args.high) c.args.place.height c.args.place.first (sym c.if-is_apart.ensures)))

@@ -5,8 +5,14 @@ use Rattle.reference.proofs.Snapshots.{ops_from}
 use Rattle.reference.proofs.snapshot.ops_root.Goals as goal
 
 pub tree_root-requires-clause-inactive : goal.tree_root-requires-clause-inactive
-tree_root-requires-clause-inactive g c = omega (arith, exact-le g.F.Family.shape (length c.args.of.now.operations.now) c.args.of.now.floor, c.in_ok-inactive.ensures)
+tree_root-requires-clause-inactive g c = omega (
+  arith,
+  exact-le g.F.Family.shape (length c.args.of.now.operations.now) c.args.of.now.floor,
+  c.in_ok-inactive.ensures,
+)
 
 pub returns : goal.returns
-returns g c = ops_from g.H.Hasher.hash_of g.F.Family.shape c.args.of.now.chunk_size (map g.E.AsSlice.items c.args.of.now.operations.now) c.args.of.now.bits.now c.args.of.now.floor
-    (length c.args.of.now.operations.now) c.in_ok-inactive.inactive _ (sym (length-map c.args.of.now.operations.now g.E.AsSlice.items)) c.in_ok-inactive.ensures c.in_ok-root.ensures
+returns g c = ops_from g.H.Hasher.hash_of g.F.Family.shape c.args.of.now.chunk_size
+    (map g.E.AsSlice.items c.args.of.now.operations.now) c.args.of.now.bits.now c.args.of.now.floor
+    (length c.args.of.now.operations.now) c.in_ok-inactive.inactive _
+    (sym (length-map c.args.of.now.operations.now g.E.AsSlice.items)) c.in_ok-inactive.ensures c.in_ok-root.ensures

@@ -4,5 +4,6 @@ use Rattle.reference.proofs.tree.peaks.Goals as goal
 
 pub push_places-requires : goal.push_places-requires
 push_places-requires g c =
-    let l : leaves_of c.deref.result.now ≡ c.args.leaves = ap leaves_of (c.deref.ensures.value ∙ c.in_ok-heights.ensures) ∙ g.met.F.Family.laws.sum c.args.leaves in
+    let l : leaves_of c.deref.result.now ≡ c.args.leaves =
+    ap leaves_of (c.deref.ensures.value ∙ c.in_ok-heights.ensures) ∙ g.met.F.Family.laws.sum c.args.leaves in
     omega arith

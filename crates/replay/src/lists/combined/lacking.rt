@@ -25,7 +25,8 @@ impl<F: Family> Lacking<F> {
 
     /// The digest at a position.
     fn look_up(&self, position: Position<F>) -> Option<FixedBytes<32>>
-        ensures { result ≡ (if eqb position self.now.lacks then None else kept_at F.shape self.now.tree.boundary self.now.tree.pinned self.now.tree.nodes position) }
+        ensures { result ≡ (if eqb position self.now.lacks then None else kept_at F.shape
+            self.now.tree.boundary self.now.tree.pinned self.now.tree.nodes position) }
     {
         if position.as_u64() == self.lacks {
             None
@@ -40,8 +41,13 @@ impl<F: Family> Lacking<F> {
         alloc: Global,
         positions: &[Position<F>],
     ) -> Result<Vec<FixedBytes<32>>, Error<F>>
-        ensures served { let node = λ (p : ℕ). (if eqb p self.now.lacks then None else kept_at F.shape self.now.tree.boundary self.now.tree.pinned self.now.tree.nodes p) in IfOk result (λ v. map Some v.items ≡ map node positions.now) }
-        ensures why { let node = λ (p : ℕ). (if eqb p self.now.lacks then None else kept_at F.shape self.now.tree.boundary self.now.tree.pinned self.now.tree.nodes p) in IfErr result (λ e. ((p : ℕ) × (e ≡ Error.ElementPruned p) × IsFirstAbsent (λ q a. a ≡ node q) positions.now p) ⊎ (e ≡ Error.Memory)) }
+        ensures served { let node = λ (p : ℕ). (if eqb p self.now.lacks then None else kept_at
+            F.shape self.now.tree.boundary self.now.tree.pinned self.now.tree.nodes p) in
+            IfOk result (λ v. map Some v.items ≡ map node positions.now) }
+        ensures why { let node = λ (p : ℕ). (if eqb p self.now.lacks then None else kept_at F.shape
+            self.now.tree.boundary self.now.tree.pinned self.now.tree.nodes p) in
+            IfErr result (λ e. ((p : ℕ) × (e ≡ Error.ElementPruned p)
+            × IsFirstAbsent (λ q a. a ≡ node q) positions.now p) ⊎ (e ≡ Error.Memory)) }
     {
         let mut digests = Vec::new(alloc);
         let mut left = positions;
@@ -61,7 +67,8 @@ impl<F: Family> Storage<F> for Lacking<F> {
 
     ghost nodes = { λ s. size F.shape s.tree.leaves };
 
-    ghost node = { λ s p. (if eqb p s.lacks then None else kept_at F.shape s.tree.boundary s.tree.pinned s.tree.nodes p) };
+    ghost node = { λ s p. (if eqb p s.lacks then None
+        else kept_at F.shape s.tree.boundary s.tree.pinned s.tree.nodes p) };
 
     ghost failed = { λ _. 0 };
 
@@ -74,7 +81,8 @@ impl<F: Family> Storage<F> for Lacking<F> {
     }
 
     fn get_node(&mut self, position: Position<F>) -> Result<Option<FixedBytes<32>>, Error<F>>
-        ensures answer { result ≡ Ok (if eqb position self.old.lacks then None else kept_at F.shape self.old.tree.boundary self.old.tree.pinned self.old.tree.nodes position) }
+        ensures answer { result ≡ Ok (if eqb position self.old.lacks then None else kept_at F.shape
+            self.old.tree.boundary self.old.tree.pinned self.old.tree.nodes position) }
         ensures same { self.new ≡ self.old }
     {
         Ok(self.look_up(position))
@@ -85,8 +93,13 @@ impl<F: Family> Storage<F> for Lacking<F> {
         alloc: Global,
         positions: &[Position<F>],
     ) -> Result<Vec<FixedBytes<32>>, Error<F>>
-        ensures answers { let node = λ (p : ℕ). (if eqb p self.old.lacks then None else kept_at F.shape self.old.tree.boundary self.old.tree.pinned self.old.tree.nodes p) in IfOk result (λ v. map Some v.items ≡ map node positions.now) }
-        ensures why { let node = λ (p : ℕ). (if eqb p self.old.lacks then None else kept_at F.shape self.old.tree.boundary self.old.tree.pinned self.old.tree.nodes p) in IfErr result (λ e. ((p : ℕ) × (e ≡ Error.ElementPruned p) × IsFirstAbsent (λ q a. a ≡ node q) positions.now p) ⊎ (e ≡ Error.Memory)) }
+        ensures answers { let node = λ (p : ℕ). (if eqb p self.old.lacks then None else kept_at
+            F.shape self.old.tree.boundary self.old.tree.pinned self.old.tree.nodes p) in
+            IfOk result (λ v. map Some v.items ≡ map node positions.now) }
+        ensures why { let node = λ (p : ℕ). (if eqb p self.old.lacks then None else kept_at F.shape
+            self.old.tree.boundary self.old.tree.pinned self.old.tree.nodes p) in
+            IfErr result (λ e. ((p : ℕ) × (e ≡ Error.ElementPruned p)
+            × IsFirstAbsent (λ q a. a ≡ node q) positions.now p) ⊎ (e ≡ Error.Memory)) }
         ensures same { self.new ≡ self.old }
     {
         self.look_up_all(alloc, positions)

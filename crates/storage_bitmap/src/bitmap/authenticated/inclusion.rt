@@ -7,6 +7,7 @@ ghost use Rattle.storage_bitmap.specs.BitSteps.{IsBitComputed};
 ghost use Rattle.storage_bitmap.specs.Chunks.{IsChunkSize};
 ghost use Rattle.storage_merkle.specs.Checks.{IsRecomputed};
 ghost use Rattle.storage_merkle.specs.Hashers.{TakesTree};
+ghost use Rattle.storage_merkle.specs.Held.{range_of};
 ghost use Rattle.storage_merkle.specs.Mmr.{mmr};
 ghost use Rattle.storage_merkle.specs.Trees.{listed, ungrafted};
 
@@ -31,11 +32,17 @@ impl<D: Digest, const N: usize, M: State<D>> BitMap<D, N, M> {
     ) -> Result<bool, NoMemory>
         requires size { IsChunkSize N }
         requires takes { TakesTree (H.takes hasher.now) mmr (proof.now.leaves / (8 * N)) }
-        ensures exact { H.layout hasher.now ≡ ungrafted mmr → IfOk result (λ yes. IsTrue yes ↔ IsBitAccepted H.hash_of (H.bagging hasher.now) N (record { leaves = proof.now.leaves; inactive = proof.now.inactive_peaks; digests = map D.text proof.now.digests.items }) chunk.now bit (D.text root.now)) }
-        ensures means { H.layout hasher.now ≡ ungrafted mmr → IfOk result (λ yes. IsTrue yes → IsBitProved D.size H.hash_of (H.bagging hasher.now) N (record { leaves = proof.now.leaves; inactive = proof.now.inactive_peaks; digests = map D.text proof.now.digests.items }) chunk.now bit (D.text root.now)) }
+        ensures exact { H.layout hasher.now ≡ ungrafted mmr
+            → IfOk result (λ yes. IsTrue yes ↔ IsBitAccepted H.hash_of (H.bagging hasher.now) N
+            (range_of D.text proof.now) chunk.now bit (D.text root.now)) }
+        ensures means { H.layout hasher.now ≡ ungrafted mmr
+            → IfOk result (λ yes. IsTrue yes → IsBitProved D.size H.hash_of (H.bagging hasher.now) N
+            (range_of D.text proof.now) chunk.now bit (D.text root.now)) }
         ensures past_the_end { proof.now.leaves ≤ bit → result ≡ Ok false }
         ensures inactive { proof.now.inactive_peaks ≢ 0 → result ≡ Ok false }
-        ensures no_digest { proof.now.leaves % (8 * N) ≢ 0 → proof.now.digests.items ≡ [] → result ≡ Ok false }
+        ensures no_digest { proof.now.leaves % (8 * N) ≢ 0
+            → proof.now.digests.items ≡ []
+            → result ≡ Ok false }
     {
         bit_proofs_are_sound();
         if bit >= proof.leaves.as_u64() || proof.inactive_peaks != 0 {
@@ -57,8 +64,12 @@ fn computed_root<H: Hasher<mmr::Family>, const N: usize>(
     requires size { IsChunkSize N }
     requires takes { TakesTree (H.takes hasher.now) mmr (proof.now.leaves / (8 * N)) }
     requires below { bit < proof.now.leaves }
-    ensures root { H.layout hasher.now ≡ ungrafted mmr → IfOk result (λ root. IsBitComputed H.hash_of (H.bagging hasher.now) N (record { leaves = proof.now.leaves; inactive = proof.now.inactive_peaks; digests = map H.Digest.text proof.now.digests.items }) chunk.now bit (option_map H.Digest.text root)) }
-    ensures no_digest { proof.now.leaves % (8 * N) ≢ 0 → proof.now.digests.items ≡ [] → result ≡ Ok None }
+    ensures root { H.layout hasher.now ≡ ungrafted mmr
+        → IfOk result (λ root. IsBitComputed H.hash_of (H.bagging hasher.now) N
+        (range_of H.Digest.text proof.now) chunk.now bit (option_map H.Digest.text root)) }
+    ensures no_digest { proof.now.leaves % (8 * N) ≢ 0
+        → proof.now.digests.items ≡ []
+        → result ≡ Ok None }
 {
     let length = proof.leaves.as_u64();
     let chunk_bits = 8 * N as u64;
@@ -93,7 +104,10 @@ fn chunks_root<H: Hasher<mmr::Family>>(
     place: u64,
 ) -> Result<Option<H::Digest>, NoMemory>
     requires { TakesTree (H.takes hasher.now) mmr complete }
-    ensures { H.layout hasher.now ≡ ungrafted mmr → IfOk result (λ root. IsRecomputed H.hash_of (ungrafted mmr) (H.bagging hasher.now) (record { leaves = complete; inactive = 0; digests = map H.Digest.text digests.now }) place (listed (chunk.now ∷ [])) (option_map H.Digest.text root)) }
+    ensures { H.layout hasher.now ≡ ungrafted mmr
+        → IfOk result (λ root. IsRecomputed H.hash_of (ungrafted mmr) (H.bagging hasher.now)
+        (record { leaves = complete; inactive = 0; digests = map H.Digest.text digests.now }) place
+        (listed (chunk.now ∷ [])) (option_map H.Digest.text root)) }
 {
     let proof = LentProof {
         leaves: Location::new(complete),
@@ -111,7 +125,8 @@ pub(super) fn partial_root<H: Hasher<mmr::Family>>(
     length: u64,
     last: &H::Digest,
 ) -> H::Digest
-    ensures { H.Digest.text result ≡ H.hash_of (partial_string (H.Digest.text root.now) length (H.Digest.text last.now)) }
+    ensures { H.Digest.text result
+        ≡ H.hash_of (partial_string (H.Digest.text root.now) length (H.Digest.text last.now)) }
 {
     hasher.hash(&[root.bytes(), &length.to_be_bytes(), last.bytes()])
 }

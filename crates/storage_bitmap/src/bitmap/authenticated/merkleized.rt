@@ -47,9 +47,21 @@ impl<D: Digest, const N: usize> BitMap<D, N, Merkleized<D>> {
         state: PrunedState<D>,
     ) -> Result<MerkleizedBitMap<D, N>, Error<mmr::Family>>
         requires { IsChunkSize N }
-        ensures kept { IfOk result (λ m. (m.retained ≡ record { pruned = state.pruned_chunks; bits = [] }) × (m.tree ≡ record { leaves = state.pruned_chunks; boundary = state.pruned_chunks; pinned = take (length (mmr.peaks state.pruned_chunks)) state.pinned.items; nodes = [] })) }
-        ensures stands { H.layout hasher.now ≡ ungrafted mmr → IfOk result (λ m. (bits : List Bool) → IsPrunedState D.text H.hash_of N state.pruned_chunks state.pinned.items bits → StandsMerkleized D.text H.hash_of (H.bagging hasher.now) N m m.state.root bits) }
-        ensures fits { IfOk result (λ _. (state.pruned_chunks * (8 * N) ≤ 2 ^ 62) × (length (mmr.peaks state.pruned_chunks) ≤ length state.pinned.items)) }
+        ensures kept { IfOk result (λ m.
+            (m.retained ≡ record { pruned = state.pruned_chunks; bits = [] }) × (m.tree
+            ≡ record {
+              leaves = state.pruned_chunks;
+              boundary = state.pruned_chunks;
+              pinned = take
+                  (length (mmr.peaks state.pruned_chunks)) state.pinned.items;
+              nodes = [];
+            })) }
+        ensures stands { H.layout hasher.now ≡ ungrafted mmr
+            → IfOk result (λ m. (bits : List Bool)
+            → IsPrunedState D.text H.hash_of N state.pruned_chunks state.pinned.items bits
+            → StandsMerkleized D.text H.hash_of (H.bagging hasher.now) N m m.state.root bits) }
+        ensures fits { IfOk result (λ _. (state.pruned_chunks * (8 * N) ≤ 2 ^ 62)
+            × (length (mmr.peaks state.pruned_chunks) ≤ length state.pinned.items)) }
         ensures why { IfErr result (IsRefused N state.pruned_chunks (length state.pinned.items)) }
     {
         let chunks = state.pruned_chunks;
@@ -78,8 +90,11 @@ impl<D: Digest, const N: usize> BitMap<D, N, Merkleized<D>> {
     ///
     /// `Memory`.
     pub fn write_pruned(&self) -> Result<PrunedState<D>, Error<mmr::Family>>
-        ensures kept { IfOk result (λ s. (s.pruned_chunks ≡ self.now.retained.pruned) × (s.pinned.items ≡ self.now.tree.pinned)) }
-        ensures stands { IfOk result (λ s. (h : HashFunction) (bits : List Bool) → StandsForBits D.text h N self.now [] bits → IsPrunedState D.text h N s.pruned_chunks s.pinned.items (take (self.now.retained.pruned * (8 * N)) bits)) }
+        ensures kept { IfOk result (λ s. (s.pruned_chunks ≡ self.now.retained.pruned)
+            × (s.pinned.items ≡ self.now.tree.pinned)) }
+        ensures stands { IfOk result (λ s. (h : HashFunction) (bits : List Bool)
+            → StandsForBits D.text h N self.now [] bits → IsPrunedState D.text h N s.pruned_chunks
+            s.pinned.items (take (self.now.retained.pruned * (8 * N)) bits)) }
         ensures why { IfErr result (λ e. e ≡ Error.Memory) }
     {
         let mut pinned = Vec::new(self.alloc);
@@ -94,7 +109,8 @@ impl<D: Digest, const N: usize> BitMap<D, N, Merkleized<D>> {
 
     /// The digest at a position of the tree; `None` where it is not kept. Takes no memory.
     pub fn get_node(&self, position: Position<mmr::Family>) -> Option<D>
-        ensures { result ≡ kept_at mmr self.now.tree.boundary self.now.tree.pinned self.now.tree.nodes position }
+        ensures { result
+            ≡ kept_at mmr self.now.tree.boundary self.now.tree.pinned self.now.tree.nodes position }
     {
         self.tree.get_node(position)
     }
@@ -107,9 +123,12 @@ impl<D: Digest, const N: usize> BitMap<D, N, Merkleized<D>> {
     /// `Memory`.
     pub fn prune_to_bit(&mut self, bit: u64) -> Result<(), Error<mmr::Family>>
         requires { bit ≤ bit_count N self.old.retained }
-        ensures kept { OnOk result (self.new.retained ≡ pruned_to N self.old.retained (bit / (8 * N))) }
+        ensures kept { OnOk result
+            (self.new.retained ≡ pruned_to N self.old.retained (bit / (8 * N))) }
         ensures root { self.new.state ≡ self.old.state }
-        ensures stands { OnOk result ((h : HashFunction) (bagging : Bagging) (bits : List Bool) → StandsMerkleized D.text h bagging N self.old self.old.state.root bits → StandsMerkleized D.text h bagging N self.new self.new.state.root bits) }
+        ensures stands { OnOk result ((h : HashFunction) (bagging : Bagging) (bits : List Bool)
+            → StandsMerkleized D.text h bagging N self.old self.old.state.root bits
+            → StandsMerkleized D.text h bagging N self.new self.new.state.root bits) }
         ensures same { OnErr result (self.new ≡ self.old) }
         ensures why { IfErr result (λ e. e ≡ Error.Memory) }
     {
@@ -123,7 +142,9 @@ impl<D: Digest, const N: usize> BitMap<D, N, Merkleized<D>> {
     /// The root. Takes no memory.
     pub fn root(&self) -> D
         ensures value { result ≡ self.now.state.root }
-        ensures means { (h : HashFunction) (bagging : Bagging) (bits : List Bool) → StandsMerkleized D.text h bagging N self.now self.now.state.root bits → D.text result ≡ bit_root h bagging N bits }
+        ensures means { (h : HashFunction) (bagging : Bagging) (bits : List Bool)
+            → StandsMerkleized D.text h bagging N self.now self.now.state.root bits
+            → D.text result ≡ bit_root h bagging N bits }
     {
         self.state.root
     }
@@ -131,7 +152,9 @@ impl<D: Digest, const N: usize> BitMap<D, N, Merkleized<D>> {
     /// The same bitmap, open to changes. Takes no memory.
     pub fn into_dirty(self) -> UnmerkleizedBitMap<D, N>
         ensures same { (result.retained ≡ self.retained) × (result.tree ≡ self.tree) }
-        ensures stands { (h : HashFunction) (bagging : Bagging) (bits : List Bool) → StandsMerkleized D.text h bagging N self self.state.root bits → StandsForBits D.text h N result result.state.dirty.keys bits }
+        ensures stands { (h : HashFunction) (bagging : Bagging) (bits : List Bool)
+            → StandsMerkleized D.text h bagging N self self.state.root bits
+            → StandsForBits D.text h N result result.state.dirty.keys bits }
     {
         let BitMap {
             bits,

@@ -4,6 +4,7 @@ ghost use Rattle.std.specs.Prelude.{◌≡◌, ℕ, ◌+◌, ◌-◌, ◌*◌, �
 ghost use Rattle.storage_bitmap.specs.BitProofs.{IsBitAccepted, IsOwnBit, own_bit_digests};
 ghost use Rattle.storage_bitmap.specs.Chunks.{IsChunkSize, IsRest, bit_count};
 ghost use Rattle.storage_bitmap.specs.StandsForBits.{StandsMerkleized, chunk_digests, chunk_nodes};
+ghost use Rattle.storage_merkle.specs.Held.{range_of};
 ghost use Rattle.storage_merkle.specs.Kept.{StandsFor};
 ghost use Rattle.storage_merkle.specs.Mmr.{mmr};
 ghost use Rattle.storage_merkle.specs.Trees.{ungrafted};
@@ -31,10 +32,18 @@ impl<D: Digest, const N: usize> BitMap<D, N, Merkleized<D>> {
         bit: u64,
     ) -> Result<(Proof<mmr::Family, D>, [u8; N]), Error<mmr::Family>>
         requires { self.now.retained.pruned * (8 * N) ≤ bit }
-        ensures own { H.layout hasher.now ≡ ungrafted mmr → IfOk result (λ r. (bits : List Bool) → StandsMerkleized D.text H.hash_of (H.bagging hasher.now) N self.now self.now.state.root bits → IsOwnBit H.hash_of (H.bagging hasher.now) N (record { leaves = r.0.leaves; inactive = r.0.inactive_peaks; digests = map D.text r.0.digests.items }) r.1 bit bits) }
-        ensures accepted { H.layout hasher.now ≡ ungrafted mmr → IfOk result (λ r. (bits : List Bool) → StandsMerkleized D.text H.hash_of (H.bagging hasher.now) N self.now self.now.state.root bits → IsBitAccepted H.hash_of (H.bagging hasher.now) N (record { leaves = r.0.leaves; inactive = r.0.inactive_peaks; digests = map D.text r.0.digests.items }) r.1 bit (D.text self.now.state.root)) }
+        ensures own { H.layout hasher.now ≡ ungrafted mmr
+            → IfOk result (λ r. (bits : List Bool) → StandsMerkleized D.text H.hash_of
+            (H.bagging hasher.now) N self.now self.now.state.root bits
+            → IsOwnBit H.hash_of (H.bagging hasher.now) N (range_of D.text r.0) r.1 bit bits) }
+        ensures accepted { H.layout hasher.now ≡ ungrafted mmr
+            → IfOk result (λ r. (bits : List Bool) → StandsMerkleized D.text H.hash_of
+            (H.bagging hasher.now) N self.now self.now.state.root bits → IsBitAccepted H.hash_of
+            (H.bagging hasher.now) N (range_of D.text r.0) r.1 bit (D.text self.now.state.root)) }
         ensures within { IfOk result (λ _. bit < bit_count N self.now.retained) }
-        ensures why { IfErr result (λ e. ((bit_count N self.now.retained ≤ bit) × (e ≡ Error.BitOutOfBounds bit (bit_count N self.now.retained))) ⊎ ((bit < bit_count N self.now.retained) × (e ≡ Error.Memory))) }
+        ensures why { IfErr result (λ e. ((bit_count N self.now.retained ≤ bit)
+            × (e ≡ Error.BitOutOfBounds bit (bit_count N self.now.retained)))
+            ⊎ ((bit < bit_count N self.now.retained) × (e ≡ Error.Memory))) }
     {
         own_bit_proofs_are_accepted();
         let length = self.bits.len();
@@ -70,7 +79,10 @@ fn bit_digests<D: Digest, H: Hasher<mmr::Family, Digest = D>, const N: usize>(
     requires whole { tree.now.leaves ≡ bit_count N bits.now / (8 * N) }
     requires kept { bits.now.pruned ≤ place }
     requires within { place * (8 * N) < bit_count N bits.now }
-    ensures { H.layout hasher.now ≡ ungrafted mmr → IfOk result (λ v. (list : List Bool) → IsRest N bits.now list → StandsFor D.text mmr (chunk_nodes H.hash_of) tree.now (chunk_digests H.hash_of N list tree.now.leaves) → map D.text v.items ≡ own_bit_digests H.hash_of (H.bagging hasher.now) N list place) }
+    ensures { H.layout hasher.now ≡ ungrafted mmr
+        → IfOk result (λ v. (list : List Bool) → IsRest N bits.now list → StandsFor D.text mmr
+        (chunk_nodes H.hash_of) tree.now (chunk_digests H.hash_of N list tree.now.leaves)
+        → map D.text v.items ≡ own_bit_digests H.hash_of (H.bagging hasher.now) N list place) }
 {
     let length = bits.len();
     let chunk_bits = 8 * N as u64;

@@ -32,7 +32,8 @@ fn chunk_digest<H: Hasher<mmr::Family>, const N: usize>(
     requires size { IsChunkSize N }
     requires kept { bits.now.pruned ≤ index }
     requires within { index < bit_count N bits.now / (8 * N) }
-    ensures { H.Digest.text result ≡ H.hash_of (be8 (size mmr index) ++ chunk_of N bits.now.bits (index - bits.now.pruned)) }
+    ensures { H.Digest.text result
+        ≡ H.hash_of (be8 (size mmr index) ++ chunk_of N bits.now.bits (index - bits.now.pruned)) }
 {
     let position = Position::new(mmr::Family::nodes_over(index));
     hasher.leaf_digest(position, &bits.get_chunk(index as usize))
@@ -47,8 +48,11 @@ fn chunk_leaves<D: Digest, H: Hasher<mmr::Family, Digest = D>, const N: usize>(
 ) -> Result<Vec<(Location<mmr::Family>, D)>, AllocError>
     requires few { bit_count N bits.now ≤ 2 ^ 62 }
     requires size { IsChunkSize N }
-    requires there { All (λ chunk. (bits.now.pruned ≤ chunk) × (chunk < bit_count N bits.now / (8 * N))) chunks.now.keys }
-    ensures { IfOk result (λ leaves. AllZip (λ chunk u. (u.0 ≡ chunk) × (D.text u.1 ≡ H.hash_of (be8 (size mmr chunk) ++ chunk_of N bits.now.bits (chunk - bits.now.pruned)))) chunks.now.keys leaves.items) }
+    requires there { All (λ chunk. (bits.now.pruned ≤ chunk)
+        × (chunk < bit_count N bits.now / (8 * N))) chunks.now.keys }
+    ensures { IfOk result (λ leaves.
+        AllZip (λ chunk u. (u.0 ≡ chunk) × (D.text u.1 ≡ H.hash_of (be8 (size mmr chunk)
+        ++ chunk_of N bits.now.bits (chunk - bits.now.pruned)))) chunks.now.keys leaves.items) }
 {
     let mut leaves = Vec::with_capacity(alloc, chunks.len())?;
     for chunk in chunks {
@@ -70,10 +74,16 @@ pub(super) fn rehash<D: Digest, H: Hasher<mmr::Family, Digest = D>, const N: usi
     requires size { IsChunkSize N }
     requires boundary { tree.old.boundary ≡ bits.now.pruned }
     requires leaves { tree.old.leaves ≤ bit_count N bits.now / (8 * N) }
-    requires there { All (λ chunk. (bits.now.pruned ≤ chunk) × (chunk < tree.old.leaves)) dirty.now.keys }
+    requires there { All (λ chunk. (bits.now.pruned ≤ chunk)
+        × (chunk < tree.old.leaves)) dirty.now.keys }
     requires takes { TakesTree (H.takes hasher.now) mmr (bit_count N bits.now / (8 * N)) }
-    ensures place { OnOk result ((tree.new.leaves ≡ tree.old.leaves) × (tree.new.boundary ≡ tree.old.boundary)) }
-    ensures stands { H.layout hasher.now ≡ ungrafted mmr → OnOk result ((list : List Bool) → IsRest N bits.now list → StandsBut D.text mmr (chunk_nodes H.hash_of) dirty.now.keys tree.old (chunk_digests H.hash_of N list tree.old.leaves) → StandsFor D.text mmr (chunk_nodes H.hash_of) tree.new (chunk_digests H.hash_of N list tree.old.leaves)) }
+    ensures place { OnOk result ((tree.new.leaves ≡ tree.old.leaves)
+        × (tree.new.boundary ≡ tree.old.boundary)) }
+    ensures stands { H.layout hasher.now ≡ ungrafted mmr
+        → OnOk result ((list : List Bool) → IsRest N bits.now list
+        → StandsBut D.text mmr (chunk_nodes H.hash_of) dirty.now.keys tree.old
+        (chunk_digests H.hash_of N list tree.old.leaves) → StandsFor D.text mmr
+        (chunk_nodes H.hash_of) tree.new (chunk_digests H.hash_of N list tree.old.leaves)) }
 {
     let Ok(leaves) = chunk_leaves(alloc, hasher, bits, dirty) else {
         return Err(NoMemory);
@@ -95,8 +105,13 @@ pub(super) fn add_chunks<D: Digest, H: Hasher<mmr::Family, Digest = D>, const N:
     requires order { bits.now.pruned ≤ tree.old.leaves }
     requires leaves { tree.old.leaves ≤ bit_count N bits.now / (8 * N) }
     requires takes { TakesTree (H.takes hasher.now) mmr (bit_count N bits.now / (8 * N)) }
-    ensures place { OnOk result ((tree.new.leaves ≡ bit_count N bits.now / (8 * N)) × (tree.new.boundary ≡ tree.old.boundary)) }
-    ensures stands { H.layout hasher.now ≡ ungrafted mmr → OnOk result ((list : List Bool) → IsRest N bits.now list → StandsFor D.text mmr (chunk_nodes H.hash_of) tree.old (chunk_digests H.hash_of N list tree.old.leaves) → StandsFor D.text mmr (chunk_nodes H.hash_of) tree.new (chunk_digests H.hash_of N list tree.new.leaves)) }
+    ensures place { OnOk result ((tree.new.leaves ≡ bit_count N bits.now / (8 * N))
+        × (tree.new.boundary ≡ tree.old.boundary)) }
+    ensures stands { H.layout hasher.now ≡ ungrafted mmr
+        → OnOk result ((list : List Bool) → IsRest N bits.now list → StandsFor D.text mmr
+        (chunk_nodes H.hash_of) tree.old (chunk_digests H.hash_of N list tree.old.leaves)
+        → StandsFor D.text mmr (chunk_nodes H.hash_of) tree.new
+        (chunk_digests H.hash_of N list tree.new.leaves)) }
 {
     let complete = bits.len() / (8 * N as u64);
     for index in tree.leaves().as_u64()..complete {
@@ -117,7 +132,11 @@ pub(super) fn root_of_bits<D: Digest, H: Hasher<mmr::Family, Digest = D>, const 
     requires size { IsChunkSize N }
     requires order { bits.now.pruned ≤ tree.now.leaves }
     requires whole { tree.now.leaves ≡ bit_count N bits.now / (8 * N) }
-    ensures { H.layout hasher.now ≡ ungrafted mmr → (list : List Bool) → IsRest N bits.now list → StandsFor D.text mmr (chunk_nodes H.hash_of) tree.now (chunk_digests H.hash_of N list tree.now.leaves) → D.text result ≡ bit_root H.hash_of (H.bagging hasher.now) N list }
+    ensures { H.layout hasher.now ≡ ungrafted mmr
+        → (list : List Bool) → IsRest N bits.now list
+        → StandsFor D.text mmr (chunk_nodes H.hash_of) tree.now
+        (chunk_digests H.hash_of N list tree.now.leaves)
+        → D.text result ≡ bit_root H.hash_of (H.bagging hasher.now) N list }
 {
     let root = tree.root(hasher, 0).unwrap();
     let length = bits.len();

@@ -36,5 +36,6 @@ pub struct Unmerkleized {
 impl sealed::Sealed for Unmerkleized {}
 
 impl<D: Digest> State<D> for Unmerkleized {
-    ghost fits = { λ s pruned leaves _. All (λ chunk. (pruned ≤ chunk) × (chunk < leaves)) s.dirty.keys };
+    ghost fits = { λ s pruned leaves _.
+        All (λ chunk. (pruned ≤ chunk) × (chunk < leaves)) s.dirty.keys };
 }

@@ -29,12 +29,18 @@ impl<D: Digest, const N: usize> Storage<mmr::Family> for BitMap<D, N, Merkleized
     }
 
     fn get_node(&mut self, position: Position<mmr::Family>) -> Result<Option<D>, Error<mmr::Family>>
-        ensures answer { MatchResult result (λ d. d ≡ kept_at mmr self.old.tree.boundary self.old.tree.pinned self.old.tree.nodes position) (λ e. ((code : ℕ) × (e ≡ Error.Source code)) ⊎ (e ≡ Error.Memory)) }
-        ensures failure { let none : ℕ = 0 in ((code : ℕ) × (result ≡ Err (Error.Source code))) ↔ (none ≡ none + 1) }
+        ensures answer { MatchResult result (λ d. d
+            ≡ kept_at mmr self.old.tree.boundary self.old.tree.pinned self.old.tree.nodes position)
+            (λ e. ((code : ℕ) × (e ≡ Error.Source code)) ⊎ (e ≡ Error.Memory)) }
+        ensures failure { let none : ℕ = 0 in
+            ((code : ℕ) × (result ≡ Err (Error.Source code))) ↔ (none ≡ none + 1) }
         ensures count { let none : ℕ = 0 in (none ≡ none) ⊎ (none ≡ none + 1) }
         ensures same_size { size mmr self.new.tree.leaves ≡ size mmr self.old.tree.leaves }
-        ensures same { (p : ℕ) → kept_at mmr self.new.tree.boundary self.new.tree.pinned self.new.tree.nodes p ≡ kept_at mmr self.old.tree.boundary self.old.tree.pinned self.old.tree.nodes p }
-        ensures exact { result ≡ Ok (kept_at mmr self.old.tree.boundary self.old.tree.pinned self.old.tree.nodes position) }
+        ensures same { (p : ℕ)
+            → kept_at mmr self.new.tree.boundary self.new.tree.pinned self.new.tree.nodes p
+            ≡ kept_at mmr self.old.tree.boundary self.old.tree.pinned self.old.tree.nodes p }
+        ensures exact { result ≡ Ok
+            (kept_at mmr self.old.tree.boundary self.old.tree.pinned self.old.tree.nodes position) }
         ensures unchanged { self.new ≡ self.old }
     {
         Ok(BitMap::get_node(self, position))
@@ -45,11 +51,18 @@ impl<D: Digest, const N: usize> Storage<mmr::Family> for BitMap<D, N, Merkleized
         alloc: Global,
         positions: &[Position<mmr::Family>],
     ) -> Result<Vec<D>, Error<mmr::Family>>
-        ensures answers { MatchResult result (λ v. map Some v.items ≡ map (kept_at mmr self.old.tree.boundary self.old.tree.pinned self.old.tree.nodes) positions.now) (λ e. ((p : ℕ) × (e ≡ Error.ElementPruned p) × IsFirstAbsent (λ q a. a ≡ kept_at mmr self.old.tree.boundary self.old.tree.pinned self.old.tree.nodes q) positions.now p) ⊎ (((code : ℕ) × (e ≡ Error.Source code)) ⊎ (e ≡ Error.Memory))) }
-        ensures failure { let none : ℕ = 0 in ((code : ℕ) × (result ≡ Err (Error.Source code))) ↔ (none ≡ none + 1) }
+        ensures answers { MatchResult result (λ v. map Some v.items ≡ map (kept_at mmr
+            self.old.tree.boundary self.old.tree.pinned self.old.tree.nodes) positions.now) (λ e.
+            ((p : ℕ) × (e ≡ Error.ElementPruned p) × IsFirstAbsent (λ q a. a ≡ kept_at mmr
+            self.old.tree.boundary self.old.tree.pinned self.old.tree.nodes q) positions.now p)
+            ⊎ (((code : ℕ) × (e ≡ Error.Source code)) ⊎ (e ≡ Error.Memory))) }
+        ensures failure { let none : ℕ = 0 in
+            ((code : ℕ) × (result ≡ Err (Error.Source code))) ↔ (none ≡ none + 1) }
         ensures count { let none : ℕ = 0 in (none ≡ none) ⊎ (none ≡ none + 1) }
         ensures same_size { size mmr self.new.tree.leaves ≡ size mmr self.old.tree.leaves }
-        ensures same { (p : ℕ) → kept_at mmr self.new.tree.boundary self.new.tree.pinned self.new.tree.nodes p ≡ kept_at mmr self.old.tree.boundary self.old.tree.pinned self.old.tree.nodes p }
+        ensures same { (p : ℕ)
+            → kept_at mmr self.new.tree.boundary self.new.tree.pinned self.new.tree.nodes p
+            ≡ kept_at mmr self.old.tree.boundary self.old.tree.pinned self.old.tree.nodes p }
         ensures unchanged { self.new ≡ self.old }
     {
         self.tree.get_nodes(alloc, positions)

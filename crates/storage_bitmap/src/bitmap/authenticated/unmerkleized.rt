@@ -26,8 +26,16 @@ impl<D: Digest, const N: usize> BitMap<D, N, Unmerkleized> {
     /// `Memory`.
     pub fn push(&mut self, bit: bool) -> Result<(), Error<mmr::Family>>
         requires { bit_count N self.old.retained < 2 ^ 62 }
-        ensures value { OnOk result (self.new ≡ record self.old { retained = record self.old.retained { bits = self.old.retained.bits ++ bit ∷ [] } }) }
-        ensures stands { OnOk result ((h : HashFunction) (bits : List Bool) → StandsForBits D.text h N self.old self.old.state.dirty.keys bits → StandsForBits D.text h N self.new self.new.state.dirty.keys (bits ++ bit ∷ [])) }
+        ensures value { OnOk result (self.new
+            ≡ record self.old {
+              retained = record self.old.retained {
+                bits = self.old.retained.bits
+                    ++ bit ∷ [];
+              };
+            }) }
+        ensures stands { OnOk result ((h : HashFunction) (bits : List Bool)
+            → StandsForBits D.text h N self.old self.old.state.dirty.keys bits
+            → StandsForBits D.text h N self.new self.new.state.dirty.keys (bits ++ bit ∷ [])) }
         ensures same { OnErr result (self.new ≡ self.old) }
         ensures why { IfErr result (λ e. e ≡ Error.Memory) }
     {
@@ -45,8 +53,15 @@ impl<D: Digest, const N: usize> BitMap<D, N, Unmerkleized> {
     pub fn set_bit(&mut self, bit: u64, value: bool) -> Result<(), Error<mmr::Family>>
         requires kept { self.old.retained.pruned * (8 * N) ≤ bit }
         requires within { bit < bit_count N self.old.retained }
-        ensures value { OnOk result ((self.new.retained ≡ record self.old.retained { bits = slice_set self.old.retained.bits (bit - self.old.retained.pruned * (8 * N)) value }) × (self.new.tree ≡ self.old.tree)) }
-        ensures stands { OnOk result ((h : HashFunction) (bits : List Bool) → StandsForBits D.text h N self.old self.old.state.dirty.keys bits → StandsForBits D.text h N self.new self.new.state.dirty.keys (slice_set bits bit value)) }
+        ensures value { OnOk result
+            ((self.new.retained ≡ record self.old.retained {
+              bits = slice_set self.old.retained.bits
+                  (bit - self.old.retained.pruned * (8 * N)) value;
+            })
+            × (self.new.tree ≡ self.old.tree)) }
+        ensures stands { OnOk result ((h : HashFunction) (bits : List Bool)
+            → StandsForBits D.text h N self.old self.old.state.dirty.keys bits → StandsForBits
+            D.text h N self.new self.new.state.dirty.keys (slice_set bits bit value)) }
         ensures same { OnErr result (self.new ≡ self.old) }
         ensures why { IfErr result (λ e. e ≡ Error.Memory) }
     {
@@ -71,7 +86,10 @@ impl<D: Digest, const N: usize> BitMap<D, N, Unmerkleized> {
     ) -> Result<MerkleizedBitMap<D, N>, Error<mmr::Family>>
         requires { TakesTree (H.takes hasher.now) mmr (bit_count N self.retained / (8 * N)) }
         ensures kept { IfOk result (λ m. m.retained ≡ self.retained) }
-        ensures stands { H.layout hasher.now ≡ ungrafted mmr → IfOk result (λ m. (bits : List Bool) → StandsForBits D.text H.hash_of N self self.state.dirty.keys bits → StandsMerkleized D.text H.hash_of (H.bagging hasher.now) N m m.state.root bits) }
+        ensures stands { H.layout hasher.now ≡ ungrafted mmr
+            → IfOk result (λ m. (bits : List Bool)
+            → StandsForBits D.text H.hash_of N self self.state.dirty.keys bits
+            → StandsMerkleized D.text H.hash_of (H.bagging hasher.now) N m m.state.root bits) }
         ensures why { IfErr result (λ e. e ≡ Error.Memory) }
     {
         let BitMap {
@@ -100,7 +118,8 @@ impl<D: Digest, const N: usize> BitMap<D, N, Unmerkleized> {
 
 /// Marks a chunk as dirty if it is one of so many leaves. After want of memory nothing is changed.
 fn mark(dirty: &mut BTreeSet<u64>, chunk: u64, leaves: u64) -> Result<(), NoMemory>
-    ensures marked { OnOk result (chunk < leaves → dirty.new.keys ≡ insert_key nat_cmp dirty.old.keys chunk) }
+    ensures marked { OnOk result (chunk < leaves
+        → dirty.new.keys ≡ insert_key nat_cmp dirty.old.keys chunk) }
     ensures others { OnOk result (leaves ≤ chunk → dirty.new ≡ dirty.old) }
     ensures same { OnErr result (dirty.new ≡ dirty.old) }
 {

@@ -55,7 +55,9 @@ impl ChunkCounts {
         requires chunks { IsChunkSize N }
         requires unpruned { (R.retained status.now).pruned ≤ self.now.graftable }
         requires within { self.now.complete * (8 * N) ≤ bit_count N (R.retained status.now) }
-        ensures { result ≡ (if ltb self.now.graftable self.now.complete then Some (chunk N (R.retained status.now).bits (self.now.graftable - (R.retained status.now).pruned)) else None) }
+        ensures { result ≡ (if ltb self.now.graftable self.now.complete
+            then Some (chunk N (R.retained status.now).bits
+            (self.now.graftable - (R.retained status.now).pruned)) else None) }
     {
         if self.has_pending() {
             Some(status.get_chunk(self.graftable as usize))
@@ -67,8 +69,10 @@ impl ChunkCounts {
     /// The chunk after the complete ones, if any.
     pub(crate) fn partial<R: Readable<N>, const N: usize>(&self, status: &R) -> Option<[u8; N]>
         requires unpruned { (R.retained status.now).pruned ≤ self.now.complete }
-        requires within { self.now.complete * (8 * N) + self.now.next_bit ≤ bit_count N (R.retained status.now) }
-        ensures { result ≡ (if eqb self.now.next_bit 0 then None else Some (chunk N (R.retained status.now).bits (self.now.complete - (R.retained status.now).pruned))) }
+        requires within { self.now.complete * (8 * N) + self.now.next_bit
+            ≤ bit_count N (R.retained status.now) }
+        ensures { result ≡ (if eqb self.now.next_bit 0 then None else Some (chunk N
+            (R.retained status.now).bits (self.now.complete - (R.retained status.now).pruned))) }
     {
         if self.has_partial() {
             Some(status.get_chunk(self.complete as usize))

@@ -55,8 +55,10 @@ pub trait Contiguous {
         requires count { failed self.old + 1 < 2 ^ 64 }
         requires within { All (λ l. (first self.old ≤ l) × (l < past self.old)) locations.now }
         ensures items { IfOk result (λ v. map text v.items ≡ map (item self.old) locations.now) }
-        ensures told { ((code : ℕ) × (result ≡ Err (LogError.Fault code))) ↔ (failed self.new ≡ failed self.old + 1) }
-        ensures once { (failed self.new ≡ failed self.old) ⊎ (failed self.new ≡ failed self.old + 1) }
+        ensures told { ((code : ℕ) × (result ≡ Err (LogError.Fault code)))
+            ↔ (failed self.new ≡ failed self.old + 1) }
+        ensures once { (failed self.new ≡ failed self.old)
+            ⊎ (failed self.new ≡ failed self.old + 1) }
         ensures same_first { first self.new ≡ first self.old }
         ensures same_past { past self.new ≡ past self.old }
         ensures same { (l : ℕ) → item self.new l ≡ item self.old l };

@@ -5,7 +5,7 @@ ghost use Rattle.storage_merkle.specs.Shape.{size};
 ghost use Rattle.storage_merkle.specs.Trees.{places};
 ghost use Rattle.storage_bitmap.specs.Chunks.{IsChunkSize, bit_count};
 ghost use Rattle.storage_current.specs.NodeLists.{AreNodes, AreTurned, plain_node, seen_node};
-ghost use Rattle.storage_current.specs.Snapshots.{Grafting};
+ghost use Rattle.storage_current.specs.Snapshots.{grafting_of};
 
 use crate::qmdb::current::grafting::{self, graft, is_zero, power};
 use std::alloc::{AllocError, Global};
@@ -25,7 +25,10 @@ pub(crate) fn grow<F: Graftable, H: Hasher>(
     requires few { leaf < 2 ^ 62 }
     requires whole { length nodes.old.items ≡ size F.shape leaf }
     ensures count { OnOk result (length nodes.new.items ≡ size F.shape (leaf + 1)) }
-    ensures grown { OnOk result ((list : List (List ℕ)) → AreNodes F.shape (plain_node H.hash_of F.shape list) (map H.Digest.text nodes.old.items) → get_or list leaf [] ≡ operation.now → AreNodes F.shape (plain_node H.hash_of F.shape list) (map H.Digest.text nodes.new.items)) }
+    ensures grown { OnOk result ((list : List (List ℕ))
+        → AreNodes F.shape (plain_node H.hash_of F.shape list) (map H.Digest.text nodes.old.items)
+        → get_or list leaf [] ≡ operation.now → AreNodes F.shape (plain_node H.hash_of F.shape list)
+        (map H.Digest.text nodes.new.items)) }
     ensures kept { OnErr result (nodes.new.items ≡ nodes.old.items) }
 {
     let more = F::nodes_over(leaf + 1) - F::nodes_over(leaf);
@@ -52,7 +55,10 @@ pub(crate) fn graft_nodes<F: Graftable, H: Hasher, R: Readable<N>, const N: usiz
     requires bits { bit_count N (R.retained status.now) ≡ leaves }
     requires whole { length nodes.old ≡ size F.shape leaves }
     ensures count { length nodes.new ≡ length nodes.old }
-    ensures seen { let g : Grafting = record { shape = F.shape; bytes = N } in OnOk result ((list : List (List ℕ)) → length list ≡ leaves → AreNodes F.shape (plain_node H.hash_of F.shape list) (map H.Digest.text nodes.old) → AreNodes F.shape (seen_node H.hash_of g list (R.retained status.now).bits) (map H.Digest.text nodes.new)) }
+    ensures seen { let g = grafting_of F.shape N in
+        OnOk result ((list : List (List ℕ)) → length list ≡ leaves → AreNodes F.shape
+        (plain_node H.hash_of F.shape list) (map H.Digest.text nodes.old) → AreNodes F.shape
+        (seen_node H.hash_of g list (R.retained status.now).bits) (map H.Digest.text nodes.new)) }
 {
     let mut changed = Vec::with_capacity(alloc, nodes.len())?;
     for leaf in 0..leaves {
@@ -76,7 +82,10 @@ fn plain_digest<F: Graftable, H: Hasher>(
     requires aligned { first % 2 ^ height ≡ 0 }
     requires next { F.shape.position first height ≡ length plain.now }
     requires few { length plain.now ≤ size F.shape (2 ^ 62) }
-    ensures { (list : List (List ℕ)) → AreNodes F.shape (plain_node H.hash_of F.shape list) (map H.Digest.text plain.now) → (height ≡ 0 → get_or list first [] ≡ operation.now) → H.Digest.text result ≡ plain_node H.hash_of F.shape list first height }
+    ensures { (list : List (List ℕ))
+        → AreNodes F.shape (plain_node H.hash_of F.shape list) (map H.Digest.text plain.now)
+        → (height ≡ 0 → get_or list first [] ≡ operation.now)
+        → H.Digest.text result ≡ plain_node H.hash_of F.shape list first height }
 {
     let hasher = qmdb::hasher::<H>();
     let position = Position::<F>::new(F::position(first, height));
@@ -103,7 +112,12 @@ fn graft_node<F: Graftable, H: Hasher, R: Readable<N>, const N: usize>(
     requires unpruned { (R.retained status.now).pruned ≡ 0 }
     requires born { F.shape.birth first height ≤ bit_count N (R.retained status.now) }
     ensures count { length nodes.new ≡ length nodes.old }
-    ensures turned { let g : Grafting = record { shape = F.shape; bytes = N } in let bits = (R.retained status.now).bits in (list : List (List ℕ)) → length list ≡ bit_count N (R.retained status.now) → AreTurned H.hash_of g list bits (map H.Digest.text nodes.old) changed.now → AreTurned H.hash_of g list bits (map H.Digest.text nodes.new) (changed.now ++ result ∷ []) }
+    ensures turned { let g = grafting_of F.shape N in
+        let bits = (R.retained status.now).bits in
+        (list : List (List ℕ)) → length list ≡ bit_count N (R.retained status.now)
+        → AreTurned H.hash_of g list bits (map H.Digest.text nodes.old) changed.now
+        → AreTurned H.hash_of g list bits (map H.Digest.text nodes.new)
+        (changed.now ++ result ∷ []) }
 {
     match view_digest::<F, H, R, N>(nodes, changed, status, first, height) {
         None => false,
@@ -130,7 +144,13 @@ fn view_digest<F: Graftable, H: Hasher, R: Readable<N>, const N: usize>(
     requires few { length nodes.now ≤ size F.shape (2 ^ 62) }
     requires unpruned { (R.retained status.now).pruned ≡ 0 }
     requires born { F.shape.birth first height ≤ bit_count N (R.retained status.now) }
-    ensures { let g : Grafting = record { shape = F.shape; bytes = N } in let bits = (R.retained status.now).bits in (list : List (List ℕ)) → length list ≡ bit_count N (R.retained status.now) → AreTurned H.hash_of g list bits (map H.Digest.text nodes.now) changed.now → MatchOption result (seen_node H.hash_of g list bits first height ≡ plain_node H.hash_of F.shape list first height) (λ d. H.Digest.text d ≡ seen_node H.hash_of g list bits first height) }
+    ensures { let g = grafting_of F.shape N in
+        let bits = (R.retained status.now).bits in
+        (list : List (List ℕ)) → length list ≡ bit_count N (R.retained status.now)
+        → AreTurned H.hash_of g list bits (map H.Digest.text nodes.now) changed.now
+        → MatchOption result (seen_node H.hash_of g list bits first height
+        ≡ plain_node H.hash_of F.shape list first height) (λ d.
+        H.Digest.text d ≡ seen_node H.hash_of g list bits first height) }
 {
     let grafted = grafting::height::<N>();
     if height < grafted {
@@ -176,7 +196,9 @@ pub(crate) fn peak_digests<F: Family, D: Digest>(
     requires few { leaves ≤ 2 ^ 62 }
     requires whole { length nodes.now ≡ size F.shape leaves }
     ensures count { IfOk result (λ peaks. length peaks.items ≡ length (F.shape.peaks leaves)) }
-    ensures digests { IfOk result (λ peaks. (digest_of : ℕ → ℕ → List ℕ) → AreNodes F.shape digest_of (map D.text nodes.now) → map D.text peaks.items ≡ map (λ p. digest_of p.first p.height) (places 0 (F.shape.peaks leaves))) }
+    ensures digests { IfOk result (λ peaks. (digest_of : ℕ → ℕ → List ℕ)
+        → AreNodes F.shape digest_of (map D.text nodes.now) → map D.text peaks.items
+        ≡ map (λ p. digest_of p.first p.height) (places 0 (F.shape.peaks leaves))) }
 {
     let mut peaks = Vec::new(alloc);
     for (position, _) in F::peaks(Position::new(nodes.len() as u64)) {

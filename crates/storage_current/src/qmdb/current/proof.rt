@@ -3,7 +3,7 @@
 ghost use Rattle.std.specs.Prelude.{◌≡◌, ℕ, ◌+◌, ◌-◌, ◌*◌, ◌/◌, ◌%◌, ◌^◌, ◌<◌, ◌≤◌, ◌↔◌, ◌⊎◌, OnOk, IfOk, IfErr, MatchOption, IsTrue, Ok, false, length, map, option_map};
 ghost use Rattle.storage_merkle.specs.RangeProofs.{AreDigests};
 ghost use Rattle.storage_current.specs.BuiltProofs.{AreAnswered, AreBitsOf, ArePartsOf, IsNotBuilt};
-ghost use Rattle.storage_current.specs.Snapshots.{Grafting, Snapshot as SnapshotOf, canonical_string, own_current_proof};
+ghost use Rattle.storage_current.specs.Snapshots.{Snapshot as SnapshotOf, canonical_string, own_current_proof, grafting_of};
 ghost use Rattle.storage_current.specs.CurrentProofs.{IsCurrent};
 ghost use Rattle.storage_current.specs.CurrentSoundness.{MeansCurrent};
 ghost use Rattle.storage_current.specs.Held.{current_of};
@@ -75,10 +75,15 @@ impl<F: Graftable, D: Digest> RangeProof<F, D> {
         ops_root: D,
     ) -> Result<Self, Error<F>>
         requires { G.IsAlwaysCallable get_node }
-        ensures own { let g : Grafting = record { shape = F.shape; bytes = N } in IfOk result (λ proof. (s : SnapshotOf) → ArePartsOf D.text (G.post get_node) H.hash_of g plan (R.retained status.now) floor (D.text ops_root) s → current_of D.text proof ≡ own_current_proof H.hash_of g s plan.start plan.end) }
+        ensures own { let g = grafting_of F.shape N in
+            IfOk result (λ proof. (s : SnapshotOf) → ArePartsOf D.text
+            (G.post get_node) H.hash_of g plan (R.retained status.now) floor (D.text ops_root) s
+            → current_of D.text proof ≡ own_current_proof H.hash_of g s plan.start plan.end) }
         ensures answered { OnOk result (AreAnswered (G.post get_node) F.shape plan) }
-        ensures bits { let g : Grafting = record { shape = F.shape; bytes = N } in OnOk result (AreBitsOf g plan.leaves (R.retained status.now)) }
-        ensures why { let g : Grafting = record { shape = F.shape; bytes = N } in IfErr result (IsNotBuilt (G.post get_node) g plan (R.retained status.now)) }
+        ensures bits { let g = grafting_of F.shape N in
+            OnOk result (AreBitsOf g plan.leaves (R.retained status.now)) }
+        ensures why { let g = grafting_of F.shape N in
+            IfErr result (IsNotBuilt (G.post get_node) g plan (R.retained status.now)) }
     {
         let len = status.len();
         let leaves = plan.leaves().as_u64();
@@ -111,9 +116,16 @@ impl<F: Graftable, D: Digest> RangeProof<F, D> {
         chunks: &[[u8; N]],
         root: &D,
     ) -> Result<bool, NoMemory>
-        ensures exact { IfOk result (λ yes. IsTrue yes ↔ IsCurrent H.hash_of (record { shape = F.shape; bytes = N }) (current_of D.text self.now) start (map O.text operations.now) chunks.now (D.text root.now)) }
-        ensures meaning { (D.size ≡ 32) ⊎ (D.size ≡ 64) → IfOk result (λ yes. IsTrue yes → MeansCurrent H.hash_of (record { shape = F.shape; bytes = N }) (current_of D.text self.now) start (map O.text operations.now) chunks.now (D.text root.now)) }
-        ensures at_once { (IsWindow (record { shape = F.shape; bytes = N }) self.now.proof.leaves start (length operations.now) (length chunks.now) → ⊥) → result ≡ Ok false }
+        ensures exact { IfOk result (λ yes. IsTrue yes
+            ↔ IsCurrent H.hash_of (grafting_of F.shape N) (current_of D.text self.now) start
+            (map O.text operations.now) chunks.now (D.text root.now)) }
+        ensures meaning { (D.size ≡ 32) ⊎ (D.size ≡ 64)
+            → IfOk result (λ yes. IsTrue yes
+            → MeansCurrent H.hash_of (grafting_of F.shape N) (current_of D.text self.now) start
+            (map O.text operations.now) chunks.now (D.text root.now)) }
+        ensures at_once { (IsWindow (grafting_of F.shape N) self.now.proof.leaves start
+            (length operations.now) (length chunks.now) → ⊥)
+            → result ≡ Ok false }
     {
         self.verify_with_chunk_size::<H, O, [u8; N]>(alloc, start, operations, chunks, N, root)
     }
@@ -129,9 +141,16 @@ impl<F: Graftable, D: Digest> RangeProof<F, D> {
         chunk_size: usize,
         root: &D,
     ) -> Result<bool, NoMemory>
-        ensures exact { IfOk result (λ yes. IsTrue yes ↔ IsCurrent H.hash_of (record { shape = F.shape; bytes = chunk_size }) (current_of D.text self.now) start (map O.text operations.now) (map C.text chunks.now) (D.text root.now)) }
-        ensures meaning { (D.size ≡ 32) ⊎ (D.size ≡ 64) → IfOk result (λ yes. IsTrue yes → MeansCurrent H.hash_of (record { shape = F.shape; bytes = chunk_size }) (current_of D.text self.now) start (map O.text operations.now) (map C.text chunks.now) (D.text root.now)) }
-        ensures at_once { (IsWindow (record { shape = F.shape; bytes = chunk_size }) self.now.proof.leaves start (length operations.now) (length chunks.now) → ⊥) → result ≡ Ok false }
+        ensures exact { IfOk result (λ yes. IsTrue yes
+            ↔ IsCurrent H.hash_of (grafting_of F.shape chunk_size) (current_of D.text self.now)
+            start (map O.text operations.now) (map C.text chunks.now) (D.text root.now)) }
+        ensures meaning { (D.size ≡ 32) ⊎ (D.size ≡ 64)
+            → IfOk result (λ yes. IsTrue yes
+            → MeansCurrent H.hash_of (grafting_of F.shape chunk_size) (current_of D.text self.now)
+            start (map O.text operations.now) (map C.text chunks.now) (D.text root.now)) }
+        ensures at_once { (IsWindow (grafting_of F.shape chunk_size) self.now.proof.leaves start
+            (length operations.now) (length chunks.now) → ⊥)
+            → result ≡ Ok false }
     {
         let Some(window) = self.window(start, operations.len(), chunks, chunk_size) else {
             return Ok(false);
@@ -150,9 +169,16 @@ impl<F: Graftable, D: Digest> RangeProof<F, D> {
         chunk_size: usize,
         root: &D,
     ) -> Result<bool, NoMemory>
-        ensures exact { IfOk result (λ yes. IsTrue yes ↔ IsCurrent H.hash_of (record { shape = F.shape; bytes = chunk_size }) (current_of D.text self.now) start (map E.items operations.now) (map C.text chunks.now) (D.text root.now)) }
-        ensures meaning { (D.size ≡ 32) ⊎ (D.size ≡ 64) → IfOk result (λ yes. IsTrue yes → MeansCurrent H.hash_of (record { shape = F.shape; bytes = chunk_size }) (current_of D.text self.now) start (map E.items operations.now) (map C.text chunks.now) (D.text root.now)) }
-        ensures at_once { (IsWindow (record { shape = F.shape; bytes = chunk_size }) self.now.proof.leaves start (length operations.now) (length chunks.now) → ⊥) → result ≡ Ok false }
+        ensures exact { IfOk result (λ yes. IsTrue yes
+            ↔ IsCurrent H.hash_of (grafting_of F.shape chunk_size) (current_of D.text self.now)
+            start (map E.items operations.now) (map C.text chunks.now) (D.text root.now)) }
+        ensures meaning { (D.size ≡ 32) ⊎ (D.size ≡ 64)
+            → IfOk result (λ yes. IsTrue yes
+            → MeansCurrent H.hash_of (grafting_of F.shape chunk_size) (current_of D.text self.now)
+            start (map E.items operations.now) (map C.text chunks.now) (D.text root.now)) }
+        ensures at_once { (IsWindow (grafting_of F.shape chunk_size) self.now.proof.leaves start
+            (length operations.now) (length chunks.now) → ⊥)
+            → result ≡ Ok false }
     {
         let Some(window) = self.window(start, operations.len(), chunks, chunk_size) else {
             return Ok(false);
@@ -169,7 +195,11 @@ impl<F: Graftable, D: Digest> RangeProof<F, D> {
         chunks: &[C],
         chunk_size: usize,
     ) -> Option<Window>
-        ensures { MatchOption result (IsWindow (record { shape = F.shape; bytes = chunk_size }) self.now.proof.leaves start count (length chunks.now) → AreDigests chunk_size (map C.text chunks.now) → ⊥) (λ w. IsWindowOf (record { shape = F.shape; bytes = chunk_size }) self.now.proof.leaves start count (length chunks.now) w × AreDigests chunk_size (map C.text chunks.now)) }
+        ensures { MatchOption result (IsWindow
+            (grafting_of F.shape chunk_size) self.now.proof.leaves start count (length chunks.now)
+            → AreDigests chunk_size (map C.text chunks.now)
+            → ⊥) (λ w. IsWindowOf (grafting_of F.shape chunk_size) self.now.proof.leaves start count
+            (length chunks.now) w × AreDigests chunk_size (map C.text chunks.now)) }
     {
         let leaves = self.proof.leaves.as_u64();
         let window = Window::of::<F>(leaves, start.as_u64(), count, chunks.len(), chunk_size)?;
@@ -190,9 +220,21 @@ impl<F: Graftable, D: Digest> RangeProof<F, D> {
         chunks: &[C],
         root: &D,
     ) -> Result<bool, NoMemory>
-        requires { (n : ℕ) × IsWindowOf (record { shape = F.shape; bytes = n }) self.now.proof.leaves start (length operations.now) (length chunks.now) window.now }
-        ensures exact { (n : ℕ) → IsWindowOf (record { shape = F.shape; bytes = n }) self.now.proof.leaves start (length operations.now) (length chunks.now) window.now → AreDigests n (map C.text chunks.now) → IfOk result (λ yes. IsTrue yes ↔ IsCurrent H.hash_of (record { shape = F.shape; bytes = n }) (current_of D.text self.now) start (map E.items operations.now) (map C.text chunks.now) (D.text root.now)) }
-        ensures meaning { (n : ℕ) → IsWindowOf (record { shape = F.shape; bytes = n }) self.now.proof.leaves start (length operations.now) (length chunks.now) window.now → AreDigests n (map C.text chunks.now) → (D.size ≡ 32) ⊎ (D.size ≡ 64) → IfOk result (λ yes. IsTrue yes → MeansCurrent H.hash_of (record { shape = F.shape; bytes = n }) (current_of D.text self.now) start (map E.items operations.now) (map C.text chunks.now) (D.text root.now)) }
+        requires { (n : ℕ) × IsWindowOf (grafting_of F.shape n) self.now.proof.leaves start
+            (length operations.now) (length chunks.now) window.now }
+        ensures exact { (n : ℕ) → IsWindowOf (grafting_of F.shape n) self.now.proof.leaves start
+            (length operations.now) (length chunks.now) window.now
+            → AreDigests n (map C.text chunks.now)
+            → IfOk result (λ yes. IsTrue yes
+            ↔ IsCurrent H.hash_of (grafting_of F.shape n) (current_of D.text self.now) start
+            (map E.items operations.now) (map C.text chunks.now) (D.text root.now)) }
+        ensures meaning { (n : ℕ) → IsWindowOf (grafting_of F.shape n) self.now.proof.leaves start
+            (length operations.now) (length chunks.now) window.now
+            → AreDigests n (map C.text chunks.now)
+            → (D.size ≡ 32) ⊎ (D.size ≡ 64)
+            → IfOk result (λ yes. IsTrue yes
+            → MeansCurrent H.hash_of (grafting_of F.shape n) (current_of D.text self.now) start
+            (map E.items operations.now) (map C.text chunks.now) (D.text root.now)) }
     {
         current_proofs_are_sound();
         self.decide_in::<H, E, C>(alloc, window, start, operations, chunks, root)
@@ -208,8 +250,14 @@ impl<F: Graftable, D: Digest> RangeProof<F, D> {
         chunks: &[C],
         root: &D,
     ) -> Result<bool, NoMemory>
-        requires { (n : ℕ) × IsWindowOf (record { shape = F.shape; bytes = n }) self.now.proof.leaves start (length operations.now) (length chunks.now) window.now }
-        ensures { (n : ℕ) → IsWindowOf (record { shape = F.shape; bytes = n }) self.now.proof.leaves start (length operations.now) (length chunks.now) window.now → AreDigests n (map C.text chunks.now) → IfOk result (λ yes. IsTrue yes ↔ IsCurrent H.hash_of (record { shape = F.shape; bytes = n }) (current_of D.text self.now) start (map E.items operations.now) (map C.text chunks.now) (D.text root.now)) }
+        requires { (n : ℕ) × IsWindowOf (grafting_of F.shape n) self.now.proof.leaves start
+            (length operations.now) (length chunks.now) window.now }
+        ensures { (n : ℕ) → IsWindowOf (grafting_of F.shape n) self.now.proof.leaves start
+            (length operations.now) (length chunks.now) window.now
+            → AreDigests n (map C.text chunks.now)
+            → IfOk result (λ yes. IsTrue yes
+            ↔ IsCurrent H.hash_of (grafting_of F.shape n) (current_of D.text self.now) start
+            (map E.items operations.now) (map C.text chunks.now) (D.text root.now)) }
     {
         if !slots::match_chunks::<H, C, F>(self, window, chunks) {
             return Ok(false);
@@ -232,7 +280,9 @@ impl<F: Graftable, D: Digest> RangeProof<F, D> {
 
     /// The canonical root of the proof's parts and a grafted root.
     fn canonical<H: Hasher<Digest = D>>(&self, grafted_root: &D, window: &Window) -> D
-        ensures { D.text result ≡ H.hash_of (canonical_string (D.text self.now.ops_root) (D.text grafted_root.now) (option_map D.text self.now.pending_chunk_digest) window.now.counts.next_bit (option_map D.text self.now.partial_chunk_digest)) }
+        ensures { D.text result ≡ H.hash_of (canonical_string (D.text self.now.ops_root)
+            (D.text grafted_root.now) (option_map D.text self.now.pending_chunk_digest)
+            window.now.counts.next_bit (option_map D.text self.now.partial_chunk_digest)) }
     {
         canonical_root::<H>(
             &self.ops_root,

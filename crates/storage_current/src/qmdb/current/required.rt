@@ -6,7 +6,7 @@ ghost use Rattle.std.specs.List.{Contains};
 ghost use Rattle.std.specs.List.Sorted.{IsStrictlyIncreasing};
 ghost use Rattle.storage_bitmap.specs.Chunks.{IsChunkSize};
 ghost use Rattle.storage_current.specs.Required.{AreConsistent, IsRequired, IsThere, IsUntold};
-ghost use Rattle.storage_current.specs.Snapshots.{Grafting};
+ghost use Rattle.storage_current.specs.Snapshots.{grafting_of};
 
 use crate::qmdb::current::grafting;
 use std::iter::FusedIterator;
@@ -27,7 +27,8 @@ impl Model for RequiredChunks {
 
     ghost Value = { List ℕ };
 
-    ghost view = { λ s. option_to_list s.queried ++ (option_to_list s.pending ++ option_to_list s.partial) };
+    ghost view = { λ s.
+        option_to_list s.queried ++ (option_to_list s.pending ++ option_to_list s.partial) };
 }
 
 impl Iterator for RequiredChunks {
@@ -65,12 +66,18 @@ pub fn required_chunks<F: Graftable, const N: usize>(
     location: Option<Location<F>>,
 ) -> Result<RequiredChunks, Error<F>>
     requires { IsChunkSize N }
-    ensures chunks { let g : Grafting = record { shape = F.shape; bytes = N } in IfOk result (λ chunks. (j : ℕ) → (Contains chunks j ↔ IsRequired g ops_leaves bitmap_len location j)) }
+    ensures chunks { let g = grafting_of F.shape N in
+        IfOk result (λ chunks. (j : ℕ)
+        → (Contains chunks j ↔ IsRequired g ops_leaves bitmap_len location j)) }
     ensures rising { IfOk result (λ chunks. IsStrictlyIncreasing chunks) }
     ensures few { IfOk result (λ chunks. length chunks ≤ 3) }
-    ensures consistent { let g : Grafting = record { shape = F.shape; bytes = N } in OnOk result (AreConsistent g ops_leaves bitmap_len pruned_chunks) }
-    ensures there { let g : Grafting = record { shape = F.shape; bytes = N } in OnOk result (MatchOption location (Unit {0}) (IsThere g ops_leaves bitmap_len pruned_chunks)) }
-    ensures why { let g : Grafting = record { shape = F.shape; bytes = N } in IfErr result (IsUntold g ops_leaves bitmap_len pruned_chunks location) }
+    ensures consistent { let g = grafting_of F.shape N in
+        OnOk result (AreConsistent g ops_leaves bitmap_len pruned_chunks) }
+    ensures there { let g = grafting_of F.shape N in
+        OnOk result (MatchOption location (Unit {0})
+        (IsThere g ops_leaves bitmap_len pruned_chunks)) }
+    ensures why { let g = grafting_of F.shape N in
+        IfErr result (IsUntold g ops_leaves bitmap_len pruned_chunks location) }
 {
     let height = grafting::height::<N>();
     let leaves = ops_leaves.as_u64();

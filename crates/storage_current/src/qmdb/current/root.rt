@@ -15,7 +15,9 @@ pub(crate) fn canonical_root<H: Hasher>(
     next_bit: u64,
     partial: &Option<H::Digest>,
 ) -> H::Digest
-    ensures { H.Digest.text result ≡ H.hash_of (canonical_string (H.Digest.text ops_root.now) (H.Digest.text grafted_root.now) (option_map H.Digest.text pending.now) next_bit (option_map H.Digest.text partial.now)) }
+    ensures { H.Digest.text result
+        ≡ H.hash_of (canonical_string (H.Digest.text ops_root.now) (H.Digest.text grafted_root.now)
+        (option_map H.Digest.text pending.now) next_bit (option_map H.Digest.text partial.now)) }
 {
     let pending = slot_bytes(pending);
     match partial {
@@ -41,7 +43,8 @@ fn hash_parts<H: Hasher>(
     count: &[u8],
     partial: &[u8],
 ) -> H::Digest
-    ensures { H.Digest.text result ≡ H.hash_of (ops_root.now ++ (grafted_root.now ++ (pending.now ++ (count.now ++ partial.now)))) }
+    ensures { H.Digest.text result ≡ H.hash_of
+        (ops_root.now ++ (grafted_root.now ++ (pending.now ++ (count.now ++ partial.now)))) }
 {
     H::hash(&[ops_root, grafted_root, pending, count, partial])
 }

@@ -8,7 +8,7 @@ ghost use Rattle.storage_merkle.specs.declared.merkle.bagging.Bagging.TheVariant
 ghost use Rattle.storage_bitmap.specs.Chunks.{IsChunkSize, bit_count};
 ghost use Rattle.storage_current.specs.KeptSnapshots.{HasEachBit, IsRefused, StandsFor};
 ghost use Rattle.storage_current.specs.NodeLists.{AreNodes, IsTreeOver, plain_node};
-ghost use Rattle.storage_current.specs.Snapshots.{Grafting, IsServed, IsSnapshot, Snapshot as SnapshotOf, canonical_root, ops_root_of, own_witness};
+ghost use Rattle.storage_current.specs.Snapshots.{IsServed, IsSnapshot, Snapshot as SnapshotOf, canonical_root, ops_root_of, own_witness, grafting_of};
 ghost use Rattle.storage_current.specs.WitnessWire.{witness_of};
 
 use crate::qmdb::current::chunks::{ChunkCounts, chunk_digest};
@@ -44,7 +44,13 @@ impl<F, H: Hasher, const N: usize> Model for Snapshot<F, H, N> {
 
     ghost Value = { KeptSnapshot };
 
-    ghost view = { λ s. record { nodes = map H.Digest.text s.nodes.items; status = s.status; ops_root = H.Digest.text s.ops_root; root = H.Digest.text s.root; witness = witness_of H.Digest.text s.witness } };
+    ghost view = { λ s. record {
+      nodes = map H.Digest.text s.nodes.items;
+      status = s.status;
+      ops_root = H.Digest.text s.ops_root;
+      root = H.Digest.text s.root;
+      witness = witness_of H.Digest.text s.witness;
+    } };
 }
 
 impl<F: Graftable, H: Hasher, const N: usize> Snapshot<F, H, N> {
@@ -63,7 +69,13 @@ impl<F: Graftable, H: Hasher, const N: usize> Snapshot<F, H, N> {
     ) -> Result<Self, Error<F>>
         ensures size { IfOk result (λ _. IsChunkSize N) }
         ensures status { IfOk result (λ kept. kept.status ≡ bits.entry) }
-        ensures stands { let g : Grafting = record { shape = F.shape; bytes = N } in let s : SnapshotOf = record { operations = map E.items operations.now; bits = bits.entry.bits; floor = floor } in IfOk result (λ kept. IsSnapshot s × StandsFor H.hash_of g kept s) }
+        ensures stands { let g = grafting_of F.shape N in
+            let s : SnapshotOf = record {
+              operations = map E.items operations.now;
+              bits = bits.entry.bits;
+              floor = floor;
+            } in
+            IfOk result (λ kept. IsSnapshot s × StandsFor H.hash_of g kept s) }
         ensures why { IfErr result (IsRefused N (length operations.now) bits.entry floor) }
     {
         let leaves = operations.len() as u64;
@@ -93,7 +105,14 @@ impl<F: Graftable, H: Hasher, const N: usize> Snapshot<F, H, N> {
     ) -> Result<Self, Error<F>>
         ensures size { IfOk result (λ _. IsChunkSize N) }
         ensures status { IfOk result (λ kept. kept.status ≡ bits.entry) }
-        ensures stands { let g : Grafting = record { shape = F.shape; bytes = N } in IfOk result (λ kept. (operations : List (List ℕ)) → IsTreeOver H.hash_of F.shape tree operations → let s : SnapshotOf = record { operations = operations; bits = bits.entry.bits; floor = floor } in IsSnapshot s × StandsFor H.hash_of g kept s) }
+        ensures stands { let g = grafting_of F.shape N in
+            IfOk result (λ kept. (operations : List (List ℕ)) → IsTreeOver H.hash_of F.shape tree
+            operations → let s : SnapshotOf = record {
+              operations = operations;
+              bits = bits.entry.bits;
+              floor = floor;
+            } in
+            IsSnapshot s × StandsFor H.hash_of g kept s) }
         ensures why { IfErr result (IsRefused N tree.leaves bits.entry floor) }
     {
         let (count, nodes) = tree.into_nodes();
@@ -119,7 +138,15 @@ impl<F: Graftable, H: Hasher, const N: usize> Snapshot<F, H, N> {
         requires whole { length nodes.items ≡ size F.shape (bit_count N bits) }
         requires floor { floor ≤ bit_count N bits }
         ensures status { IfOk result (λ kept. kept.status ≡ bits.entry) }
-        ensures stands { let g : Grafting = record { shape = F.shape; bytes = N } in IfOk result (λ kept. (list : List (List ℕ)) → length list ≡ bit_count N bits.entry → AreNodes F.shape (plain_node H.hash_of F.shape list) (map H.Digest.text nodes.items) → let s : SnapshotOf = record { operations = list; bits = bits.entry.bits; floor = floor } in IsSnapshot s × StandsFor H.hash_of g kept s) }
+        ensures stands { let g = grafting_of F.shape N in
+            IfOk result (λ kept. (list : List (List ℕ)) → length list ≡ bit_count N bits.entry
+            → AreNodes F.shape (plain_node H.hash_of F.shape list) (map H.Digest.text nodes.items)
+            → let s : SnapshotOf = record {
+              operations = list;
+              bits = bits.entry.bits;
+              floor = floor;
+            } in
+            IsSnapshot s × StandsFor H.hash_of g kept s) }
     {
         let leaves = bits.len();
         let height = grafting::height::<N>();
@@ -150,7 +177,8 @@ impl<F: Graftable, H: Hasher, const N: usize> Snapshot<F, H, N> {
     /// The canonical root. Takes no memory.
     pub fn root(&self) -> H::Digest
         ensures value { H.Digest.text result ≡ self.now.root }
-        ensures stands { (s : SnapshotOf) → StandsFor H.hash_of (record { shape = F.shape; bytes = N }) self.now s → H.Digest.text result ≡ canonical_root H.hash_of (record { shape = F.shape; bytes = N }) s }
+        ensures stands { (s : SnapshotOf) → StandsFor H.hash_of (grafting_of F.shape N) self.now s
+            → H.Digest.text result ≡ canonical_root H.hash_of (grafting_of F.shape N) s }
     {
         self.root
     }
@@ -158,7 +186,8 @@ impl<F: Graftable, H: Hasher, const N: usize> Snapshot<F, H, N> {
     /// The root of the tree over the operations alone. Takes no memory.
     pub fn ops_root(&self) -> H::Digest
         ensures value { H.Digest.text result ≡ self.now.ops_root }
-        ensures stands { (s : SnapshotOf) → StandsFor H.hash_of (record { shape = F.shape; bytes = N }) self.now s → H.Digest.text result ≡ ops_root_of H.hash_of (record { shape = F.shape; bytes = N }) s }
+        ensures stands { (s : SnapshotOf) → StandsFor H.hash_of (grafting_of F.shape N) self.now s
+            → H.Digest.text result ≡ ops_root_of H.hash_of (grafting_of F.shape N) s }
     {
         self.ops_root
     }
@@ -166,7 +195,8 @@ impl<F: Graftable, H: Hasher, const N: usize> Snapshot<F, H, N> {
     /// The witness that the operations root is that of the snapshot with this canonical root. Takes no memory.
     pub fn witness(&self) -> OpsRootWitness<F, H::Digest>
         ensures value { witness_of H.Digest.text result ≡ self.now.witness }
-        ensures stands { (s : SnapshotOf) → StandsFor H.hash_of (record { shape = F.shape; bytes = N }) self.now s → witness_of H.Digest.text result ≡ own_witness H.hash_of (record { shape = F.shape; bytes = N }) s }
+        ensures stands { (s : SnapshotOf) → StandsFor H.hash_of (grafting_of F.shape N) self.now s
+            → witness_of H.Digest.text result ≡ own_witness H.hash_of (grafting_of F.shape N) s }
     {
         self.witness.copied()
     }
@@ -174,8 +204,13 @@ impl<F: Graftable, H: Hasher, const N: usize> Snapshot<F, H, N> {
     /// The digest that the grafted view has at a position; none past its nodes. Takes no memory.
     pub fn get_node(&self, position: Position<F>) -> Option<H::Digest>
         ensures value { option_map H.Digest.text result ≡ slice_get self.now.nodes position }
-        ensures there { (s : SnapshotOf) → StandsFor H.hash_of (record { shape = F.shape; bytes = N }) self.now s → position < size F.shape (length s.operations) → IsServed H.hash_of (record { shape = F.shape; bytes = N }) s (λ _. option_map H.Digest.text result) position }
-        ensures past { (s : SnapshotOf) → StandsFor H.hash_of (record { shape = F.shape; bytes = N }) self.now s → size F.shape (length s.operations) ≤ position → result ≡ None }
+        ensures there { (s : SnapshotOf) → StandsFor H.hash_of (grafting_of F.shape N) self.now s
+            → position < size F.shape (length s.operations)
+            → IsServed H.hash_of (grafting_of F.shape N) s
+            (λ _. option_map H.Digest.text result) position }
+        ensures past { (s : SnapshotOf) → StandsFor H.hash_of (grafting_of F.shape N) self.now s
+            → size F.shape (length s.operations) ≤ position
+            → result ≡ None }
     {
         self.nodes.get(position.as_u64() as usize).copied()
     }
@@ -195,7 +230,8 @@ fn refusal<F: Graftable, const N: usize>(
     floor: Location<F>,
 ) -> Option<Error<F>>
     ensures size { IsChunkSize N }
-    ensures why { MatchOption result (HasEachBit N leaves bits.now × (floor ≤ leaves) × (leaves ≤ 2 ^ 62)) (IsRefused N leaves bits.now floor) }
+    ensures why { MatchOption result (HasEachBit N leaves bits.now × (floor ≤ leaves)
+        × (leaves ≤ 2 ^ 62)) (IsRefused N leaves bits.now floor) }
 {
     if bits.len() != leaves || bits.pruned_chunks() > 0 {
         return Some(Error::DataCorrupted("not one bit for each operation"));
@@ -220,7 +256,11 @@ fn tree_root<F: Graftable, H: Hasher>(
     requires few { leaves ≤ 2 ^ 62 }
     requires whole { length nodes.now ≡ size F.shape leaves }
     requires inactive { inactive ≤ length (F.shape.peaks leaves) }
-    ensures { IfOk result (λ root. (grafted : ℕ → ℕ → Bool) (content : Content) → let T : Layout = record { shape = F.shape; grafted = grafted } in length content.elements ≡ leaves → AreNodes F.shape (tree_node H.hash_of T content) (map H.Digest.text nodes.now) → H.Digest.text root ≡ tree_root H.hash_of T BackwardFold content inactive) }
+    ensures { IfOk result (λ root. (grafted : ℕ → ℕ → Bool) (content : Content)
+        → let T : Layout = record { shape = F.shape; grafted = grafted } in
+        length content.elements ≡ leaves
+        → AreNodes F.shape (tree_node H.hash_of T content) (map H.Digest.text nodes.now)
+        → H.Digest.text root ≡ tree_root H.hash_of T BackwardFold content inactive) }
 {
     let peaks = peak_digests::<F, H::Digest>(alloc, nodes, leaves)?;
     Ok(qmdb::hasher::<H>().root(Location::<F>::new(leaves), inactive, &peaks))

@@ -50,11 +50,15 @@ impl<F: Graftable, H: Hasher> OperationTree<F, H> {
     ///
     /// `LocationOverflow` of the operation where there are as many as any tree may have; `Memory`.
     pub fn add(&mut self, operation: &[u8]) -> Result<(), Error<F>>
-        ensures grown { OnOk result ((operations : List (List ℕ)) → IsTreeOver H.hash_of F.shape self.old operations → IsTreeOver H.hash_of F.shape self.new (operations ++ operation.now ∷ [])) }
+        ensures grown { OnOk result ((operations : List (List ℕ))
+            → IsTreeOver H.hash_of F.shape self.old operations
+            → IsTreeOver H.hash_of F.shape self.new (operations ++ operation.now ∷ [])) }
         ensures place { OnOk result (self.new.leaves ≡ self.old.leaves + 1) }
         ensures fits { OnOk result (self.old.leaves < 2 ^ 62) }
         ensures same { OnErr result (self.new ≡ self.old) }
-        ensures why { IfErr result (λ e. ((self.old.leaves ≡ 2 ^ 62) × (e ≡ Merkle (LocationOverflow self.old.leaves))) ⊎ ((self.old.leaves < 2 ^ 62) × (e ≡ Memory))) }
+        ensures why { IfErr result (λ e.
+            ((self.old.leaves ≡ 2 ^ 62) × (e ≡ Merkle (LocationOverflow self.old.leaves)))
+            ⊎ ((self.old.leaves < 2 ^ 62) × (e ≡ Memory))) }
     {
         if self.leaves >= MAX_LEAVES {
             let leaves = Location::new(self.leaves);

@@ -1,6 +1,6 @@
 //! The digests that a tree in memory keeps: how they are found, appended and written anew.
 
-ghost use Rattle.std.specs.Prelude.{◌≡◌, ℕ, ◌+◌, ◌-◌, ◌*◌, ◌%◌, ◌^◌, ◌<◌, ◌≤◌, ◌∷◌, ◌++◌, [], List, map, take, length, get_or, All, Some, IfOk, OnErr, IsTrue, Option};
+ghost use Rattle.std.specs.Prelude.{◌≡◌, ℕ, ◌+◌, ◌-◌, ◌*◌, ◌%◌, ◌^◌, ◌<◌, ◌≤◌, ◌↔◌, ◌∷◌, ◌++◌, [], List, map, take, length, get_or, All, Some, IfOk, OnErr, IsTrue, slice_get, Option};
 ghost use Rattle.storage_merkle.specs.Calc.{be8};
 ghost use Rattle.storage_merkle.specs.Hashing.{node_over};
 ghost use Rattle.storage_merkle.specs.Kept.{kept_at, at_peaks, updated, IsClean, Holds};
@@ -56,7 +56,14 @@ pub(crate) fn born<F: Family, H: Hasher<F>>(
     requires count { length nodes.now + size F.shape boundary ≡ size F.shape leaves + offset }
     requires within { size F.shape leaves + offset < size F.shape (leaves + 1) }
     requires takes { H.takes hasher.now (size F.shape leaves + offset) }
-    ensures { let N = node_over H.hash_of (H.layout hasher.now) (H.chunk hasher.now) in let leaf = H.hash_of (be8 (size F.shape leaves) ++ element.now) in (list : List (List ℕ)) (dirty : List ℕ) → length list ≡ leaves → Holds F.shape (N (list ++ leaf ∷ [])) dirty boundary (size F.shape leaves + offset) (map H.Digest.text pinned.now) (map H.Digest.text nodes.now) → (a k : ℕ) → IsNode F.shape (size F.shape leaves + offset) a k → IsClean dirty a k → H.Digest.text result ≡ N (list ++ leaf ∷ []) k a }
+    ensures { let N = node_over H.hash_of (H.layout hasher.now) (H.chunk hasher.now) in
+        let leaf = H.hash_of (be8 (size F.shape leaves) ++ element.now) in
+        (list : List (List ℕ)) (dirty : List ℕ) → length list ≡ leaves
+        → Holds F.shape (N (list ++ leaf ∷ [])) dirty boundary (size F.shape leaves + offset)
+        (map H.Digest.text pinned.now) (map H.Digest.text nodes.now)
+        → (a k : ℕ) → IsNode F.shape (size F.shape leaves + offset) a k
+        → IsClean dirty a k
+        → H.Digest.text result ≡ N (list ++ leaf ∷ []) k a }
 {
     let (first, height) = F::node_after(leaves, offset);
     let position = Position::new(F::nodes_over(leaves) + offset);
@@ -93,9 +100,18 @@ pub(crate) fn grow<F: Family, H: Hasher<F>>(
     requires order { boundary ≤ leaves }
     requires pins { length pinned.now ≡ length (F.shape.peaks boundary) }
     requires count { length nodes.old.items + size F.shape boundary ≡ size F.shape leaves }
-    requires takes { (p : ℕ) → size F.shape leaves ≤ p → p < size F.shape (leaves + 1) → H.takes hasher.now p }
-    ensures count { IfOk result (λ _. length nodes.new.items + size F.shape boundary ≡ size F.shape (leaves + 1)) }
-    ensures grown { let N = node_over H.hash_of (H.layout hasher.now) (H.chunk hasher.now) in let leaf = H.hash_of (be8 (size F.shape leaves) ++ element.now) in IfOk result (λ _. (list : List (List ℕ)) (dirty : List ℕ) → length list ≡ leaves → Holds F.shape (N list) dirty boundary (size F.shape leaves) (map H.Digest.text pinned.now) (map H.Digest.text nodes.old.items) → Holds F.shape (N (list ++ leaf ∷ [])) dirty boundary (size F.shape (leaves + 1)) (map H.Digest.text pinned.now) (map H.Digest.text nodes.new.items)) }
+    requires takes { (p : ℕ) → size F.shape leaves ≤ p
+        → p < size F.shape (leaves + 1)
+        → H.takes hasher.now p }
+    ensures count { IfOk result (λ _.
+        length nodes.new.items + size F.shape boundary ≡ size F.shape (leaves + 1)) }
+    ensures grown { let N = node_over H.hash_of (H.layout hasher.now) (H.chunk hasher.now) in
+        let leaf = H.hash_of (be8 (size F.shape leaves) ++ element.now) in
+        IfOk result (λ _. (list : List (List ℕ)) (dirty : List ℕ) → length list ≡ leaves
+        → Holds F.shape (N list) dirty boundary (size F.shape leaves) (map H.Digest.text pinned.now)
+        (map H.Digest.text nodes.old.items)
+        → Holds F.shape (N (list ++ leaf ∷ [])) dirty boundary (size F.shape (leaves + 1))
+        (map H.Digest.text pinned.now) (map H.Digest.text nodes.new.items)) }
     ensures kept { OnErr result (nodes.new.items ≡ nodes.old.items) }
 {
     let more = F::nodes_over(leaves + 1) - F::nodes_over(leaves);
@@ -126,7 +142,11 @@ pub(crate) fn above<F: Family, H: Hasher<F>>(
     requires small { height ≤ 62 }
     requires there { F.shape.birth (over place height) height ≤ leaves }
     requires takes { H.takes hasher.now (F.shape.position (over place height) height) }
-    ensures { let N = node_over H.hash_of (H.layout hasher.now) (H.chunk hasher.now) in (list : List (List ℕ)) (rest : List ℕ) → WrittenBelow F.shape (N list) rest place height boundary (size F.shape leaves) (map H.Digest.text pinned.now) (map H.Digest.text nodes.now) → IsClean rest (over place height) height → H.Digest.text result ≡ N list height (over place height) }
+    ensures { let N = node_over H.hash_of (H.layout hasher.now) (H.chunk hasher.now) in
+        (list : List (List ℕ)) (rest : List ℕ) → WrittenBelow F.shape (N list) rest place height
+        boundary (size F.shape leaves) (map H.Digest.text pinned.now) (map H.Digest.text nodes.now)
+        → IsClean rest (over place height) height
+        → H.Digest.text result ≡ N list height (over place height) }
 {
     let half = power(height - 1);
     let first = place / power(height) * power(height);
@@ -150,7 +170,7 @@ pub(crate) fn above<F: Family, H: Hasher<F>>(
 /// Whether the next leaf is below the node of a height over a leaf.
 pub(crate) fn is_below(next: Option<u64>, first: u64, height: u32) -> bool
     requires { height ≤ 63 }
-    ensures { IsTrue result → Reaches next first height }
+    ensures { IsTrue result ↔ Reaches next first height }
 {
     match next {
         Some(place) => place >= first && place - first < power(height),
@@ -175,7 +195,13 @@ pub(crate) fn write_leaf<F: Family, H: Hasher<F>>(
     requires pins { length pinned.now ≡ length (F.shape.peaks boundary) }
     requires count { length nodes.old + size F.shape boundary ≡ size F.shape leaves }
     requires takes { (p : ℕ) → p < size F.shape leaves → H.takes hasher.now p }
-    ensures { let N = node_over H.hash_of (H.layout hasher.now) (H.chunk hasher.now) in (list : List (List ℕ)) (rest : List ℕ) → IsNext next rest → Holds F.shape (N list) (place ∷ rest) boundary (size F.shape leaves) (map H.Digest.text pinned.now) (map H.Digest.text nodes.old) → get_or list place [] ≡ H.Digest.text digest → Holds F.shape (N list) rest boundary (size F.shape leaves) (map H.Digest.text pinned.now) (map H.Digest.text nodes.new) }
+    ensures { let N = node_over H.hash_of (H.layout hasher.now) (H.chunk hasher.now) in
+        (list : List (List ℕ)) (rest : List ℕ) → IsNext next rest
+        → Holds F.shape (N list) (place ∷ rest) boundary (size F.shape leaves)
+        (map H.Digest.text pinned.now) (map H.Digest.text nodes.old)
+        → get_or list place [] ≡ H.Digest.text digest
+        → Holds F.shape (N list) rest boundary (size F.shape leaves) (map H.Digest.text pinned.now)
+        (map H.Digest.text nodes.new) }
 {
     let start = F::nodes_over(boundary);
     nodes[(F::nodes_over(place) - start) as usize] = digest;
@@ -191,7 +217,8 @@ pub(crate) fn write_leaf<F: Family, H: Hasher<F>>(
 
 /// The leaf of the first of some updates, if there is one.
 fn first_place<F: Family, D: Digest>(updates: &[(Location<F>, D)]) -> Option<u64>
-    ensures { IsNext result (map (λ u. u.0) updates.now) }
+    ensures next { IsNext result (map (λ u. u.0) updates.now) }
+    ensures first { result ≡ slice_get (map (λ u. u.0) updates.now) 0 }
 {
     let (location, _) = updates.first()?;
     Some(location.as_u64())
@@ -211,7 +238,13 @@ pub(crate) fn write_leaves<F: Family, H: Hasher<F>>(
     requires pins { length pinned.now ≡ length (F.shape.peaks boundary) }
     requires count { length nodes.old + size F.shape boundary ≡ size F.shape leaves }
     requires takes { (p : ℕ) → p < size F.shape leaves → H.takes hasher.now p }
-    ensures { let N = node_over H.hash_of (H.layout hasher.now) (H.chunk hasher.now) in (list : List (List ℕ)) (dirty : List ℕ) → length list ≡ leaves → Holds F.shape (N list) (map (λ u. u.0) updates.now ++ dirty) boundary (size F.shape leaves) (map H.Digest.text pinned.now) (map H.Digest.text nodes.old) → Holds F.shape (N (updated list (map (λ u. (u.0, H.Digest.text u.1)) updates.now))) dirty boundary (size F.shape leaves) (map H.Digest.text pinned.now) (map H.Digest.text nodes.new) }
+    ensures { let N = node_over H.hash_of (H.layout hasher.now) (H.chunk hasher.now) in
+        (list : List (List ℕ)) (dirty : List ℕ) → length list ≡ leaves
+        → Holds F.shape (N list) (map (λ u. u.0) updates.now ++ dirty) boundary
+        (size F.shape leaves) (map H.Digest.text pinned.now) (map H.Digest.text nodes.old)
+        → Holds F.shape
+        (N (updated list (map (λ u. (u.0, H.Digest.text u.1)) updates.now))) dirty boundary
+        (size F.shape leaves) (map H.Digest.text pinned.now) (map H.Digest.text nodes.new) }
 {
     let mut left = updates;
     while let Some((update, rest)) = left.split_first() {
@@ -239,7 +272,9 @@ pub(crate) fn peaks_over<F: Family, D: Digest>(
     ensures count { result.1 ≡ length (F.shape.peaks leaves) }
     ensures within { result.1 ≤ 64 }
     ensures room { length result.0 ≡ 64 }
-    ensures digests { (node : ℕ → ℕ → List ℕ) → Holds F.shape node [] boundary (length nodes.now + size F.shape boundary) (map D.text pinned.now) (map D.text nodes.now) → map D.text (take result.1 result.0) ≡ at_peaks node 0 (F.shape.peaks leaves) }
+    ensures digests { (node : ℕ → ℕ → List ℕ) → Holds F.shape node [] boundary
+        (length nodes.now + size F.shape boundary) (map D.text pinned.now) (map D.text nodes.now)
+        → map D.text (take result.1 result.0) ≡ at_peaks node 0 (F.shape.peaks leaves) }
 {
     let highest = F::position(0, F::first_peak(leaves));
     let mut digests = [look_up::<F, D>(boundary, pinned, nodes, highest).unwrap(); 64];

@@ -2,6 +2,7 @@
 
 ghost use Rattle.std.specs.Prelude.{◌≡◌, ◌≢◌, ℕ, ◌^◌, ◌<◌, ◌≤◌, ◌⊎◌, length, map, Err, IfOk, IfErr, MatchOption};
 ghost use Rattle.storage_merkle.specs.Hashing.{leaf_digests, node_over};
+ghost use Rattle.storage_merkle.specs.Held.{range_of};
 ghost use Rattle.storage_merkle.specs.Kept.{StandsFor, kept_at};
 ghost use Rattle.storage_merkle.specs.Plans.{IsFirstAbsent, planned, refusal};
 ghost use Rattle.storage_merkle.specs.RangeProofs.{own_proof};
@@ -29,9 +30,19 @@ impl<F: Family, D: Digest> Mem<F, D> {
         range: Range<Location<F>>,
         inactive: usize,
     ) -> Result<Proof<F, D>, Error<F>>
-        ensures own { IfOk result (λ proof. (T : Layout) (content : Content) → T.shape ≡ F.shape → StandsFor D.text F.shape (node_over H.hash_of T content.chunk) self.now (leaf_digests H.hash_of T 0 content.elements) → record { leaves = proof.leaves; inactive = proof.inactive_peaks; digests = map D.text proof.digests.items } ≡ own_proof H.hash_of T (H.bagging hasher.now) content inactive range.start range.end) }
-        ensures why { MatchOption (refusal F self.now.leaves range.start range.end) (IfErr result (λ e. ((length (F.shape.peaks self.now.leaves) < inactive) × (e ≡ Error.InvalidProof)) ⊎ (((inactive ≤ length (F.shape.peaks self.now.leaves)) × ((p : ℕ) × (e ≡ Error.ElementPruned p) × IsFirstAbsent (λ q a. a ≡ kept_at F.shape self.now.boundary self.now.pinned self.now.nodes q) (planned F.shape self.now.leaves range.start range.end) p)) ⊎ (e ≡ Error.Memory)))) (λ e. result ≡ Err e) }
-        ensures kept { self.now.boundary ≤ range.start → IfErr result (λ e. (p : ℕ) → e ≢ Error.ElementPruned p) }
+        ensures own { IfOk result (λ proof. (T : Layout) (content : Content) → T.shape ≡ F.shape
+            → StandsFor D.text F.shape (node_over H.hash_of T content.chunk) self.now
+            (leaf_digests H.hash_of T 0 content.elements) → range_of D.text proof
+            ≡ own_proof H.hash_of T (H.bagging hasher.now) content inactive range.start range.end) }
+        ensures why { MatchOption (refusal F self.now.leaves range.start range.end) (IfErr result
+            (λ e. ((length (F.shape.peaks self.now.leaves) < inactive) × (e ≡ Error.InvalidProof))
+            ⊎ (((inactive ≤ length (F.shape.peaks self.now.leaves))
+            × ((p : ℕ) × (e ≡ Error.ElementPruned p) × IsFirstAbsent
+            (λ q a. a ≡ kept_at F.shape self.now.boundary self.now.pinned self.now.nodes q)
+            (planned F.shape self.now.leaves range.start range.end) p)) ⊎ (e ≡ Error.Memory))))
+            (λ e. result ≡ Err e) }
+        ensures kept { self.now.boundary ≤ range.start
+            → IfErr result (λ e. (p : ℕ) → e ≢ Error.ElementPruned p) }
     {
         self.proof_by(alloc, hasher, range, inactive, |position| {
             self.get_node(position)
@@ -48,10 +59,22 @@ impl<F: Family, D: Digest> Mem<F, D> {
         get_node: G,
     ) -> Result<Proof<F, D>, Error<F>>
         requires callable { G.IsAlwaysCallable get_node }
-        requires kept { (p : ℕ) (d : _) → p < 2 ^ 64 → G.post get_node p d → d ≡ kept_at F.shape self.now.boundary self.now.pinned self.now.nodes p }
-        ensures own { IfOk result (λ proof. (T : Layout) (content : Content) → T.shape ≡ F.shape → StandsFor D.text F.shape (node_over H.hash_of T content.chunk) self.now (leaf_digests H.hash_of T 0 content.elements) → record { leaves = proof.leaves; inactive = proof.inactive_peaks; digests = map D.text proof.digests.items } ≡ own_proof H.hash_of T (H.bagging hasher.now) content inactive range.start range.end) }
-        ensures why { MatchOption (refusal F self.now.leaves range.start range.end) (IfErr result (λ e. ((length (F.shape.peaks self.now.leaves) < inactive) × (e ≡ Error.InvalidProof)) ⊎ (((inactive ≤ length (F.shape.peaks self.now.leaves)) × ((p : ℕ) × (e ≡ Error.ElementPruned p) × IsFirstAbsent (λ q a. a ≡ kept_at F.shape self.now.boundary self.now.pinned self.now.nodes q) (planned F.shape self.now.leaves range.start range.end) p)) ⊎ (e ≡ Error.Memory)))) (λ e. result ≡ Err e) }
-        ensures kept { self.now.boundary ≤ range.start → IfErr result (λ e. (p : ℕ) → e ≢ Error.ElementPruned p) }
+        requires kept { (p : ℕ) (d : _) → p < 2 ^ 64
+            → G.post get_node p d
+            → d ≡ kept_at F.shape self.now.boundary self.now.pinned self.now.nodes p }
+        ensures own { IfOk result (λ proof. (T : Layout) (content : Content) → T.shape ≡ F.shape
+            → StandsFor D.text F.shape (node_over H.hash_of T content.chunk) self.now
+            (leaf_digests H.hash_of T 0 content.elements) → range_of D.text proof
+            ≡ own_proof H.hash_of T (H.bagging hasher.now) content inactive range.start range.end) }
+        ensures why { MatchOption (refusal F self.now.leaves range.start range.end) (IfErr result
+            (λ e. ((length (F.shape.peaks self.now.leaves) < inactive) × (e ≡ Error.InvalidProof))
+            ⊎ (((inactive ≤ length (F.shape.peaks self.now.leaves))
+            × ((p : ℕ) × (e ≡ Error.ElementPruned p) × IsFirstAbsent
+            (λ q a. a ≡ kept_at F.shape self.now.boundary self.now.pinned self.now.nodes q)
+            (planned F.shape self.now.leaves range.start range.end) p)) ⊎ (e ≡ Error.Memory))))
+            (λ e. result ≡ Err e) }
+        ensures kept { self.now.boundary ≤ range.start
+            → IfErr result (λ e. (p : ℕ) → e ≢ Error.ElementPruned p) }
     {
         let plan = match RangePlan::new(alloc, Location::new(self.leaves), range) {
             Ok(plan) => plan,

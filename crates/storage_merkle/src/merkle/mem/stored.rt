@@ -20,7 +20,8 @@ impl<F: Family, D: Digest> Readable for Mem<F, D> {
     ghost node = { λ m p. kept_at F.shape m.boundary m.pinned m.nodes p };
 
     fn get_node(&self, position: Position<F>) -> Option<D>
-        ensures { result ≡ kept_at F.shape self.now.boundary self.now.pinned self.now.nodes position }
+        ensures { result
+            ≡ kept_at F.shape self.now.boundary self.now.pinned self.now.nodes position }
     {
         look_up::<F, D>(self.boundary, &self.pinned, &self.nodes, position.as_u64())
     }
@@ -44,15 +45,19 @@ impl<F: Family, D: Digest> Storage<F> for Mem<F, D> {
     }
 
     fn get_node(&mut self, position: Position<F>) -> Result<Option<D>, Error<F>>
-        ensures answer { result ≡ Ok (kept_at F.shape self.old.boundary self.old.pinned self.old.nodes position) }
+        ensures answer { result
+            ≡ Ok (kept_at F.shape self.old.boundary self.old.pinned self.old.nodes position) }
         ensures same { self.new ≡ self.old }
     {
         Ok(look_up::<F, D>(self.boundary, &self.pinned, &self.nodes, position.as_u64()))
     }
 
     fn get_nodes(&mut self, alloc: Global, positions: &[Position<F>]) -> Result<Vec<D>, Error<F>>
-        ensures answers { IfOk result (λ v. map Some v.items ≡ map (kept_at F.shape self.old.boundary self.old.pinned self.old.nodes) positions.now) }
-        ensures why { IfErr result (λ e. ((p : ℕ) × (e ≡ Error.ElementPruned p) × IsFirstAbsent (λ q a. a ≡ kept_at F.shape self.old.boundary self.old.pinned self.old.nodes q) positions.now p) ⊎ (e ≡ Error.Memory)) }
+        ensures answers { IfOk result (λ v. map Some v.items ≡ map
+            (kept_at F.shape self.old.boundary self.old.pinned self.old.nodes) positions.now) }
+        ensures why { IfErr result (λ e. ((p : ℕ) × (e ≡ Error.ElementPruned p) × IsFirstAbsent
+            (λ q a. a ≡ kept_at F.shape self.old.boundary self.old.pinned self.old.nodes q)
+            positions.now p) ⊎ (e ≡ Error.Memory)) }
         ensures same { self.new ≡ self.old }
     {
         look_up_all::<F, D>(alloc, self.boundary, &self.pinned, &self.nodes, positions)
@@ -73,8 +78,11 @@ fn look_up_all<F: Family, D: Digest>(
 ) -> Result<Vec<D>, Error<F>>
     requires few { boundary ≤ 2 ^ 62 }
     requires pins { length pinned.now ≡ length (F.shape.peaks boundary) }
-    ensures served { IfOk result (λ v. AllZip (λ p d. Some d ≡ kept_at F.shape boundary pinned.now nodes.now p) positions.now v.items) }
-    ensures why { IfErr result (λ e. ((p : ℕ) × (e ≡ Error.ElementPruned p) × IsFirstAbsent (λ q a. a ≡ kept_at F.shape boundary pinned.now nodes.now q) positions.now p) ⊎ (e ≡ Error.Memory)) }
+    ensures served { IfOk result (λ v. AllZip
+        (λ p d. Some d ≡ kept_at F.shape boundary pinned.now nodes.now p) positions.now v.items) }
+    ensures why { IfErr result (λ e. ((p : ℕ) × (e ≡ Error.ElementPruned p) × IsFirstAbsent
+        (λ q a. a ≡ kept_at F.shape boundary pinned.now nodes.now q) positions.now p)
+        ⊎ (e ≡ Error.Memory)) }
 {
     let mut digests = Vec::with_capacity(alloc, positions.len())?;
     for position in positions {

@@ -55,7 +55,10 @@ pub(crate) fn ascend<L: Located>(items: &[L], leaves: u64) -> bool
 /// Of items whose locations ascend, those below a location and the others.
 pub(crate) fn split<L: Located>(items: &[L], middle: u64) -> (&[L], &[L])
     ensures whole { items.now ≡ result.0.now ++ result.1.now }
-    ensures parts { (first end : ℕ) → Ascend first end (map L.place items.now) → middle ≤ end → Ascend first middle (map L.place result.0.now) × Ascend middle end (map L.place result.1.now) }
+    ensures parts { (first end : ℕ) → Ascend first end (map L.place items.now)
+        → middle ≤ end
+        → Ascend first middle (map L.place result.0.now)
+        × Ascend middle end (map L.place result.1.now) }
 {
     items.split_at(items.partition_point(|item| item.location() < middle))
 }
@@ -68,7 +71,8 @@ pub(crate) fn needed<F: Family, L: Located>(
 ) -> Result<Vec<Position<F>>, AllocError>
     requires few { leaves ≤ 2 ^ 62 }
     requires rising { Ascend 0 leaves (map L.place items.now) }
-    ensures { IfOk result (λ v. v.items ≡ map (position_of (ungrafted F.shape)) (needed_sites (ungrafted F.shape) (map L.place items.now) leaves)) }
+    ensures { IfOk result (λ v. v.items ≡ map (position_of (ungrafted F.shape))
+        (needed_sites (ungrafted F.shape) (map L.place items.now) leaves)) }
 {
     let mut positions = Vec::new(alloc);
     add_in_peaks(0, leaves, items, &mut positions)?;
@@ -86,7 +90,9 @@ fn add_in_peaks<F: Family, L: Located>(
     requires few { first + left ≤ 2 ^ 62 }
     requires aligned { AreAligned (F.shape.peaks left) first }
     requires rising { Ascend first (first + left) (map L.place items.now) }
-    ensures { OnOk result (positions.new.items ≡ positions.old.items ++ map (position_of (ungrafted F.shape)) (sites_in (ungrafted F.shape) (untouched (map L.place items.now)) (peaks_from F.shape first left))) }
+    ensures { OnOk result (positions.new.items
+        ≡ positions.old.items ++ map (position_of (ungrafted F.shape)) (sites_in (ungrafted F.shape)
+        (untouched (map L.place items.now)) (peaks_from F.shape first left))) }
 {
     if left == 0 {
         return Ok(());
@@ -109,7 +115,9 @@ fn add_under<F: Family, L: Located>(
     requires small { height ≤ 62 }
     requires within { first + 2 ^ height ≤ 2 ^ 62 }
     requires rising { Ascend first (first + 2 ^ height) (map L.place items.now) }
-    ensures { OnOk result (positions.new.items ≡ positions.old.items ++ map (position_of (ungrafted F.shape)) (sites_of (node_calc (ungrafted F.shape) (untouched (map L.place items.now)) height first))) }
+    ensures { OnOk result (positions.new.items
+        ≡ positions.old.items ++ map (position_of (ungrafted F.shape)) (sites_of
+        (node_calc (ungrafted F.shape) (untouched (map L.place items.now)) height first))) }
 {
     if items.is_empty() {
         positions.push(node_position(first, height))?;

@@ -42,7 +42,8 @@ impl<F: Family, D: Digest> Nodes<'_, F, D> {
         requires aligned { first % 2 ^ height ≡ 0 }
         requires within { first + 2 ^ height ≤ 2 ^ 62 }
         requires among { IsAmong self.now.positions.now (F.shape.position first height) }
-        ensures { StandsAt self.now.positions.now self.now.digests.now (F.shape.position first height) result }
+        ensures { StandsAt self.now.positions.now self.now.digests.now
+            (F.shape.position first height) result }
     {
         self.digest(node_position(first, height))
     }
@@ -51,7 +52,8 @@ impl<F: Family, D: Digest> Nodes<'_, F, D> {
     pub fn add_all(&self, positions: &[Position<F>], digests: &mut Vec<D>) -> Result<(), AllocError>
         requires order { AreInOrder self.now.positions.now self.now.digests.now }
         requires among { AreAmong self.now.positions.now positions.now }
-        ensures { OnOk result ((added : List D) × (digests.new.items ≡ digests.old.items ++ added) × AllZip (StandsAt self.now.positions.now self.now.digests.now) positions.now added) }
+        ensures { OnOk result ((added : List D) × (digests.new.items ≡ digests.old.items ++ added)
+            × AllZip (StandsAt self.now.positions.now self.now.digests.now) positions.now added) }
     {
         for position in positions {
             digests.push(self.digest(*position))?;
@@ -72,8 +74,14 @@ impl<F: Family, D: Digest> Nodes<'_, F, D> {
         requires some { start < end }
         requires few { peaks.first + peaks.left ≤ 2 ^ 62 }
         requires peaks { ArePeaks F.shape (peaks.first + peaks.left) peaks.first peaks.left }
-        requires planned { ArePlannedApart F.shape start end self.now.positions.now (peaks_from F.shape peaks.first peaks.left) }
-        ensures { let xs = take peaks.folded (peaks_from F.shape peaks.first peaks.left) in let ys = drop peaks.folded (peaks_from F.shape peaks.first peaks.left) in OnOk result ((digest_of : ℕ → ℕ → List ℕ) → AreOf D.text F.shape self.now.positions.now self.now.digests.now digest_of → map D.text digests.new.items ≡ map D.text digests.old.items ++ map (site_digest start end xs ys H.hash_of digest_of) (tops start end xs ys (ungrafted F.shape))) }
+        requires planned { ArePlannedApart F.shape start end self.now.positions.now
+            (peaks_from F.shape peaks.first peaks.left) }
+        ensures { let xs = take peaks.folded (peaks_from F.shape peaks.first peaks.left) in
+            let ys = drop peaks.folded (peaks_from F.shape peaks.first peaks.left) in
+            OnOk result ((digest_of : ℕ → ℕ → List ℕ)
+            → AreOf D.text F.shape self.now.positions.now self.now.digests.now digest_of
+            → map D.text digests.new.items ≡ map D.text digests.old.items ++ map (site_digest start
+            end xs ys H.hash_of digest_of) (tops start end xs ys (ungrafted F.shape))) }
     {
         let (front, mut rest) = self.fold_leading(hasher, peaks, start);
         push_some(digests, front)?;
@@ -98,10 +106,15 @@ impl<F: Family, D: Digest> Nodes<'_, F, D> {
         requires order { AreInOrder self.now.positions.now self.now.digests.now }
         requires few { peaks.first + peaks.left ≤ 2 ^ 62 }
         requires peaks { ArePeaks F.shape (peaks.first + peaks.left) peaks.first peaks.left }
-        requires planned { ArePlannedAll F.shape self.now.positions.now (leading start (take peaks.folded (peaks_from F.shape peaks.first peaks.left))) }
-        ensures folded { (digest_of : ℕ → ℕ → List ℕ) → AreOf D.text F.shape self.now.positions.now self.now.digests.now digest_of → option_map D.text result.0 ≡ forward_of H.hash_of (peaks_by digest_of (leading start (take peaks.folded (peaks_from F.shape peaks.first peaks.left)))) }
+        requires planned { ArePlannedAll F.shape self.now.positions.now
+            (leading start (take peaks.folded (peaks_from F.shape peaks.first peaks.left))) }
+        ensures folded { (digest_of : ℕ → ℕ → List ℕ)
+            → AreOf D.text F.shape self.now.positions.now self.now.digests.now digest_of
+            → option_map D.text result.0 ≡ forward_of H.hash_of (peaks_by digest_of
+            (leading start (take peaks.folded (peaks_from F.shape peaks.first peaks.left)))) }
         ensures peaks { ArePeaks F.shape (peaks.first + peaks.left) result.1.first result.1.left }
-        ensures after { AreAfterLeading F.shape start peaks.first peaks.left peaks.folded result.1.first result.1.left result.1.folded }
+        ensures after { AreAfterLeading F.shape start peaks.first peaks.left peaks.folded
+            result.1.first result.1.left result.1.folded }
     {
         let mut folded = None;
         let mut rest = peaks;
@@ -121,8 +134,12 @@ impl<F: Family, D: Digest> Nodes<'_, F, D> {
         requires order { AreInOrder self.now.positions.now self.now.digests.now }
         requires few { first + left ≤ 2 ^ 62 }
         requires aligned { AreAligned (F.shape.peaks left) first }
-        requires planned { ArePlannedAll F.shape self.now.positions.now (peaks_from F.shape first left) }
-        ensures { (digest_of : ℕ → ℕ → List ℕ) → AreOf D.text F.shape self.now.positions.now self.now.digests.now digest_of → option_map D.text result ≡ folded_onto H.hash_of (peaks_by digest_of (peaks_from F.shape first left)) None }
+        requires planned { ArePlannedAll F.shape self.now.positions.now
+            (peaks_from F.shape first left) }
+        ensures { (digest_of : ℕ → ℕ → List ℕ)
+            → AreOf D.text F.shape self.now.positions.now self.now.digests.now digest_of
+            → option_map D.text result
+            ≡ folded_onto H.hash_of (peaks_by digest_of (peaks_from F.shape first left)) None }
     {
         if left == 0 {
             return None;
@@ -139,7 +156,8 @@ pub(crate) fn push_some<D: Digest>(
     digests: &mut Vec<D>,
     digest: Option<D>,
 ) -> Result<(), AllocError>
-    ensures { OnOk result (MatchOption digest (digests.new.items ≡ digests.old.items) (λ d. digests.new.items ≡ digests.old.items ++ d ∷ [])) }
+    ensures { OnOk result (MatchOption digest (digests.new.items ≡ digests.old.items) (λ d.
+        digests.new.items ≡ digests.old.items ++ d ∷ [])) }
 {
     if let Some(digest) = digest {
         digests.push(digest)?;

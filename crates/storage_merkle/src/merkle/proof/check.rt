@@ -5,11 +5,12 @@ ghost use Rattle.storage_merkle.specs.Checks.{IsRecomputed};
 ghost use Rattle.storage_merkle.specs.CheckSteps.{front_before, top_sites, given_values, IsGiven, Serves, Present, PresentIn, right_of, bag_onto, folded_before};
 ghost use Rattle.storage_merkle.specs.Extracted.{checked, checked_sites, digest_at, entries, nodes_in, nodes_under, overlapped, texts};
 ghost use Rattle.storage_merkle.specs.Hashers.{TakesTree};
+ghost use Rattle.storage_merkle.specs.Held.{lent_range_of};
 ghost use Rattle.storage_merkle.specs.Nodes.{IsNode};
 ghost use Rattle.storage_merkle.specs.Plans.{InTree, ArePeaks};
 ghost use Rattle.storage_merkle.specs.RangeProofs.{CountsFit, apart, sites_of};
 ghost use Rattle.storage_merkle.specs.Rests.{peaks_from};
-ghost use Rattle.storage_merkle.specs.Trees.{part, node_calc, ungrafted};
+ghost use Rattle.storage_merkle.specs.Trees.{part, node_calc, ungrafted, content_of};
 
 use crate::merkle::family::power;
 use crate::merkle::hasher::{Hasher, append, bagged_root, join};
@@ -32,9 +33,20 @@ pub(crate) fn recompute<F: Family, H: Hasher<F>, E: AsSlice<u8>>(
     found: &mut Found<F, H::Digest>,
 ) -> Result<Option<H::Digest>, NoMemory>
     requires { TakesTree (H.takes hasher.now) F.shape proof.now.leaves }
-    ensures root { (H.layout hasher.now).shape ≡ F.shape → IfOk result (λ root. IsRecomputed H.hash_of (H.layout hasher.now) (H.bagging hasher.now) (record { leaves = proof.now.leaves; inactive = proof.now.inactive_peaks; digests = map H.Digest.text proof.now.digests.now }) start (record { elements = map E.items elements.now; chunk = H.chunk hasher.now }) (option_map H.Digest.text root)) }
-    ensures fits { IfOk result (λ root. MatchOption root (Unit {0}) (λ _. CountsFit H.hash_of (ungrafted F.shape) (H.bagging hasher.now) (record { leaves = proof.now.leaves; inactive = proof.now.inactive_peaks; digests = map H.Digest.text proof.now.digests.now }) start (record { elements = map E.items elements.now; chunk = H.chunk hasher.now }))) }
-    ensures found { (H.layout hasher.now).shape ≡ F.shape → IfOk result (λ root. MatchOption root (Unit {0}) (λ _. option_map (λ v. texts H.Digest.text v.items) found.new ≡ option_map (λ v. texts H.Digest.text v.items ++ checked H.hash_of (H.layout hasher.now) (H.bagging hasher.now) (record { leaves = proof.now.leaves; inactive = proof.now.inactive_peaks; digests = map H.Digest.text proof.now.digests.now }) start (record { elements = map E.items elements.now; chunk = H.chunk hasher.now }) (checked_sites (H.layout hasher.now) proof.now.leaves start (start + length (map E.items elements.now)))) found.old)) }
+    ensures root { (H.layout hasher.now).shape ≡ F.shape
+        → IfOk result (λ root. IsRecomputed H.hash_of (H.layout hasher.now) (H.bagging hasher.now)
+        (lent_range_of H.Digest.text proof.now) start (content_of (map E.items elements.now)
+        (H.chunk hasher.now)) (option_map H.Digest.text root)) }
+    ensures fits { IfOk result (λ root. MatchOption root (Unit {0}) (λ _. CountsFit H.hash_of
+        (ungrafted F.shape) (H.bagging hasher.now) (lent_range_of H.Digest.text proof.now) start
+        (content_of (map E.items elements.now) (H.chunk hasher.now)))) }
+    ensures found { (H.layout hasher.now).shape ≡ F.shape
+        → IfOk result (λ root.
+        MatchOption root (Unit {0}) (λ _. option_map (λ v. texts H.Digest.text v.items) found.new
+        ≡ option_map (λ v. texts H.Digest.text v.items ++ checked H.hash_of (H.layout hasher.now)
+        (H.bagging hasher.now) (lent_range_of H.Digest.text proof.now) start (content_of
+        (map E.items elements.now) (H.chunk hasher.now)) (checked_sites (H.layout hasher.now)
+        proof.now.leaves start (start + length (map E.items elements.now)))) found.old)) }
 {
     let leaves = proof.leaves.as_u64();
     let start = start.as_u64();
@@ -76,7 +88,8 @@ fn count_apart<F: Family>(rest: Rest, start: u64, end: u64) -> usize
     requires few { rest.first + rest.left ≤ 2 ^ 62 }
     requires peaks { ArePeaks F.shape (rest.first + rest.left) rest.first rest.left }
     ensures few { result ≤ rest.left }
-    ensures exact { result ≡ length (top_sites start end (peaks_from F.shape rest.first rest.left) rest.folded) }
+    ensures exact { result
+        ≡ length (top_sites start end (peaks_from F.shape rest.first rest.left) rest.folded) }
 {
     let mut rest = rest;
     let mut count = 0;
@@ -114,12 +127,29 @@ impl<F: Family, D: Digest, E: AsSlice<u8>> Given<'_, F, D, E> {
         tops: &[D],
         found: &mut Found<F, D>,
     ) -> Result<Option<D>, AllocError>
-        requires given { IsGiven self.now.leaves self.now.start self.now.end self.now.elements.now self.now.siblings.now self.now.digests.now }
+        requires given { IsGiven self.now.leaves self.now.start self.now.end self.now.elements.now
+            self.now.siblings.now self.now.digests.now }
         requires peaks { ArePeaks F.shape self.now.leaves rest.first rest.left }
         requires takes { TakesTree (H.takes hasher.now) F.shape self.now.leaves }
-        requires present { PresentIn F.shape self.now.start self.now.end self.now.siblings.now (peaks_from F.shape rest.first rest.left) }
-        requires tops { length tops.now ≡ length (front_before rest.first ++ top_sites self.now.start self.now.end (peaks_from F.shape rest.first rest.left) rest.folded) }
-        ensures { (digest : Site → List ℕ) → (H.layout hasher.now).shape ≡ F.shape → Serves F.shape digest self.now.siblings.now (map D.text self.now.digests.now) → map D.text tops.now ≡ map digest (front_before rest.first ++ top_sites self.now.start self.now.end (peaks_from F.shape rest.first rest.left) rest.folded) → IfOk result (λ r. (option_map D.text r ≡ bag_onto H.hash_of (λ p. eval H.hash_of (given_values digest self.now.start (map E.items self.now.elements.now) (H.chunk hasher.now)) (part (H.layout hasher.now) (apart self.now.start self.now.end) p)) (digest back) self.now.end (folded_before (digest front) rest.first) (peaks_from F.shape rest.first rest.left) rest.folded) × (option_map (λ v. texts D.text v.items) found.new ≡ option_map (λ v. texts D.text v.items ++ entries (H.layout hasher.now) (digest_at H.hash_of (given_values digest self.now.start (map E.items self.now.elements.now) (H.chunk hasher.now)) (H.layout hasher.now) (apart self.now.start self.now.end)) (nodes_in (apart self.now.start self.now.end) (overlapped self.now.start self.now.end (peaks_from F.shape rest.first rest.left)))) found.old)) }
+        requires present { PresentIn F.shape self.now.start self.now.end self.now.siblings.now
+            (peaks_from F.shape rest.first rest.left) }
+        requires tops { length tops.now ≡ length (front_before rest.first ++ top_sites
+            self.now.start self.now.end (peaks_from F.shape rest.first rest.left) rest.folded) }
+        ensures { (digest : Site → List ℕ) → (H.layout hasher.now).shape ≡ F.shape
+            → Serves F.shape digest self.now.siblings.now (map D.text self.now.digests.now)
+            → map D.text tops.now ≡ map digest (front_before rest.first ++ top_sites self.now.start
+            self.now.end (peaks_from F.shape rest.first rest.left) rest.folded)
+            → IfOk result (λ r.
+            (option_map D.text r ≡ bag_onto H.hash_of (λ p. eval H.hash_of (given_values digest
+            self.now.start (map E.items self.now.elements.now) (H.chunk hasher.now)) (part
+            (H.layout hasher.now) (apart self.now.start self.now.end) p)) (digest back) self.now.end
+            (folded_before (digest front) rest.first) (peaks_from F.shape rest.first rest.left)
+            rest.folded) × (option_map (λ v. texts D.text v.items) found.new ≡ option_map
+            (λ v. texts D.text v.items ++ entries (H.layout hasher.now) (digest_at H.hash_of
+            (given_values digest self.now.start (map E.items self.now.elements.now)
+            (H.chunk hasher.now)) (H.layout hasher.now) (apart self.now.start self.now.end))
+            (nodes_in (apart self.now.start self.now.end) (overlapped self.now.start self.now.end
+            (peaks_from F.shape rest.first rest.left)))) found.old)) }
     {
         let mut rest = rest;
         let mut tops = tops;
@@ -150,12 +180,28 @@ impl<F: Family, D: Digest, E: AsSlice<u8>> Given<'_, F, D, E> {
         tops: &[D],
         found: &mut Found<F, D>,
     ) -> Result<Option<D>, AllocError>
-        requires given { IsGiven self.now.leaves self.now.start self.now.end self.now.elements.now self.now.siblings.now self.now.digests.now }
+        requires given { IsGiven self.now.leaves self.now.start self.now.end self.now.elements.now
+            self.now.siblings.now self.now.digests.now }
         requires peaks { ArePeaks F.shape self.now.leaves rest.first rest.left }
         requires takes { TakesTree (H.takes hasher.now) F.shape self.now.leaves }
-        requires present { PresentIn F.shape self.now.start self.now.end self.now.siblings.now (peaks_from F.shape rest.first rest.left) }
-        requires tops { length tops.now ≡ length (top_sites self.now.start self.now.end (peaks_from F.shape rest.first rest.left) 0) }
-        ensures { (digest : Site → List ℕ) → (H.layout hasher.now).shape ≡ F.shape → Serves F.shape digest self.now.siblings.now (map D.text self.now.digests.now) → map D.text tops.now ≡ map digest (top_sites self.now.start self.now.end (peaks_from F.shape rest.first rest.left) 0) → IfOk result (λ r. (option_map D.text r ≡ right_of H.hash_of (λ p. eval H.hash_of (given_values digest self.now.start (map E.items self.now.elements.now) (H.chunk hasher.now)) (part (H.layout hasher.now) (apart self.now.start self.now.end) p)) (digest back) self.now.end (peaks_from F.shape rest.first rest.left)) × (option_map (λ v. texts D.text v.items) found.new ≡ option_map (λ v. texts D.text v.items ++ entries (H.layout hasher.now) (digest_at H.hash_of (given_values digest self.now.start (map E.items self.now.elements.now) (H.chunk hasher.now)) (H.layout hasher.now) (apart self.now.start self.now.end)) (nodes_in (apart self.now.start self.now.end) (overlapped self.now.start self.now.end (peaks_from F.shape rest.first rest.left)))) found.old)) }
+        requires present { PresentIn F.shape self.now.start self.now.end self.now.siblings.now
+            (peaks_from F.shape rest.first rest.left) }
+        requires tops { length tops.now ≡ length
+            (top_sites self.now.start self.now.end (peaks_from F.shape rest.first rest.left) 0) }
+        ensures { (digest : Site → List ℕ) → (H.layout hasher.now).shape ≡ F.shape
+            → Serves F.shape digest self.now.siblings.now (map D.text self.now.digests.now)
+            → map D.text tops.now ≡ map digest
+            (top_sites self.now.start self.now.end (peaks_from F.shape rest.first rest.left) 0)
+            → IfOk result (λ r. (option_map D.text r ≡ right_of H.hash_of (λ p. eval H.hash_of
+            (given_values digest self.now.start (map E.items self.now.elements.now)
+            (H.chunk hasher.now)) (part (H.layout hasher.now) (apart self.now.start self.now.end)
+            p)) (digest back) self.now.end (peaks_from F.shape rest.first rest.left))
+            × (option_map (λ v. texts D.text v.items) found.new ≡ option_map
+            (λ v. texts D.text v.items ++ entries (H.layout hasher.now) (digest_at H.hash_of
+            (given_values digest self.now.start (map E.items self.now.elements.now)
+            (H.chunk hasher.now)) (H.layout hasher.now) (apart self.now.start self.now.end))
+            (nodes_in (apart self.now.start self.now.end) (overlapped self.now.start self.now.end
+            (peaks_from F.shape rest.first rest.left)))) found.old)) }
     {
         if rest.left == 0 {
             return Ok(None);
@@ -178,14 +224,32 @@ impl<F: Family, D: Digest, E: AsSlice<u8>> Given<'_, F, D, E> {
         tops: &'t [D],
         found: &mut Found<F, D>,
     ) -> Result<(D, &'t [D]), AllocError>
-        requires given { IsGiven self.now.leaves self.now.start self.now.end self.now.elements.now self.now.siblings.now self.now.digests.now }
+        requires given { IsGiven self.now.leaves self.now.start self.now.end self.now.elements.now
+            self.now.siblings.now self.now.digests.now }
         requires small { height ≤ 62 }
         requires within { InTree F.shape self.now.leaves first height }
         requires takes { TakesTree (H.takes hasher.now) F.shape self.now.leaves }
-        requires present { apart self.now.start self.now.end first height ≡ false → Present F.shape self.now.siblings.now (sites_of (node_calc (ungrafted F.shape) (apart self.now.start self.now.end) height first)) }
-        requires tops { apart self.now.start self.now.end first height ≡ true → 0 < length tops.now }
-        ensures left { IfOk result (λ r. r.1.now ≡ (if apart self.now.start self.now.end first height then drop 1 tops.now else tops.now)) }
-        ensures exact { (digest : Site → List ℕ) (later : List Site) → (H.layout hasher.now).shape ≡ F.shape → Serves F.shape digest self.now.siblings.now (map D.text self.now.digests.now) → (apart self.now.start self.now.end first height ≡ true → map D.text tops.now ≡ map digest (node first height ∷ later)) → IfOk result (λ r. (D.text r.0 ≡ eval H.hash_of (given_values digest self.now.start (map E.items self.now.elements.now) (H.chunk hasher.now)) (node_calc (H.layout hasher.now) (apart self.now.start self.now.end) height first)) × (option_map (λ v. texts D.text v.items) found.new ≡ option_map (λ v. texts D.text v.items ++ entries (H.layout hasher.now) (digest_at H.hash_of (given_values digest self.now.start (map E.items self.now.elements.now) (H.chunk hasher.now)) (H.layout hasher.now) (apart self.now.start self.now.end)) (if apart self.now.start self.now.end first height then [] else nodes_under (apart self.now.start self.now.end) height first)) found.old)) }
+        requires present { apart self.now.start self.now.end first height ≡ false
+            → Present F.shape self.now.siblings.now (sites_of
+            (node_calc (ungrafted F.shape) (apart self.now.start self.now.end) height first)) }
+        requires tops { apart self.now.start self.now.end first height ≡ true
+            → 0 < length tops.now }
+        ensures left { IfOk result (λ r. r.1.now ≡ (if apart self.now.start self.now.end first
+            height then drop 1 tops.now else tops.now)) }
+        ensures exact { (digest : Site → List ℕ) (later : List Site)
+            → (H.layout hasher.now).shape ≡ F.shape
+            → Serves F.shape digest self.now.siblings.now (map D.text self.now.digests.now)
+            → (apart self.now.start self.now.end first height ≡ true
+            → map D.text tops.now ≡ map digest (node first height ∷ later))
+            → IfOk result (λ r. (D.text r.0 ≡ eval H.hash_of (given_values digest self.now.start
+            (map E.items self.now.elements.now) (H.chunk hasher.now))
+            (node_calc (H.layout hasher.now) (apart self.now.start self.now.end) height first))
+            × (option_map (λ v. texts D.text v.items) found.new ≡ option_map
+            (λ v. texts D.text v.items ++ entries (H.layout hasher.now) (digest_at H.hash_of
+            (given_values digest self.now.start (map E.items self.now.elements.now)
+            (H.chunk hasher.now)) (H.layout hasher.now) (apart self.now.start self.now.end))
+            (if apart self.now.start self.now.end first height then []
+            else nodes_under (apart self.now.start self.now.end) height first)) found.old)) }
     {
         if is_apart(self.start, self.end, first, height) {
             Ok((tops[0], &tops[1..]))
@@ -202,12 +266,23 @@ impl<F: Family, D: Digest, E: AsSlice<u8>> Given<'_, F, D, E> {
         height: u32,
         found: &mut Found<F, D>,
     ) -> Result<D, AllocError>
-        requires given { IsGiven self.now.leaves self.now.start self.now.end self.now.elements.now self.now.siblings.now self.now.digests.now }
+        requires given { IsGiven self.now.leaves self.now.start self.now.end self.now.elements.now
+            self.now.siblings.now self.now.digests.now }
         requires small { height ≤ 62 }
         requires within { InTree F.shape self.now.leaves first height }
         requires takes { TakesTree (H.takes hasher.now) F.shape self.now.leaves }
-        requires present { Present F.shape self.now.siblings.now (sites_of (node_calc (ungrafted F.shape) (apart self.now.start self.now.end) height first)) }
-        ensures { (digest : Site → List ℕ) → (H.layout hasher.now).shape ≡ F.shape → Serves F.shape digest self.now.siblings.now (map D.text self.now.digests.now) → IfOk result (λ d. (D.text d ≡ eval H.hash_of (given_values digest self.now.start (map E.items self.now.elements.now) (H.chunk hasher.now)) (node_calc (H.layout hasher.now) (apart self.now.start self.now.end) height first)) × (option_map (λ v. texts D.text v.items) found.new ≡ option_map (λ v. texts D.text v.items ++ entries (H.layout hasher.now) (digest_at H.hash_of (given_values digest self.now.start (map E.items self.now.elements.now) (H.chunk hasher.now)) (H.layout hasher.now) (apart self.now.start self.now.end)) (nodes_under (apart self.now.start self.now.end) height first)) found.old)) }
+        requires present { Present F.shape self.now.siblings.now (sites_of
+            (node_calc (ungrafted F.shape) (apart self.now.start self.now.end) height first)) }
+        ensures { (digest : Site → List ℕ) → (H.layout hasher.now).shape ≡ F.shape
+            → Serves F.shape digest self.now.siblings.now (map D.text self.now.digests.now)
+            → IfOk result (λ d. (D.text d ≡ eval H.hash_of (given_values digest self.now.start
+            (map E.items self.now.elements.now) (H.chunk hasher.now))
+            (node_calc (H.layout hasher.now) (apart self.now.start self.now.end) height first))
+            × (option_map (λ v. texts D.text v.items) found.new ≡ option_map
+            (λ v. texts D.text v.items ++ entries (H.layout hasher.now) (digest_at H.hash_of
+            (given_values digest self.now.start (map E.items self.now.elements.now)
+            (H.chunk hasher.now)) (H.layout hasher.now) (apart self.now.start self.now.end))
+            (nodes_under (apart self.now.start self.now.end) height first)) found.old)) }
     {
         let position = node_position(first, height);
         if is_apart(self.start, self.end, first, height) {
@@ -225,9 +300,13 @@ impl<F: Family, D: Digest, E: AsSlice<u8>> Given<'_, F, D, E> {
 
     /// The digest of the sibling at a position.
     fn sibling(&self, position: Position<F>) -> D
-        requires given { IsGiven self.now.leaves self.now.start self.now.end self.now.elements.now self.now.siblings.now self.now.digests.now }
+        requires given { IsGiven self.now.leaves self.now.start self.now.end self.now.elements.now
+            self.now.siblings.now self.now.digests.now }
         requires present { Contains self.now.siblings.now position }
-        ensures { (digest : Site → List ℕ) (first height : ℕ) → Serves F.shape digest self.now.siblings.now (map D.text self.now.digests.now) → IsNode F.shape position first height → D.text result ≡ digest (node first height) }
+        ensures { (digest : Site → List ℕ) (first height : ℕ)
+            → Serves F.shape digest self.now.siblings.now (map D.text self.now.digests.now)
+            → IsNode F.shape position first height
+            → D.text result ≡ digest (node first height) }
     {
         let index = self.siblings.binary_search(&position).unwrap();
         self.digests[index]

@@ -2,6 +2,7 @@
 ghost use Rattle.std.specs.Prelude.{◌≡◌, ℕ, ◌+◌, ◌*◌, ◌++◌, ◌^◌, ◌<◌, ◌≤◌, List, length, map, OnOk, OnErr};
 ghost use Rattle.storage_codec.specs.Codec.{Gives};
 ghost use Rattle.storage_codec.specs.Parts.{AppendsStart, IsEnding, size_of};
+ghost use Rattle.storage_merkle.specs.Held.{range_of};
 ghost use Rattle.storage_merkle.specs.RangeProofs.{RangeProof};
 ghost use Rattle.storage_merkle.specs.ProofWire.{joined_text, digests_at, proof_text, proof_at, IsAdmitted};
 ghost use Rattle.storage_merkle.specs.ProofWireLaws.{all_digests, proof_again};
@@ -13,7 +14,7 @@ use storage_codec::codec::{Buf, Codec, EncodeSize, Error, Read, UInt, Write, sma
 use storage_codec::digest::Digest;
 
 impl<F, D: Digest> Write for Proof<F, D> {
-    ghost text = { λ p. proof_text (record { leaves = p.leaves; inactive = p.inactive_peaks; digests = map D.text p.digests.items }) };
+    ghost text = { λ p. proof_text (range_of D.text p) };
 
     #[tactic(auto, using(storage_codec::specs::PartsLaws::starts_then, storage_codec::specs::PartsLaws::starts_first))]
     fn write(&self, out: &mut Vec<u8>) -> Result<(), NoMemory> {
@@ -26,8 +27,10 @@ impl<F, D: Digest> Write for Proof<F, D> {
 
 /// Writes digests one after another.
 fn write_digests<D: Digest>(digests: &[D], out: &mut Vec<u8>) -> Result<(), NoMemory>
-    ensures ok { OnOk result (out.new.items ≡ out.old.items ++ joined_text (map D.text digests.now)) }
-    ensures err { OnErr result (AppendsStart out.old.items out.new.items (joined_text (map D.text digests.now))) }
+    ensures ok { OnOk result
+        (out.new.items ≡ out.old.items ++ joined_text (map D.text digests.now)) }
+    ensures err { OnErr result
+        (AppendsStart out.old.items out.new.items (joined_text (map D.text digests.now))) }
 {
     let mut left = digests;
     while let Some((digest, rest)) = left.split_first() {
@@ -67,9 +70,9 @@ impl<F, D: Digest> Read for Proof<F, D> {
 
     ghost View = { RangeProof };
 
-    ghost view = { λ p. record { leaves = p.leaves; inactive = p.inactive_peaks; digests = map D.text p.digests.items } };
+    ghost view = { λ p. range_of D.text p };
 
-    ghost admits = { λ most p. IsAdmitted most (record { leaves = p.leaves; inactive = p.inactive_peaks; digests = map D.text p.digests.items }) };
+    ghost admits = { λ most p. IsAdmitted most (range_of D.text p) };
 
     ghost parse = { λ most. proof_at D.size most };
 
@@ -96,12 +99,14 @@ impl<F, D: Digest> Read for Proof<F, D> {
 }
 
 impl<F, D: Digest> Codec for Proof<F, D> {
-    ghost again = { λ most p rest ok. proof_again D.size most _ rest (all_digests D.text D.size D.sized p.digests.items) ok };
+    ghost again = { λ most p rest ok.
+        proof_again D.size most _ rest (all_digests D.text D.size D.sized p.digests.items) ok };
 }
 
 /// Reads so many digests.
 fn read_digests<D: Digest, B: Buf>(alloc: Global, buf: &mut B, count: u64) -> Result<Vec<D>, Error>
-    ensures gives { Gives (λ v. map D.text v.items) result (B.unread buf.new) (digests_at D.size count (B.unread buf.old)) }
+    ensures gives { Gives (λ v. map D.text v.items) result (B.unread buf.new)
+        (digests_at D.size count (B.unread buf.old)) }
     ensures ends { IsEnding (B.unread buf.old) (B.unread buf.new) }
 {
     let mut digests = Vec::new(alloc);

@@ -3,8 +3,9 @@ ghost use Rattle.std.specs.Prelude.{◌≡◌, ◌≢◌, ◌+◌, ◌⊎◌, []
 ghost use Rattle.storage_merkle.specs.Checks.{IsRecomputed};
 ghost use Rattle.storage_merkle.specs.Extracted.{AreHandedOut, Fits, extracted, texts};
 ghost use Rattle.storage_merkle.specs.Hashers.{TakesTree};
+ghost use Rattle.storage_merkle.specs.Held.{range_of};
 ghost use Rattle.storage_merkle.specs.RangeProofs.{IsAccepted, IsEmptyProof};
-ghost use Rattle.storage_merkle.specs.Trees.{Content, empty_root};
+ghost use Rattle.storage_merkle.specs.Trees.{Content, empty_root, content_of};
 
 use crate::merkle::hasher::Hasher;
 use crate::merkle::proof::check;
@@ -31,8 +32,21 @@ impl<F: Family, D: Digest> Proof<F, D> {
         root: &D,
     ) -> Result<Vec<(Position<F>, D)>, Error<F>>
         requires { TakesTree (H.takes hasher.now) F.shape self.now.leaves }
-        ensures handed { (H.layout hasher.now).shape ≡ F.shape → IfOk result (λ v. AreHandedOut D.size H.hash_of (H.layout hasher.now) (H.bagging hasher.now) (record { leaves = self.now.leaves; inactive = self.now.inactive_peaks; digests = map D.text self.now.digests.items }) start (record { elements = map E.items elements.now; chunk = H.chunk hasher.now }) (D.text root.now) (texts D.text v.items)) }
-        ensures why { IfErr result (λ e. (e ≡ Error.Memory) ⊎ (((e ≡ Error.InvalidProof) × ((H.layout hasher.now).shape ≡ F.shape → Fits H.hash_of (H.layout hasher.now) (H.bagging hasher.now) (record { leaves = self.now.leaves; inactive = self.now.inactive_peaks; digests = map D.text self.now.digests.items }) start (record { elements = map E.items elements.now; chunk = H.chunk hasher.now }) → ⊥)) ⊎ ((e ≡ Error.RootMismatch) × ((H.layout hasher.now).shape ≡ F.shape → Fits H.hash_of (H.layout hasher.now) (H.bagging hasher.now) (record { leaves = self.now.leaves; inactive = self.now.inactive_peaks; digests = map D.text self.now.digests.items }) start (record { elements = map E.items elements.now; chunk = H.chunk hasher.now }) × (IsAccepted H.hash_of (H.layout hasher.now) (H.bagging hasher.now) (record { leaves = self.now.leaves; inactive = self.now.inactive_peaks; digests = map D.text self.now.digests.items }) start (record { elements = map E.items elements.now; chunk = H.chunk hasher.now }) (D.text root.now) → ⊥))))) }
+        ensures handed { (H.layout hasher.now).shape ≡ F.shape
+            → IfOk result (λ v.
+            AreHandedOut D.size H.hash_of (H.layout hasher.now) (H.bagging hasher.now)
+            (range_of D.text self.now) start (content_of (map E.items elements.now)
+            (H.chunk hasher.now)) (D.text root.now) (texts D.text v.items)) }
+        ensures why { IfErr result (λ e.
+            (e ≡ Error.Memory) ⊎ (((e ≡ Error.InvalidProof) × ((H.layout hasher.now).shape ≡ F.shape
+            → Fits H.hash_of (H.layout hasher.now) (H.bagging hasher.now) (range_of D.text self.now)
+            start (content_of (map E.items elements.now) (H.chunk hasher.now)) → ⊥))
+            ⊎ ((e ≡ Error.RootMismatch) × ((H.layout hasher.now).shape ≡ F.shape
+            → Fits H.hash_of (H.layout hasher.now) (H.bagging hasher.now) (range_of D.text self.now)
+            start (content_of (map E.items elements.now) (H.chunk hasher.now))
+            × (IsAccepted H.hash_of (H.layout hasher.now) (H.bagging hasher.now)
+            (range_of D.text self.now) start (content_of (map E.items elements.now)
+            (H.chunk hasher.now)) (D.text root.now) → ⊥))))) }
     {
         if elements.is_empty() {
             return match self.extract_nothing(hasher, start, root) {
@@ -61,8 +75,14 @@ impl<F: Family, D: Digest> Proof<F, D> {
         start: Location<F>,
     ) -> Result<Option<(D, Vec<(Position<F>, D)>)>, NoMemory>
         requires { TakesTree (H.takes hasher.now) F.shape self.now.leaves }
-        ensures root { (H.layout hasher.now).shape ≡ F.shape → IfOk result (λ r. IsRecomputed H.hash_of (H.layout hasher.now) (H.bagging hasher.now) (record { leaves = self.now.leaves; inactive = self.now.inactive_peaks; digests = map D.text self.now.digests.items }) start (record { elements = map E.items elements.now; chunk = H.chunk hasher.now }) (option_map (λ p. D.text p.0) r)) }
-        ensures digests { (H.layout hasher.now).shape ≡ F.shape → IfOk result (λ r. MatchOption r (Unit {0}) (λ p. texts D.text p.1.items ≡ extracted H.hash_of (H.layout hasher.now) (H.bagging hasher.now) (record { leaves = self.now.leaves; inactive = self.now.inactive_peaks; digests = map D.text self.now.digests.items }) start (record { elements = map E.items elements.now; chunk = H.chunk hasher.now }))) }
+        ensures root { (H.layout hasher.now).shape ≡ F.shape
+            → IfOk result (λ r. IsRecomputed H.hash_of (H.layout hasher.now) (H.bagging hasher.now)
+            (range_of D.text self.now) start (content_of (map E.items elements.now)
+            (H.chunk hasher.now)) (option_map (λ p. D.text p.0) r)) }
+        ensures digests { (H.layout hasher.now).shape ≡ F.shape
+            → IfOk result (λ r. MatchOption r (Unit {0}) (λ p. texts D.text p.1.items ≡ extracted
+            H.hash_of (H.layout hasher.now) (H.bagging hasher.now) (range_of D.text self.now) start
+            (content_of (map E.items elements.now) (H.chunk hasher.now)))) }
     {
         let mut found = Some(Vec::new(alloc));
         let root = check::recompute(&self.lent(), alloc, hasher, elements, start, &mut found)?;
@@ -84,7 +104,15 @@ impl<F: Family, D: Digest> Proof<F, D> {
         start: Location<F>,
         root: &D,
     ) -> Result<(), Error<F>>
-        ensures { (claim : Content) → claim.elements ≡ [] → MatchResult result (λ _. IsEmptyProof H.hash_of (H.layout hasher.now) (H.bagging hasher.now) (record { leaves = self.now.leaves; inactive = self.now.inactive_peaks; digests = map D.text self.now.digests.items }) start claim × (empty_root H.hash_of (H.layout hasher.now) (H.bagging hasher.now) ≡ D.text root.now)) (λ e. ((e ≡ Error.InvalidProof) × (IsEmptyProof H.hash_of (H.layout hasher.now) (H.bagging hasher.now) (record { leaves = self.now.leaves; inactive = self.now.inactive_peaks; digests = map D.text self.now.digests.items }) start claim → ⊥)) ⊎ ((e ≡ Error.RootMismatch) × IsEmptyProof H.hash_of (H.layout hasher.now) (H.bagging hasher.now) (record { leaves = self.now.leaves; inactive = self.now.inactive_peaks; digests = map D.text self.now.digests.items }) start claim × (empty_root H.hash_of (H.layout hasher.now) (H.bagging hasher.now) ≢ D.text root.now))) }
+        ensures { (claim : Content) → claim.elements ≡ []
+            → MatchResult result (λ _. IsEmptyProof H.hash_of (H.layout hasher.now)
+            (H.bagging hasher.now) (range_of D.text self.now) start claim
+            × (empty_root H.hash_of (H.layout hasher.now) (H.bagging hasher.now) ≡ D.text root.now))
+            (λ e. ((e ≡ Error.InvalidProof) × (IsEmptyProof H.hash_of (H.layout hasher.now)
+            (H.bagging hasher.now) (range_of D.text self.now) start claim → ⊥))
+            ⊎ ((e ≡ Error.RootMismatch) × IsEmptyProof H.hash_of (H.layout hasher.now)
+            (H.bagging hasher.now) (range_of D.text self.now) start claim × (empty_root H.hash_of
+            (H.layout hasher.now) (H.bagging hasher.now) ≢ D.text root.now))) }
     {
         if start.as_u64() != 0 || !self.is_default() {
             return Err(Error::InvalidProof);

@@ -16,7 +16,8 @@ pub(crate) fn keep<F: Family, D: Digest>(
     digest: D,
 ) -> Result<D, AllocError>
     ensures same { IfOk result (λ d. d ≡ digest) }
-    ensures kept { IfOk result (λ d. option_map (λ v. texts D.text v.items) found.new ≡ option_map (λ v. texts D.text v.items ++ (position, D.text digest) ∷ []) found.old) }
+    ensures kept { IfOk result (λ d. option_map (λ v. texts D.text v.items) found.new
+        ≡ option_map (λ v. texts D.text v.items ++ (position, D.text digest) ∷ []) found.old) }
 {
     if let Some(kept) = found {
         kept.push((position, digest))?;

@@ -2,6 +2,8 @@
 ghost use Rattle.std.specs.Prelude.{◌≡◌, ℕ, ◌≤◌, map, option_map, IfOk};
 ghost use Rattle.storage_merkle.specs.Checks.{IsRecomputed};
 ghost use Rattle.storage_merkle.specs.Hashers.{TakesTree};
+ghost use Rattle.storage_merkle.specs.Held.{lent_range_of};
+ghost use Rattle.storage_merkle.specs.Trees.{content_of};
 
 use crate::merkle::hasher::Hasher;
 use crate::merkle::proof::check;
@@ -34,7 +36,10 @@ impl<F: Family, D: Digest> LentProof<'_, F, D> {
         start: Location<F>,
     ) -> Result<Option<D>, NoMemory>
         requires { TakesTree (H.takes hasher.now) F.shape self.now.leaves }
-        ensures { (H.layout hasher.now).shape ≡ F.shape → IfOk result (λ root. IsRecomputed H.hash_of (H.layout hasher.now) (H.bagging hasher.now) (record { leaves = self.now.leaves; inactive = self.now.inactive_peaks; digests = map D.text self.now.digests.now }) start (record { elements = map E.items elements.now; chunk = H.chunk hasher.now }) (option_map D.text root)) }
+        ensures { (H.layout hasher.now).shape ≡ F.shape
+            → IfOk result (λ root. IsRecomputed H.hash_of (H.layout hasher.now)
+            (H.bagging hasher.now) (lent_range_of D.text self.now) start
+            (content_of (map E.items elements.now) (H.chunk hasher.now)) (option_map D.text root)) }
     {
         check::recompute(self, alloc, hasher, elements, start, &mut None)
     }

@@ -3,6 +3,7 @@ ghost use Rattle.std.specs.Prelude.{◌≡◌, ◌≢◌, ℕ, ◌+◌, ◌-◌,
 ghost use Rattle.storage_merkle.specs.CheckSteps.{top_sites};
 ghost use Rattle.storage_merkle.specs.Calc.{Site, node};
 ghost use Rattle.storage_merkle.specs.Hashers.{TakesTree, forward_of};
+ghost use Rattle.storage_merkle.specs.Held.{range_of};
 ghost use Rattle.storage_merkle.specs.Pinned.{IsPinnedAccepted, IsPinnedProved, Match};
 ghost use Rattle.storage_merkle.specs.PinnedSteps.{AgreesWith, ArePinned, AreNodesAt, as_list, digest_before, is_pinned, pinned_digest};
 ghost use Rattle.storage_merkle.specs.PlanParts.{peaks_by};
@@ -10,7 +11,7 @@ ghost use Rattle.storage_merkle.specs.Plans.{ArePeaks, InTree};
 ghost use Rattle.storage_merkle.specs.RangeProofs.{CountsFit, leading};
 ghost use Rattle.storage_merkle.specs.Rests.{AreAfterLeading, peaks_from};
 ghost use Rattle.storage_merkle.specs.Shape.{size};
-ghost use Rattle.storage_merkle.specs.Trees.{ungrafted};
+ghost use Rattle.storage_merkle.specs.Trees.{ungrafted, content_of};
 
 use crate::merkle::family::{node_at, power};
 use crate::merkle::hasher::{Hasher, append};
@@ -34,8 +35,16 @@ impl<F: Family, D: Digest> Proof<F, D> {
         root: &D,
     ) -> Result<bool, NoMemory>
         requires { TakesTree (H.takes hasher.now) F.shape self.now.leaves }
-        ensures exact { (H.layout hasher.now).shape ≡ F.shape → IfOk result (λ yes. IsTrue yes ↔ IsPinnedAccepted H.hash_of (H.layout hasher.now) (H.bagging hasher.now) (record { leaves = self.now.leaves; inactive = self.now.inactive_peaks; digests = map D.text self.now.digests.items }) start (record { elements = map E.items elements.now; chunk = H.chunk hasher.now }) (map D.text pinned.now) (D.text root.now)) }
-        ensures means { H.layout hasher.now ≡ ungrafted F.shape → H.chunk hasher.now ≡ (λ a. []) → IfOk result (λ yes. IsTrue yes → IsPinnedProved H.hash_of F.shape (H.bagging hasher.now) (record { leaves = self.now.leaves; inactive = self.now.inactive_peaks; digests = map D.text self.now.digests.items }) start (map E.items elements.now) (map D.text pinned.now) (D.text root.now)) }
+        ensures exact { (H.layout hasher.now).shape ≡ F.shape
+            → IfOk result (λ yes.
+            IsTrue yes ↔ IsPinnedAccepted H.hash_of (H.layout hasher.now) (H.bagging hasher.now)
+            (range_of D.text self.now) start (content_of (map E.items elements.now)
+            (H.chunk hasher.now)) (map D.text pinned.now) (D.text root.now)) }
+        ensures means { H.layout hasher.now ≡ ungrafted F.shape
+            → H.chunk hasher.now ≡ (λ a. [])
+            → IfOk result (λ yes. IsTrue yes
+            → IsPinnedProved H.hash_of F.shape (H.bagging hasher.now) (range_of D.text self.now)
+            start (map E.items elements.now) (map D.text pinned.now) (D.text root.now)) }
         ensures none { elements.now ≡ [] → IsOk result }
     {
         if !self.verify_range_inclusion(alloc, hasher, elements, start, root)? {
@@ -58,7 +67,13 @@ impl<F: Family, D: Digest> Proof<F, D> {
         pinned: &[D],
     ) -> Result<bool, NoMemory>
         requires { TakesTree (H.takes hasher.now) F.shape self.now.leaves }
-        ensures { (elements : List (List ℕ)) → (H.layout hasher.now).shape ≡ F.shape → length elements ≡ count → CountsFit H.hash_of (H.layout hasher.now) (H.bagging hasher.now) (record { leaves = self.now.leaves; inactive = self.now.inactive_peaks; digests = map D.text self.now.digests.items }) start (record { elements = elements; chunk = H.chunk hasher.now }) → IfOk result (λ yes. IsTrue yes ↔ AgreesWith H.hash_of (H.layout hasher.now) (H.bagging hasher.now) (record { leaves = self.now.leaves; inactive = self.now.inactive_peaks; digests = map D.text self.now.digests.items }) start (record { elements = elements; chunk = H.chunk hasher.now }) (map D.text pinned.now)) }
+        ensures { (elements : List (List ℕ)) → (H.layout hasher.now).shape ≡ F.shape
+            → length elements ≡ count
+            → CountsFit H.hash_of (H.layout hasher.now) (H.bagging hasher.now)
+            (range_of D.text self.now) start (content_of elements (H.chunk hasher.now))
+            → IfOk result (λ yes. IsTrue yes ↔ AgreesWith H.hash_of (H.layout hasher.now)
+            (H.bagging hasher.now) (range_of D.text self.now) start
+            (content_of elements (H.chunk hasher.now)) (map D.text pinned.now)) }
     {
         let leaves = self.leaves.as_u64();
         let start = start.as_u64();
@@ -89,7 +104,9 @@ impl<F: Family, D: Digest> Proof<F, D> {
 
 /// The digests after a fold, if there is one, which must be the first of them; none where another is.
 fn after_fold<D: Digest>(fold: Option<D>, digests: &[D]) -> Option<&[D]>
-    ensures { MatchOption result ((ds : List (List ℕ)) → map D.text digests.now ≢ as_list (option_map D.text fold) ++ ds) (λ later. map D.text digests.now ≡ as_list (option_map D.text fold) ++ map D.text later.now) }
+    ensures { MatchOption result ((ds : List (List ℕ))
+        → map D.text digests.now ≢ as_list (option_map D.text fold) ++ ds) (λ later.
+        map D.text digests.now ≡ as_list (option_map D.text fold) ++ map D.text later.now) }
 {
     let Some(fold) = fold else {
         return Some(digests);
@@ -118,9 +135,14 @@ impl<D: Digest> Pinned<'_, D> {
         requires pinned { ArePinned F.shape self.now.leaves self.now.start self.now.digests.now }
         requires takes { TakesTree (H.takes hasher.now) F.shape self.now.leaves }
         requires peaks { ArePeaks F.shape self.now.leaves peaks.first peaks.left }
-        ensures folded { (H.layout hasher.now).shape ≡ F.shape → option_map D.text result.0 ≡ forward_of H.hash_of (peaks_by (digest_before H.hash_of (H.layout hasher.now) self.now.start (map D.text self.now.digests.now) (H.chunk hasher.now)) (leading self.now.start (take peaks.folded (peaks_from F.shape peaks.first peaks.left)))) }
+        ensures folded { (H.layout hasher.now).shape ≡ F.shape
+            → option_map D.text result.0 ≡ forward_of H.hash_of
+            (peaks_by (digest_before H.hash_of (H.layout hasher.now) self.now.start
+            (map D.text self.now.digests.now) (H.chunk hasher.now)) (leading self.now.start
+            (take peaks.folded (peaks_from F.shape peaks.first peaks.left)))) }
         ensures peaks { ArePeaks F.shape self.now.leaves result.1.first result.1.left }
-        ensures after { AreAfterLeading F.shape self.now.start peaks.first peaks.left peaks.folded result.1.first result.1.left result.1.folded }
+        ensures after { AreAfterLeading F.shape self.now.start peaks.first peaks.left peaks.folded
+            result.1.first result.1.left result.1.folded }
     {
         let mut folded = None;
         let mut rest = peaks;
@@ -146,7 +168,15 @@ impl<D: Digest> Pinned<'_, D> {
         requires pinned { ArePinned F.shape self.now.leaves self.now.start self.now.digests.now }
         requires takes { TakesTree (H.takes hasher.now) F.shape self.now.leaves }
         requires peaks { ArePeaks F.shape self.now.leaves rest.first rest.left }
-        ensures { (end : ℕ) (digest recomputed : Site → List ℕ) → (H.layout hasher.now).shape ≡ F.shape → self.now.start < end → ((a k : ℕ) → recomputed (node a k) ≡ digest_before H.hash_of (H.layout hasher.now) self.now.start (map D.text self.now.digests.now) (H.chunk hasher.now) a k) → map D.text digests.now ≡ map digest (top_sites self.now.start end (peaks_from F.shape rest.first rest.left) rest.folded) → IsTrue result ↔ Match self.now.start digest recomputed (top_sites self.now.start end (peaks_from F.shape rest.first rest.left) rest.folded) }
+        ensures { (end : ℕ) (digest recomputed : Site → List ℕ)
+            → (H.layout hasher.now).shape ≡ F.shape
+            → self.now.start < end
+            → ((a k : ℕ) → recomputed (node a k) ≡ digest_before H.hash_of (H.layout hasher.now)
+            self.now.start (map D.text self.now.digests.now) (H.chunk hasher.now) a k)
+            → map D.text digests.now ≡ map digest
+            (top_sites self.now.start end (peaks_from F.shape rest.first rest.left) rest.folded)
+            → IsTrue result ↔ Match self.now.start digest recomputed
+            (top_sites self.now.start end (peaks_from F.shape rest.first rest.left) rest.folded) }
     {
         if rest.left == 0 {
             return true;
@@ -173,7 +203,13 @@ impl<D: Digest> Pinned<'_, D> {
         requires pinned { ArePinned F.shape self.now.leaves self.now.start self.now.digests.now }
         requires takes { TakesTree (H.takes hasher.now) F.shape self.now.leaves }
         requires within { All (λ p. p < size F.shape self.now.leaves) positions.now }
-        ensures { (ss : List Site) (digest recomputed : Site → List ℕ) → (H.layout hasher.now).shape ≡ F.shape → AreNodesAt F.shape self.now.leaves positions.now ss → ((a k : ℕ) → recomputed (node a k) ≡ digest_before H.hash_of (H.layout hasher.now) self.now.start (map D.text self.now.digests.now) (H.chunk hasher.now) a k) → map D.text digests.now ≡ map digest ss → IsTrue result ↔ Match self.now.start digest recomputed ss }
+        ensures { (ss : List Site) (digest recomputed : Site → List ℕ)
+            → (H.layout hasher.now).shape ≡ F.shape
+            → AreNodesAt F.shape self.now.leaves positions.now ss
+            → ((a k : ℕ) → recomputed (node a k) ≡ digest_before H.hash_of (H.layout hasher.now)
+            self.now.start (map D.text self.now.digests.now) (H.chunk hasher.now) a k)
+            → map D.text digests.now ≡ map digest ss
+            → IsTrue result ↔ Match self.now.start digest recomputed ss }
     {
         for (position, digest) in positions.iter().zip(digests) {
             let (first, height) = node_at::<F>(position.as_u64());
@@ -191,7 +227,9 @@ impl<D: Digest> Pinned<'_, D> {
         requires takes { TakesTree (H.takes hasher.now) F.shape self.now.leaves }
         requires small { height ≤ 62 }
         requires within { InTree F.shape self.now.leaves first height }
-        ensures { (H.layout hasher.now).shape ≡ F.shape → D.text result ≡ digest_before H.hash_of (H.layout hasher.now) self.now.start (map D.text self.now.digests.now) (H.chunk hasher.now) first height }
+        ensures { (H.layout hasher.now).shape ≡ F.shape
+            → D.text result ≡ digest_before H.hash_of (H.layout hasher.now) self.now.start
+            (map D.text self.now.digests.now) (H.chunk hasher.now) first height }
     {
         if let Some(digest) = self.pinned::<F>(first, height) {
             return digest;
@@ -207,7 +245,10 @@ impl<D: Digest> Pinned<'_, D> {
     /// The pinned digest of a node; none where it is no peak over the leaves before the start.
     fn pinned<F: Family>(&self, first: u64, height: u32) -> Option<D>
         requires { ArePinned F.shape self.now.leaves self.now.start self.now.digests.now }
-        ensures { MatchOption result (is_pinned F.shape self.now.start first height ≡ false) (λ d. (is_pinned F.shape self.now.start first height ≡ true) × ((none : List ℕ) → D.text d ≡ pinned_digest F.shape self.now.start (map D.text self.now.digests.now) none first height)) }
+        ensures { MatchOption result (is_pinned F.shape self.now.start first height ≡ false) (λ d.
+            (is_pinned F.shape self.now.start first height ≡ true)
+            × ((none : List ℕ) → D.text d ≡ pinned_digest F.shape self.now.start
+            (map D.text self.now.digests.now) none first height)) }
     {
         let mut place = 0;
         let mut left = self.digests;

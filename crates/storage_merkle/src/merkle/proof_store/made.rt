@@ -4,12 +4,13 @@ ghost use Rattle.storage_merkle.specs.Calc.{Site};
 ghost use Rattle.storage_merkle.specs.CheckSteps.{top_sites};
 ghost use Rattle.storage_merkle.specs.Extracted.{Fits, checked, checked_sites, entries, texts};
 ghost use Rattle.storage_merkle.specs.Hashers.{TakesTree};
+ghost use Rattle.storage_merkle.specs.Held.{range_of};
 ghost use Rattle.storage_merkle.specs.Plans.{ArePeaks};
 ghost use Rattle.storage_merkle.specs.RangeProofs.{CountsFit, IsAccepted};
 ghost use Rattle.storage_merkle.specs.Rests.{peaks_from};
 ghost use Rattle.storage_merkle.specs.StoreParts.{back_among, nodes_among};
 ghost use Rattle.storage_merkle.specs.Stores.{IsMadeOf, store_of};
-ghost use Rattle.storage_merkle.specs.Trees.{Content, Layout, ungrafted};
+ghost use Rattle.storage_merkle.specs.Trees.{Content, Layout, ungrafted, content_of};
 
 use crate::merkle::hasher::Hasher;
 use crate::merkle::plan::{Rest, is_apart, node_position};
@@ -34,8 +35,20 @@ impl<F: Family, D: Digest> ProofStore<F, D> {
         root: &D,
     ) -> Result<Self, Error<F>>
         requires { TakesTree (H.takes hasher.now) F.shape proof.now.leaves }
-        ensures made { (H.layout hasher.now).shape ≡ F.shape → IfOk result (λ store. IsMadeOf D.size H.hash_of (H.layout hasher.now) (H.bagging hasher.now) (record { leaves = proof.now.leaves; inactive = proof.now.inactive_peaks; digests = map D.text proof.now.digests.items }) start (record { elements = map E.items elements.now; chunk = H.chunk hasher.now }) (D.text root.now) store) }
-        ensures why { IfErr result (λ e. (e ≡ Error.Memory) ⊎ (((e ≡ Error.InvalidProof) × ((H.layout hasher.now).shape ≡ F.shape → Fits H.hash_of (H.layout hasher.now) (H.bagging hasher.now) (record { leaves = proof.now.leaves; inactive = proof.now.inactive_peaks; digests = map D.text proof.now.digests.items }) start (record { elements = map E.items elements.now; chunk = H.chunk hasher.now }) → ⊥)) ⊎ ((e ≡ Error.RootMismatch) × ((H.layout hasher.now).shape ≡ F.shape → Fits H.hash_of (H.layout hasher.now) (H.bagging hasher.now) (record { leaves = proof.now.leaves; inactive = proof.now.inactive_peaks; digests = map D.text proof.now.digests.items }) start (record { elements = map E.items elements.now; chunk = H.chunk hasher.now }) × (IsAccepted H.hash_of (H.layout hasher.now) (H.bagging hasher.now) (record { leaves = proof.now.leaves; inactive = proof.now.inactive_peaks; digests = map D.text proof.now.digests.items }) start (record { elements = map E.items elements.now; chunk = H.chunk hasher.now }) (D.text root.now) → ⊥))))) }
+        ensures made { (H.layout hasher.now).shape ≡ F.shape
+            → IfOk result (λ store. IsMadeOf D.size H.hash_of (H.layout hasher.now)
+            (H.bagging hasher.now) (range_of D.text proof.now) start
+            (content_of (map E.items elements.now) (H.chunk hasher.now)) (D.text root.now) store) }
+        ensures why { IfErr result (λ e. (e ≡ Error.Memory)
+            ⊎ (((e ≡ Error.InvalidProof) × ((H.layout hasher.now).shape ≡ F.shape → Fits H.hash_of
+            (H.layout hasher.now) (H.bagging hasher.now) (range_of D.text proof.now) start
+            (content_of (map E.items elements.now) (H.chunk hasher.now)) → ⊥))
+            ⊎ ((e ≡ Error.RootMismatch) × ((H.layout hasher.now).shape ≡ F.shape → Fits H.hash_of
+            (H.layout hasher.now) (H.bagging hasher.now) (range_of D.text proof.now) start
+            (content_of (map E.items elements.now) (H.chunk hasher.now))
+            × (IsAccepted H.hash_of (H.layout hasher.now) (H.bagging hasher.now)
+            (range_of D.text proof.now) start (content_of (map E.items elements.now)
+            (H.chunk hasher.now)) (D.text root.now) → ⊥))))) }
     {
         if elements.is_empty() {
             return match proof.extract_nothing(hasher, start, root) {
@@ -57,7 +70,16 @@ impl<F: Family, D: Digest> ProofStore<F, D> {
 
     /// The store of the proof of no elements.
     fn of_nothing<H: Hasher<F, Digest = D>>(alloc: Global, hasher: &H) -> Self
-        ensures { result ≡ record { leaves = 0; inactive = 0; bagging = H.bagging hasher.now; start = 0; past = 0; front_fold = H.hash_of []; back_fold = H.hash_of []; kept = [] } }
+        ensures { result ≡ record {
+          leaves = 0;
+          inactive = 0;
+          bagging = H.bagging hasher.now;
+          start = 0;
+          past = 0;
+          front_fold = H.hash_of [];
+          back_fold = H.hash_of [];
+          kept = [];
+        } }
     {
         let nothing = hasher.hash(&[]);
         ProofStore {
@@ -81,8 +103,16 @@ impl<F: Family, D: Digest> ProofStore<F, D> {
         past: Location<F>,
         found: Vec<(Position<F>, D)>,
     ) -> Result<Self, AllocError>
-        requires fits { (claim : Content) × (past ≡ start + length claim.elements) × CountsFit H.hash_of (ungrafted F.shape) (H.bagging hasher.now) (record { leaves = proof.now.leaves; inactive = proof.now.inactive_peaks; digests = map D.text proof.now.digests.items }) start claim }
-        ensures { (T : Layout) (claim : Content) → T.shape ≡ F.shape → past ≡ start + length claim.elements → texts D.text found.items ≡ checked H.hash_of T (H.bagging hasher.now) (record { leaves = proof.now.leaves; inactive = proof.now.inactive_peaks; digests = map D.text proof.now.digests.items }) start claim (checked_sites T proof.now.leaves start (start + length claim.elements)) → IfOk result (λ store. store ≡ store_of H.hash_of T (H.bagging hasher.now) (record { leaves = proof.now.leaves; inactive = proof.now.inactive_peaks; digests = map D.text proof.now.digests.items }) start claim) }
+        requires fits { (claim : Content) × (past ≡ start + length claim.elements)
+            × CountsFit H.hash_of (ungrafted F.shape) (H.bagging hasher.now)
+            (range_of D.text proof.now) start claim }
+        ensures { (T : Layout) (claim : Content) → T.shape ≡ F.shape
+            → past ≡ start + length claim.elements
+            → texts D.text found.items
+            ≡ checked H.hash_of T (H.bagging hasher.now) (range_of D.text proof.now) start claim
+            (checked_sites T proof.now.leaves start (start + length claim.elements))
+            → IfOk result (λ store. store
+            ≡ store_of H.hash_of T (H.bagging hasher.now) (range_of D.text proof.now) start claim) }
     {
         let all = Rest::all::<F, H>(hasher, proof.leaves.as_u64(), proof.inactive_peaks);
         let rest = all.after_leading::<F>(start.as_u64());
@@ -119,8 +149,15 @@ fn keep_peaks<F: Family, D: Digest>(
 ) -> Result<Option<D>, AllocError>
     requires few { rest.first + rest.left ≤ 2 ^ 62 }
     requires peaks { ArePeaks F.shape (rest.first + rest.left) rest.first rest.left }
-    requires enough { length (top_sites start end (peaks_from F.shape rest.first rest.left) rest.folded) ≤ length digests.now }
-    ensures { (digest : Site → List ℕ) (later : List (List ℕ)) → map D.text digests.now ≡ map digest (top_sites start end (peaks_from F.shape rest.first rest.left) rest.folded) ++ later → IfOk result (λ back. (texts D.text kept.new.items ≡ texts D.text kept.old.items ++ entries (ungrafted F.shape) digest (nodes_among (top_sites start end (peaks_from F.shape rest.first rest.left) rest.folded))) × (option_map D.text back ≡ back_among digest (top_sites start end (peaks_from F.shape rest.first rest.left) rest.folded))) }
+    requires enough { length (top_sites start end
+        (peaks_from F.shape rest.first rest.left) rest.folded) ≤ length digests.now }
+    ensures { (digest : Site → List ℕ) (later : List (List ℕ)) → map D.text digests.now ≡ map digest
+        (top_sites start end (peaks_from F.shape rest.first rest.left) rest.folded) ++ later
+        → IfOk result (λ back. (texts D.text kept.new.items
+        ≡ texts D.text kept.old.items ++ entries (ungrafted F.shape) digest
+        (nodes_among (top_sites start end (peaks_from F.shape rest.first rest.left) rest.folded)))
+        × (option_map D.text back ≡ back_among digest
+        (top_sites start end (peaks_from F.shape rest.first rest.left) rest.folded))) }
 {
     let mut rest = rest;
     let mut digests = digests;

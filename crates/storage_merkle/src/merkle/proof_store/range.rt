@@ -3,6 +3,7 @@ ghost use Rattle.std.specs.Prelude.{◌≡◌, ℕ, ◌+◌, ◌-◌, ◌%◌, �
 ghost use Rattle.storage_merkle.specs.Calc.{back, eval, front, node};
 ghost use Rattle.storage_merkle.specs.CheckSteps.{right_of, top_sites};
 ghost use Rattle.storage_merkle.specs.Hashers.{forward_of};
+ghost use Rattle.storage_merkle.specs.Held.{range_of};
 ghost use Rattle.storage_merkle.specs.Plans.{ArePeaks};
 ghost use Rattle.storage_merkle.specs.RangeProofs.{front_given, leading, not_leading, own_proof, trailing};
 ghost use Rattle.storage_merkle.specs.Rests.{AreFolded, peaks_from};
@@ -33,9 +34,16 @@ impl<F: Family, D: Digest> ProofStore<F, D> {
         hasher: &H,
         range: Range<Location<F>>,
     ) -> Result<Proof<F, D>, Error<F>>
-        ensures given { IfOk result (λ proof. (range_refusal F F.shape self.now range.start range.end ≡ None) × ((T : Layout) → T.shape ≡ F.shape → record { leaves = proof.leaves; inactive = proof.inactive_peaks; digests = map D.text proof.digests.items } ≡ store_proof H.hash_of T self.now range.start range.end)) }
-        ensures own { IfOk result (λ proof. (T : Layout) (content : Content) (inactive : ℕ) → T.shape ≡ F.shape → IsStoreOf H.hash_of T self.now content inactive → record { leaves = proof.leaves; inactive = proof.inactive_peaks; digests = map D.text proof.digests.items } ≡ own_proof H.hash_of T self.now.bagging content inactive range.start range.end) }
-        ensures why { IfErr result (λ e. (range_refusal F F.shape self.now range.start range.end ≡ Some e) ⊎ ((range_refusal F F.shape self.now range.start range.end ≡ None) × (e ≡ Error.Memory))) }
+        ensures given { IfOk result (λ proof.
+            (range_refusal F F.shape self.now range.start range.end ≡ None)
+            × ((T : Layout) → T.shape ≡ F.shape
+            → range_of D.text proof ≡ store_proof H.hash_of T self.now range.start range.end)) }
+        ensures own { IfOk result (λ proof. (T : Layout) (content : Content) (inactive : ℕ)
+            → T.shape ≡ F.shape → IsStoreOf H.hash_of T self.now content inactive → range_of D.text
+            proof ≡ own_proof H.hash_of T self.now.bagging content inactive range.start range.end) }
+        ensures why { IfErr result (λ e. (range_refusal F F.shape self.now range.start range.end
+            ≡ Some e) ⊎ ((range_refusal F F.shape self.now range.start range.end ≡ None)
+            × (e ≡ Error.Memory))) }
     {
         if let Err(error) = check_range(self.leaves, range.start, range.end) {
             return Err(error);
@@ -62,8 +70,10 @@ impl<F: Family, D: Digest> ProofStore<F, D> {
         start: u64,
         end: u64,
     ) -> Result<Vec<D>, AllocError>
-        requires range { (self.now.start ≤ start) × (start < end) × (end ≤ self.now.past) × (end ≤ self.now.leaves) }
-        ensures { IfOk result (λ v. map D.text v.items ≡ (store_proof H.hash_of (ungrafted F.shape) self.now start end).digests) }
+        requires range { (self.now.start ≤ start) × (start < end) × (end ≤ self.now.past)
+            × (end ≤ self.now.leaves) }
+        ensures { IfOk result (λ v. map D.text v.items
+            ≡ (store_proof H.hash_of (ungrafted F.shape) self.now start end).digests) }
     {
         let siblings = siblings::<F>(alloc, self.leaves.as_u64(), start, end)?;
         let mut digests = Vec::new(alloc);
@@ -81,7 +91,8 @@ impl<F: Family, D: Digest> ProofStore<F, D> {
         ensures peaks { ArePeaks F.shape self.now.leaves result.first result.left }
         ensures first { result.first ≡ 0 }
         ensures left { result.left ≡ self.now.leaves }
-        ensures folded { AreFolded F.shape self.now.bagging self.now.inactive self.now.leaves result.folded }
+        ensures folded { AreFolded F.shape self.now.bagging self.now.inactive
+            self.now.leaves result.folded }
         ensures few { self.now.leaves ≤ 2 ^ 62 }
     {
         Rest::bagged::<F>(self.bagging, self.leaves.as_u64(), self.inactive_peaks)
@@ -90,7 +101,11 @@ impl<F: Family, D: Digest> ProofStore<F, D> {
     /// The fold of the peaks that are folded from the left and end at or before `start`: the source's, extended by peaks
     /// that are kept; none for no peaks.
     fn fold_front<H: Hasher<F, Digest = D>>(&self, hasher: &H, start: u64) -> Option<D>
-        ensures { option_map D.text result ≡ forward_of H.hash_of (map (eval H.hash_of (store_values H.hash_of (ungrafted F.shape) self.now)) (front_given (leading self.now.start (fore H.hash_of (ungrafted F.shape) self.now)) ++ map peak_given (leading start (not_leading self.now.start (fore H.hash_of (ungrafted F.shape) self.now))))) }
+        ensures { option_map D.text result ≡ forward_of H.hash_of
+            (map (eval H.hash_of (store_values H.hash_of (ungrafted F.shape) self.now))
+            (front_given (leading self.now.start (fore H.hash_of (ungrafted F.shape) self.now))
+            ++ map peak_given (leading start
+            (not_leading self.now.start (fore H.hash_of (ungrafted F.shape) self.now))))) }
     {
         let mut rest = self.peaks().after_leading::<F>(self.start.as_u64());
         let mut folded = None;
@@ -121,8 +136,11 @@ impl<F: Family, D: Digest> ProofStore<F, D> {
         requires few { rest.first + rest.left ≤ 2 ^ 62 }
         requires peaks { ArePeaks F.shape (rest.first + rest.left) rest.first rest.left }
         requires range { (self.now.start ≤ start) × (end ≤ self.now.past) }
-        requires late { trailing end (drop rest.folded (peaks_from F.shape rest.first rest.left)) ≡ trailing end (aft H.hash_of (ungrafted F.shape) self.now) }
-        ensures { OnOk result (map D.text digests.new.items ≡ map D.text digests.old.items ++ map (store_digest H.hash_of (ungrafted F.shape) self.now start end) (top_sites start end (peaks_from F.shape rest.first rest.left) rest.folded)) }
+        requires late { trailing end (drop rest.folded (peaks_from F.shape rest.first rest.left))
+            ≡ trailing end (aft H.hash_of (ungrafted F.shape) self.now) }
+        ensures { OnOk result (map D.text digests.new.items ≡ map D.text digests.old.items
+            ++ map (store_digest H.hash_of (ungrafted F.shape) self.now start end)
+            (top_sites start end (peaks_from F.shape rest.first rest.left) rest.folded)) }
     {
         let mut rest = rest;
         while rest.left > 0 && (rest.folded > 0 || rest.first < end) {
@@ -140,7 +158,9 @@ impl<F: Family, D: Digest> ProofStore<F, D> {
     fn fold_back<H: Hasher<F, Digest = D>>(&self, hasher: &H, first: u64, left: u64) -> Option<D>
         requires few { first + left ≤ 2 ^ 62 }
         requires aligned { AreAligned (F.shape.peaks left) first }
-        ensures { option_map D.text result ≡ right_of H.hash_of (λ p. kept_at H.hash_of (ungrafted F.shape) self.now (node p.first p.height)) self.now.back_fold self.now.past (peaks_from F.shape first left) }
+        ensures { option_map D.text result ≡ right_of H.hash_of
+            (λ p. kept_at H.hash_of (ungrafted F.shape) self.now (node p.first p.height))
+            self.now.back_fold self.now.past (peaks_from F.shape first left) }
     {
         if left == 0 {
             return None;
@@ -158,7 +178,8 @@ impl<F: Family, D: Digest> ProofStore<F, D> {
     fn peak<H: Hasher<F, Digest = D>>(&self, hasher: &H, first: u64, height: u32) -> D
         requires aligned { first % 2 ^ height ≡ 0 }
         requires within { first + 2 ^ height ≤ 2 ^ 62 }
-        ensures { D.text result ≡ kept_at H.hash_of (ungrafted F.shape) self.now (node first height) }
+        ensures { D.text result
+            ≡ kept_at H.hash_of (ungrafted F.shape) self.now (node first height) }
     {
         self.at(hasher, node_position(first, height))
     }

@@ -69,8 +69,10 @@ pub trait OperationCodec<F: Family, S: Update>: ValueEncoding {
 
     /// Appends the bytes of an operation. A refused growth leaves a beginning of them.
     fn write_operation(operation: &Operation<F, S>, out: &mut Vec<u8>) -> Result<(), NoMemory>
-        ensures ok { OnOk result (out.new.items ≡ out.old.items ++ operation_text (operation_map S.Key.text S.text S.Value.text (parts operation.now))) }
-        ensures err { OnErr result (AppendsStart out.old.items out.new.items (operation_text (operation_map S.Key.text S.text S.Value.text (parts operation.now)))) };
+        ensures ok { OnOk result (out.new.items ≡ out.old.items ++ operation_text
+            (operation_map S.Key.text S.text S.Value.text (parts operation.now))) }
+        ensures err { OnErr result (AppendsStart out.old.items out.new.items (operation_text
+            (operation_map S.Key.text S.text S.Value.text (parts operation.now)))) };
 
     /// Reads an operation from the front.
     fn read_operation<B: Buf>(
@@ -78,33 +80,29 @@ pub trait OperationCodec<F: Family, S: Update>: ValueEncoding {
         buf: &mut B,
         cfg: &Self::ReadCfg,
     ) -> Result<Operation<F, S>, Error>
-        ensures gives { Gives (λ x. operation_view (parts x)) result (B.unread buf.new) (operation_parse cfg.now (B.unread buf.old)) }
+        ensures gives { Gives (λ x. operation_view (parts x)) result (B.unread buf.new)
+            (operation_parse cfg.now (B.unread buf.old)) }
         ensures ends { IsEnding (B.unread buf.old) (B.unread buf.new) };
 
     /// What was written is read again, and what follows is left.
-    ghost operation_again: { (cfg : Self.ReadCfg) (op : OperationView S.Key S S.Value) (rest : List ℕ) → Self.operation_admits cfg op
-        → Self.operation_parse cfg (Self.operation_text (operation_map S.Key.text S.text S.Value.text op) ++ rest) ≡ Ok (Self.operation_view op, rest) };
+    ghost operation_again: { (cfg : Self.ReadCfg) (op : OperationView S.Key S S.Value) (rest : List ℕ) → Self.operation_admits cfg op → Self.operation_parse cfg (Self.operation_text (operation_map S.Key.text S.text S.Value.text op) ++ rest) ≡ Ok (Self.operation_view op, rest) };
 
     /// Equal encodings are of operations that are seen as equal.
-    ghost operation_one: { (cfg : Self.ReadCfg) (x y : OperationView S.Key S S.Value) → Self.operation_fits cfg x → Self.operation_fits cfg y
-        → Self.operation_text (operation_map S.Key.text S.text S.Value.text x) ≡ Self.operation_text (operation_map S.Key.text S.text S.Value.text y)
-        → operation_map S.Key.view S.seen S.Value.view x ≡ operation_map S.Key.view S.seen S.Value.view y };
+    ghost operation_one: { (cfg : Self.ReadCfg) (x y : OperationView S.Key S S.Value) → Self.operation_fits cfg x → Self.operation_fits cfg y → Self.operation_text (operation_map S.Key.text S.text S.Value.text x) ≡ Self.operation_text (operation_map S.Key.text S.text S.Value.text y) → operation_map S.Key.view S.seen S.Value.view x ≡ operation_map S.Key.view S.seen S.Value.view y };
 
     /// Equal encodings have equal parts, where a commit's floor is a `u64`.
-    ghost operation_parts: { (x y : OperationView S.Key S S.Value) → IfSome (operation_floor x) (λ n. n < 2 ^ 64) → IfSome (operation_floor y) (λ n. n < 2 ^ 64)
-        → Self.operation_text (operation_map S.Key.text S.text S.Value.text x) ≡ Self.operation_text (operation_map S.Key.text S.text S.Value.text y)
-        → operation_map S.Key.text S.text S.Value.text x ≡ operation_map S.Key.text S.text S.Value.text y };
+    ghost operation_parts: { (x y : OperationView S.Key S S.Value) → IfSome (operation_floor x) (λ n. n < 2 ^ 64) → IfSome (operation_floor y) (λ n. n < 2 ^ 64) → Self.operation_text (operation_map S.Key.text S.text S.Value.text x) ≡ Self.operation_text (operation_map S.Key.text S.text S.Value.text y) → operation_map S.Key.text S.text S.Value.text x ≡ operation_map S.Key.text S.text S.Value.text y };
 
     /// Operations that are seen as equal have parts that are seen as equal.
-    ghost operation_same: { (x y : OperationView S.Key S S.Value) → Self.operation_view x ≡ Self.operation_view y
-        → operation_map S.Key.view S.seen S.Value.view x ≡ operation_map S.Key.view S.seen S.Value.view y };
+    ghost operation_same: { (x y : OperationView S.Key S S.Value) → Self.operation_view x ≡ Self.operation_view y → operation_map S.Key.view S.seen S.Value.view x ≡ operation_map S.Key.view S.seen S.Value.view y };
 }
 
 impl<F: Family, S: Update> Write for Operation<F, S>
 where
     S::ValueEncoding: OperationCodec<F, S>,
 {
-    ghost text = { λ x. S.ValueEncoding.operation_text (operation_map S.Key.text S.text S.Value.text (parts x)) };
+    ghost text = { λ x.
+        S.ValueEncoding.operation_text (operation_map S.Key.text S.text S.Value.text (parts x)) };
 
     fn write(&self, out: &mut Vec<u8>) -> Result<(), NoMemory> {
         S::ValueEncoding::write_operation(self, out)
@@ -144,8 +142,10 @@ where
 impl<F: Family, S: Update> Operation<F, S> {
     /// A second operation that is seen and written as this one.
     pub fn clone(&self) -> Result<Self, NoMemory>
-        ensures seen { IfOk result (λ x. operation_map S.Key.view S.seen S.Value.view (parts x) ≡ operation_map S.Key.view S.seen S.Value.view (parts self.now)) }
-        ensures text { IfOk result (λ x. operation_map S.Key.text S.text S.Value.text (parts x) ≡ operation_map S.Key.text S.text S.Value.text (parts self.now)) }
+        ensures seen { IfOk result (λ x. operation_map S.Key.view S.seen S.Value.view (parts x)
+            ≡ operation_map S.Key.view S.seen S.Value.view (parts self.now)) }
+        ensures text { IfOk result (λ x. operation_map S.Key.text S.text S.Value.text (parts x)
+            ≡ operation_map S.Key.text S.text S.Value.text (parts self.now)) }
     {
         Ok(match self {
             Operation::Delete(key) => Operation::Delete(key.clone()?),

@@ -77,7 +77,8 @@ impl<V: VariableValue> ValueEncoding for VariableEncoding<V> {
 impl<const N: usize> FixedValue for FixedBytes<N> {
     ghost clones = { λ x y e. (ap (λ k. k.bytes) e, ap (λ k. k.bytes) e) };
 
-    ghost prefix_free = { sized_prefix_free (λ v. v.bytes) (λ v. v.bytes) N (λ v. v.full) (λ x y e. e) };
+    ghost prefix_free = { sized_prefix_free (λ v. v.bytes) (λ v. v.bytes) N
+        (λ v. v.full) (λ x y e. e) };
 }
 
 impl FixedValue for u64 {
@@ -95,19 +96,22 @@ impl VariableValue for u64 {
 impl<const N: usize> VariableValue for FixedBytes<N> {
     ghost clones = { λ x y e. (ap (λ k. k.bytes) e, ap (λ k. k.bytes) e) };
 
-    ghost prefix_free = { sized_prefix_free (λ v. v.bytes) (λ v. v.bytes) N (λ v. v.full) (λ x y e. e) };
+    ghost prefix_free = { sized_prefix_free (λ v. v.bytes) (λ v. v.bytes) N
+        (λ v. v.full) (λ x y e. e) };
 }
 
 impl FixedValue for U64 {
     ghost clones = { λ x y e. (ap (λ k. k.0.bytes) e, ap (λ k. k.0.bytes) e) };
 
-    ghost prefix_free = { sized_prefix_free (λ v. v.0.bytes) (λ v. v.0.bytes) 8 (λ v. v.0.full) (λ x y e. e) };
+    ghost prefix_free = { sized_prefix_free (λ v. v.0.bytes) (λ v. v.0.bytes) 8
+        (λ v. v.0.full) (λ x y e. e) };
 }
 
 impl VariableValue for U64 {
     ghost clones = { λ x y e. (ap (λ k. k.0.bytes) e, ap (λ k. k.0.bytes) e) };
 
-    ghost prefix_free = { sized_prefix_free (λ v. v.0.bytes) (λ v. v.0.bytes) 8 (λ v. v.0.full) (λ x y e. e) };
+    ghost prefix_free = { sized_prefix_free (λ v. v.0.bytes) (λ v. v.0.bytes) 8
+        (λ v. v.0.full) (λ x y e. e) };
 }
 
 impl VariableValue for Vec<u8> {

@@ -21,8 +21,10 @@ fn write_presence<V: Write>(
     size: usize,
     out: &mut Vec<u8>,
 ) -> Result<(), NoMemory>
-    ensures ok { OnOk result (out.new.items ≡ out.old.items ++ presence_text size (option_map V.text value.now)) }
-    ensures err { OnErr result (AppendsStart out.old.items out.new.items (presence_text size (option_map V.text value.now))) }
+    ensures ok { OnOk result
+        (out.new.items ≡ out.old.items ++ presence_text size (option_map V.text value.now)) }
+    ensures err { OnErr result (AppendsStart out.old.items out.new.items
+        (presence_text size (option_map V.text value.now))) }
 {
     match value {
         None => {
@@ -45,8 +47,10 @@ pub(crate) fn write_commit_fixed<F: Family, V: Write>(
     size: usize,
     out: &mut Vec<u8>,
 ) -> Result<(), NoMemory>
-    ensures ok { OnOk result (out.new.items ≡ out.old.items ++ (presence_text size (option_map V.text value.now) ++ to_be_bytes w64 floor)) }
-    ensures err { OnErr result (AppendsStart out.old.items out.new.items (presence_text size (option_map V.text value.now) ++ to_be_bytes w64 floor)) }
+    ensures ok { OnOk result (out.new.items ≡ out.old.items
+        ++ (presence_text size (option_map V.text value.now) ++ to_be_bytes w64 floor)) }
+    ensures err { OnErr result (AppendsStart out.old.items out.new.items
+        (presence_text size (option_map V.text value.now) ++ to_be_bytes w64 floor)) }
 {
     write_presence(value, size, out)?;
     floor.as_u64().write(out)?;
@@ -88,8 +92,10 @@ pub(crate) fn read_floor<B: Buf>(alloc: Global, buf: &mut B) -> Result<u64, Erro
 /// Appends an optional value.
 #[tactic(auto, using(crate::specs::VariableLaws::metadata_is))]
 fn write_metadata<V: Write>(value: &Option<V>, out: &mut Vec<u8>) -> Result<(), NoMemory>
-    ensures ok { OnOk result (out.new.items ≡ out.old.items ++ metadata_text (option_map V.text value.now)) }
-    ensures err { OnErr result (AppendsStart out.old.items out.new.items (metadata_text (option_map V.text value.now))) }
+    ensures ok { OnOk result
+        (out.new.items ≡ out.old.items ++ metadata_text (option_map V.text value.now)) }
+    ensures err { OnErr result
+        (AppendsStart out.old.items out.new.items (metadata_text (option_map V.text value.now))) }
 {
     value.write(out)
 }
@@ -101,8 +107,10 @@ pub(crate) fn write_commit_variable<F: Family, V: Write>(
     floor: Location<F>,
     out: &mut Vec<u8>,
 ) -> Result<(), NoMemory>
-    ensures ok { OnOk result (out.new.items ≡ out.old.items ++ (metadata_text (option_map V.text value.now) ++ varint_text floor)) }
-    ensures err { OnErr result (AppendsStart out.old.items out.new.items (metadata_text (option_map V.text value.now) ++ varint_text floor)) }
+    ensures ok { OnOk result (out.new.items
+        ≡ out.old.items ++ (metadata_text (option_map V.text value.now) ++ varint_text floor)) }
+    ensures err { OnErr result (AppendsStart out.old.items out.new.items
+        (metadata_text (option_map V.text value.now) ++ varint_text floor)) }
 {
     write_metadata(value, out)?;
     floor.write(out)?;
@@ -123,7 +131,8 @@ pub(crate) fn commit_variable_size<F: Family, V: EncodeSize>(
     value: &Option<V>,
     floor: Location<F>,
 ) -> Option<u64>
-    ensures { result ≡ size_of (length (metadata_text (option_map V.text value.now) ++ varint_text floor)) }
+    ensures { result
+        ≡ size_of (length (metadata_text (option_map V.text value.now) ++ varint_text floor)) }
 {
     sum_of_sizes(metadata_size(value), floor.encode_size())
 }

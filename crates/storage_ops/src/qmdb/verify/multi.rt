@@ -2,6 +2,7 @@
 ghost use Rattle.std.specs.Prelude.{◌≡◌, ◌↔◌, ◌⊎◌, None, Some, [], map, IfErr, IfOk, IsOk, IsTrue};
 ghost use Rattle.storage_merkle.specs.declared.merkle.bagging.Bagging.TheVariants.{BackwardFold};
 ghost use Rattle.storage_merkle.specs.Extracted.{texts};
+ghost use Rattle.storage_merkle.specs.Held.{range_of};
 ghost use Rattle.storage_merkle.specs.Multi.{IsMultiAccepted, IsMultiProved, claims_of};
 ghost use Rattle.storage_merkle.specs.Stores.{multi_refusal, store_multi_proof};
 ghost use Rattle.storage_merkle.specs.Trees.{ungrafted};
@@ -22,8 +23,12 @@ pub fn verify_multi_proof<H: Hasher, F: Family, Op: Encode>(
     operations: &[(Location<F>, Op)],
     root: &DigestOf<H>,
 ) -> Result<bool, NoMemory>
-    ensures exact { IfOk result (λ yes. IsTrue yes ↔ IsMultiAccepted H.hash_of (ungrafted F.shape) BackwardFold (record { leaves = proof.now.leaves; inactive = proof.now.inactive_peaks; digests = map H.Digest.text proof.now.digests.items }) (claims_at Op.text operations.now) (λ a. []) (H.Digest.text root.now)) }
-    ensures means { IfOk result (λ yes. IsTrue yes → IsMultiProved H.Digest.size H.hash_of (ungrafted F.shape) BackwardFold (record { leaves = proof.now.leaves; inactive = proof.now.inactive_peaks; digests = map H.Digest.text proof.now.digests.items }) (claims_at Op.text operations.now) (λ a. []) (H.Digest.text root.now)) }
+    ensures exact { IfOk result (λ yes. IsTrue yes ↔ IsMultiAccepted H.hash_of
+        (ungrafted F.shape) BackwardFold (range_of H.Digest.text proof.now)
+        (claims_at Op.text operations.now) (λ a. []) (H.Digest.text root.now)) }
+    ensures means { IfOk result (λ yes. IsTrue yes → IsMultiProved H.Digest.size H.hash_of
+        (ungrafted F.shape) BackwardFold (range_of H.Digest.text proof.now)
+        (claims_at Op.text operations.now) (λ a. []) (H.Digest.text root.now)) }
     ensures none { operations.now ≡ [] → IsOk result }
 {
     let elements = encode_located(alloc, operations)?;
@@ -45,8 +50,11 @@ pub fn create_multi_proof<F: Family, D: Digest>(
     locations: &[Location<F>],
     peaks: &[(Position<F>, D)],
 ) -> Result<Proof<F, D>, Error<F>>
-    ensures given { IfOk result (λ proof. (multi_refusal F F.shape store.now (texts D.text peaks.now) locations.now ≡ None) × (record { leaves = proof.leaves; inactive = proof.inactive_peaks; digests = map D.text proof.digests.items } ≡ store_multi_proof F.shape store.now (texts D.text peaks.now) locations.now)) }
-    ensures why { IfErr result (λ e. (multi_refusal F F.shape store.now (texts D.text peaks.now) locations.now ≡ Some e) ⊎ (e ≡ Error.Memory)) }
+    ensures given { IfOk result (λ proof. (multi_refusal F F.shape store.now
+        (texts D.text peaks.now) locations.now ≡ None) × (range_of D.text proof
+        ≡ store_multi_proof F.shape store.now (texts D.text peaks.now) locations.now)) }
+    ensures why { IfErr result (λ e. (multi_refusal F F.shape store.now
+        (texts D.text peaks.now) locations.now ≡ Some e) ⊎ (e ≡ Error.Memory)) }
 {
     store.multi_proof(alloc, locations, peaks)
 }
@@ -56,7 +64,8 @@ fn encode_located<F: Family, Op: Encode>(
     alloc: Global,
     operations: &[(Location<F>, Op)],
 ) -> Result<Vec<(Vec<u8>, Location<F>)>, NoMemory>
-    ensures all { IfOk result (λ v. claims_of (λ bytes. bytes.items) v.items ≡ claims_at Op.text operations.now) }
+    ensures all { IfOk result (λ v.
+        claims_of (λ bytes. bytes.items) v.items ≡ claims_at Op.text operations.now) }
     ensures none { operations.now ≡ [] → IsOk result }
 {
     let mut encoded = Vec::new(alloc);

@@ -8,4 +8,5 @@ returns g c grafting pace s snapshot leaves grafted chunks operations over below
     let text = g.H.Digest.Write.text in
     let hash = g.H.Hasher.hash_of in
     let G : Grafting = record { shape = g.F.Family.shape; bytes = g.row.N } in
-    store_of_view text hash G grafting.laws c.greatest_nodes_are_planned.ensures s _ (joined_view text hash G grafting pace s snapshot leaves grafted chunks operations over below)
+    store_of_view text hash G grafting.laws c.greatest_nodes_are_planned.ensures s _
+    (joined_view text hash G grafting pace s snapshot leaves grafted chunks operations over below)

@@ -9,7 +9,9 @@ returns-clause-none g c height nodes position chunks operations why = elim why [
 ]
 
 pub returns-clause-below : goal.returns-clause-below
-returns-clause-below g c height nodes position first own chunks operations = joined_below g.F.Family.shape g.met.F.Family.laws height nodes chunks operations position first own
+returns-clause-below g c height nodes position first own chunks operations =
+    joined_below g.F.Family.shape g.met.F.Family.laws height nodes chunks operations position first own
 
 pub returns-clause-above : goal.returns-clause-above
-returns-clause-above g c height nodes position over chunks operations = joined_above g.F.Family.shape g.met.F.Family.laws height nodes chunks operations position over
+returns-clause-above g c height nodes position over chunks operations =
+    joined_above g.F.Family.shape g.met.F.Family.laws height nodes chunks operations position over

@@ -57,7 +57,10 @@ impl<F: Graftable, H: Hasher<F>> Hasher<F> for GraftedHasher<F, H> {
 
     fn node_digest(&self, position: Position<F>, left: &H::Digest, right: &H::Digest) -> H::Digest
         requires { IsRaised F.shape (H.takes self.now.inner) self.now.height position }
-        ensures { (first height : ℕ) → IsNode F.shape position first height → H.Digest.text result ≡ join_digest H.hash_of (over_chunks self.now.height (H.layout self.now.inner)) (λ a. H.chunk self.now.inner (a * 2 ^ self.now.height)) first height (H.Digest.text left.now) (H.Digest.text right.now) }
+        ensures { (first height : ℕ) → IsNode F.shape position first height
+            → H.Digest.text result ≡ join_digest H.hash_of (over_chunks self.now.height
+            (H.layout self.now.inner)) (λ a. H.chunk self.now.inner (a * 2 ^ self.now.height)) first
+            height (H.Digest.text left.now) (H.Digest.text right.now) }
     {
         let position = grafted_to_ops_pos::<F>(position.as_u64(), self.height);
         self.inner.node_digest(Position::new(position), left, right)

@@ -54,7 +54,8 @@ impl<
 
     ghost nodes = { λ s. S.nodes s.ops_tree.now };
 
-    ghost node = { λ s. joined F.shape s.height (S.nodes s.ops_tree.now) (R.node s.grafted_tree.now) (S.node s.ops_tree.now) };
+    ghost node = { λ s. joined F.shape s.height (S.nodes s.ops_tree.now) (R.node s.grafted_tree.now)
+        (S.node s.ops_tree.now) };
 
     ghost failed = { λ s. S.failed s.ops_tree.now };
 
@@ -68,11 +69,19 @@ impl<
 
     fn get_node(&mut self, position: Position<F>) -> Result<Option<S::Digest>, Error<F>>
         requires { S.failed self.old.ops_tree.now + 1 < 2 ^ 64 }
-        ensures answer { MatchResult result (λ d. d ≡ joined F.shape self.old.height (S.nodes self.old.ops_tree.now) (R.node self.old.grafted_tree.now) (S.node self.old.ops_tree.now) position) (λ e. ((code : ℕ) × (e ≡ Error.Source code)) ⊎ (e ≡ Error.Memory)) }
-        ensures failure { ((code : ℕ) × (result ≡ Err (Error.Source code))) ↔ (S.failed self.new.ops_tree.now ≡ S.failed self.old.ops_tree.now + 1) }
-        ensures count { (S.failed self.new.ops_tree.now ≡ S.failed self.old.ops_tree.now) ⊎ (S.failed self.new.ops_tree.now ≡ S.failed self.old.ops_tree.now + 1) }
+        ensures answer { MatchResult result
+            (λ d. d ≡ joined F.shape self.old.height (S.nodes self.old.ops_tree.now)
+            (R.node self.old.grafted_tree.now) (S.node self.old.ops_tree.now) position) (λ e.
+            ((code : ℕ) × (e ≡ Error.Source code)) ⊎ (e ≡ Error.Memory)) }
+        ensures failure { ((code : ℕ) × (result ≡ Err (Error.Source code)))
+            ↔ (S.failed self.new.ops_tree.now ≡ S.failed self.old.ops_tree.now + 1) }
+        ensures count { (S.failed self.new.ops_tree.now ≡ S.failed self.old.ops_tree.now)
+            ⊎ (S.failed self.new.ops_tree.now ≡ S.failed self.old.ops_tree.now + 1) }
         ensures same_size { S.nodes self.new.ops_tree.now ≡ S.nodes self.old.ops_tree.now }
-        ensures same { (p : ℕ) → joined F.shape self.new.height (S.nodes self.new.ops_tree.now) (R.node self.new.grafted_tree.now) (S.node self.new.ops_tree.now) p ≡ joined F.shape self.old.height (S.nodes self.old.ops_tree.now) (R.node self.old.grafted_tree.now) (S.node self.old.ops_tree.now) p }
+        ensures same { (p : ℕ) → joined F.shape self.new.height (S.nodes self.new.ops_tree.now)
+            (R.node self.new.grafted_tree.now) (S.node self.new.ops_tree.now) p
+            ≡ joined F.shape self.old.height (S.nodes self.old.ops_tree.now)
+            (R.node self.old.grafted_tree.now) (S.node self.old.ops_tree.now) p }
         ensures same_reference { self.new.ops_tree.ghost_name ≡ self.old.ops_tree.ghost_name }
     {
         match look_up::<F, R>(
@@ -93,11 +102,20 @@ impl<
         positions: &[Position<F>],
     ) -> Result<Vec<S::Digest>, Error<F>>
         requires { S.failed self.old.ops_tree.now + 1 < 2 ^ 64 }
-        ensures answers { let node = joined F.shape self.old.height (S.nodes self.old.ops_tree.now) (R.node self.old.grafted_tree.now) (S.node self.old.ops_tree.now) in MatchResult result (λ v. map Some v.items ≡ map node positions.now) (λ e. ((p : ℕ) × (e ≡ Error.ElementPruned p) × IsFirstAbsent (λ q a. a ≡ node q) positions.now p) ⊎ (((code : ℕ) × (e ≡ Error.Source code)) ⊎ (e ≡ Error.Memory))) }
-        ensures failure { ((code : ℕ) × (result ≡ Err (Error.Source code))) ↔ (S.failed self.new.ops_tree.now ≡ S.failed self.old.ops_tree.now + 1) }
-        ensures count { (S.failed self.new.ops_tree.now ≡ S.failed self.old.ops_tree.now) ⊎ (S.failed self.new.ops_tree.now ≡ S.failed self.old.ops_tree.now + 1) }
+        ensures answers { let node = joined F.shape self.old.height (S.nodes self.old.ops_tree.now)
+            (R.node self.old.grafted_tree.now) (S.node self.old.ops_tree.now) in
+            MatchResult result (λ v. map Some v.items ≡ map node positions.now) (λ e. ((p : ℕ)
+            × (e ≡ Error.ElementPruned p) × IsFirstAbsent (λ q a. a ≡ node q) positions.now p)
+            ⊎ (((code : ℕ) × (e ≡ Error.Source code)) ⊎ (e ≡ Error.Memory))) }
+        ensures failure { ((code : ℕ) × (result ≡ Err (Error.Source code)))
+            ↔ (S.failed self.new.ops_tree.now ≡ S.failed self.old.ops_tree.now + 1) }
+        ensures count { (S.failed self.new.ops_tree.now ≡ S.failed self.old.ops_tree.now)
+            ⊎ (S.failed self.new.ops_tree.now ≡ S.failed self.old.ops_tree.now + 1) }
         ensures same_size { S.nodes self.new.ops_tree.now ≡ S.nodes self.old.ops_tree.now }
-        ensures same { (p : ℕ) → joined F.shape self.new.height (S.nodes self.new.ops_tree.now) (R.node self.new.grafted_tree.now) (S.node self.new.ops_tree.now) p ≡ joined F.shape self.old.height (S.nodes self.old.ops_tree.now) (R.node self.old.grafted_tree.now) (S.node self.old.ops_tree.now) p }
+        ensures same { (p : ℕ) → joined F.shape self.new.height (S.nodes self.new.ops_tree.now)
+            (R.node self.new.grafted_tree.now) (S.node self.new.ops_tree.now) p
+            ≡ joined F.shape self.old.height (S.nodes self.old.ops_tree.now)
+            (R.node self.old.grafted_tree.now) (S.node self.old.ops_tree.now) p }
         ensures same_reference { self.new.ops_tree.ghost_name ≡ self.old.ops_tree.ghost_name }
     {
         let size = self.ops_tree.size();
@@ -132,7 +150,8 @@ fn look_up<F: Graftable, R: Readable<Family = F>>(
     position: Position<F>,
 ) -> Look<R::Digest>
     requires { 1 ≤ height }
-    ensures { (operations : ℕ → Option R.Digest) → IsLook (joined F.shape height nodes (R.node grafted_tree.now) operations) operations position result }
+    ensures { (operations : ℕ → Option R.Digest) → IsLook (joined F.shape height nodes
+        (R.node grafted_tree.now) operations) operations position result }
 {
     if position.as_u64() >= nodes.as_u64() || !position.is_valid() {
         return Look::Absent;
@@ -165,7 +184,11 @@ fn find_all<F: Graftable, R: Readable<Family = F>>(
     positions: &[Position<F>],
 ) -> Result<Finds<F, R::Digest>, AllocError>
     requires { 1 ≤ height }
-    ensures { IfOk result (λ finds. (operations : ℕ → Option R.Digest) → let node = joined F.shape height size (R.node grafted_tree.now) operations in (rest : List ℕ) × IsSplit node operations rest finds.nodes.items positions.now finds.below.items × MatchOption finds.missing (rest ≡ []) (λ p. (more : List ℕ) × (rest ≡ p ∷ more) × (node p ≡ None))) }
+    ensures { IfOk result (λ finds. (operations : ℕ → Option R.Digest)
+        → let node = joined F.shape height size (R.node grafted_tree.now) operations in
+        (rest : List ℕ) × IsSplit node operations rest finds.nodes.items positions.now
+        finds.below.items × MatchOption finds.missing (rest ≡ []) (λ p.
+        (more : List ℕ) × (rest ≡ p ∷ more) × (node p ≡ None))) }
 {
     let mut nodes = Vec::with_capacity(alloc, positions.len())?;
     let mut below = Vec::new(alloc);
@@ -203,9 +226,14 @@ fn read_all<F: Graftable, S: merkle::Storage<F>>(
     positions: &[Position<F>],
 ) -> Result<Vec<S::Digest>, Error<F>>
     requires { S.failed store.old + 1 < 2 ^ 64 }
-    ensures answers { MatchResult result (λ v. map Some v.items ≡ map (S.node store.old) positions.now) (λ e. ((p : ℕ) × (e ≡ Error.ElementPruned p) × IsFirstAbsent (λ q a. a ≡ S.node store.old q) positions.now p) ⊎ (((code : ℕ) × (e ≡ Error.Source code)) ⊎ (e ≡ Error.Memory))) }
-    ensures failure { ((code : ℕ) × (result ≡ Err (Error.Source code))) ↔ (S.failed store.new ≡ S.failed store.old + 1) }
-    ensures count { (S.failed store.new ≡ S.failed store.old) ⊎ (S.failed store.new ≡ S.failed store.old + 1) }
+    ensures answers { MatchResult result (λ v. map Some v.items
+        ≡ map (S.node store.old) positions.now) (λ e. ((p : ℕ) × (e ≡ Error.ElementPruned p)
+        × IsFirstAbsent (λ q a. a ≡ S.node store.old q) positions.now p)
+        ⊎ (((code : ℕ) × (e ≡ Error.Source code)) ⊎ (e ≡ Error.Memory))) }
+    ensures failure { ((code : ℕ) × (result ≡ Err (Error.Source code)))
+        ↔ (S.failed store.new ≡ S.failed store.old + 1) }
+    ensures count { (S.failed store.new ≡ S.failed store.old)
+        ⊎ (S.failed store.new ≡ S.failed store.old + 1) }
     ensures same_size { S.nodes store.new ≡ S.nodes store.old }
     ensures same { (p : ℕ) → S.node store.new p ≡ S.node store.old p }
 {

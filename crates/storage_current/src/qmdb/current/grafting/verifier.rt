@@ -39,7 +39,8 @@ impl<'a, F: Graftable, H: digest::Hasher> Verifier<'a, F, H> {
     ) -> Self
         ensures height { result.height ≡ height }
         ensures start { result.start_chunk_index ≡ start_chunk_index }
-        ensures chunks { map (λ c. c.now) result.chunks.items ≡ map (λ c. c.now) chunks.entry.items }
+        ensures chunks { map (λ c. c.now) result.chunks.items
+            ≡ map (λ c. c.now) chunks.entry.items }
         ensures graftable { result.graftable_chunks ≡ graftable_chunks }
     {
         Verifier {
@@ -55,7 +56,12 @@ impl<'a, F: Graftable, H: digest::Hasher> Verifier<'a, F, H> {
     /// The chunk that is grafted over the node at a position, where it is supplied.
     fn chunk_over(&self, position: Position<F>) -> Option<&'a [u8]>
         requires { position ≤ size F.shape (2 ^ 62) }
-        ensures { (first height : ℕ) → IsNode F.shape position first height → MatchOption result (IsUngrafted self.now.height self.now.start_chunk_index (map (λ c. c.now) self.now.chunks.items) self.now.graftable_chunks first height) (λ chunk. IsGraftedWith self.now.height self.now.start_chunk_index (map (λ c. c.now) self.now.chunks.items) self.now.graftable_chunks first height chunk.now) }
+        ensures { (first height : ℕ) → IsNode F.shape position first height
+            → MatchOption result (IsUngrafted self.now.height self.now.start_chunk_index
+            (map (λ c. c.now) self.now.chunks.items) self.now.graftable_chunks first height)
+            (λ chunk. IsGraftedWith self.now.height self.now.start_chunk_index
+            (map (λ c. c.now) self.now.chunks.items) self.now.graftable_chunks first
+            height chunk.now) }
     {
         let (first, height) = node_at::<F>(position.as_u64());
         if height != self.height {
@@ -81,9 +87,11 @@ impl<F: Graftable, H: digest::Hasher> Hasher<F> for Verifier<'_, F, H> {
 
     ghost hash_of = { H.hash_of };
 
-    ghost layout = { λ v. record { shape = F.shape; grafted = grafted_over v.height v.graftable_chunks } };
+    ghost layout = { λ v.
+        record { shape = F.shape; grafted = grafted_over v.height v.graftable_chunks } };
 
-    ghost chunk = { λ v a. supplied v.start_chunk_index (map (λ c. c.now) v.chunks.items) (a / 2 ^ v.height) };
+    ghost chunk = { λ v a.
+        supplied v.start_chunk_index (map (λ c. c.now) v.chunks.items) (a / 2 ^ v.height) };
 
     ghost bagging = { λ _. BackwardFold };
 
@@ -99,7 +107,14 @@ impl<F: Graftable, H: digest::Hasher> Hasher<F> for Verifier<'_, F, H> {
 
     fn node_digest(&self, position: Position<F>, left: &H::Digest, right: &H::Digest) -> H::Digest
         requires { position ≤ size F.shape (2 ^ 62) }
-        ensures { (first height : ℕ) → IsNode F.shape position first height → H.Digest.text result ≡ join_digest H.hash_of (record { shape = F.shape; grafted = grafted_over self.now.height self.now.graftable_chunks }) (λ a. supplied self.now.start_chunk_index (map (λ c. c.now) self.now.chunks.items) (a / 2 ^ self.now.height)) first height (H.Digest.text left.now) (H.Digest.text right.now) }
+        ensures { (first height : ℕ) → IsNode F.shape position first height
+            → H.Digest.text result ≡ join_digest H.hash_of (record {
+              shape = F.shape;
+              grafted = grafted_over self.now.height self.now.graftable_chunks;
+            })
+            (λ a. supplied self.now.start_chunk_index (map (λ c. c.now) self.now.chunks.items)
+            (a / 2 ^ self.now.height)) first height (H.Digest.text left.now)
+            (H.Digest.text right.now) }
     {
         let inner = <Standard<H> as Hasher<F>>::node_digest(&self.hasher, position, left, right);
         match self.chunk_over(position) {

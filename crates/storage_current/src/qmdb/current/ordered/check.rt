@@ -5,8 +5,8 @@ ghost use Rattle.storage_bitmap.specs.Chunks.{IsChunkSize};
 ghost use Rattle.storage_bitmap.specs.Packed.{bit_in};
 ghost use Rattle.storage_current.specs.Held.{operation_of};
 ghost use Rattle.storage_current.specs.KeyProofs.{Allows, Commit, Exclusion, IsExcluded, KeyValue, MeansAbsent, proof_of};
-ghost use Rattle.storage_current.specs.Keys.{Keyed};
-ghost use Rattle.storage_current.specs.Snapshots.{height};
+ghost use Rattle.storage_current.specs.Keys.{Keyed, keyed_by};
+ghost use Rattle.storage_current.specs.Snapshots.{height, grafting_of};
 
 use crate::laws::keys::{commit_at_floor_is_empty, spanned_key_is_absent};
 use crate::qmdb::current::ordered::copies::value_as;
@@ -36,9 +36,30 @@ pub(crate) fn verify_span<
     key: &K,
     root: &D,
 ) -> Result<bool, NoMemory>
-    ensures exact { let e : Keyed K V.Value = record { key = K.text; value = V.Value.text; operation = V.operation_text; cmp = K.cmp } in let x : Exclusion (K × V.Value × K) V.Value = KeyValue (operation_of D.text C.text proof.now) (update.now.key, update.now.value, update.now.next_key) in IfOk result (λ yes. IsTrue yes ↔ IsExcluded e H.hash_of (record { shape = F.shape; bytes = length (proof_of x).chunk }) x key.now (D.text root.now)) }
-    ensures meaning { let e : Keyed K V.Value = record { key = K.text; value = V.Value.text; operation = V.operation_text; cmp = K.cmp } in let x : Exclusion (K × V.Value × K) V.Value = KeyValue (operation_of D.text C.text proof.now) (update.now.key, update.now.value, update.now.next_key) in (D.size ≡ 32) ⊎ (D.size ≡ 64) → IfOk result (λ yes. IsTrue yes → MeansAbsent e H.hash_of (record { shape = F.shape; bytes = length (proof_of x).chunk }) x key.now (D.text root.now)) }
-    ensures at_once { let e : Keyed K V.Value = record { key = K.text; value = V.Value.text; operation = V.operation_text; cmp = K.cmp } in let x : Exclusion (K × V.Value × K) V.Value = KeyValue (operation_of D.text C.text proof.now) (update.now.key, update.now.value, update.now.next_key) in (Allows e x key.now → IsChunkSize (length (proof_of x).chunk) → bit_in (proof_of x).chunk ((proof_of x).location % 2 ^ height (record { shape = F.shape; bytes = length (proof_of x).chunk })) ≡ true → ⊥) → result ≡ Ok false }
+    ensures exact { let e = keyed_by K.text V.Value.text V.operation_text K.cmp in
+        let x : Exclusion (K × V.Value × K) V.Value = KeyValue
+        (operation_of D.text C.text proof.now)
+        (update.now.key, update.now.value, update.now.next_key) in
+        IfOk result (λ yes. IsTrue yes ↔ IsExcluded e H.hash_of (record {
+          shape = F.shape;
+          bytes = length (proof_of x).chunk;
+        }) x key.now (D.text root.now)) }
+    ensures meaning { let e = keyed_by K.text V.Value.text V.operation_text K.cmp in
+        let x : Exclusion (K × V.Value × K) V.Value = KeyValue
+        (operation_of D.text C.text proof.now)
+        (update.now.key, update.now.value, update.now.next_key) in
+        (D.size ≡ 32) ⊎ (D.size ≡ 64)
+        → IfOk result (λ yes. IsTrue yes → MeansAbsent e H.hash_of (record {
+          shape = F.shape;
+          bytes = length (proof_of x).chunk;
+        }) x key.now (D.text root.now)) }
+    ensures at_once { let e = keyed_by K.text V.Value.text V.operation_text K.cmp in
+        let x : Exclusion (K × V.Value × K) V.Value = KeyValue
+        (operation_of D.text C.text proof.now)
+        (update.now.key, update.now.value, update.now.next_key) in
+        (Allows e x key.now → IsChunkSize (length (proof_of x).chunk) → bit_in (proof_of x).chunk
+        ((proof_of x).location % 2 ^ height (grafting_of F.shape (length (proof_of x).chunk)))
+        ≡ true → ⊥) → result ≡ Ok false }
 {
     if !excludes::<F, K, V>(&update.key, &update.next_key, key) {
         return Ok(false);
@@ -67,9 +88,27 @@ pub(crate) fn verify_commit<
     key: &K,
     root: &D,
 ) -> Result<bool, NoMemory>
-    ensures exact { let e : Keyed K V.Value = record { key = K.text; value = V.Value.text; operation = V.operation_text; cmp = K.cmp } in let x : Exclusion (K × V.Value × K) V.Value = Commit (operation_of D.text C.text proof.now) value.now in IfOk result (λ yes. IsTrue yes ↔ IsExcluded e H.hash_of (record { shape = F.shape; bytes = length (proof_of x).chunk }) x key.now (D.text root.now)) }
-    ensures meaning { let e : Keyed K V.Value = record { key = K.text; value = V.Value.text; operation = V.operation_text; cmp = K.cmp } in let x : Exclusion (K × V.Value × K) V.Value = Commit (operation_of D.text C.text proof.now) value.now in (D.size ≡ 32) ⊎ (D.size ≡ 64) → IfOk result (λ yes. IsTrue yes → MeansAbsent e H.hash_of (record { shape = F.shape; bytes = length (proof_of x).chunk }) x key.now (D.text root.now)) }
-    ensures at_once { let e : Keyed K V.Value = record { key = K.text; value = V.Value.text; operation = V.operation_text; cmp = K.cmp } in let x : Exclusion (K × V.Value × K) V.Value = Commit (operation_of D.text C.text proof.now) value.now in (Allows e x key.now → IsChunkSize (length (proof_of x).chunk) → bit_in (proof_of x).chunk ((proof_of x).location % 2 ^ height (record { shape = F.shape; bytes = length (proof_of x).chunk })) ≡ true → ⊥) → result ≡ Ok false }
+    ensures exact { let e = keyed_by K.text V.Value.text V.operation_text K.cmp in
+        let x : Exclusion (K × V.Value × K) V.Value = Commit
+        (operation_of D.text C.text proof.now) value.now in
+        IfOk result (λ yes. IsTrue yes ↔ IsExcluded e H.hash_of (record {
+          shape = F.shape;
+          bytes = length (proof_of x).chunk;
+        }) x key.now (D.text root.now)) }
+    ensures meaning { let e = keyed_by K.text V.Value.text V.operation_text K.cmp in
+        let x : Exclusion (K × V.Value × K) V.Value = Commit
+        (operation_of D.text C.text proof.now) value.now in
+        (D.size ≡ 32) ⊎ (D.size ≡ 64)
+        → IfOk result (λ yes. IsTrue yes → MeansAbsent e H.hash_of (record {
+          shape = F.shape;
+          bytes = length (proof_of x).chunk;
+        }) x key.now (D.text root.now)) }
+    ensures at_once { let e = keyed_by K.text V.Value.text V.operation_text K.cmp in
+        let x : Exclusion (K × V.Value × K) V.Value = Commit
+        (operation_of D.text C.text proof.now) value.now in
+        (Allows e x key.now → IsChunkSize (length (proof_of x).chunk) → bit_in (proof_of x).chunk
+        ((proof_of x).location % 2 ^ height (grafting_of F.shape (length (proof_of x).chunk)))
+        ≡ true → ⊥) → result ≡ Ok false }
 {
     if !proof.is_active() {
         return Ok(false);

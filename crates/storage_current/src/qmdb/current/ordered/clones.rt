@@ -16,9 +16,12 @@ use storage_ops::qmdb::operation::Key;
 impl<F: Graftable, K: Key, D: Digest, C: Chunk + Clone> KeyValueProof<F, K, D, C> {
     /// An equal proof, where a clone of a chunk is equal to it.
     pub fn clone(&self) -> Result<Self, NoMemory>
-        ensures proof { ClonesAreEqual C.is_clone C.text → IfOk result (λ copy. operation_of D.text C.text copy.proof ≡ operation_of D.text C.text self.now.proof) }
+        ensures proof { ClonesAreEqual C.is_clone C.text
+            → IfOk result (λ copy.
+            operation_of D.text C.text copy.proof ≡ operation_of D.text C.text self.now.proof) }
         ensures next_key { IfOk result (λ copy. K.view copy.next_key ≡ K.view self.now.next_key) }
-        ensures next_key_text { IfOk result (λ copy. K.text copy.next_key ≡ K.text self.now.next_key) }
+        ensures next_key_text { IfOk result (λ copy.
+            K.text copy.next_key ≡ K.text self.now.next_key) }
     {
         Ok(KeyValueProof {
             proof: self.proof.clone()?,
@@ -36,7 +39,10 @@ impl<F: Graftable, K: Key, V: ValueEncoding, D: Digest, C: Chunk + Clone> Exclus
 > {
     /// An equal proof, where a clone of a chunk is equal to it.
     pub fn clone(&self) -> Result<Self, NoMemory>
-        ensures { ClonesAreEqual C.is_clone C.text → IfOk result (λ copy. exclusion_seen K.view V.Value.view (exclusion_of D.text C.text copy) ≡ exclusion_seen K.view V.Value.view (exclusion_of D.text C.text self.now)) }
+        ensures { ClonesAreEqual C.is_clone C.text
+            → IfOk result (λ copy.
+            exclusion_seen K.view V.Value.view (exclusion_of D.text C.text copy)
+            ≡ exclusion_seen K.view V.Value.view (exclusion_of D.text C.text self.now)) }
     {
         match self {
             ExclusionProof::KeyValue(proof, update) => {

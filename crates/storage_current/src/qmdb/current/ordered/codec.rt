@@ -19,7 +19,8 @@ pub(crate) fn read_pair<A: Read, B: Read, T: Buf>(
     first: &A::Cfg,
     second: &B::Cfg,
 ) -> Result<(A, B), Error>
-    ensures gives { Gives (λ x. (A.view x.0, B.view x.1)) result (T.unread buf.new) (pair_at (A.parse first.now) (B.parse second.now) (T.unread buf.old)) }
+    ensures gives { Gives (λ x. (A.view x.0, B.view x.1)) result (T.unread buf.new)
+        (pair_at (A.parse first.now) (B.parse second.now) (T.unread buf.old)) }
     ensures ends { IsEnding (T.unread buf.old) (T.unread buf.new) }
 {
     let one = match A::read_cfg(alloc, buf, first) {

@@ -18,8 +18,10 @@ pub(crate) fn key_as<K: Key>(key: &K) -> Result<K, NoMemory>
 pub(crate) fn value_as<V: ValueEncoding>(
     value: &Option<V::Value>,
 ) -> Result<Option<V::Value>, NoMemory>
-    ensures text { IfOk result (λ copy. option_map V.Value.text copy ≡ option_map V.Value.text value.now) }
-    ensures seen { IfOk result (λ copy. option_map V.Value.view copy ≡ option_map V.Value.view value.now) }
+    ensures text { IfOk result (λ copy.
+        option_map V.Value.text copy ≡ option_map V.Value.text value.now) }
+    ensures seen { IfOk result (λ copy.
+        option_map V.Value.view copy ≡ option_map V.Value.view value.now) }
 {
     match value {
         Some(value) => Ok(Some(value.clone()?)),

@@ -6,8 +6,8 @@ ghost use Rattle.storage_bitmap.specs.Packed.{bit_in};
 ghost use Rattle.storage_current.specs.CurrentProofs.{IsActiveCurrent};
 ghost use Rattle.storage_current.specs.Held.{operation_of};
 ghost use Rattle.storage_current.specs.KeyProofs.{MeansValue};
-ghost use Rattle.storage_current.specs.Keys.{Keyed, update_text};
-ghost use Rattle.storage_current.specs.Snapshots.{height};
+ghost use Rattle.storage_current.specs.Keys.{Keyed, update_text, keyed_by};
+ghost use Rattle.storage_current.specs.Snapshots.{height, grafting_of};
 
 use crate::laws::keys::active_update_is_value;
 use crate::qmdb::current::ordered::copies::key_as;
@@ -41,9 +41,19 @@ impl<F: Graftable, K: Key, D: Digest, C: Chunk> KeyValueProof<F, K, D, C> {
         value: V::Value,
         root: &D,
     ) -> Result<bool, NoMemory>
-        ensures exact { let e : Keyed K V.Value = record { key = K.text; value = V.Value.text; operation = V.operation_text; cmp = K.cmp } in IfOk result (λ yes. IsTrue yes ↔ IsActiveCurrent H.hash_of (record { shape = F.shape; bytes = length (C.text self.now.proof.chunk) }) (operation_of D.text C.text self.now.proof) (update_text e key value self.now.next_key) (D.text root.now)) }
-        ensures meaning { let e : Keyed K V.Value = record { key = K.text; value = V.Value.text; operation = V.operation_text; cmp = K.cmp } in (D.size ≡ 32) ⊎ (D.size ≡ 64) → IfOk result (λ yes. IsTrue yes → MeansValue e H.hash_of (record { shape = F.shape; bytes = length (C.text self.now.proof.chunk) }) (operation_of D.text C.text self.now.proof) key value self.now.next_key (D.text root.now)) }
-        ensures at_once { (IsChunkSize (length (C.text self.now.proof.chunk)) → bit_in (C.text self.now.proof.chunk) (self.now.proof.loc % 2 ^ height (record { shape = F.shape; bytes = length (C.text self.now.proof.chunk) })) ≡ true → ⊥) → result ≡ Ok false }
+        ensures exact { let e = keyed_by K.text V.Value.text V.operation_text K.cmp in
+            IfOk result (λ yes. IsTrue yes ↔ IsActiveCurrent H.hash_of (grafting_of F.shape
+            (length (C.text self.now.proof.chunk))) (operation_of D.text C.text self.now.proof)
+            (update_text e key value self.now.next_key) (D.text root.now)) }
+        ensures meaning { let e = keyed_by K.text V.Value.text V.operation_text K.cmp in
+            (D.size ≡ 32) ⊎ (D.size ≡ 64)
+            → IfOk result (λ yes. IsTrue yes → MeansValue e H.hash_of (grafting_of F.shape
+            (length (C.text self.now.proof.chunk))) (operation_of D.text C.text self.now.proof) key
+            value self.now.next_key (D.text root.now)) }
+        ensures at_once { (IsChunkSize (length (C.text self.now.proof.chunk))
+            → bit_in (C.text self.now.proof.chunk) (self.now.proof.loc % 2 ^ height
+            (grafting_of F.shape (length (C.text self.now.proof.chunk)))) ≡ true → ⊥)
+            → result ≡ Ok false }
     {
         if !self.proof.is_active() {
             return Ok(false);

@@ -1,7 +1,7 @@
 //! Spans from one key to the next greater, and from the greatest around to the least.
 
 ghost use Rattle.std.specs.Prelude.{◌≡◌, ◌↔◌, IsTrue};
-ghost use Rattle.storage_current.specs.Keys.{Excludes, Keyed, in_span};
+ghost use Rattle.storage_current.specs.Keys.{Excludes, Keyed, in_span, keyed_by};
 
 use storage_merkle::merkle::Family;
 use storage_ops::qmdb::any::operation::OperationCodec;
@@ -14,7 +14,8 @@ fn contains_cyclic<F: Family, K: Key, V: OperationCodec<F, Ordered<K, V>>>(
     end: &K,
     key: &K,
 ) -> bool
-    ensures { let e : Keyed K V.Value = record { key = K.text; value = V.Value.text; operation = V.operation_text; cmp = K.cmp } in result ≡ in_span e start.now end.now key.now }
+    ensures { let e = keyed_by K.text V.Value.text V.operation_text K.cmp in
+        result ≡ in_span e start.now end.now key.now }
 {
     if start < end {
         start <= key && key < end
@@ -29,7 +30,8 @@ pub(crate) fn excludes<F: Family, K: Key, V: OperationCodec<F, Ordered<K, V>>>(
     next: &K,
     key: &K,
 ) -> bool
-    ensures { let e : Keyed K V.Value = record { key = K.text; value = V.Value.text; operation = V.operation_text; cmp = K.cmp } in IsTrue result ↔ Excludes e start.now next.now key.now }
+    ensures { let e = keyed_by K.text V.Value.text V.operation_text K.cmp in
+        IsTrue result ↔ Excludes e start.now next.now key.now }
 {
     key != start && contains_cyclic::<F, K, V>(start, next, key)
 }

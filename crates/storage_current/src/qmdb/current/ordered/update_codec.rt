@@ -32,7 +32,9 @@ pub trait UpdateCodec<K: Key>: ValueEncoding {
     ) -> Result<Ordered<K, Self>, Error>
     where
         Self: Sized,
-        ensures gives { Gives (λ u. (K.view u.key, Self.Value.view u.value, K.view u.next_key)) result (B.unread buf.new) (ordered_at (K.parse (key_cfg cfg.now)) (Self.Value.parse (value_cfg cfg.now)) (B.unread buf.old)) }
+        ensures gives { Gives (λ u. (K.view u.key, Self.Value.view u.value, K.view u.next_key))
+            result (B.unread buf.new) (ordered_at (K.parse (key_cfg cfg.now))
+            (Self.Value.parse (value_cfg cfg.now)) (B.unread buf.old)) }
         ensures ends { IsEnding (B.unread buf.old) (B.unread buf.new) };
 }
 

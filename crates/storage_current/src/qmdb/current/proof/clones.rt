@@ -26,7 +26,9 @@ impl<F: Graftable, D: Digest> RangeProof<F, D> {
 impl<F: Graftable, D: Digest, C: Chunk + Clone> Proof<F, D, C> {
     /// An equal proof, where a clone of a chunk is equal to it.
     pub fn clone(&self) -> Result<Self, NoMemory>
-        ensures { ClonesAreEqual C.is_clone C.text → IfOk result (λ copy. operation_of D.text C.text copy ≡ operation_of D.text C.text self.now) }
+        ensures { ClonesAreEqual C.is_clone C.text
+            → IfOk result (λ copy.
+            operation_of D.text C.text copy ≡ operation_of D.text C.text self.now) }
     {
         Ok(Proof {
             loc: self.loc,

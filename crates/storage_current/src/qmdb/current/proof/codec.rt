@@ -80,9 +80,11 @@ impl<F: Graftable, D: Digest> Read for RangeProof<F, D> {
 }
 
 impl<F: Graftable, D: Digest> Codec for RangeProof<F, D> {
-    ghost again = { λ most p rest ok. current_again F.has_pending D.size most (current_of D.text p) rest (held_digests D.text D.size D.sized p) ok };
+    ghost again = { λ most p rest ok. current_again F.has_pending D.size most
+        (current_of D.text p) rest (held_digests D.text D.size D.sized p) ok };
 }
 
 impl<F: Graftable, D: Digest> Canonical for RangeProof<F, D> {
-    ghost back = { λ most bytes p rest fits e. current_back F.has_pending D.size most bytes (current_of D.text p) rest fits e };
+    ghost back = { λ most bytes p rest fits e.
+        current_back F.has_pending D.size most bytes (current_of D.text p) rest fits e };
 }

@@ -6,6 +6,7 @@ ghost use Rattle.storage_merkle.specs.RangeProofs.{AreDigests};
 ghost use Rattle.storage_current.specs.CurrentProofs.{IsCurrent};
 ghost use Rattle.storage_current.specs.ExtractedCurrent.{AreExtractedCurrent, IsNotExtracted, MeansExtracted, extracted_current};
 ghost use Rattle.storage_current.specs.Held.{current_of};
+ghost use Rattle.storage_current.specs.Snapshots.{grafting_of};
 ghost use Rattle.storage_current.specs.Windows.{IsWindowOf};
 
 use crate::laws::extracted::extracted_current_digests_are_true;
@@ -35,9 +36,16 @@ pub fn verify_proof_and_extract_digests<F: Graftable, Op: Write, H: Hasher, cons
     chunks: &[[u8; N]],
     root: &DigestOf<H>,
 ) -> Result<ExtractedDigests<F, H>, Error<F>>
-    ensures handed { IfOk result (λ v. AreExtractedCurrent H.hash_of (record { shape = F.shape; bytes = N }) (current_of H.Digest.text proof.now) start (map Op.text operations.now) chunks.now (H.Digest.text root.now) (texts H.Digest.text v.items)) }
-    ensures meaning { (H.Digest.size ≡ 32) ⊎ (H.Digest.size ≡ 64) → IfOk result (λ v. MeansExtracted H.hash_of (record { shape = F.shape; bytes = N }) (current_of H.Digest.text proof.now) start (map Op.text operations.now) chunks.now (H.Digest.text root.now) (texts H.Digest.text v.items)) }
-    ensures why { IfErr result (IsNotExtracted H.hash_of (record { shape = F.shape; bytes = N }) (current_of H.Digest.text proof.now) start (map Op.text operations.now) chunks.now (H.Digest.text root.now)) }
+    ensures handed { IfOk result (λ v. AreExtractedCurrent H.hash_of (grafting_of F.shape N)
+        (current_of H.Digest.text proof.now) start (map Op.text operations.now) chunks.now
+        (H.Digest.text root.now) (texts H.Digest.text v.items)) }
+    ensures meaning { (H.Digest.size ≡ 32) ⊎ (H.Digest.size ≡ 64)
+        → IfOk result (λ v. MeansExtracted H.hash_of (grafting_of F.shape N)
+        (current_of H.Digest.text proof.now) start (map Op.text operations.now) chunks.now
+        (H.Digest.text root.now) (texts H.Digest.text v.items)) }
+    ensures why { IfErr result
+        (IsNotExtracted H.hash_of (grafting_of F.shape N) (current_of H.Digest.text proof.now) start
+        (map Op.text operations.now) chunks.now (H.Digest.text root.now)) }
 {
     let Some(window) = proof.window(start, operations.len(), chunks, N) else {
         return Err(Error::InvalidProof);
@@ -58,8 +66,18 @@ fn extract_in<F: Graftable, H: Hasher, E: AsSlice<u8>, C: Chunk>(
     chunks: &[C],
     root: &DigestOf<H>,
 ) -> Result<ExtractedDigests<F, H>, Error<F>>
-    requires { (n : ℕ) × IsWindowOf (record { shape = F.shape; bytes = n }) proof.now.proof.leaves start (length operations.now) (length chunks.now) window.now }
-    ensures { (n : ℕ) → IsWindowOf (record { shape = F.shape; bytes = n }) proof.now.proof.leaves start (length operations.now) (length chunks.now) window.now → AreDigests n (map C.text chunks.now) → MatchResult result (λ v. IsCurrent H.hash_of (record { shape = F.shape; bytes = n }) (current_of H.Digest.text proof.now) start (map E.items operations.now) (map C.text chunks.now) (H.Digest.text root.now) × (texts H.Digest.text v.items ≡ extracted_current H.hash_of (record { shape = F.shape; bytes = n }) (current_of H.Digest.text proof.now) start (map E.items operations.now) (map C.text chunks.now))) (IsNotExtracted H.hash_of (record { shape = F.shape; bytes = n }) (current_of H.Digest.text proof.now) start (map E.items operations.now) (map C.text chunks.now) (H.Digest.text root.now)) }
+    requires { (n : ℕ) × IsWindowOf (grafting_of F.shape n) proof.now.proof.leaves start
+        (length operations.now) (length chunks.now) window.now }
+    ensures { (n : ℕ) → IsWindowOf (grafting_of F.shape n) proof.now.proof.leaves start
+        (length operations.now) (length chunks.now) window.now
+        → AreDigests n (map C.text chunks.now)
+        → MatchResult result (λ v. IsCurrent H.hash_of (grafting_of F.shape n)
+        (current_of H.Digest.text proof.now) start (map E.items operations.now)
+        (map C.text chunks.now) (H.Digest.text root.now) × (texts H.Digest.text v.items
+        ≡ extracted_current H.hash_of (grafting_of F.shape n) (current_of H.Digest.text proof.now)
+        start (map E.items operations.now) (map C.text chunks.now)))
+        (IsNotExtracted H.hash_of (grafting_of F.shape n) (current_of H.Digest.text proof.now) start
+        (map E.items operations.now) (map C.text chunks.now) (H.Digest.text root.now)) }
 {
     if !slots::match_chunks::<H, C, F>(proof, window, chunks) {
         return Err(Error::InvalidProof);

@@ -34,11 +34,15 @@ impl<F: Family, D: Digest> Fetched<F, D> {
         plan: &RangePlan<F>,
     ) -> Result<Self, Error<F>>
         requires { S.failed storage.old + 1 < 2 ^ 64 }
-        ensures positions { IfOk result (λ f. f.positions.items ≡ planned F.shape plan.now.leaves plan.now.start plan.now.end) }
+        ensures positions { IfOk result (λ f.
+            f.positions.items ≡ planned F.shape plan.now.leaves plan.now.start plan.now.end) }
         ensures rising { IfOk result (λ f. IsStrictlyIncreasing f.positions.items) }
-        ensures digests { IfOk result (λ f. map Some f.digests.items ≡ map (S.node storage.old) f.positions.items) }
-        ensures why { IfErr result (IsUnread (held_at (S.node storage.old)) (planned F.shape plan.now.leaves plan.now.start plan.now.end)) }
-        ensures failures { Counts (IsStoreFault result) (S.failed storage.old) (S.failed storage.new) }
+        ensures digests { IfOk result (λ f.
+            map Some f.digests.items ≡ map (S.node storage.old) f.positions.items) }
+        ensures why { IfErr result (IsUnread (held_at (S.node storage.old))
+            (planned F.shape plan.now.leaves plan.now.start plan.now.end)) }
+        ensures failures { Counts (IsStoreFault result) (S.failed storage.old)
+            (S.failed storage.new) }
         ensures same_size { S.nodes storage.new ≡ S.nodes storage.old }
         ensures same { (p : ℕ) → S.node storage.new p ≡ S.node storage.old p }
     {
@@ -55,7 +59,10 @@ impl<F: Family, D: Digest> Fetched<F, D> {
 
     /// The digest at one of the positions.
     pub(crate) fn get(&self, position: Position<F>) -> Option<D>
-        ensures { (node : ℕ → Option D) → IsStrictlyIncreasing self.now.positions.items → map Some self.now.digests.items ≡ map node self.now.positions.items → Contains self.now.positions.items position → result ≡ node position }
+        ensures { (node : ℕ → Option D) → IsStrictlyIncreasing self.now.positions.items
+            → map Some self.now.digests.items ≡ map node self.now.positions.items
+            → Contains self.now.positions.items position
+            → result ≡ node position }
     {
         match self.positions.binary_search(&position) {
             Ok(index) => self.digests.get(index).copied(),
@@ -73,7 +80,8 @@ pub(crate) fn stored_leaves<F: Countable, S: Storage<F>>(
     storage: &S,
 ) -> Result<Location<F>, Error<F>>
     ensures tree { IfOk result (λ n. size F.shape n ≡ S.nodes storage.now) }
-    ensures why { IfErr result (λ e. ((n : ℕ) → size F.shape n ≡ S.nodes storage.now → ⊥) × IsNoTree e) }
+    ensures why { IfErr result (λ e.
+        ((n : ℕ) → size F.shape n ≡ S.nodes storage.now → ⊥) × IsNoTree e) }
 {
     match leaves_of::<F>(storage.size()) {
         Some(leaves) => Ok(leaves),

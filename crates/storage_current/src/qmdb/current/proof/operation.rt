@@ -7,7 +7,7 @@ ghost use Rattle.storage_current.specs.CurrentProofs.{IsActiveCurrent};
 ghost use Rattle.storage_current.specs.CurrentSoundness.{MeansActive};
 ghost use Rattle.storage_current.specs.Held.{operation_of};
 ghost use Rattle.storage_current.specs.BuiltProofs.{AreAnswered, AreBitsOf, ArePartsOf, IsNotBuilt};
-ghost use Rattle.storage_current.specs.Snapshots.{Grafting, Snapshot as SnapshotOf, first_chunk, height, own_operation_proof};
+ghost use Rattle.storage_current.specs.Snapshots.{Snapshot as SnapshotOf, first_chunk, height, own_operation_proof, grafting_of};
 
 mod codec;
 mod stored;
@@ -51,11 +51,20 @@ impl<F: Graftable, D: Digest, const N: usize> Proof<F, D, [u8; N]> {
         ops_root: D,
     ) -> Result<Self, Error<F>>
         requires { G.IsAlwaysCallable get_node }
-        ensures own { let g : Grafting = record { shape = F.shape; bytes = N } in IfOk result (λ proof. (s : SnapshotOf) → ArePartsOf D.text (G.post get_node) H.hash_of g plan (R.retained status.now) floor (D.text ops_root) s → operation_of D.text (λ c. c) proof ≡ own_operation_proof H.hash_of g s plan.start) }
+        ensures own { let g = grafting_of F.shape N in
+            IfOk result (λ proof. (s : SnapshotOf) → ArePartsOf D.text
+            (G.post get_node) H.hash_of g plan (R.retained status.now) floor (D.text ops_root) s
+            → operation_of D.text (λ c. c) proof ≡ own_operation_proof H.hash_of g s plan.start) }
         ensures answered { OnOk result (AreAnswered (G.post get_node) F.shape plan) }
-        ensures bits { let g : Grafting = record { shape = F.shape; bytes = N } in OnOk result (AreBitsOf g plan.leaves (R.retained status.now)) }
-        ensures kept { let g : Grafting = record { shape = F.shape; bytes = N } in OnOk result ((R.retained status.now).pruned ≤ first_chunk g plan.start) }
-        ensures why { let g : Grafting = record { shape = F.shape; bytes = N } in IfErr result (λ error. ((first_chunk g plan.start < (R.retained status.now).pruned) × (error ≡ Error.OperationPruned plan.start)) ⊎ (((R.retained status.now).pruned ≤ first_chunk g plan.start) × IsNotBuilt (G.post get_node) g plan (R.retained status.now) error)) }
+        ensures bits { let g = grafting_of F.shape N in
+            OnOk result (AreBitsOf g plan.leaves (R.retained status.now)) }
+        ensures kept { let g = grafting_of F.shape N in
+            OnOk result ((R.retained status.now).pruned ≤ first_chunk g plan.start) }
+        ensures why { let g = grafting_of F.shape N in
+            IfErr result (λ error. ((first_chunk g plan.start < (R.retained status.now).pruned)
+            × (error ≡ Error.OperationPruned plan.start))
+            ⊎ (((R.retained status.now).pruned ≤ first_chunk g plan.start)
+            × IsNotBuilt (G.post get_node) g plan (R.retained status.now) error)) }
     {
         let loc = plan.location();
         let pruned = status.pruned_chunks();
@@ -90,9 +99,17 @@ impl<F: Graftable, D: Digest, C: Chunk> Proof<F, D, C> {
         operation: O,
         root: &D,
     ) -> Result<bool, NoMemory>
-        ensures exact { IfOk result (λ yes. IsTrue yes ↔ IsActiveCurrent H.hash_of (record { shape = F.shape; bytes = length (C.text self.now.chunk) }) (operation_of D.text C.text self.now) (O.text operation) (D.text root.now)) }
-        ensures meaning { (D.size ≡ 32) ⊎ (D.size ≡ 64) → IfOk result (λ yes. IsTrue yes → MeansActive H.hash_of (record { shape = F.shape; bytes = length (C.text self.now.chunk) }) (operation_of D.text C.text self.now) (O.text operation) (D.text root.now)) }
-        ensures at_once { (IsChunkSize (length (C.text self.now.chunk)) → bit_in (C.text self.now.chunk) (self.now.loc % 2 ^ height (record { shape = F.shape; bytes = length (C.text self.now.chunk) })) ≡ true → ⊥) → result ≡ Ok false }
+        ensures exact { IfOk result (λ yes. IsTrue yes
+            ↔ IsActiveCurrent H.hash_of (grafting_of F.shape (length (C.text self.now.chunk)))
+            (operation_of D.text C.text self.now) (O.text operation) (D.text root.now)) }
+        ensures meaning { (D.size ≡ 32) ⊎ (D.size ≡ 64)
+            → IfOk result (λ yes. IsTrue yes
+            → MeansActive H.hash_of (grafting_of F.shape (length (C.text self.now.chunk)))
+            (operation_of D.text C.text self.now) (O.text operation) (D.text root.now)) }
+        ensures at_once { (IsChunkSize (length (C.text self.now.chunk))
+            → bit_in (C.text self.now.chunk) (self.now.loc % 2 ^ height
+            (grafting_of F.shape (length (C.text self.now.chunk)))) ≡ true → ⊥)
+            → result ≡ Ok false }
     {
         if !self.is_active() {
             return Ok(false);
@@ -109,9 +126,17 @@ impl<F: Graftable, D: Digest, C: Chunk> Proof<F, D, C> {
         operation: &[u8],
         root: &D,
     ) -> Result<bool, NoMemory>
-        ensures exact { IfOk result (λ yes. IsTrue yes ↔ IsActiveCurrent H.hash_of (record { shape = F.shape; bytes = length (C.text self.now.chunk) }) (operation_of D.text C.text self.now) operation.now (D.text root.now)) }
-        ensures meaning { (D.size ≡ 32) ⊎ (D.size ≡ 64) → IfOk result (λ yes. IsTrue yes → MeansActive H.hash_of (record { shape = F.shape; bytes = length (C.text self.now.chunk) }) (operation_of D.text C.text self.now) operation.now (D.text root.now)) }
-        ensures at_once { (IsChunkSize (length (C.text self.now.chunk)) → bit_in (C.text self.now.chunk) (self.now.loc % 2 ^ height (record { shape = F.shape; bytes = length (C.text self.now.chunk) })) ≡ true → ⊥) → result ≡ Ok false }
+        ensures exact { IfOk result (λ yes. IsTrue yes
+            ↔ IsActiveCurrent H.hash_of (grafting_of F.shape (length (C.text self.now.chunk)))
+            (operation_of D.text C.text self.now) operation.now (D.text root.now)) }
+        ensures meaning { (D.size ≡ 32) ⊎ (D.size ≡ 64)
+            → IfOk result (λ yes. IsTrue yes
+            → MeansActive H.hash_of (grafting_of F.shape (length (C.text self.now.chunk)))
+            (operation_of D.text C.text self.now) operation.now (D.text root.now)) }
+        ensures at_once { (IsChunkSize (length (C.text self.now.chunk))
+            → bit_in (C.text self.now.chunk) (self.now.loc % 2 ^ height
+            (grafting_of F.shape (length (C.text self.now.chunk)))) ≡ true → ⊥)
+            → result ≡ Ok false }
     {
         if !self.is_active() {
             return Ok(false);
@@ -131,7 +156,9 @@ impl<F: Graftable, D: Digest, C: Chunk> Proof<F, D, C> {
 
     /// Whether the chunk has a size that chunks may have, and the bit of the location is set.
     pub(crate) fn is_active(&self) -> bool
-        ensures { IsTrue result ↔ (IsChunkSize (length (C.text self.now.chunk)) × (bit_in (C.text self.now.chunk) (self.now.loc % 2 ^ height (record { shape = F.shape; bytes = length (C.text self.now.chunk) })) ≡ true)) }
+        ensures { IsTrue result ↔ (IsChunkSize (length (C.text self.now.chunk))
+            × (bit_in (C.text self.now.chunk) (self.now.loc % 2 ^ height
+            (grafting_of F.shape (length (C.text self.now.chunk)))) ≡ true)) }
     {
         let chunk = self.chunk.bytes();
         let Some(height) = grafting::chunk_height(chunk.len()) else {

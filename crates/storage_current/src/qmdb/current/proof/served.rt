@@ -5,7 +5,7 @@ ghost use Rattle.storage_merkle.specs.Plans.{PlanOf};
 ghost use Rattle.storage_current.specs.BuiltProofs.{AreAnswered, AreBitsOf, ArePartsOf};
 ghost use Rattle.storage_current.specs.Held.{current_of};
 ghost use Rattle.storage_current.specs.Served.{AreServedOf, Counts, IsNotMade, IsNotRead, IsServable, IsStoreFault, held_at};
-ghost use Rattle.storage_current.specs.Snapshots.{Grafting, Snapshot as SnapshotOf, own_current_proof};
+ghost use Rattle.storage_current.specs.Snapshots.{Snapshot as SnapshotOf, own_current_proof, grafting_of};
 
 use crate::qmdb::current::proof::RangeProof;
 use crate::qmdb::current::proof::fetched::{Fetched, stored_leaves};
@@ -36,10 +36,19 @@ impl<F: Graftable, D: Digest> RangeProof<F, D> {
     where
         F: Countable,
         requires { S.failed storage.old + 1 < 2 ^ 64 }
-        ensures own { let g : Grafting = record { shape = F.shape; bytes = N } in IfOk result (λ proof. (s : SnapshotOf) → AreServedOf (S.nodes storage.old) (S.node storage.old) g range.start range.end (R.retained status.now) D.text H.hash_of floor (D.text ops_root) s → current_of D.text proof ≡ own_current_proof H.hash_of g s range.start range.end) }
-        ensures made { let g : Grafting = record { shape = F.shape; bytes = N } in OnOk result (IsServable (S.nodes storage.old) (S.node storage.old) g range.start range.end (R.retained status.now) F) }
-        ensures why { let g : Grafting = record { shape = F.shape; bytes = N } in IfErr result (IsNotMade (S.nodes storage.old) (S.node storage.old) g range.start range.end (R.retained status.now)) }
-        ensures failures { Counts (IsStoreFault result) (S.failed storage.old) (S.failed storage.new) }
+        ensures own { let g = grafting_of F.shape N in
+            IfOk result (λ proof. (s : SnapshotOf)
+            → AreServedOf (S.nodes storage.old) (S.node storage.old) g range.start range.end
+            (R.retained status.now) D.text H.hash_of floor (D.text ops_root) s
+            → current_of D.text proof ≡ own_current_proof H.hash_of g s range.start range.end) }
+        ensures made { let g = grafting_of F.shape N in
+            OnOk result (IsServable (S.nodes storage.old)
+            (S.node storage.old) g range.start range.end (R.retained status.now) F) }
+        ensures why { let g = grafting_of F.shape N in
+            IfErr result (IsNotMade (S.nodes storage.old)
+            (S.node storage.old) g range.start range.end (R.retained status.now)) }
+        ensures failures { Counts (IsStoreFault result) (S.failed storage.old)
+            (S.failed storage.new) }
         ensures same_size { S.nodes storage.new ≡ S.nodes storage.old }
         ensures same { (p : ℕ) → S.node storage.new p ≡ S.node storage.old p }
     {
@@ -72,11 +81,18 @@ impl<F: Graftable, D: Digest> RangeProof<F, D> {
         ops_root: D,
     ) -> Result<Self, Error<F>>
         requires { S.failed storage.old + 1 < 2 ^ 64 }
-        ensures own { let g : Grafting = record { shape = F.shape; bytes = N } in IfOk result (λ proof. (s : SnapshotOf) → ArePartsOf D.text (held_at (S.node storage.old)) H.hash_of g plan (R.retained status.now) floor (D.text ops_root) s → current_of D.text proof ≡ own_current_proof H.hash_of g s plan.start plan.end) }
+        ensures own { let g = grafting_of F.shape N in
+            IfOk result (λ proof. (s : SnapshotOf)
+            → ArePartsOf D.text (held_at (S.node storage.old)) H.hash_of g plan
+            (R.retained status.now) floor (D.text ops_root) s
+            → current_of D.text proof ≡ own_current_proof H.hash_of g s plan.start plan.end) }
         ensures answered { OnOk result (AreAnswered (held_at (S.node storage.old)) F.shape plan) }
-        ensures bits { let g : Grafting = record { shape = F.shape; bytes = N } in OnOk result (AreBitsOf g plan.leaves (R.retained status.now)) }
-        ensures why { let g : Grafting = record { shape = F.shape; bytes = N } in IfErr result (IsNotRead (S.node storage.old) g plan (R.retained status.now)) }
-        ensures failures { Counts (IsStoreFault result) (S.failed storage.old) (S.failed storage.new) }
+        ensures bits { let g = grafting_of F.shape N in
+            OnOk result (AreBitsOf g plan.leaves (R.retained status.now)) }
+        ensures why { let g = grafting_of F.shape N in
+            IfErr result (IsNotRead (S.node storage.old) g plan (R.retained status.now)) }
+        ensures failures { Counts (IsStoreFault result) (S.failed storage.old)
+            (S.failed storage.new) }
         ensures same_size { S.nodes storage.new ≡ S.nodes storage.old }
         ensures same { (p : ℕ) → S.node storage.new p ≡ S.node storage.old p }
     {

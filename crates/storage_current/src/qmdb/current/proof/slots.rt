@@ -16,7 +16,13 @@ pub(crate) fn match_chunks<H: Hasher, C: Chunk, F: Graftable>(
     chunks: &[C],
 ) -> bool
     requires { length chunks.now ≡ window.now.last_chunk - window.now.first_chunk + 1 }
-    ensures { IsTrue result ↔ (IsMatched H.hash_of (option_map H.Digest.text proof.now.partial_chunk_digest) (not (eqb window.now.counts.next_bit 0)) window.now.first_chunk window.now.last_chunk window.now.counts.complete (map C.text chunks.now) × IsMatched H.hash_of (option_map H.Digest.text proof.now.pending_chunk_digest) (ltb window.now.counts.graftable window.now.counts.complete) window.now.first_chunk window.now.last_chunk window.now.counts.graftable (map C.text chunks.now)) }
+    ensures { IsTrue result
+        ↔ (IsMatched H.hash_of (option_map H.Digest.text proof.now.partial_chunk_digest)
+        (not (eqb window.now.counts.next_bit 0)) window.now.first_chunk window.now.last_chunk
+        window.now.counts.complete (map C.text chunks.now)
+        × IsMatched H.hash_of (option_map H.Digest.text proof.now.pending_chunk_digest)
+        (ltb window.now.counts.graftable window.now.counts.complete) window.now.first_chunk
+        window.now.last_chunk window.now.counts.graftable (map C.text chunks.now)) }
 {
     let counts = &window.counts;
     matches::<H, C>(
@@ -43,7 +49,8 @@ fn matches<H: Hasher, C: Chunk>(
     chunks: &[C],
 ) -> bool
     requires { length chunks.now ≡ window.now.last_chunk - window.now.first_chunk + 1 }
-    ensures { IsTrue result ↔ IsMatched H.hash_of (option_map H.Digest.text slot.now) is_there window.now.first_chunk window.now.last_chunk index (map C.text chunks.now) }
+    ensures { IsTrue result ↔ IsMatched H.hash_of (option_map H.Digest.text slot.now) is_there
+        window.now.first_chunk window.now.last_chunk index (map C.text chunks.now) }
 {
     match slot {
         None => !is_there,

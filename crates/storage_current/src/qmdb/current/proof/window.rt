@@ -1,6 +1,7 @@
 //! Where a claimed range stands among the chunks.
 
 ghost use Rattle.std.specs.Prelude.{◌≡◌, ℕ, ◌+◌, ◌-◌, ◌*◌, ◌/◌, ◌%◌, ◌^◌, ◌<◌, ◌≤◌, MatchOption};
+ghost use Rattle.storage_current.specs.Snapshots.{grafting_of};
 ghost use Rattle.storage_current.specs.Windows.{IsWindow, IsWindowOf};
 
 use crate::qmdb::current::chunks::ChunkCounts;
@@ -31,7 +32,8 @@ impl Window {
         chunks: usize,
         chunk_size: usize,
     ) -> Option<Window>
-        ensures { MatchOption result (IsWindow (record { shape = F.shape; bytes = chunk_size }) leaves start count chunks → ⊥) (IsWindowOf (record { shape = F.shape; bytes = chunk_size }) leaves start count chunks) }
+        ensures { MatchOption result (IsWindow (grafting_of F.shape chunk_size) leaves start count
+            chunks → ⊥) (IsWindowOf (grafting_of F.shape chunk_size) leaves start count chunks) }
     {
         let height = grafting::chunk_height(chunk_size)?;
         let end = start.checked_add(count as u64)?;
@@ -57,7 +59,9 @@ impl Window {
 
     /// The place of a chunk among those that the range touches; none for another one.
     pub(crate) fn place(&self, chunk: u64) -> Option<usize>
-        ensures { MatchOption result (self.now.first_chunk ≤ chunk → chunk ≤ self.now.last_chunk → ⊥) (λ place. (self.now.first_chunk ≤ chunk) × (chunk ≤ self.now.last_chunk) × (place ≡ chunk - self.now.first_chunk)) }
+        ensures { MatchOption result (self.now.first_chunk ≤ chunk → chunk ≤ self.now.last_chunk
+            → ⊥) (λ place. (self.now.first_chunk ≤ chunk) × (chunk ≤ self.now.last_chunk)
+            × (place ≡ chunk - self.now.first_chunk)) }
     {
         if chunk < self.first_chunk || self.last_chunk < chunk {
             return None;

@@ -6,7 +6,7 @@ ghost use Rattle.storage_bitmap.specs.Chunks.{IsChunkSize, bit_count, chunks_fro
 ghost use Rattle.storage_ops.specs.declared.qmdb.error.Error.TheVariants.{Log};
 ghost use Rattle.storage_current.specs.Held.{current_of};
 ghost use Rattle.storage_current.specs.Served.{AreServedOf, Counts, HoldsRange, IsAnswerable, IsGone, IsKept, IsLogFault, IsNotAnswered, IsStoreFault, end_of};
-ghost use Rattle.storage_current.specs.Snapshots.{Grafting, Holds, Snapshot as SnapshotOf, first_chunk, last_chunk, own_current_proof};
+ghost use Rattle.storage_current.specs.Snapshots.{Holds, Snapshot as SnapshotOf, first_chunk, last_chunk, own_current_proof, grafting_of};
 
 use crate::qmdb::current::proof::RangeProof;
 use crate::qmdb::current::{Contiguous, LogError, grafting};
@@ -57,11 +57,28 @@ impl<F: Graftable, D: Digest> RangeProof<F, D> {
         requires store { S.failed storage.old + 1 < 2 ^ 64 }
         requires log { L.failed log.old + 1 < 2 ^ 64 }
         requires some { 1 ≤ spec.max_ops }
-        ensures own { let g : Grafting = record { shape = F.shape; bytes = N } in let high = end_of spec.start_loc spec.max_ops (bit_count N (R.retained status.now)) in IfOk result (λ answer. (s : SnapshotOf) → AreServedOf (S.nodes storage.old) (S.node storage.old) g spec.start_loc high (R.retained status.now) D.text H.hash_of spec.inactivity_floor (D.text spec.ops_root) s → (current_of D.text answer.0 ≡ own_current_proof H.hash_of g s spec.start_loc high) × (((l : ℕ) → spec.start_loc ≤ l → l < high → L.item log.old l ≡ get_or s.operations l []) → Holds g s spec.start_loc (map L.text answer.1.items) answer.2.items)) }
-        ensures operations { let high = end_of spec.start_loc spec.max_ops (bit_count N (R.retained status.now)) in IfOk result (λ answer. map L.text answer.1.items ≡ map (L.item log.old) (range_with_len spec.start_loc (high - spec.start_loc))) }
-        ensures made { let g : Grafting = record { shape = F.shape; bytes = N } in let high = end_of spec.start_loc spec.max_ops (bit_count N (R.retained status.now)) in OnOk result (IsAnswerable (S.nodes storage.old) (S.node storage.old) (L.first log.old) (L.past log.old) g spec.start_loc high (R.retained status.now) F) }
-        ensures why { let g : Grafting = record { shape = F.shape; bytes = N } in let high = end_of spec.start_loc spec.max_ops (bit_count N (R.retained status.now)) in IfErr result (IsNotAnswered (S.nodes storage.old) (S.node storage.old) (L.first log.old) (L.past log.old) g spec.start_loc high (R.retained status.now)) }
-        ensures store_failures { Counts (IsStoreFault result) (S.failed storage.old) (S.failed storage.new) }
+        ensures own { let g = grafting_of F.shape N in
+            let high = end_of spec.start_loc spec.max_ops (bit_count N (R.retained status.now)) in
+            IfOk result (λ answer. (s : SnapshotOf)
+            → AreServedOf (S.nodes storage.old) (S.node storage.old) g spec.start_loc high
+            (R.retained status.now) D.text H.hash_of spec.inactivity_floor (D.text spec.ops_root) s
+            → (current_of D.text answer.0 ≡ own_current_proof H.hash_of g s spec.start_loc high)
+            × (((l : ℕ) → spec.start_loc ≤ l → l < high → L.item log.old l ≡ get_or s.operations l
+            []) → Holds g s spec.start_loc (map L.text answer.1.items) answer.2.items)) }
+        ensures operations { let high = end_of spec.start_loc spec.max_ops
+            (bit_count N (R.retained status.now)) in
+            IfOk result (λ answer. map L.text answer.1.items
+            ≡ map (L.item log.old) (range_with_len spec.start_loc (high - spec.start_loc))) }
+        ensures made { let g = grafting_of F.shape N in
+            let high = end_of spec.start_loc spec.max_ops (bit_count N (R.retained status.now)) in
+            OnOk result (IsAnswerable (S.nodes storage.old) (S.node storage.old) (L.first log.old)
+            (L.past log.old) g spec.start_loc high (R.retained status.now) F) }
+        ensures why { let g = grafting_of F.shape N in
+            let high = end_of spec.start_loc spec.max_ops (bit_count N (R.retained status.now)) in
+            IfErr result (IsNotAnswered (S.nodes storage.old) (S.node storage.old) (L.first log.old)
+            (L.past log.old) g spec.start_loc high (R.retained status.now)) }
+        ensures store_failures { Counts (IsStoreFault result) (S.failed storage.old)
+            (S.failed storage.new) }
         ensures log_failures { Counts (IsLogFault result) (L.failed log.old) (L.failed log.new) }
         ensures same_size { S.nodes storage.new ≡ S.nodes storage.old }
         ensures same_nodes { (p : ℕ) → S.node storage.new p ≡ S.node storage.old p }
@@ -108,10 +125,13 @@ fn range_end<F: Graftable, R: Readable<N>, const N: usize>(
     start: Location<F>,
     max_ops: u64,
 ) -> Result<Location<F>, Error<F>>
-    ensures end { IfOk result (λ end. end ≡ end_of start max_ops (bit_count N (R.retained status.now))) }
-    ensures kept { let g : Grafting = record { shape = F.shape; bytes = N } in OnOk result (IsKept g start (R.retained status.now)) }
+    ensures end { IfOk result (λ end.
+        end ≡ end_of start max_ops (bit_count N (R.retained status.now))) }
+    ensures kept { let g = grafting_of F.shape N in
+        OnOk result (IsKept g start (R.retained status.now)) }
     ensures size { OnOk result (IsChunkSize N) }
-    ensures why { let g : Grafting = record { shape = F.shape; bytes = N } in IfErr result (IsGone g start (R.retained status.now)) }
+    ensures why { let g = grafting_of F.shape N in
+        IfErr result (IsGone g start (R.retained status.now)) }
 {
     let len = status.len();
     let first = start.as_u64();
@@ -135,7 +155,9 @@ fn touched_chunks<R: Readable<N>, const N: usize>(
     requires some { start < end }
     requires within { end ≤ bit_count N (R.retained status.now) }
     requires kept { (h : ℕ) → 8 * N ≡ 2 ^ h → (R.retained status.now).pruned ≤ start / 2 ^ h }
-    ensures { (h : ℕ) → 8 * N ≡ 2 ^ h → IfOk result (λ v. v.items ≡ chunks_from N (R.retained status.now).bits ((end - 1) / 2 ^ h - start / 2 ^ h + 1) (start / 2 ^ h - (R.retained status.now).pruned)) }
+    ensures { (h : ℕ) → 8 * N ≡ 2 ^ h
+        → IfOk result (λ v. v.items ≡ chunks_from N (R.retained status.now).bits
+        ((end - 1) / 2 ^ h - start / 2 ^ h + 1) (start / 2 ^ h - (R.retained status.now).pruned)) }
 {
     let height = grafting::height::<N>();
     let first = start >> height;
@@ -161,7 +183,8 @@ fn read_range<F, L: Contiguous>(
     requires count { L.failed log.old + 1 < 2 ^ 64 }
     requires order { start ≤ end }
     requires within { HoldsRange (L.first log.old) (L.past log.old) start end }
-    ensures items { IfOk result (λ v. map L.text v.items ≡ map (L.item log.old) (range_with_len start (end - start))) }
+    ensures items { IfOk result (λ v.
+        map L.text v.items ≡ map (L.item log.old) (range_with_len start (end - start))) }
     ensures why { IfErr result (λ e. ((code : ℕ) × (e ≡ Log code)) ⊎ (e ≡ Error.Memory)) }
     ensures failures { Counts (IsLogFault result) (L.failed log.old) (L.failed log.new) }
     ensures same_first { L.first log.new ≡ L.first log.old }

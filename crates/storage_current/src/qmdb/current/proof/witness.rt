@@ -35,7 +35,8 @@ impl<F, D: Digest> OpsRootWitness<F, D> {
         next_bit: u64,
         partial: Option<D>,
     ) -> Self
-        ensures { witness_of D.text result ≡ witness_with (D.text grafted_root) (option_map D.text pending_chunk_digest) next_bit (option_map D.text partial) }
+        ensures { witness_of D.text result ≡ witness_with (D.text grafted_root)
+            (option_map D.text pending_chunk_digest) next_bit (option_map D.text partial) }
     {
         let partial_chunk = match partial {
             None => None,
@@ -70,14 +71,16 @@ impl<F, D: Digest> OpsRootWitness<F, D> {
 
     /// The canonical root of an operations root with this witness. Takes no memory.
     pub fn root<H: Hasher<Digest = D>>(&self, ops_root: &D) -> D
-        ensures { D.text result ≡ H.hash_of (witness_string (witness_of D.text self.now) (D.text ops_root.now)) }
+        ensures { D.text result
+            ≡ H.hash_of (witness_string (witness_of D.text self.now) (D.text ops_root.now)) }
     {
         self.combined::<H>(ops_root)
     }
 
     /// The canonical root.
     fn combined<H: Hasher<Digest = D>>(&self, ops_root: &D) -> D
-        ensures root { D.text result ≡ H.hash_of (witness_string (witness_of D.text self.now) (D.text ops_root.now)) }
+        ensures root { D.text result
+            ≡ H.hash_of (witness_string (witness_of D.text self.now) (D.text ops_root.now)) }
         ensures bits { IfSome self.now.partial_chunk (λ p. p.0 < 2 ^ 64) }
     {
         match self.partial_chunk {
@@ -100,8 +103,12 @@ impl<F, D: Digest> OpsRootWitness<F, D> {
 
     /// Whether the operations root is that of the snapshot with that canonical root. Takes no memory.
     pub fn verify<H: Hasher<Digest = D>>(&self, ops_root: &D, root: &D) -> bool
-        ensures exact { IsTrue result ↔ (H.hash_of (witness_string (witness_of D.text self.now) (D.text ops_root.now)) ≡ D.text root.now) }
-        ensures meaning { 0 < D.size → IsTrue result → MeansWitness H.hash_of (witness_of D.text self.now) (D.text ops_root.now) (D.text root.now) }
+        ensures exact { IsTrue result ↔ (H.hash_of
+            (witness_string (witness_of D.text self.now) (D.text ops_root.now)) ≡ D.text root.now) }
+        ensures meaning { 0 < D.size
+            → IsTrue result
+            → MeansWitness H.hash_of (witness_of D.text self.now) (D.text ops_root.now)
+            (D.text root.now) }
     {
         witnesses_are_sound();
         self.combined::<H>(ops_root) == *root

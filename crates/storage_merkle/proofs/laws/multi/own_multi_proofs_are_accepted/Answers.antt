@@ -2,4 +2,5 @@ use Rattle.storage_merkle.proofs.MultiOwn.{own_multi_accepted}
 use Rattle.storage_merkle.proofs.laws.multi.own_multi_proofs_are_accepted.Goals as goal
 
 pub returns : goal.returns
-returns c = λ h T L b claims content inactive few peaks some up stand. own_multi_accepted h T b claims content inactive few peaks some up stand
+returns c = λ h T L b claims content inactive few peaks some up stand.
+    own_multi_accepted h T b claims content inactive few peaks some up stand

@@ -2,4 +2,5 @@ use Rattle.storage_merkle.proofs.StoreMulti.{multi_own}
 use Rattle.storage_merkle.proofs.laws.stores.stores_give_own_multi_proofs.Goals as goal
 
 pub returns : goal.returns
-returns g c = λ h T L store content inactive st peaks trues ls none. multi_own h T L store content inactive st peaks trues _ ls none
+returns g c = λ h T L store content inactive st peaks trues ls none.
+    multi_own h T L store content inactive st peaks trues _ ls none

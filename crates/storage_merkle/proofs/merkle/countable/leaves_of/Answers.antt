@@ -8,10 +8,13 @@ pub nodes_over-requires : goal.nodes_over-requires
 nodes_over-requires g c =
     let S = g.F.Family.shape in
     let middle = c.loop-low.low + (c.loop-low.high - c.loop-low.low) / 2 in
-    let up : size S middle ≤ size S c.most_leaves-high.result = size_order S g.met.F.Family.laws middle c.most_leaves-high.result (omega (arith, c.loop-low-test.true, c.loop-low.invariant.few)) in
+    let up : size S middle ≤ size S c.most_leaves-high.result = size_order S g.met.F.Family.laws middle
+    c.most_leaves-high.result (omega (arith, c.loop-low-test.true, c.loop-low.invariant.few)) in
     omega (arith, up, c.most_leaves-high.ensures.fits)
 
 pub returns-else-nodes_over-nodes-2 : goal.returns-else-nodes_over-nodes-2
 returns-else-nodes_over-nodes-2 g c = λ n same.
-    no_tree g.F.Family.shape g.met.F.Family.laws c.loop-low.low c.loop-low.high c.as_u64-nodes.result (omega (arith, c.loop-low-test.false))
-    (omega (arith, c.loop-low.invariant.low, c.if-nodes_over-nodes-2.false, c.nodes_over-2.ensures)) c.loop-low.invariant.high n (omega (arith, same, c.as_u64-nodes.ensures))
+    no_tree g.F.Family.shape g.met.F.Family.laws c.loop-low.low c.loop-low.high c.as_u64-nodes.result
+    (omega (arith, c.loop-low-test.false))
+    (omega (arith, c.loop-low.invariant.low, c.if-nodes_over-nodes-2.false, c.nodes_over-2.ensures))
+    c.loop-low.invariant.high n (omega (arith, same, c.as_u64-nodes.ensures))

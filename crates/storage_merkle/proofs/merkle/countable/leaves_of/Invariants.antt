@@ -1,4 +1,4 @@
-use Rattle.std.proofs.Common.{◌+◌, ◌-◌, ◌^◌, ◌<◌, ◌≤◌}
+use Rattle.std.proofs.Common.{◌-◌, ◌<◌, ◌≤◌}
 use Rattle.storage_merkle.specs.Shape.{size}
 use Rattle.storage_merkle.proofs.merkle.countable.leaves_of.Given as goal
 

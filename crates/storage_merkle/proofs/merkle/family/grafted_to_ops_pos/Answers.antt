@@ -3,7 +3,9 @@ use Rattle.storage_merkle.specs.ShapeLaws.{up, covers_up}
 use Rattle.storage_merkle.proofs.merkle.family.grafted_to_ops_pos.Goals as goal
 
 pub power-requires : goal.power-requires
-power-requires g c = let u = up g.F.Family.shape g.met.F.Family.laws _ _ c.args.height _ c.node_at-first.ensures.node c.requires.fits in omega (arith, u.small)
+power-requires g c = let u =
+    up g.F.Family.shape g.met.F.Family.laws _ _ c.args.height _ c.node_at-first.ensures.node c.requires.fits in
+    omega (arith, u.small)
 
 pub overflow_mul-first : goal.overflow_mul-first
 overflow_mul-first g c =
@@ -28,4 +30,5 @@ position-requires-clause-fits g c =
     rw c.power.ensures u.fits
 
 pub returns : goal.returns
-returns g c = covers_up g.F.Family.shape g.met.F.Family.laws _ _ _ _ _ c.node_at-first.ensures.node (rw (c.position.ensures, c.power.ensures))
+returns g c = covers_up g.F.Family.shape g.met.F.Family.laws _ _ _ _ _ c.node_at-first.ensures.node
+    (rw (c.position.ensures, c.power.ensures))

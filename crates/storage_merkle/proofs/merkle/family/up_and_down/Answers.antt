@@ -5,4 +5,5 @@ pub ops_to_grafted_pos-requires-clause-valid : goal.ops_to_grafted_pos-requires-
 ops_to_grafted_pos-requires-clause-valid g c = c.requires.fits _ c.grafted_to_ops_pos.ensures
 
 pub returns : goal.returns
-returns g c = covers_once g.F.Family.shape g.met.F.Family.laws _ _ _ _ c.ops_to_grafted_pos.ensures c.grafted_to_ops_pos.ensures
+returns g c =
+    covers_once g.F.Family.shape g.met.F.Family.laws _ _ _ _ c.ops_to_grafted_pos.ensures c.grafted_to_ops_pos.ensures

@@ -6,4 +6,13 @@ pub returns : goal.returns
 unfolding be8
 returns g c =
     let over = g.met.H.Hasher.over c.args.hasher.now in
-    c.hash_parts.ensures ∙ rw (c.to_be_bytes-leaves.ensures, c.to_be_bytes-inactive.ensures, c.bag_bytes.ensures, c.byte.ensures, c.byte-2.ensures, c.root_bagging.ensures, over.byte, append_assoc) refl
+    c.hash_parts.ensures ∙ rw (
+      c.to_be_bytes-leaves.ensures,
+      c.to_be_bytes-inactive.ensures,
+      c.bag_bytes.ensures,
+      c.byte.ensures,
+      c.byte-2.ensures,
+      c.root_bagging.ensures,
+      over.byte,
+      append_assoc,
+    ) refl

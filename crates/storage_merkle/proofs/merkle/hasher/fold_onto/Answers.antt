@@ -10,5 +10,7 @@ loop-item-preserved g c =
     let h = g.H.Hasher.hash_of in
     let onto = option_map T c.loop-item.folded in
     let front = map T c.in-Some.front.now in
-    let parts : map T c.loop-item.left.now ≡ front ++ T c.in-Some.item.now ∷ [] = ap (map T) c.in-Some.ensures.cases.0 ∙ map-append T c.in-Some.front.now (c.in-Some.item.now ∷ []) in
-    ap (λ d. folded_onto h front (Some d)) c.join.ensures ∙ sym (onto_last h front (T c.in-Some.item.now) onto) ∙ ap (λ xs. folded_onto h xs onto) (sym parts) ∙ c.loop-item.invariant
+    let parts : map T c.loop-item.left.now ≡ front ++ T c.in-Some.item.now ∷ [] =
+    ap (map T) c.in-Some.ensures.cases.0 ∙ map-append T c.in-Some.front.now (c.in-Some.item.now ∷ []) in
+    ap (λ d. folded_onto h front (Some d)) c.join.ensures ∙ sym (onto_last h front (T c.in-Some.item.now) onto)
+    ∙ ap (λ xs. folded_onto h xs onto) (sym parts) ∙ c.loop-item.invariant

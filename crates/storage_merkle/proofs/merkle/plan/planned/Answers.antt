@@ -7,18 +7,31 @@ use Rattle.storage_merkle.proofs.PlanSites.{planned_from, plans_peak, plans_none
 use Rattle.storage_merkle.proofs.merkle.plan.planned.Goals as goal
 
 pub loop-left-init : goal.loop-left-init
-loop-left-init g c = record { peaks = all_peaks g.F.Family.shape g.met.F.Family.laws c.args.leaves; sites = ap (λ xs. xs ++ planned_from (ungrafted g.F.Family.shape) c.args.start c.args.end 0 c.args.leaves) c.new-positions.ensures.items }
+loop-left-init g c =
+    record {
+      peaks = all_peaks g.F.Family.shape g.met.F.Family.laws c.args.leaves;
+      sites = ap (λ xs. xs ++ planned_from
+          (ungrafted g.F.Family.shape) c.args.start c.args.end 0 c.args.leaves) c.new-positions.ensures.items;
+    }
 
 pub add_apart-requires-clause-aligned : goal.add_apart-requires-clause-aligned
-add_apart-requires-clause-aligned g c = (peaks_step g.F.Family.shape g.met.F.Family.laws c.args.leaves c.loop-left.first c.loop-left.left c.first_peak-height.result c.requires c.loop-left.invariant.peaks c.first_peak-height.ensures.first).aligned
+add_apart-requires-clause-aligned g c =
+    (peaks_step g.F.Family.shape g.met.F.Family.laws c.args.leaves c.loop-left.first c.loop-left.left
+    c.first_peak-height.result c.requires c.loop-left.invariant.peaks c.first_peak-height.ensures.first).aligned
 
 pub loop-left-preserved : goal.loop-left-preserved
 loop-left-preserved g c = record {
-  peaks = rw (c.power-first.ensures, c.power-left.ensures) (peaks_next g.F.Family.shape g.met.F.Family.laws c.args.leaves c.loop-left.first c.loop-left.left c.first_peak-height.result c.requires c.loop-left.invariant.peaks c.first_peak-height.ensures.first);
-  sites = plans_peak (ungrafted g.F.Family.shape) c.args.start c.args.end _ _ _ _ _ c.first_peak-height.ensures.first c.power-first.ensures c.power-left.ensures _ _ _ c.in_ok-add_apart.ensures c.loop-left.invariant.sites;
+  peaks = rw (c.power-first.ensures, c.power-left.ensures)
+      (peaks_next g.F.Family.shape g.met.F.Family.laws c.args.leaves c.loop-left.first c.loop-left.left
+      c.first_peak-height.result c.requires c.loop-left.invariant.peaks c.first_peak-height.ensures.first);
+  sites = plans_peak (ungrafted g.F.Family.shape) c.args.start c.args.end _ _ _ _ _ c.first_peak-height.ensures.first
+      c.power-first.ensures c.power-left.ensures _ _ _ c.in_ok-add_apart.ensures c.loop-left.invariant.sites;
 }
 
 pub returns : goal.returns
 returns g c =
-    let found = plans_none (ungrafted g.F.Family.shape) c.args.start c.args.end c.loop-left.first c.loop-left.left c.loop-left.positions.items _ (no_peaks g.F.Family.shape g.met.F.Family.laws) c.loop-left-test.false c.loop-left.invariant.sites in
-    planned_sorted g.F.Family.shape c.args.leaves c.args.start c.args.end _ _ found c.sort_unstable.ensures.permutation (IsNonDecreasingBy-from_sort (λ (x : ℕ). x) c.sort_unstable.new.self.items c.sort_unstable.ensures.sorted)
+    let found = plans_none (ungrafted g.F.Family.shape) c.args.start c.args.end c.loop-left.first c.loop-left.left
+    c.loop-left.positions.items _
+    (no_peaks g.F.Family.shape g.met.F.Family.laws) c.loop-left-test.false c.loop-left.invariant.sites in
+    planned_sorted g.F.Family.shape c.args.leaves c.args.start c.args.end _ _ found c.sort_unstable.ensures.permutation
+    (IsNonDecreasingBy-from_sort (λ (x : ℕ). x) c.sort_unstable.new.self.items c.sort_unstable.ensures.sorted)

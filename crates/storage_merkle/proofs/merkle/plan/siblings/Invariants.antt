@@ -7,7 +7,8 @@ use Rattle.storage_merkle.proofs.merkle.plan.siblings.Given as goal
 abbrev pub invariant-loop-left : goal.invariant-loop-left
 invariant-loop-left g l = record {
   peaks : ArePeaks g.F.Family.shape l.leaves l.first l.left;
-  sites : l.positions.items ++ overlapped_positions (ungrafted g.F.Family.shape) l.start l.end l.first l.left ≡ overlapped_positions (ungrafted g.F.Family.shape) l.start l.end 0 l.leaves;
+  sites : l.positions.items ++ overlapped_positions (ungrafted g.F.Family.shape) l.start l.end l.first l.left
+      ≡ overlapped_positions (ungrafted g.F.Family.shape) l.start l.end 0 l.leaves;
 }
 
 abbrev pub decreases-loop-left : goal.decreases-loop-left

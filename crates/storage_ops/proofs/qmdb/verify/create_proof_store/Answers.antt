@@ -3,4 +3,5 @@ use Rattle.storage_ops.proofs.Verify.{on_err, under}
 use Rattle.storage_ops.proofs.qmdb.verify.create_proof_store.Goals as goal
 
 pub returns-clause-why : goal.returns-clause-why
-returns-clause-why g c = on_err _ _ c.new.result (λ e w. under refl w) (rw (c.deref.ensures.value, c.in_ok-elements.ensures.all, c.hasher.ensures) at c.new.ensures.why)
+returns-clause-why g c = on_err _ _ c.new.result (λ e w. under refl w)
+    (rw (c.deref.ensures.value, c.in_ok-elements.ensures.all, c.hasher.ensures) at c.new.ensures.why)

@@ -2,7 +2,9 @@ use Rattle.std.proofs.Common.{refl}
 use Rattle.storage_ops.proofs.qmdb.verify.verify_proof.Goals as goal
 
 pub returns-clause-exact : goal.returns-clause-exact
-returns-clause-exact g c = rw (c.deref.ensures.value, c.in_ok-elements.ensures.all, c.hasher.ensures) at (c.verify_range_inclusion.ensures.exact refl)
+returns-clause-exact g c = rw (c.deref.ensures.value, c.in_ok-elements.ensures.all, c.hasher.ensures) at
+    (c.verify_range_inclusion.ensures.exact refl)
 
 pub returns-clause-means : goal.returns-clause-means
-returns-clause-means g c = rw (c.deref.ensures.value, c.in_ok-elements.ensures.all, c.hasher.ensures) at (c.verify_range_inclusion.ensures.means refl)
+returns-clause-means g c = rw (c.deref.ensures.value, c.in_ok-elements.ensures.all, c.hasher.ensures) at
+    (c.verify_range_inclusion.ensures.means refl)

@@ -6,12 +6,22 @@ use Rattle.storage_merkle.specs.RangeProofs.{RangeProof}
 use Rattle.storage_ops.proofs.qmdb.verify.verify_proof_and_pinned_nodes.Goals as goal
 
 pub returns-clause-exact : goal.returns-clause-exact
-returns-clause-exact g c = rw (c.deref.ensures.value, c.in_ok-elements.ensures.all, c.hasher-hasher.ensures) at (c.verify_proof_and_pinned_nodes.ensures.exact refl)
+returns-clause-exact g c = rw (c.deref.ensures.value, c.in_ok-elements.ensures.all, c.hasher-hasher.ensures) at
+    (c.verify_proof_and_pinned_nodes.ensures.exact refl)
 
 pub returns-clause-means : goal.returns-clause-means
 returns-clause-means g c =
     let text = g.H.Digest.Write.text in
-    let proof : RangeProof = record { leaves = c.args.proof.now.leaves; inactive = c.args.proof.now.inactive_peaks; digests = map text c.args.proof.now.digests.items } in
+    let proof : RangeProof = record {
+      leaves = c.args.proof.now.leaves;
+      inactive = c.args.proof.now.inactive_peaks;
+      digests = map text c.args.proof.now.digests.items;
+    } in
     let elements = ap (map (λ bytes. bytes.items)) c.deref.ensures.value ∙ c.in_ok-elements.ensures.all in
-    subst (λ es. IfOk c.verify_proof_and_pinned_nodes.result (λ y. IsTrue y → IsPinnedProved g.H.Hasher.hash_of g.F.Family.shape BackwardFold proof c.args.start es (map text c.args.pinned.now) (text c.args.root.now))) elements
-    (subst (λ (b : Bagging). IfOk c.verify_proof_and_pinned_nodes.result (λ y. IsTrue y → IsPinnedProved g.H.Hasher.hash_of g.F.Family.shape b proof c.args.start (map (λ bytes. bytes.items) c.deref.result.now) (map text c.args.pinned.now) (text c.args.root.now))) c.hasher-hasher.ensures (c.verify_proof_and_pinned_nodes.ensures.means refl refl))
+    subst (λ es. IfOk c.verify_proof_and_pinned_nodes.result (λ y. IsTrue y
+    → IsPinnedProved g.H.Hasher.hash_of g.F.Family.shape BackwardFold proof c.args.start es
+    (map text c.args.pinned.now) (text c.args.root.now))) elements
+    (subst (λ (b : Bagging). IfOk c.verify_proof_and_pinned_nodes.result (λ y. IsTrue y
+    → IsPinnedProved g.H.Hasher.hash_of g.F.Family.shape b proof c.args.start
+    (map (λ bytes. bytes.items) c.deref.result.now) (map text c.args.pinned.now) (text c.args.root.now)))
+    c.hasher-hasher.ensures (c.verify_proof_and_pinned_nodes.ensures.means refl refl))

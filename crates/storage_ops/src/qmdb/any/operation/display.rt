@@ -47,7 +47,8 @@ fn write_commit<F: Family, W: fmt::Write>(
     value: &str,
     floor: Location<F>,
 ) -> fmt::Result
-    ensures { WritesOnOk W.write_str_gives f.old result (shown (CommitFloor (Some value.now) floor)) f.new }
+    ensures { WritesOnOk W.write_str_gives f.old result
+        (shown (CommitFloor (Some value.now) floor)) f.new }
 {
     write!(f, "[commit {value} with inactivity floor: {floor}]")
 }
@@ -77,7 +78,8 @@ impl<F: Family, S: Update> Operation<F, S> {
 }
 
 impl<F: Family, S: Update> fmt::Display for Displayed<'_, F, S> {
-    ghost output = { λ d. Some (shown (operation_map (λ k. encode_lower (S.Key.bytes_of k)) S.shown (λ v. encode_lower (S.Value.text v)) (parts d.operation.now))) };
+    ghost output = { λ d. Some (shown (operation_map (λ k. encode_lower (S.Key.bytes_of k)) S.shown
+        (λ v. encode_lower (S.Value.text v)) (parts d.operation.now))) };
 
     fn fmt<W: fmt::Write>(&self, f: &mut fmt::Formatter<W>) -> fmt::Result {
         match self.operation {

@@ -52,8 +52,10 @@ fn update_size<S: FixedUpdate>() -> usize
 /// Appends a value and `n` zeros.
 #[tactic(auto, using(storage_codec::specs::PartsLaws::starts_then, storage_codec::specs::PartsLaws::starts_first))]
 fn write_padded<T: Write>(value: &T, n: usize, out: &mut Vec<u8>) -> Result<(), NoMemory>
-    ensures ok { OnOk result (out.new.items ≡ out.old.items ++ (T.text value.now ++ replicate n 0)) }
-    ensures err { OnErr result (AppendsStart out.old.items out.new.items (T.text value.now ++ replicate n 0)) }
+    ensures ok { OnOk result
+        (out.new.items ≡ out.old.items ++ (T.text value.now ++ replicate n 0)) }
+    ensures err { OnErr result
+        (AppendsStart out.old.items out.new.items (T.text value.now ++ replicate n 0)) }
 {
     value.write(out)?;
     put_zeros(out, n)?;
@@ -69,8 +71,10 @@ fn write_commit_padded<F: Family, V: Write>(
     n: usize,
     out: &mut Vec<u8>,
 ) -> Result<(), NoMemory>
-    ensures ok { OnOk result (out.new.items ≡ out.old.items ++ (presence_text size (option_map V.text value.now) ++ to_be_bytes w64 floor ++ replicate n 0)) }
-    ensures err { OnErr result (AppendsStart out.old.items out.new.items (presence_text size (option_map V.text value.now) ++ to_be_bytes w64 floor ++ replicate n 0)) }
+    ensures ok { OnOk result (out.new.items ≡ out.old.items ++ (presence_text size
+        (option_map V.text value.now) ++ to_be_bytes w64 floor ++ replicate n 0)) }
+    ensures err { OnErr result (AppendsStart out.old.items out.new.items (presence_text size
+        (option_map V.text value.now) ++ to_be_bytes w64 floor ++ replicate n 0)) }
 {
     write_commit_fixed(value, floor, size, out)?;
     put_zeros(out, n)?;
@@ -83,8 +87,8 @@ fn read_commit<F: Family, V: FixedValue, S: FixedUpdate + Update<Value = V>, B: 
     alloc: Global,
     buf: &mut B,
 ) -> Result<Operation<F, S>, Error>
-    ensures gives { Gives (λ x. operation_map S.Key.view S.view V.view (parts x)) result (B.unread buf.new)
-        (commit_payload_at (V.parse tt) V.size (B.unread buf.old)) }
+    ensures gives { Gives (λ x. operation_map S.Key.view S.view V.view (parts x)) result
+        (B.unread buf.new) (commit_payload_at (V.parse tt) V.size (B.unread buf.old)) }
     ensures ends { IsEnding (B.unread buf.old) (B.unread buf.new) }
 {
     let value = read_presence(alloc, buf)?;
@@ -101,8 +105,9 @@ fn read_payload<F: Family, V: FixedValue, S: FixedUpdate + Update<Value = V>, B:
 ) -> Result<Operation<F, S>, Error>
 where
     S::Key: Small + Read<Cfg = ()>,
-    ensures gives { Gives (λ x. operation_map S.Key.view S.view V.view (parts x)) result (B.unread buf.new)
-        (fixed_payload_at (S.Key.parse tt) (S.parse tt) (V.parse tt) S.Key.size S.size V.size tag (B.unread buf.old)) }
+    ensures gives { Gives (λ x. operation_map S.Key.view S.view V.view (parts x)) result
+        (B.unread buf.new) (fixed_payload_at (S.Key.parse tt) (S.parse tt)
+        (V.parse tt) S.Key.size S.size V.size tag (B.unread buf.old)) }
     ensures ends { IsEnding (B.unread buf.old) (B.unread buf.new) }
 {
     let key = small_size::<S::Key>();
@@ -145,11 +150,14 @@ where
 
     ghost operation_view = { operation_map S.Key.view S.view V.view };
 
-    ghost operation_admits = { λ _. is_admitted (S.Key.admits tt) (S.admits tt) (V.admits tt) (λ n. n ≤ 2 ^ 62) };
+    ghost operation_admits = { λ _.
+        is_admitted (S.Key.admits tt) (S.admits tt) (V.admits tt) (λ n. n ≤ 2 ^ 62) };
 
-    ghost operation_fits = { λ _. is_admitted (S.Key.admits tt) (S.admits tt) (V.admits tt) (λ n. n < 2 ^ 64) };
+    ghost operation_fits = { λ _.
+        is_admitted (S.Key.admits tt) (S.admits tt) (V.admits tt) (λ n. n < 2 ^ 64) };
 
-    ghost operation_parse = { λ _. fixed_operation_at (S.Key.parse tt) (S.parse tt) (V.parse tt) S.Key.size S.size V.size };
+    ghost operation_parse = { λ _.
+        fixed_operation_at (S.Key.parse tt) (S.parse tt) (V.parse tt) S.Key.size S.size V.size };
 
     #[tactic(auto, using(storage_codec::specs::PartsLaws::starts_cons, crate::proofs::Starts::starts_none))]
     fn write_operation(operation: &Operation<F, S>, out: &mut Vec<u8>) -> Result<(), NoMemory> {
@@ -192,15 +200,20 @@ where
         read_payload(alloc, buf, tag)
     }
 
-    ghost operation_again = { λ _ op rest h. fixed_again S.Key.text S.text V.text S.Key.view S.view V.view (S.Key.parse tt) (S.parse tt) (V.parse tt)
-        (S.Key.admits tt) (S.admits tt) (V.admits tt) S.Key.size S.size V.size
-        (record { again = S.Key.again tt }) (record { again = S.again tt }) (record { again = V.again tt }) S.Key.sized S.sized V.sized op rest h };
+    ghost operation_again = { λ _ op rest h.
+        fixed_again S.Key.text S.text V.text S.Key.view S.view V.view (S.Key.parse tt) (S.parse tt)
+        (V.parse tt) (S.Key.admits tt) (S.admits tt) (V.admits tt) S.Key.size S.size V.size
+        (record { again = S.Key.again tt }) (record { again = S.again tt })
+        (record { again = V.again tt }) S.Key.sized S.sized V.sized op rest h };
 
-    ghost operation_one = { λ _ x y p q e. operation_same S.Key.view S.view V.view S.seen S.same_seen x y
-        (fixed_one S.Key.text S.text V.text S.Key.view S.view V.view (S.Key.parse tt) (S.parse tt) (V.parse tt) (S.Key.admits tt) (S.admits tt) (V.admits tt)
-        S.Key.size S.size V.size (record { again = S.Key.again tt }) (record { again = S.again tt }) (record { again = V.again tt }) x y p q e) };
+    ghost operation_one = { λ _ x y p q e.
+        operation_same S.Key.view S.view V.view S.seen S.same_seen x y (fixed_one S.Key.text S.text
+        V.text S.Key.view S.view V.view (S.Key.parse tt) (S.parse tt) (V.parse tt) (S.Key.admits tt)
+        (S.admits tt) (V.admits tt) S.Key.size S.size V.size (record { again = S.Key.again tt })
+        (record { again = S.again tt }) (record { again = V.again tt }) x y p q e) };
 
-    ghost operation_parts = { λ x y p q e. fixed_parts S.Key.text S.text V.text S.Key.size S.size V.size V.sized x y p q e };
+    ghost operation_parts = { λ x y p q e.
+        fixed_parts S.Key.text S.text V.text S.Key.size S.size V.size V.sized x y p q e };
 
     ghost operation_same = { operation_same S.Key.view S.view V.view S.seen S.same_seen };
 }
@@ -224,8 +237,10 @@ impl<F: Family, K: Key + Small + Read<Cfg = ()>, V: FixedValue> FixedSize
         )
     }
 
-    ghost sized = { λ x. fixed_sized K.text (λ u. K.text u.key ++ V.text u.value ++ K.text u.next_key) V.text K.size (K.size + V.size + K.size) V.size
-        K.sized (λ u. ordered_sized K.text V.text K.size V.size K.sized V.sized u.key u.value u.next_key) V.sized (parts x) };
+    ghost sized = { λ x.
+        fixed_sized K.text (λ u. K.text u.key ++ V.text u.value ++ K.text u.next_key) V.text K.size
+        (K.size + V.size + K.size) V.size K.sized (λ u. ordered_sized K.text V.text K.size V.size
+        K.sized V.sized u.key u.value u.next_key) V.sized (parts x) };
 }
 
 impl<F: Family, K: Key + Small + Read<Cfg = ()>, V: FixedValue> EncodeSize
@@ -237,10 +252,15 @@ impl<F: Family, K: Key + Small + Read<Cfg = ()>, V: FixedValue> EncodeSize
 
 impl<F: Family, K: Key + Canonical + Small + Read<Cfg = ()>, V: FixedValue + Canonical> Canonical
     for Operation<F, Ordered<K, FixedEncoding<V>>> {
-    ghost back = { λ _ bytes x rest fits e. fixed_back K.text (λ u. K.text u.key ++ V.text u.value ++ K.text u.next_key) V.text K.view (λ u. (K.view u.key, V.view u.value, K.view u.next_key)) V.view
-        (K.parse tt) (ordered_at (K.parse tt) (V.parse tt)) (V.parse tt) K.size (K.size + V.size + K.size) V.size (record { back = K.back tt })
-        (record { back = λ b u r f p. ordered_back K.text V.text K.view V.view (K.parse tt) (V.parse tt) (record { back = K.back tt }) (record { back = V.back tt }) b u.key u.value u.next_key r f p })
-        (record { back = V.back tt }) bytes (parts x) rest fits e };
+    ghost back = { λ _ bytes x rest fits e. fixed_back K.text (λ u. K.text u.key ++ V.text u.value
+        ++ K.text u.next_key) V.text K.view (λ u. (K.view u.key, V.view u.value, K.view u.next_key))
+        V.view (K.parse tt) (ordered_at (K.parse tt) (V.parse tt)) (V.parse tt) K.size
+        (K.size + V.size + K.size) V.size (record { back = K.back tt })
+        (record {
+          back = λ b u r f p. ordered_back K.text V.text K.view V.view (K.parse tt)
+              (V.parse tt) (record { back = K.back tt }) (record { back = V.back tt }) b u.key u.value
+              u.next_key r f p;
+        }) (record { back = V.back tt }) bytes (parts x) rest fits e };
 }
 
 impl<F: Family, K: Key + Small + Read<Cfg = ()>, V: FixedValue> FixedSize
@@ -255,8 +275,9 @@ impl<F: Family, K: Key + Small + Read<Cfg = ()>, V: FixedValue> FixedSize
         )
     }
 
-    ghost sized = { λ x. fixed_sized K.text (λ u. K.text u.0 ++ V.text u.1) V.text K.size (K.size + V.size) V.size
-        K.sized (λ u. unordered_sized K.text V.text K.size V.size K.sized V.sized u.0 u.1) V.sized (parts x) };
+    ghost sized = { λ x. fixed_sized K.text (λ u. K.text u.0 ++ V.text u.1) V.text K.size
+        (K.size + V.size) V.size K.sized (λ u. unordered_sized K.text V.text K.size V.size K.sized
+        V.sized u.0 u.1) V.sized (parts x) };
 }
 
 impl<F: Family, K: Key + Small + Read<Cfg = ()>, V: FixedValue> EncodeSize
@@ -268,8 +289,13 @@ impl<F: Family, K: Key + Small + Read<Cfg = ()>, V: FixedValue> EncodeSize
 
 impl<F: Family, K: Key + Canonical + Small + Read<Cfg = ()>, V: FixedValue + Canonical> Canonical
     for Operation<F, Unordered<K, FixedEncoding<V>>> {
-    ghost back = { λ _ bytes x rest fits e. fixed_back K.text (λ u. K.text u.0 ++ V.text u.1) V.text K.view (λ u. (K.view u.0, V.view u.1)) V.view
-        (K.parse tt) (unordered_at (K.parse tt) (V.parse tt)) (V.parse tt) K.size (K.size + V.size) V.size (record { back = K.back tt })
-        (record { back = λ b u r f p. unordered_back K.text V.text K.view V.view (K.parse tt) (V.parse tt) (record { back = K.back tt }) (record { back = V.back tt }) b u.0 u.1 r f p })
+    ghost back = { λ _ bytes x rest fits e.
+        fixed_back K.text (λ u. K.text u.0 ++ V.text u.1) V.text K.view
+        (λ u. (K.view u.0, V.view u.1)) V.view (K.parse tt) (unordered_at (K.parse tt) (V.parse tt))
+        (V.parse tt) K.size (K.size + V.size) V.size (record { back = K.back tt })
+        (record {
+          back = λ b u r f p. unordered_back K.text V.text K.view V.view (K.parse tt)
+              (V.parse tt) (record { back = K.back tt }) (record { back = V.back tt }) b u.0 u.1 r f p;
+        })
         (record { back = V.back tt }) bytes (parts x) rest fits e };
 }

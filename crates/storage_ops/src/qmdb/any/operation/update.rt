@@ -78,7 +78,8 @@ pub trait Update: sealed::Sealed + Write + EncodeSize + Drop {
     where
         Self: Sized,
         requires { C.pre update }
-        ensures { (u : Self) → ((r : R) (v : Self) → C.post update r → R.deref_gives r v → v ≡ u) → IfOk result (is_cached u) };
+        ensures { (u : Self) → ((r : R) (v : Self) → C.post update r → R.deref_gives r v → v ≡ u)
+            → IfOk result (is_cached u) };
 
     /// What an update is displayed as: keys by their bytes and the value by its encoding, in hexadecimal.
     ghost shown: { Self → List ℕ };
@@ -94,7 +95,8 @@ pub trait Update: sealed::Sealed + Write + EncodeSize + Drop {
     fn clone(&self) -> Result<Self, NoMemory>
     where
         Self: Sized,
-        ensures { IfOk result (λ u. (seen u ≡ seen self.now) × (Self.text u ≡ Self.text self.now)) };
+        ensures { IfOk result (λ u.
+            (seen u ≡ seen self.now) × (Self.text u ≡ Self.text self.now)) };
 }
 
 /// An update that is also read.
@@ -112,8 +114,10 @@ pub trait FixedUpdate: CodecUpdate + FixedSize + Read<Cfg = ()> {
 /// Appends two values.
 #[tactic(auto, using(storage_codec::specs::PartsLaws::starts_then, storage_codec::specs::PartsLaws::starts_first))]
 fn write_pair<A: Write, B: Write>(first: &A, second: &B, out: &mut Vec<u8>) -> Result<(), NoMemory>
-    ensures ok { OnOk result (out.new.items ≡ out.old.items ++ (A.text first.now ++ B.text second.now)) }
-    ensures err { OnErr result (AppendsStart out.old.items out.new.items (A.text first.now ++ B.text second.now)) }
+    ensures ok { OnOk result
+        (out.new.items ≡ out.old.items ++ (A.text first.now ++ B.text second.now)) }
+    ensures err { OnErr result
+        (AppendsStart out.old.items out.new.items (A.text first.now ++ B.text second.now)) }
 {
     first.write(out)?;
     second.write(out)?;

@@ -31,8 +31,8 @@ fn read_commit<F: Family, V: VariableValue, S: CodecUpdate + Update<Value = V>, 
     buf: &mut B,
     cfg: &V::Cfg,
 ) -> Result<Operation<F, S>, Error>
-    ensures gives { Gives (λ x. operation_map S.Key.view S.view V.view (parts x)) result (B.unread buf.new)
-        (variable_commit_at (V.parse cfg.now) (B.unread buf.old)) }
+    ensures gives { Gives (λ x. operation_map S.Key.view S.view V.view (parts x)) result
+        (B.unread buf.new) (variable_commit_at (V.parse cfg.now) (B.unread buf.old)) }
     ensures ends { IsEnding (B.unread buf.old) (B.unread buf.new) }
 {
     let value = Option::<V>::read_cfg(alloc, buf, cfg)?;
@@ -45,7 +45,8 @@ fn read_commit<F: Family, V: VariableValue, S: CodecUpdate + Update<Value = V>, 
 /// The size of an operation's encoding, `None` past the greatest `u64`.
 #[tactic(auto, using(std::proofs::lemmas::Grind::common_steps))]
 fn variable_size<F: Family, S: Update>(operation: &Operation<F, S>) -> Option<u64>
-    ensures { result ≡ size_of (length (variable_operation_text (operation_map S.Key.text S.text S.Value.text (parts operation.now)))) }
+    ensures { result ≡ size_of (length (variable_operation_text
+        (operation_map S.Key.text S.text S.Value.text (parts operation.now)))) }
 {
     let payload = match operation {
         Operation::Delete(key) => key.encode_size(),
@@ -70,11 +71,14 @@ impl<
 
     ghost operation_view = { operation_map S.Key.view S.view V.view };
 
-    ghost operation_admits = { λ cfg. is_admitted (S.Key.admits cfg.0) (S.admits cfg) (V.admits cfg.1) (λ n. n ≤ 2 ^ 62) };
+    ghost operation_admits = { λ cfg.
+        is_admitted (S.Key.admits cfg.0) (S.admits cfg) (V.admits cfg.1) (λ n. n ≤ 2 ^ 62) };
 
-    ghost operation_fits = { λ cfg. is_admitted (S.Key.admits cfg.0) (S.admits cfg) (V.admits cfg.1) (λ n. n < 2 ^ 64) };
+    ghost operation_fits = { λ cfg.
+        is_admitted (S.Key.admits cfg.0) (S.admits cfg) (V.admits cfg.1) (λ n. n < 2 ^ 64) };
 
-    ghost operation_parse = { λ cfg. variable_operation_at (S.Key.parse cfg.0) (S.parse cfg) (V.parse cfg.1) };
+    ghost operation_parse = { λ cfg.
+        variable_operation_at (S.Key.parse cfg.0) (S.parse cfg) (V.parse cfg.1) };
 
     #[tactic(auto, using(storage_codec::specs::PartsLaws::starts_cons, crate::proofs::Starts::starts_none))]
     fn write_operation(operation: &Operation<F, S>, out: &mut Vec<u8>) -> Result<(), NoMemory> {
@@ -109,16 +113,19 @@ impl<
         }
     }
 
-    ghost operation_again = { λ cfg op rest h. variable_again S.Key.text S.text V.text S.Key.view S.view V.view (S.Key.parse cfg.0) (S.parse cfg) (V.parse cfg.1)
-        (S.Key.admits cfg.0) (S.admits cfg) (V.admits cfg.1)
-        (record { again = S.Key.again cfg.0 }) (record { again = S.again cfg }) (record { again = V.again cfg.1 }) op rest h };
+    ghost operation_again = { λ cfg op rest h. variable_again S.Key.text S.text V.text S.Key.view
+        S.view V.view (S.Key.parse cfg.0) (S.parse cfg) (V.parse cfg.1) (S.Key.admits cfg.0)
+        (S.admits cfg) (V.admits cfg.1) (record { again = S.Key.again cfg.0 })
+        (record { again = S.again cfg }) (record { again = V.again cfg.1 }) op rest h };
 
-    ghost operation_one = { λ cfg x y p q e. operation_same S.Key.view S.view V.view S.seen S.same_seen x y
-        (variable_one S.Key.text S.text V.text S.Key.view S.view V.view (S.Key.parse cfg.0) (S.parse cfg) (V.parse cfg.1)
-        (S.Key.admits cfg.0) (S.admits cfg) (V.admits cfg.1)
-        (record { again = S.Key.again cfg.0 }) (record { again = S.again cfg }) (record { again = V.again cfg.1 }) x y p q e) };
+    ghost operation_one = { λ cfg x y p q e.
+        operation_same S.Key.view S.view V.view S.seen S.same_seen x y (variable_one S.Key.text
+        S.text V.text S.Key.view S.view V.view (S.Key.parse cfg.0) (S.parse cfg) (V.parse cfg.1)
+        (S.Key.admits cfg.0) (S.admits cfg) (V.admits cfg.1) (record { again = S.Key.again cfg.0 })
+        (record { again = S.again cfg }) (record { again = V.again cfg.1 }) x y p q e) };
 
-    ghost operation_parts = { λ x y p q e. variable_parts S.Key.text S.text V.text V.view V.prefix_free x y e };
+    ghost operation_parts = { λ x y p q e.
+        variable_parts S.Key.text S.text V.text V.view V.prefix_free x y e };
 
     ghost operation_same = { operation_same S.Key.view S.view V.view S.seen S.same_seen };
 }
@@ -139,18 +146,26 @@ impl<F: Family, K: Key, V: VariableValue> EncodeSize
 
 impl<F: Family, K: Key + Canonical, V: VariableValue + Canonical> Canonical
     for Operation<F, Ordered<K, VariableEncoding<V>>> {
-    ghost back = { λ cfg bytes x rest fits e. variable_back K.text (λ u. K.text u.key ++ V.text u.value ++ K.text u.next_key) V.text
-        K.view (λ u. (K.view u.key, V.view u.value, K.view u.next_key)) V.view
-        (K.parse cfg.0) (ordered_at (K.parse cfg.0) (V.parse cfg.1)) (V.parse cfg.1) (record { back = K.back cfg.0 })
-        (record { back = λ b u r f p. ordered_back K.text V.text K.view V.view (K.parse cfg.0) (V.parse cfg.1) (record { back = K.back cfg.0 }) (record { back = V.back cfg.1 }) b u.key u.value u.next_key r f p })
+    ghost back = { λ cfg bytes x rest fits e.
+        variable_back K.text (λ u. K.text u.key ++ V.text u.value ++ K.text u.next_key) V.text
+        K.view (λ u. (K.view u.key, V.view u.value, K.view u.next_key)) V.view (K.parse cfg.0)
+        (ordered_at (K.parse cfg.0) (V.parse cfg.1)) (V.parse cfg.1)
+        (record { back = K.back cfg.0 }) (record {
+          back = λ b u r f p. ordered_back K.text V.text
+              K.view V.view (K.parse cfg.0) (V.parse cfg.1) (record { back = K.back cfg.0 })
+              (record { back = V.back cfg.1 }) b u.key u.value u.next_key r f p;
+        })
         (record { back = V.back cfg.1 }) bytes (parts x) rest fits e };
 }
 
 impl<F: Family, K: Key + Canonical, V: VariableValue + Canonical> Canonical
     for Operation<F, Unordered<K, VariableEncoding<V>>> {
-    ghost back = { λ cfg bytes x rest fits e. variable_back K.text (λ u. K.text u.0 ++ V.text u.1) V.text
-        K.view (λ u. (K.view u.0, V.view u.1)) V.view
-        (K.parse cfg.0) (unordered_at (K.parse cfg.0) (V.parse cfg.1)) (V.parse cfg.1) (record { back = K.back cfg.0 })
-        (record { back = λ b u r f p. unordered_back K.text V.text K.view V.view (K.parse cfg.0) (V.parse cfg.1) (record { back = K.back cfg.0 }) (record { back = V.back cfg.1 }) b u.0 u.1 r f p })
-        (record { back = V.back cfg.1 }) bytes (parts x) rest fits e };
+    ghost back = { λ cfg bytes x rest fits e. variable_back K.text (λ u. K.text u.0 ++ V.text u.1)
+        V.text K.view (λ u. (K.view u.0, V.view u.1)) V.view (K.parse cfg.0) (unordered_at
+        (K.parse cfg.0) (V.parse cfg.1)) (V.parse cfg.1) (record { back = K.back cfg.0 })
+        (record {
+          back = λ b u r f p. unordered_back K.text V.text K.view V.view (K.parse cfg.0)
+              (V.parse cfg.1) (record { back = K.back cfg.0 }) (record { back = V.back cfg.1 }) b u.0 u.1
+              r f p;
+        }) (record { back = V.back cfg.1 }) bytes (parts x) rest fits e };
 }

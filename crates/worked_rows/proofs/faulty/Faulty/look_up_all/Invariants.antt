@@ -5,7 +5,8 @@ use Rattle.worked_rows.proofs.faulty.Faulty.look_up_all.Given as goal
 
 abbrev pub invariant-loop-position : goal.invariant-loop-position
 invariant-loop-position g l =
-    let node = λ (p : ℕ). (if eqb p l.self.lacks then None else kept_at g.F.Family.shape l.self.tree.boundary l.self.tree.pinned l.self.tree.nodes p) in
+    let node = λ (p : ℕ). (if eqb p l.self.lacks then None
+    else kept_at g.F.Family.shape l.self.tree.boundary l.self.tree.pinned l.self.tree.nodes p) in
     record {
       served : map Some l.digests.items ++ map node l.left ≡ map node l.positions;
       absent : (p : ℕ) → IsFirstAbsent (λ q a. a ≡ node q) l.left p → IsFirstAbsent (λ q a. a ≡ node q) l.positions p;

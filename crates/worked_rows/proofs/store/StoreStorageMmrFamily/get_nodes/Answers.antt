@@ -6,4 +6,9 @@ use Rattle.worked_rows.proofs.store.StoreStorageMmrFamily.get_nodes.Goals as goa
 
 pub returns-in-Err-clause-answers : goal.returns-in-Err-clause-answers
 returns-in-Err-clause-answers c =
-    elim (subst (λ xs. ((p : ℕ) × (c.in-Err.error ≡ ElementPruned p) × IsFirstAbsent (λ q a. a ≡ slice_get xs q) c.args.positions.now p) ⊎ (c.in-Err.error ≡ Memory)) c.deref.ensures.value c.in-Err.ensures.why) [ inl absent ↦ inl absent | inr memory ↦ inr (inr memory) ]
+    elim (subst (λ xs. ((p : ℕ) × (c.in-Err.error ≡ ElementPruned p) × IsFirstAbsent (λ q a. a ≡ slice_get xs q)
+    c.args.positions.now p) ⊎ (c.in-Err.error ≡ Memory)) c.deref.ensures.value c.in-Err.ensures.why) [
+      | inl absent ↦
+          inl absent
+      | inr memory ↦ inr (inr memory)
+    ]

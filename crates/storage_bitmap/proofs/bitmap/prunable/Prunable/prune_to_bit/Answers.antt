@@ -10,25 +10,35 @@ nonzero_div-chunks g c = omega (arith, chunk_positive g.row.N c.self.invariant.s
 
 pub overflow_sub-self : goal.overflow_sub-self
 overflow_sub-self g c =
-    let at = gone_within g.row.N c.self.inside.pruned c.self.inside.kept (c.args.bit / (8 * g.row.N)) c.args.bit c.self.inside.bytes.items
+    let at = gone_within g.row.N c.self.inside.pruned c.self.inside.kept
+    (c.args.bit / (8 * g.row.N)) c.args.bit c.self.inside.bytes.items
     (rw (← c.self.view_is) at c.requires) refl c.self.invariant.size c.if-chunks-pruned.false in
     at.0
 
 pub remove_front-requires : goal.remove_front-requires
 remove_front-requires g c =
-    let at = gone_within g.row.N c.self.inside.pruned c.self.inside.kept (c.args.bit / (8 * g.row.N)) c.args.bit c.self.inside.bytes.items
+    let at = gone_within g.row.N c.self.inside.pruned c.self.inside.kept
+    (c.args.bit / (8 * g.row.N)) c.args.bit c.self.inside.bytes.items
     (rw (← c.self.view_is) at c.requires) refl c.self.invariant.size c.if-chunks-pruned.false in
-    omega (arith, at.0, (packed_room g.row.N c.self.inside.pruned c.self.inside.kept c.self.inside.bytes.items c.self.invariant).0)
+    omega (
+      arith,
+      at.0,
+      (packed_room g.row.N c.self.inside.pruned c.self.inside.kept c.self.inside.bytes.items c.self.invariant).0,
+    )
 
 pub invariant_of-self : goal.invariant_of-self
 invariant_of-self g c =
-    let at = gone_within g.row.N c.self.inside.pruned c.self.inside.kept (c.args.bit / (8 * g.row.N)) c.args.bit c.self.inside.bytes.items
+    let at = gone_within g.row.N c.self.inside.pruned c.self.inside.kept
+    (c.args.bit / (8 * g.row.N)) c.args.bit c.self.inside.bytes.items
     (rw (← c.self.view_is) at c.requires) refl c.self.invariant.size c.if-chunks-pruned.false in
-    rw c.remove_front.ensures (packed_drop g.row.N c.self.inside.pruned c.self.inside.kept (c.args.bit / (8 * g.row.N)) c.self.inside.bytes.items c.self.invariant (omega arith) at.1)
+    rw c.remove_front.ensures (packed_drop g.row.N c.self.inside.pruned c.self.inside.kept
+    (c.args.bit / (8 * g.row.N)) c.self.inside.bytes.items c.self.invariant (omega arith) at.1)
 
 pub returns : goal.returns
 returns g c =
-    let at = gone_within g.row.N c.self.inside.pruned c.self.inside.kept (c.args.bit / (8 * g.row.N)) c.args.bit c.self.inside.bytes.items
+    let at = gone_within g.row.N c.self.inside.pruned c.self.inside.kept
+    (c.args.bit / (8 * g.row.N)) c.args.bit c.self.inside.bytes.items
     (rw (← c.self.view_is) at c.requires) refl c.self.invariant.size c.if-chunks-pruned.false in
-    rw (← c.self.view_is) (pruned_some g.row.N c.self.inside.pruned c.self.inside.kept (c.args.bit / (8 * g.row.N)) c.self.inside.bytes.items c.remove_front.new.bytes.items
+    rw (← c.self.view_is) (pruned_some g.row.N c.self.inside.pruned c.self.inside.kept
+    (c.args.bit / (8 * g.row.N)) c.self.inside.bytes.items c.remove_front.new.bytes.items
     (omega arith) c.remove_front.ensures at.0)

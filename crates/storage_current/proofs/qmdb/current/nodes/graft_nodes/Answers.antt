@@ -15,6 +15,9 @@ pub returns-clause-seen : goal.returns-clause-seen
 returns-clause-seen g c list each all =
     let G : Grafting = record { shape = g.F.Family.shape; bytes = g.row.N } in
     let done : c.loop-leaf.leaf ≡ c.args.leaves = omega (arith, c.loop-leaf-test.false, c.loop-leaf.auto.leaf-end) in
-    let reached : length c.loop-leaf.changed.items ≡ size G.shape c.args.leaves = rw done at c.loop-leaf.invariant.flags in
-    all_turned g.H.Hasher.hash_of G g.met.F.Family.laws list (g.R.Readable.retained c.args.status.now).bits (map g.H.Digest.Write.text c.loop-leaf.nodes) c.loop-leaf.changed.items
-    (c.loop-leaf.invariant.turned list each all) (rw length-map (omega (arith, reached, c.loop-leaf.invariant.count, c.requires.whole)))
+    let reached : length c.loop-leaf.changed.items ≡ size G.shape c.args.leaves =
+    rw done at c.loop-leaf.invariant.flags in
+    all_turned g.H.Hasher.hash_of G g.met.F.Family.laws list (g.R.Readable.retained c.args.status.now).bits
+    (map g.H.Digest.Write.text c.loop-leaf.nodes) c.loop-leaf.changed.items
+    (c.loop-leaf.invariant.turned list each all)
+    (rw length-map (omega (arith, reached, c.loop-leaf.invariant.count, c.requires.whole)))

@@ -13,7 +13,8 @@ invariant-loop-leaf g l =
     record {
       flags : length l.changed.items ≡ size S l.leaf;
       count : length l.nodes ≡ length l.fn.nodes;
-      turned : (list : List (List ℕ)) → length list ≡ l.leaves → AreNodes S (plain_node h S list) (map f l.fn.nodes) → AreTurned h G list (g.R.Readable.retained l.status).bits (map f l.nodes) l.changed.items;
+      turned : (list : List (List ℕ)) → length list ≡ l.leaves → AreNodes S (plain_node h S list) (map f l.fn.nodes)
+          → AreTurned h G list (g.R.Readable.retained l.status).bits (map f l.nodes) l.changed.items;
     }
 
 abbrev pub invariant-loop-offset : goal.invariant-loop-offset
@@ -25,5 +26,6 @@ invariant-loop-offset g l =
     record {
       flags : length l.changed.items ≡ size S l.leaf + l.offset;
       count : length l.nodes ≡ length l.fn.nodes;
-      turned : (list : List (List ℕ)) → length list ≡ l.leaves → AreNodes S (plain_node h S list) (map f l.fn.nodes) → AreTurned h G list (g.R.Readable.retained l.status).bits (map f l.nodes) l.changed.items;
+      turned : (list : List (List ℕ)) → length list ≡ l.leaves → AreNodes S (plain_node h S list) (map f l.fn.nodes)
+          → AreTurned h G list (g.R.Readable.retained l.status).bits (map f l.nodes) l.changed.items;
     }

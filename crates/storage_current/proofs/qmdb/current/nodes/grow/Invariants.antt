@@ -11,5 +11,6 @@ invariant-loop-offset g l =
     record {
       room : vec_len l.nodes + (l.more - l.offset) ≤ vec_capacity l.nodes;
       count : length l.nodes.items ≡ size S l.leaf + l.offset;
-      held : (list : List (List ℕ)) → AreNodes S (plain_node h S list) (map f l.fn.nodes.items) → get_or list l.leaf [] ≡ l.operation → AreNodes S (plain_node h S list) (map f l.nodes.items);
+      held : (list : List (List ℕ)) → AreNodes S (plain_node h S list) (map f l.fn.nodes.items)
+          → get_or list l.leaf [] ≡ l.operation → AreNodes S (plain_node h S list) (map f l.nodes.items);
     }

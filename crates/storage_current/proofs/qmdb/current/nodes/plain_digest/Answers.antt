@@ -11,7 +11,8 @@ returns g c elements all leaf =
     let of = tree_node g.H.Hasher.hash_of (ungrafted S) (listed elements) in
     let one : 1 ≤ c.args.height = omega arith in
     let k = c.children-left.ensures in
-    let children : AreChildren S c.args.first c.args.height c.children-left.result.0 c.children-left.result.1 (length c.args.plain.now) = record {
+    let children : AreChildren S c.args.first c.args.height c.children-left.result.0 c.children-left.result.1
+    (length c.args.plain.now) = record {
       inner = one;
       aligned = c.requires.aligned;
       left = k.left;
@@ -19,6 +20,9 @@ returns g c elements all leaf =
       left_before = omega (arith, k.left_before, c.requires.next);
       right_before = omega (arith, k.right_before, c.requires.next);
     } in
-    hashed_pair g.H.Hasher.hash_of S elements c.args.first c.args.height c.new-position.result _ _ _ one (c.new-position.ensures ∙ c.position.ensures) c.node_digest.ensures
-    (read_left g.H.Digest.Write.text S L of c.args.plain.now c.args.first c.args.height _ _ c.index-plain-left.result all children c.index-plain-left.is)
-    (read_right g.H.Digest.Write.text S L of c.args.plain.now c.args.first c.args.height _ _ c.index-plain-right.result all children c.index-plain-right.is)
+    hashed_pair g.H.Hasher.hash_of S elements c.args.first c.args.height c.new-position.result _ _ _ one
+    (c.new-position.ensures ∙ c.position.ensures) c.node_digest.ensures
+    (read_left g.H.Digest.Write.text S L of c.args.plain.now c.args.first c.args.height _ _ c.index-plain-left.result
+    all children c.index-plain-left.is)
+    (read_right g.H.Digest.Write.text S L of c.args.plain.now c.args.first c.args.height _ _ c.index-plain-right.result
+    all children c.index-plain-right.is)

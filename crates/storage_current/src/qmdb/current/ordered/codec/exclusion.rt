@@ -39,8 +39,10 @@ fn write_tagged<A: Write, B: Write>(
     second: &B,
     out: &mut Vec<u8>,
 ) -> Result<(), NoMemory>
-    ensures ok { OnOk result (out.new.items ≡ out.old.items ++ (tag ∷ (A.text first.now ++ B.text second.now))) }
-    ensures err { OnErr result (AppendsStart out.old.items out.new.items (tag ∷ (A.text first.now ++ B.text second.now))) }
+    ensures ok { OnOk result
+        (out.new.items ≡ out.old.items ++ (tag ∷ (A.text first.now ++ B.text second.now))) }
+    ensures err { OnErr result
+        (AppendsStart out.old.items out.new.items (tag ∷ (A.text first.now ++ B.text second.now))) }
 {
     out.push(tag)?;
     write_both(first, second, out)
@@ -49,8 +51,10 @@ fn write_tagged<A: Write, B: Write>(
 /// Appends two values.
 #[tactic(auto, using(storage_codec::specs::PartsLaws::starts_then, storage_codec::specs::PartsLaws::starts_first))]
 fn write_both<A: Write, B: Write>(first: &A, second: &B, out: &mut Vec<u8>) -> Result<(), NoMemory>
-    ensures ok { OnOk result (out.new.items ≡ out.old.items ++ (A.text first.now ++ B.text second.now)) }
-    ensures err { OnErr result (AppendsStart out.old.items out.new.items (A.text first.now ++ B.text second.now)) }
+    ensures ok { OnOk result
+        (out.new.items ≡ out.old.items ++ (A.text first.now ++ B.text second.now)) }
+    ensures err { OnErr result
+        (AppendsStart out.old.items out.new.items (A.text first.now ++ B.text second.now)) }
 {
     first.write(out)?;
     second.write(out)
@@ -58,7 +62,8 @@ fn write_both<A: Write, B: Write>(first: &A, second: &B, out: &mut Vec<u8>) -> R
 
 impl<F: Graftable, K: Key, V: ValueEncoding, D: Digest, C: Chunk> Write
     for ExclusionProof<F, K, V, D, C> {
-    ghost text = { λ x. exclusion_text F.has_pending (λ t. K.text t.0 ++ V.Value.text t.1 ++ K.text t.2) V.Value.text (exclusion_of D.text C.text x) };
+    ghost text = { λ x. exclusion_text F.has_pending (λ t. K.text t.0 ++ V.Value.text t.1
+        ++ K.text t.2) V.Value.text (exclusion_of D.text C.text x) };
 
     fn write(&self, out: &mut Vec<u8>) -> Result<(), NoMemory> {
         match self {
@@ -109,7 +114,10 @@ fn read_before_update<A: Read, K: Key, V: UpdateCodec<K>, B: Buf>(
     first: &A::Cfg,
     update: &V::UpdateCfg,
 ) -> Result<(A, Ordered<K, V>), Error>
-    ensures gives { Gives (λ x. (A.view x.0, (K.view x.1.key, V.Value.view x.1.value, K.view x.1.next_key))) result (B.unread buf.new) (pair_at (A.parse first.now) (ordered_at (K.parse (V.key_cfg update.now)) (V.Value.parse (V.value_cfg update.now))) (B.unread buf.old)) }
+    ensures gives { Gives
+        (λ x. (A.view x.0, (K.view x.1.key, V.Value.view x.1.value, K.view x.1.next_key))) result
+        (B.unread buf.new) (pair_at (A.parse first.now) (ordered_at (K.parse (V.key_cfg update.now))
+        (V.Value.parse (V.value_cfg update.now))) (B.unread buf.old)) }
     ensures ends { IsEnding (B.unread buf.old) (B.unread buf.new) }
 {
     let one = match A::read_cfg(alloc, buf, first) {
@@ -134,11 +142,15 @@ impl<F: Graftable, K: Key, V: UpdateCodec<K>, D: Digest, const N: usize> Read
 
     ghost View = { Exclusion (K.View × V.Value.View × K.View) V.Value.View };
 
-    ghost view = { λ x. exclusion_map (λ t. (K.view t.0, V.Value.view t.1, K.view t.2)) V.Value.view (exclusion_of D.text (λ c. c) x) };
+    ghost view = { λ x. exclusion_map (λ t. (K.view t.0, V.Value.view t.1, K.view t.2)) V.Value.view
+        (exclusion_of D.text (λ c. c) x) };
 
-    ghost admits = { λ cfg x. IsAdmittedExclusion (IsAdmittedArray F.has_pending N cfg.0) (λ t. K.admits (V.key_cfg cfg.1) t.0 × V.Value.admits (V.value_cfg cfg.1) t.1 × K.admits (V.key_cfg cfg.1) t.2) (V.Value.admits cfg.2) (exclusion_of D.text (λ c. c) x) };
+    ghost admits = { λ cfg x. IsAdmittedExclusion (IsAdmittedArray F.has_pending N cfg.0)
+        (λ t. K.admits (V.key_cfg cfg.1) t.0 × V.Value.admits (V.value_cfg cfg.1) t.1
+        × K.admits (V.key_cfg cfg.1) t.2) (V.Value.admits cfg.2) (exclusion_of D.text (λ c. c) x) };
 
-    ghost parse = { λ cfg. exclusion_at (operation_at F.has_pending D.size N cfg.0) (ordered_at (K.parse (V.key_cfg cfg.1)) (V.Value.parse (V.value_cfg cfg.1))) (V.Value.parse cfg.2) };
+    ghost parse = { λ cfg. exclusion_at (operation_at F.has_pending D.size N cfg.0) (ordered_at
+        (K.parse (V.key_cfg cfg.1)) (V.Value.parse (V.value_cfg cfg.1))) (V.Value.parse cfg.2) };
 
     #[tactic(auto, using(storage_codec::specs::PartsLaws::ends_then))]
     fn read_cfg<B: Buf>(
@@ -182,7 +194,11 @@ impl<F: Graftable, K: Key, V: UpdateCodec<K>, D: Digest> ExclusionProof<F, K, V,
         update: &<V as UpdateCodec<K>>::UpdateCfg,
         value: &<V::Value as Read>::Cfg,
     ) -> Result<Self, Error>
-        ensures gives { Gives (λ x. exclusion_map (λ t. (K.view t.0, V.Value.view t.1, K.view t.2)) V.Value.view (exclusion_of D.text (λ c. c) x)) result (B.unread buf.new) (exclusion_at (sized_operation_at F.has_pending D.size proof.now.0 proof.now.1) (ordered_at (K.parse (V.key_cfg update.now)) (V.Value.parse (V.value_cfg update.now))) (V.Value.parse value.now) (B.unread buf.old)) }
+        ensures gives { Gives (λ x. exclusion_map (λ t. (K.view t.0, V.Value.view t.1, K.view t.2))
+            V.Value.view (exclusion_of D.text (λ c. c) x)) result (B.unread buf.new)
+            (exclusion_at (sized_operation_at F.has_pending D.size proof.now.0 proof.now.1)
+            (ordered_at (K.parse (V.key_cfg update.now)) (V.Value.parse (V.value_cfg update.now)))
+            (V.Value.parse value.now) (B.unread buf.old)) }
         ensures ends { IsEnding (B.unread buf.old) (B.unread buf.new) }
     {
         match read_tag(buf)? {
@@ -218,7 +234,11 @@ impl<F: Graftable, K: Key, V: UpdateCodec<K>, D: Digest> ExclusionProof<F, K, V,
         update: &<V as UpdateCodec<K>>::UpdateCfg,
         value: &<V::Value as Read>::Cfg,
     ) -> Result<Self, Error>
-        ensures { Gives (λ x. exclusion_map (λ t. (K.view t.0, V.Value.view t.1, K.view t.2)) V.Value.view (exclusion_of D.text (λ c. c) x)) result [] (whole (exclusion_at (sized_operation_at F.has_pending D.size proof.now.0 proof.now.1) (ordered_at (K.parse (V.key_cfg update.now)) (V.Value.parse (V.value_cfg update.now))) (V.Value.parse value.now) (B.unread buf))) }
+        ensures { Gives (λ x. exclusion_map (λ t. (K.view t.0, V.Value.view t.1, K.view t.2))
+            V.Value.view (exclusion_of D.text (λ c. c) x)) result []
+            (whole (exclusion_at (sized_operation_at F.has_pending D.size proof.now.0 proof.now.1)
+            (ordered_at (K.parse (V.key_cfg update.now)) (V.Value.parse (V.value_cfg update.now)))
+            (V.Value.parse value.now) (B.unread buf))) }
     {
         let value = Self::read_with(alloc, &mut buf, proof, update, value)?;
         let left = buf.remaining();
@@ -242,11 +262,16 @@ impl<F: Graftable, K: Key, V: UpdateCodec<K>, D: Digest> Read
 
     ghost View = { Exclusion (K.View × V.Value.View × K.View) V.Value.View };
 
-    ghost view = { λ x. exclusion_map (λ t. (K.view t.0, V.Value.view t.1, K.view t.2)) V.Value.view (exclusion_of D.text (λ c. c) x) };
+    ghost view = { λ x. exclusion_map (λ t. (K.view t.0, V.Value.view t.1, K.view t.2)) V.Value.view
+        (exclusion_of D.text (λ c. c) x) };
 
-    ghost admits = { λ cfg x. IsAdmittedExclusion (IsAdmittedSized F.has_pending cfg.0.0 cfg.0.1) (λ t. K.admits (V.key_cfg cfg.1) t.0 × V.Value.admits (V.value_cfg cfg.1) t.1 × K.admits (V.key_cfg cfg.1) t.2) (V.Value.admits cfg.2) (exclusion_of D.text (λ c. c) x) };
+    ghost admits = { λ cfg x. IsAdmittedExclusion (IsAdmittedSized F.has_pending cfg.0.0 cfg.0.1)
+        (λ t. K.admits (V.key_cfg cfg.1) t.0 × V.Value.admits (V.value_cfg cfg.1) t.1
+        × K.admits (V.key_cfg cfg.1) t.2) (V.Value.admits cfg.2) (exclusion_of D.text (λ c. c) x) };
 
-    ghost parse = { λ cfg. exclusion_at (sized_operation_at F.has_pending D.size cfg.0.0 cfg.0.1) (ordered_at (K.parse (V.key_cfg cfg.1)) (V.Value.parse (V.value_cfg cfg.1))) (V.Value.parse cfg.2) };
+    ghost parse = { λ cfg.
+        exclusion_at (sized_operation_at F.has_pending D.size cfg.0.0 cfg.0.1) (ordered_at
+        (K.parse (V.key_cfg cfg.1)) (V.Value.parse (V.value_cfg cfg.1))) (V.Value.parse cfg.2) };
 
     fn read_cfg<B: Buf>(
         alloc: Global,
@@ -263,18 +288,49 @@ impl<F: Graftable, K: Key, V: UpdateCodec<K>, D: Digest> Read
 
 impl<F: Graftable, K: Key, V: UpdateCodec<K>, D: Digest, const N: usize> Codec
     for ExclusionProof<F, K, V, D, [u8; N]> {
-    ghost again = { λ cfg x rest ok. exclusion_again F.has_pending (λ t. K.text t.0 ++ V.Value.text t.1 ++ K.text t.2) V.Value.text (λ t. (K.view t.0, V.Value.view t.1, K.view t.2)) V.Value.view (operation_at F.has_pending D.size N cfg.0) (ordered_at (K.parse (V.key_cfg cfg.1)) (V.Value.parse (V.value_cfg cfg.1))) (V.Value.parse cfg.2)
-        (Sized D.size (IsAdmittedArray F.has_pending N cfg.0)) (λ t. K.admits (V.key_cfg cfg.1) t.0 × V.Value.admits (V.value_cfg cfg.1) t.1 × K.admits (V.key_cfg cfg.1) t.2) (V.Value.admits cfg.2) (array_read F.has_pending D.size N cfg.0)
-        (record { again = λ t r h. ordered_again K.text V.Value.text K.view V.Value.view (K.parse (V.key_cfg cfg.1)) (V.Value.parse (V.value_cfg cfg.1)) (K.admits (V.key_cfg cfg.1)) (V.Value.admits (V.value_cfg cfg.1)) (record { again = K.again (V.key_cfg cfg.1) }) (record { again = V.Value.again (V.value_cfg cfg.1) }) t.0 t.1 t.2 r h }) (record { again = V.Value.again cfg.2 }) (exclusion_of D.text (λ c. c) x) rest
-        (with_digests D.size (IsAdmittedArray F.has_pending N cfg.0) (λ t. K.admits (V.key_cfg cfg.1) t.0 × V.Value.admits (V.value_cfg cfg.1) t.1 × K.admits (V.key_cfg cfg.1) t.2) (V.Value.admits cfg.2) (exclusion_of D.text (λ c. c) x) (excluded_digests D.text (λ c. c) D.size D.sized x) ok) };
+    ghost again = { λ cfg x rest ok.
+        exclusion_again F.has_pending (λ t. K.text t.0 ++ V.Value.text t.1
+        ++ K.text t.2) V.Value.text (λ t. (K.view t.0, V.Value.view t.1, K.view t.2)) V.Value.view
+        (operation_at F.has_pending D.size N cfg.0) (ordered_at (K.parse (V.key_cfg cfg.1))
+        (V.Value.parse (V.value_cfg cfg.1))) (V.Value.parse cfg.2)
+        (Sized D.size (IsAdmittedArray F.has_pending N cfg.0)) (λ t. K.admits (V.key_cfg cfg.1) t.0
+        × V.Value.admits (V.value_cfg cfg.1) t.1 × K.admits (V.key_cfg cfg.1) t.2)
+        (V.Value.admits cfg.2) (array_read F.has_pending D.size N cfg.0)
+        (record {
+          again = λ t r h. ordered_again K.text V.Value.text K.view V.Value.view
+              (K.parse (V.key_cfg cfg.1)) (V.Value.parse (V.value_cfg cfg.1)) (K.admits (V.key_cfg cfg.1))
+              (V.Value.admits (V.value_cfg cfg.1)) (record { again = K.again (V.key_cfg cfg.1) })
+              (record { again = V.Value.again (V.value_cfg cfg.1) }) t.0 t.1 t.2 r h;
+        })
+        (record { again = V.Value.again cfg.2 }) (exclusion_of D.text (λ c. c) x) rest
+        (with_digests D.size (IsAdmittedArray F.has_pending N cfg.0)
+        (λ t. K.admits (V.key_cfg cfg.1) t.0 × V.Value.admits (V.value_cfg cfg.1) t.1
+        × K.admits (V.key_cfg cfg.1) t.2) (V.Value.admits cfg.2) (exclusion_of D.text (λ c. c) x)
+        (excluded_digests D.text (λ c. c) D.size D.sized x) ok) };
 }
 
 impl<F: Graftable, K: Key, V: UpdateCodec<K>, D: Digest> Codec
     for ExclusionProof<F, K, V, D, Bytes> {
-    ghost again = { λ cfg x rest ok. exclusion_again F.has_pending (λ t. K.text t.0 ++ V.Value.text t.1 ++ K.text t.2) V.Value.text (λ t. (K.view t.0, V.Value.view t.1, K.view t.2)) V.Value.view (sized_operation_at F.has_pending D.size cfg.0.0 cfg.0.1) (ordered_at (K.parse (V.key_cfg cfg.1)) (V.Value.parse (V.value_cfg cfg.1))) (V.Value.parse cfg.2)
-        (Sized D.size (IsAdmittedSized F.has_pending cfg.0.0 cfg.0.1)) (λ t. K.admits (V.key_cfg cfg.1) t.0 × V.Value.admits (V.value_cfg cfg.1) t.1 × K.admits (V.key_cfg cfg.1) t.2) (V.Value.admits cfg.2) (sized_read F.has_pending D.size cfg.0.0 cfg.0.1)
-        (record { again = λ t r h. ordered_again K.text V.Value.text K.view V.Value.view (K.parse (V.key_cfg cfg.1)) (V.Value.parse (V.value_cfg cfg.1)) (K.admits (V.key_cfg cfg.1)) (V.Value.admits (V.value_cfg cfg.1)) (record { again = K.again (V.key_cfg cfg.1) }) (record { again = V.Value.again (V.value_cfg cfg.1) }) t.0 t.1 t.2 r h }) (record { again = V.Value.again cfg.2 }) (exclusion_of D.text (λ c. c) x) rest
-        (with_digests D.size (IsAdmittedSized F.has_pending cfg.0.0 cfg.0.1) (λ t. K.admits (V.key_cfg cfg.1) t.0 × V.Value.admits (V.value_cfg cfg.1) t.1 × K.admits (V.key_cfg cfg.1) t.2) (V.Value.admits cfg.2) (exclusion_of D.text (λ c. c) x) (excluded_digests D.text (λ c. c) D.size D.sized x) ok) };
+    ghost again = { λ cfg x rest ok.
+        exclusion_again F.has_pending (λ t. K.text t.0 ++ V.Value.text t.1
+        ++ K.text t.2) V.Value.text (λ t. (K.view t.0, V.Value.view t.1, K.view t.2)) V.Value.view
+        (sized_operation_at F.has_pending D.size cfg.0.0 cfg.0.1)
+        (ordered_at (K.parse (V.key_cfg cfg.1)) (V.Value.parse (V.value_cfg cfg.1)))
+        (V.Value.parse cfg.2) (Sized D.size (IsAdmittedSized F.has_pending cfg.0.0 cfg.0.1))
+        (λ t. K.admits (V.key_cfg cfg.1) t.0 × V.Value.admits (V.value_cfg cfg.1) t.1
+        × K.admits (V.key_cfg cfg.1) t.2) (V.Value.admits cfg.2)
+        (sized_read F.has_pending D.size cfg.0.0 cfg.0.1)
+        (record {
+          again = λ t r h. ordered_again K.text V.Value.text K.view V.Value.view
+              (K.parse (V.key_cfg cfg.1)) (V.Value.parse (V.value_cfg cfg.1)) (K.admits (V.key_cfg cfg.1))
+              (V.Value.admits (V.value_cfg cfg.1)) (record { again = K.again (V.key_cfg cfg.1) })
+              (record { again = V.Value.again (V.value_cfg cfg.1) }) t.0 t.1 t.2 r h;
+        })
+        (record { again = V.Value.again cfg.2 }) (exclusion_of D.text (λ c. c) x) rest
+        (with_digests D.size (IsAdmittedSized F.has_pending cfg.0.0 cfg.0.1)
+        (λ t. K.admits (V.key_cfg cfg.1) t.0 × V.Value.admits (V.value_cfg cfg.1) t.1
+        × K.admits (V.key_cfg cfg.1) t.2) (V.Value.admits cfg.2) (exclusion_of D.text (λ c. c) x)
+        (excluded_digests D.text (λ c. c) D.size D.sized x) ok) };
 }
 
 impl<F: Graftable, K: Key + Canonical, V: UpdateCodec<K>, D: Digest, const N: usize> Canonical
@@ -282,9 +338,17 @@ impl<F: Graftable, K: Key + Canonical, V: UpdateCodec<K>, D: Digest, const N: us
 where
     V::Value: Canonical,
 {
-    ghost back = { λ cfg bytes x rest fits e. exclusion_back F.has_pending (λ t. K.text t.0 ++ V.Value.text t.1 ++ K.text t.2) V.Value.text (λ t. (K.view t.0, V.Value.view t.1, K.view t.2)) V.Value.view (operation_at F.has_pending D.size N cfg.0) (ordered_at (K.parse (V.key_cfg cfg.1)) (V.Value.parse (V.value_cfg cfg.1))) (V.Value.parse cfg.2)
-        (array_spelled F.has_pending D.size N cfg.0)
-        (record { back = λ b t r f p. ordered_back K.text V.Value.text K.view V.Value.view (K.parse (V.key_cfg cfg.1)) (V.Value.parse (V.value_cfg cfg.1)) (record { back = K.back (V.key_cfg cfg.1) }) (record { back = V.Value.back (V.value_cfg cfg.1) }) b t.0 t.1 t.2 r f p })
+    ghost back = { λ cfg bytes x rest fits e.
+        exclusion_back F.has_pending (λ t. K.text t.0 ++ V.Value.text t.1
+        ++ K.text t.2) V.Value.text (λ t. (K.view t.0, V.Value.view t.1, K.view t.2)) V.Value.view
+        (operation_at F.has_pending D.size N cfg.0) (ordered_at (K.parse (V.key_cfg cfg.1))
+        (V.Value.parse (V.value_cfg cfg.1))) (V.Value.parse cfg.2)
+        (array_spelled F.has_pending D.size N cfg.0) (record {
+          back = λ b t r f p. ordered_back
+              K.text V.Value.text K.view V.Value.view (K.parse (V.key_cfg cfg.1))
+              (V.Value.parse (V.value_cfg cfg.1)) (record { back = K.back (V.key_cfg cfg.1) })
+              (record { back = V.Value.back (V.value_cfg cfg.1) }) b t.0 t.1 t.2 r f p;
+        })
         (record { back = V.Value.back cfg.2 }) bytes (exclusion_of D.text (λ c. c) x) rest fits e };
 }
 
@@ -293,8 +357,16 @@ impl<F: Graftable, K: Key + Canonical, V: UpdateCodec<K>, D: Digest> Canonical
 where
     V::Value: Canonical,
 {
-    ghost back = { λ cfg bytes x rest fits e. exclusion_back F.has_pending (λ t. K.text t.0 ++ V.Value.text t.1 ++ K.text t.2) V.Value.text (λ t. (K.view t.0, V.Value.view t.1, K.view t.2)) V.Value.view (sized_operation_at F.has_pending D.size cfg.0.0 cfg.0.1) (ordered_at (K.parse (V.key_cfg cfg.1)) (V.Value.parse (V.value_cfg cfg.1))) (V.Value.parse cfg.2)
-        (sized_spelled F.has_pending D.size cfg.0.0 cfg.0.1)
-        (record { back = λ b t r f p. ordered_back K.text V.Value.text K.view V.Value.view (K.parse (V.key_cfg cfg.1)) (V.Value.parse (V.value_cfg cfg.1)) (record { back = K.back (V.key_cfg cfg.1) }) (record { back = V.Value.back (V.value_cfg cfg.1) }) b t.0 t.1 t.2 r f p })
+    ghost back = { λ cfg bytes x rest fits e.
+        exclusion_back F.has_pending (λ t. K.text t.0 ++ V.Value.text t.1
+        ++ K.text t.2) V.Value.text (λ t. (K.view t.0, V.Value.view t.1, K.view t.2)) V.Value.view
+        (sized_operation_at F.has_pending D.size cfg.0.0 cfg.0.1) (ordered_at
+        (K.parse (V.key_cfg cfg.1)) (V.Value.parse (V.value_cfg cfg.1))) (V.Value.parse cfg.2)
+        (sized_spelled F.has_pending D.size cfg.0.0 cfg.0.1) (record {
+          back = λ b t r f p.
+              ordered_back K.text V.Value.text K.view V.Value.view (K.parse (V.key_cfg cfg.1))
+              (V.Value.parse (V.value_cfg cfg.1)) (record { back = K.back (V.key_cfg cfg.1) })
+              (record { back = V.Value.back (V.value_cfg cfg.1) }) b t.0 t.1 t.2 r f p;
+        })
         (record { back = V.Value.back cfg.2 }) bytes (exclusion_of D.text (λ c. c) x) rest fits e };
 }

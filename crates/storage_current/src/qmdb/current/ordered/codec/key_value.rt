@@ -23,7 +23,8 @@ use storage_merkle::merkle::Graftable;
 use storage_ops::qmdb::operation::Key;
 
 impl<F: Graftable, K: Key, D: Digest, C: Chunk> Write for KeyValueProof<F, K, D, C> {
-    ghost text = { λ x. operation_text F.has_pending (operation_of D.text C.text x.proof) ++ K.text x.next_key };
+    ghost text = { λ x.
+        operation_text F.has_pending (operation_of D.text C.text x.proof) ++ K.text x.next_key };
 
     #[tactic(auto, using(storage_codec::specs::PartsLaws::starts_then, storage_codec::specs::PartsLaws::starts_first))]
     fn write(&self, out: &mut Vec<u8>) -> Result<(), NoMemory> {
@@ -50,7 +51,8 @@ impl<F: Graftable, K: Key, D: Digest, const N: usize> Read for KeyValueProof<F, 
 
     ghost view = { λ x. (operation_of D.text (λ c. c) x.proof, K.view x.next_key) };
 
-    ghost admits = { λ cfg x. IsAdmittedArray F.has_pending N cfg.0 (operation_of D.text (λ c. c) x.proof) × K.admits cfg.1 x.next_key };
+    ghost admits = { λ cfg x. IsAdmittedArray F.has_pending N cfg.0
+        (operation_of D.text (λ c. c) x.proof) × K.admits cfg.1 x.next_key };
 
     ghost parse = { λ cfg. pair_at (operation_at F.has_pending D.size N cfg.0) (K.parse cfg.1) };
 
@@ -70,7 +72,9 @@ impl<F: Graftable, K: Key, D: Digest> KeyValueProof<F, K, D, Bytes> {
         proof: &(usize, usize),
         key: &K::Cfg,
     ) -> Result<Self, Error>
-        ensures gives { Gives (λ x. (operation_of D.text (λ c. c) x.proof, K.view x.next_key)) result (B.unread buf.new) (pair_at (sized_operation_at F.has_pending D.size proof.now.0 proof.now.1) (K.parse key.now) (B.unread buf.old)) }
+        ensures gives { Gives (λ x. (operation_of D.text (λ c. c) x.proof, K.view x.next_key))
+            result (B.unread buf.new) (pair_at (sized_operation_at F.has_pending D.size proof.now.0
+            proof.now.1) (K.parse key.now) (B.unread buf.old)) }
         ensures ends { IsEnding (B.unread buf.old) (B.unread buf.new) }
     {
         match read_pair::<Proof<F, D, Bytes>, K, B>(alloc, buf, proof, key) {
@@ -92,7 +96,9 @@ impl<F: Graftable, K: Key, D: Digest> KeyValueProof<F, K, D, Bytes> {
         proof: &(usize, usize),
         key: &K::Cfg,
     ) -> Result<Self, Error>
-        ensures { Gives (λ x. (operation_of D.text (λ c. c) x.proof, K.view x.next_key)) result [] (whole (pair_at (sized_operation_at F.has_pending D.size proof.now.0 proof.now.1) (K.parse key.now) (B.unread buf))) }
+        ensures { Gives (λ x. (operation_of D.text (λ c. c) x.proof, K.view x.next_key)) result []
+            (whole (pair_at (sized_operation_at F.has_pending D.size proof.now.0 proof.now.1)
+            (K.parse key.now) (B.unread buf))) }
     {
         let value = Self::read_with(alloc, &mut buf, proof, key)?;
         let left = buf.remaining();
@@ -112,9 +118,11 @@ impl<F: Graftable, K: Key, D: Digest> Read for KeyValueProof<F, K, D, Bytes> {
 
     ghost view = { λ x. (operation_of D.text (λ c. c) x.proof, K.view x.next_key) };
 
-    ghost admits = { λ cfg x. IsAdmittedSized F.has_pending cfg.0.0 cfg.0.1 (operation_of D.text (λ c. c) x.proof) × K.admits cfg.1 x.next_key };
+    ghost admits = { λ cfg x. IsAdmittedSized F.has_pending cfg.0.0 cfg.0.1
+        (operation_of D.text (λ c. c) x.proof) × K.admits cfg.1 x.next_key };
 
-    ghost parse = { λ cfg. pair_at (sized_operation_at F.has_pending D.size cfg.0.0 cfg.0.1) (K.parse cfg.1) };
+    ghost parse = { λ cfg.
+        pair_at (sized_operation_at F.has_pending D.size cfg.0.0 cfg.0.1) (K.parse cfg.1) };
 
     fn read_cfg<B: Buf>(
         alloc: Global,
@@ -126,24 +134,34 @@ impl<F: Graftable, K: Key, D: Digest> Read for KeyValueProof<F, K, D, Bytes> {
 }
 
 impl<F: Graftable, K: Key, D: Digest, const N: usize> Codec for KeyValueProof<F, K, D, [u8; N]> {
-    ghost again = { λ cfg x rest ok. pair_again (operation_text F.has_pending) K.text (λ p. p) K.view (operation_at F.has_pending D.size N cfg.0) (K.parse cfg.1)
-        (Sized D.size (IsAdmittedArray F.has_pending N cfg.0)) (K.admits cfg.1) (array_read F.has_pending D.size N cfg.0) (record { again = K.again cfg.1 })
-        (operation_of D.text (λ c. c) x.proof) x.next_key rest ((held_digests D.text D.size D.sized x.proof.range_proof, ok.0), ok.1) };
+    ghost again = { λ cfg x rest ok. pair_again (operation_text F.has_pending) K.text
+        (λ p. p) K.view (operation_at F.has_pending D.size N cfg.0) (K.parse cfg.1)
+        (Sized D.size (IsAdmittedArray F.has_pending N cfg.0)) (K.admits cfg.1)
+        (array_read F.has_pending D.size N cfg.0) (record { again = K.again cfg.1 })
+        (operation_of D.text (λ c. c) x.proof) x.next_key rest
+        ((held_digests D.text D.size D.sized x.proof.range_proof, ok.0), ok.1) };
 }
 
 impl<F: Graftable, K: Key + Canonical, D: Digest, const N: usize> Canonical
     for KeyValueProof<F, K, D, [u8; N]> {
-    ghost back = { λ cfg bytes x rest fits e. pair_back (operation_text F.has_pending) K.text (λ p. p) K.view (operation_at F.has_pending D.size N cfg.0) (K.parse cfg.1)
-        (array_spelled F.has_pending D.size N cfg.0) (record { back = K.back cfg.1 }) bytes (operation_of D.text (λ c. c) x.proof) x.next_key rest fits e };
+    ghost back = { λ cfg bytes x rest fits e. pair_back (operation_text F.has_pending) K.text
+        (λ p. p) K.view (operation_at F.has_pending D.size N cfg.0) (K.parse cfg.1)
+        (array_spelled F.has_pending D.size N cfg.0) (record { back = K.back cfg.1 }) bytes
+        (operation_of D.text (λ c. c) x.proof) x.next_key rest fits e };
 }
 
 impl<F: Graftable, K: Key, D: Digest> Codec for KeyValueProof<F, K, D, Bytes> {
-    ghost again = { λ cfg x rest ok. pair_again (operation_text F.has_pending) K.text (λ p. p) K.view (sized_operation_at F.has_pending D.size cfg.0.0 cfg.0.1) (K.parse cfg.1)
-        (Sized D.size (IsAdmittedSized F.has_pending cfg.0.0 cfg.0.1)) (K.admits cfg.1) (sized_read F.has_pending D.size cfg.0.0 cfg.0.1) (record { again = K.again cfg.1 })
-        (operation_of D.text (λ c. c) x.proof) x.next_key rest ((held_digests D.text D.size D.sized x.proof.range_proof, ok.0), ok.1) };
+    ghost again = { λ cfg x rest ok. pair_again (operation_text F.has_pending) K.text
+        (λ p. p) K.view (sized_operation_at F.has_pending D.size cfg.0.0 cfg.0.1) (K.parse cfg.1)
+        (Sized D.size (IsAdmittedSized F.has_pending cfg.0.0 cfg.0.1)) (K.admits cfg.1)
+        (sized_read F.has_pending D.size cfg.0.0 cfg.0.1) (record { again = K.again cfg.1 })
+        (operation_of D.text (λ c. c) x.proof) x.next_key rest
+        ((held_digests D.text D.size D.sized x.proof.range_proof, ok.0), ok.1) };
 }
 
 impl<F: Graftable, K: Key + Canonical, D: Digest> Canonical for KeyValueProof<F, K, D, Bytes> {
-    ghost back = { λ cfg bytes x rest fits e. pair_back (operation_text F.has_pending) K.text (λ p. p) K.view (sized_operation_at F.has_pending D.size cfg.0.0 cfg.0.1) (K.parse cfg.1)
-        (sized_spelled F.has_pending D.size cfg.0.0 cfg.0.1) (record { back = K.back cfg.1 }) bytes (operation_of D.text (λ c. c) x.proof) x.next_key rest fits e };
+    ghost back = { λ cfg bytes x rest fits e. pair_back (operation_text F.has_pending) K.text
+        (λ p. p) K.view (sized_operation_at F.has_pending D.size cfg.0.0 cfg.0.1) (K.parse cfg.1)
+        (sized_spelled F.has_pending D.size cfg.0.0 cfg.0.1) (record { back = K.back cfg.1 }) bytes
+        (operation_of D.text (λ c. c) x.proof) x.next_key rest fits e };
 }

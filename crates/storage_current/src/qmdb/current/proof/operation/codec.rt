@@ -18,7 +18,11 @@ use storage_codec::digest::Digest;
 use storage_merkle::merkle::{Graftable, Location};
 
 impl<F: Graftable, D: Digest, C: Chunk> Write for Proof<F, D, C> {
-    ghost text = { λ p. operation_text F.has_pending (record { location = p.loc; chunk = C.text p.chunk; range = current_of D.text p.range_proof }) };
+    ghost text = { λ p. operation_text F.has_pending (record {
+      location = p.loc;
+      chunk = C.text p.chunk;
+      range = current_of D.text p.range_proof;
+    }) };
 
     fn write(&self, out: &mut Vec<u8>) -> Result<(), NoMemory> {
         self.loc.write(out)?;
@@ -44,9 +48,11 @@ impl<F: Graftable, D: Digest, const N: usize> Read for Proof<F, D, [u8; N]> {
 
     ghost View = { OperationProof };
 
-    ghost view = { λ p. record { location = p.loc; chunk = p.chunk; range = current_of D.text p.range_proof } };
+    ghost view = { λ p.
+        record { location = p.loc; chunk = p.chunk; range = current_of D.text p.range_proof } };
 
-    ghost admits = { λ most p. IsAdmittedArray F.has_pending N most (record { location = p.loc; chunk = p.chunk; range = current_of D.text p.range_proof }) };
+    ghost admits = { λ most p. IsAdmittedArray F.has_pending N most
+        (record { location = p.loc; chunk = p.chunk; range = current_of D.text p.range_proof }) };
 
     ghost parse = { λ most. operation_at F.has_pending D.size N most };
 
@@ -76,9 +82,11 @@ impl<F: Graftable, D: Digest> Read for Proof<F, D, Bytes> {
 
     ghost View = { OperationProof };
 
-    ghost view = { λ p. record { location = p.loc; chunk = p.chunk; range = current_of D.text p.range_proof } };
+    ghost view = { λ p.
+        record { location = p.loc; chunk = p.chunk; range = current_of D.text p.range_proof } };
 
-    ghost admits = { λ cfg p. IsAdmittedSized F.has_pending cfg.0 cfg.1 (record { location = p.loc; chunk = p.chunk; range = current_of D.text p.range_proof }) };
+    ghost admits = { λ cfg p. IsAdmittedSized F.has_pending cfg.0 cfg.1
+        (record { location = p.loc; chunk = p.chunk; range = current_of D.text p.range_proof }) };
 
     ghost parse = { λ cfg. sized_operation_at F.has_pending D.size cfg.0 cfg.1 };
 
@@ -108,17 +116,31 @@ impl<F: Graftable, D: Digest> Read for Proof<F, D, Bytes> {
 }
 
 impl<F: Graftable, D: Digest, const N: usize> Codec for Proof<F, D, [u8; N]> {
-    ghost again = { λ most p rest ok. operation_again F.has_pending D.size N most (record { location = p.loc; chunk = p.chunk; range = current_of D.text p.range_proof }) rest (held_digests D.text D.size D.sized p.range_proof) ok.chunk ok.proof };
+    ghost again = { λ most p rest ok. operation_again F.has_pending D.size N most
+        (record { location = p.loc; chunk = p.chunk; range = current_of D.text p.range_proof }) rest
+        (held_digests D.text D.size D.sized p.range_proof) ok.chunk ok.proof };
 }
 
 impl<F: Graftable, D: Digest, const N: usize> Canonical for Proof<F, D, [u8; N]> {
-    ghost back = { λ most bytes p rest fits e. operation_back F.has_pending D.size N most bytes (record { location = p.loc; chunk = p.chunk; range = current_of D.text p.range_proof }) rest fits e };
+    ghost back = { λ most bytes p rest fits e.
+        operation_back F.has_pending D.size N most bytes (record {
+          location = p.loc;
+          chunk = p.chunk;
+          range = current_of D.text p.range_proof;
+        }) rest fits e };
 }
 
 impl<F: Graftable, D: Digest> Codec for Proof<F, D, Bytes> {
-    ghost again = { λ cfg p rest ok. sized_again F.has_pending D.size cfg.0 cfg.1 (record { location = p.loc; chunk = p.chunk; range = current_of D.text p.range_proof }) rest (held_digests D.text D.size D.sized p.range_proof) ok };
+    ghost again = { λ cfg p rest ok. sized_again F.has_pending D.size cfg.0 cfg.1
+        (record { location = p.loc; chunk = p.chunk; range = current_of D.text p.range_proof }) rest
+        (held_digests D.text D.size D.sized p.range_proof) ok };
 }
 
 impl<F: Graftable, D: Digest> Canonical for Proof<F, D, Bytes> {
-    ghost back = { λ cfg bytes p rest fits e. sized_back F.has_pending D.size cfg.0 cfg.1 bytes (record { location = p.loc; chunk = p.chunk; range = current_of D.text p.range_proof }) rest fits e };
+    ghost back = { λ cfg bytes p rest fits e.
+        sized_back F.has_pending D.size cfg.0 cfg.1 bytes (record {
+          location = p.loc;
+          chunk = p.chunk;
+          range = current_of D.text p.range_proof;
+        }) rest fits e };
 }

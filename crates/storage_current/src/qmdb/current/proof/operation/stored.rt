@@ -3,7 +3,7 @@
 ghost use Rattle.std.specs.Prelude.{◌≡◌, ℕ, ◌+◌, ◌-◌, ◌*◌, ◌/◌, ◌%◌, ◌<◌, ◌≤◌, ◌^◌, ◌⊎◌, IfOk, IfErr, OnOk};
 ghost use Rattle.storage_current.specs.Held.{operation_of};
 ghost use Rattle.storage_current.specs.Served.{AreServedOf, Counts, IsNotMade, IsServable, IsStoreFault};
-ghost use Rattle.storage_current.specs.Snapshots.{Grafting, Snapshot as SnapshotOf, first_chunk, own_operation_proof};
+ghost use Rattle.storage_current.specs.Snapshots.{Snapshot as SnapshotOf, first_chunk, own_operation_proof, grafting_of};
 
 use crate::qmdb::current::grafting;
 use crate::qmdb::current::proof::RangeProof;
@@ -33,11 +33,23 @@ impl<F: Graftable, D: Digest, const N: usize> Proof<F, D, [u8; N]> {
     where
         F: Countable,
         requires { S.failed storage.old + 1 < 2 ^ 64 }
-        ensures own { let g : Grafting = record { shape = F.shape; bytes = N } in IfOk result (λ proof. (s : SnapshotOf) → AreServedOf (S.nodes storage.old) (S.node storage.old) g loc (loc + 1) (R.retained status.now) D.text H.hash_of floor (D.text ops_root) s → operation_of D.text (λ c. c) proof ≡ own_operation_proof H.hash_of g s loc) }
-        ensures made { let g : Grafting = record { shape = F.shape; bytes = N } in OnOk result (IsServable (S.nodes storage.old) (S.node storage.old) g loc (loc + 1) (R.retained status.now) F) }
-        ensures kept { let g : Grafting = record { shape = F.shape; bytes = N } in OnOk result ((R.retained status.now).pruned ≤ first_chunk g loc) }
-        ensures why { let g : Grafting = record { shape = F.shape; bytes = N } in IfErr result (λ error. ((first_chunk g loc < (R.retained status.now).pruned) × (error ≡ Error.OperationPruned loc)) ⊎ (((R.retained status.now).pruned ≤ first_chunk g loc) × IsNotMade (S.nodes storage.old) (S.node storage.old) g loc (loc + 1) (R.retained status.now) error)) }
-        ensures failures { Counts (IsStoreFault result) (S.failed storage.old) (S.failed storage.new) }
+        ensures own { let g = grafting_of F.shape N in
+            IfOk result (λ proof. (s : SnapshotOf)
+            → AreServedOf (S.nodes storage.old) (S.node storage.old) g loc (loc + 1)
+            (R.retained status.now) D.text H.hash_of floor (D.text ops_root) s
+            → operation_of D.text (λ c. c) proof ≡ own_operation_proof H.hash_of g s loc) }
+        ensures made { let g = grafting_of F.shape N in
+            OnOk result (IsServable (S.nodes storage.old) (S.node storage.old) g loc (loc + 1)
+            (R.retained status.now) F) }
+        ensures kept { let g = grafting_of F.shape N in
+            OnOk result ((R.retained status.now).pruned ≤ first_chunk g loc) }
+        ensures why { let g = grafting_of F.shape N in
+            IfErr result (λ error. ((first_chunk g loc < (R.retained status.now).pruned)
+            × (error ≡ Error.OperationPruned loc)) ⊎ (((R.retained status.now).pruned
+            ≤ first_chunk g loc) × IsNotMade (S.nodes storage.old) (S.node storage.old) g loc
+            (loc + 1) (R.retained status.now) error)) }
+        ensures failures { Counts (IsStoreFault result) (S.failed storage.old)
+            (S.failed storage.new) }
         ensures same_size { S.nodes storage.new ≡ S.nodes storage.old }
         ensures same { (p : ℕ) → S.node storage.new p ≡ S.node storage.old p }
     {

@@ -134,5 +134,6 @@ impl<F: Graftable, D: Digest> Codec for OpsRootWitness<F, D> {
 }
 
 impl<F: Graftable, D: Digest> Canonical for OpsRootWitness<F, D> {
-    ghost back = { λ _ bytes w rest fits e. witness_back F.has_pending D.size bytes (witness_of D.text w) rest fits e };
+    ghost back = { λ _ bytes w rest fits e.
+        witness_back F.has_pending D.size bytes (witness_of D.text w) rest fits e };
 }

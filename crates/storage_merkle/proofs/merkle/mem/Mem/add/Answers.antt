@@ -1,4 +1,4 @@
-use Rattle.std.proofs.Common.{arith, ℕ, subst, ◌≡◌, ◌+◌, List, ◌∷◌, [], ◌++◌, Result, Ok, Err, IfOk, false, map, refl, ap, ◌∙◌, sym, length}
+use Rattle.std.proofs.Common.{arith, ℕ, subst, ◌≡◌, ◌+◌, ◌∷◌, [], ◌++◌, Result, Ok, Err, IfOk, false, map, ap, sym}
 use Rattle.std.specs.Result.{is_err}
 use Rattle.std.proofs.lemmas.List.{length-append}
 use Rattle.storage_merkle.specs.Calc.{be8}
@@ -22,5 +22,7 @@ returns-clause-grown g c list dirty s =
     let same : c.self.inside.leaves ≡ c.args.self.now.leaves = ap (λ m. m.leaves) c.self.view_is in
     record {
       count = rw length-append (omega (arith, s'.count));
-      holds = subst (λ (n : ℕ). Holds S (N (list ++ g.H.Hasher.hash_of (be8 (size S n) ++ c.args.element.now) ∷ [])) dirty c.self.inside.boundary (size S (c.self.inside.leaves + 1)) (map f c.self.inside.pinned.items) (map f c.grow.new.nodes.items)) same more;
+      holds = subst (λ (n : ℕ). Holds S (N (list ++ g.H.Hasher.hash_of (be8 (size S n) ++ c.args.element.now) ∷ []))
+          dirty c.self.inside.boundary (size S (c.self.inside.leaves + 1)) (map f c.self.inside.pinned.items)
+          (map f c.grow.new.nodes.items)) same more;
     }

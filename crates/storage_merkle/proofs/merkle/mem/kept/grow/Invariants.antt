@@ -14,5 +14,7 @@ invariant-loop-offset g l =
     record {
       room : vec_len l.nodes + (l.more - l.offset) ≤ vec_capacity l.nodes;
       count : length l.nodes.items + size S l.boundary ≡ size S l.leaves + l.offset;
-      held : (list : List (List ℕ)) (dirty : List ℕ) → length list ≡ l.leaves → Holds S (N list) dirty l.boundary (size S l.leaves) (map f l.pinned) (map f l.fn.nodes.items) → Holds S (N (list ++ leaf ∷ [])) dirty l.boundary (size S l.leaves + l.offset) (map f l.pinned) (map f l.nodes.items);
+      held : (list : List (List ℕ)) (dirty : List ℕ) → length list ≡ l.leaves
+          → Holds S (N list) dirty l.boundary (size S l.leaves) (map f l.pinned) (map f l.fn.nodes.items) → Holds S
+          (N (list ++ leaf ∷ [])) dirty l.boundary (size S l.leaves + l.offset) (map f l.pinned) (map f l.nodes.items);
     }

@@ -9,7 +9,10 @@ invariant-loop-left g l = record {
   walk : Walk g.F.Family.shape g.met.F.Family.laws l.leaves l.first l.left;
   room : length l.digests ≡ 64;
   count : l.count + length (g.F.Family.shape.peaks l.left) ≡ length (g.F.Family.shape.peaks l.leaves);
-  digests : (node : ℕ → ℕ → List ℕ) → Holds g.F.Family.shape node [] l.boundary (length l.nodes + size g.F.Family.shape l.boundary) (map g.D.Write.text l.pinned) (map g.D.Write.text l.nodes) → map g.D.Write.text (take l.count l.digests) ++ at_peaks node l.first (g.F.Family.shape.peaks l.left) ≡ at_peaks node 0 (g.F.Family.shape.peaks l.leaves);
+  digests : (node : ℕ → ℕ → List ℕ) → Holds g.F.Family.shape node [] l.boundary
+      (length l.nodes + size g.F.Family.shape l.boundary) (map g.D.Write.text l.pinned) (map g.D.Write.text l.nodes)
+      → map g.D.Write.text (take l.count l.digests) ++ at_peaks node l.first (g.F.Family.shape.peaks l.left)
+      ≡ at_peaks node 0 (g.F.Family.shape.peaks l.leaves);
 }
 
 abbrev pub decreases-loop-left : goal.decreases-loop-left

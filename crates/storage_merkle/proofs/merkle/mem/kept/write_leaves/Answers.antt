@@ -1,8 +1,5 @@
-use Rattle.std.proofs.Common.{arith, All, ◌≡◌, ◌+◌, ◌≤◌, ◌<◌, ◌++◌, ◌∷◌, [], ℕ, List, length, map, refl, sym, ap, ◌∙◌, subst, rules}
-use Rattle.storage_merkle.specs.Shape.{size}
-use Rattle.storage_merkle.specs.Hashing.{node_over}
-use Rattle.storage_merkle.specs.Kept.{Holds}
-use Rattle.storage_merkle.proofs.Rewriting.{Halfway, halfway_next, halfway_end, all_head, all_tail}
+use Rattle.std.proofs.Common.{arith, ◌≤◌, ◌<◌, map, refl}
+use Rattle.storage_merkle.proofs.Rewriting.{halfway_next, halfway_end, all_head, all_tail}
 use Rattle.storage_merkle.proofs.merkle.mem.kept.write_leaves.Goals as goal
 
 pub loop-update-init : goal.loop-update-init
@@ -13,12 +10,14 @@ loop-update-init g c = record {
 
 pub write_leaf-requires-clause-kept : goal.write_leaf-requires-clause-kept
 write_leaf-requires-clause-kept g c =
-    let h = all_head (λ u. (c.args.boundary ≤ u.0) × (u.0 < c.args.leaves)) c.loop-update.left.now c.in-Some.rest.now c.in-Some.update.now c.in-Some.ensures.cases.0 c.loop-update.invariant.there in
+    let h = all_head (λ u. (c.args.boundary ≤ u.0) × (u.0 < c.args.leaves)) c.loop-update.left.now c.in-Some.rest.now
+    c.in-Some.update.now c.in-Some.ensures.cases.0 c.loop-update.invariant.there in
     omega (arith, h.0, c.as_u64-place.ensures)
 
 pub write_leaf-requires-clause-within : goal.write_leaf-requires-clause-within
 write_leaf-requires-clause-within g c =
-    let h = all_head (λ u. (c.args.boundary ≤ u.0) × (u.0 < c.args.leaves)) c.loop-update.left.now c.in-Some.rest.now c.in-Some.update.now c.in-Some.ensures.cases.0 c.loop-update.invariant.there in
+    let h = all_head (λ u. (c.args.boundary ≤ u.0) × (u.0 < c.args.leaves)) c.loop-update.left.now c.in-Some.rest.now
+    c.in-Some.update.now c.in-Some.ensures.cases.0 c.loop-update.invariant.there in
     omega (arith, h.1, c.as_u64-place.ensures)
 
 pub loop-update-smaller : goal.loop-update-smaller
@@ -28,15 +27,24 @@ pub loop-update-preserved : goal.loop-update-preserved
 loop-update-preserved g c =
     let f = g.H.Digest.Write.text in
     let P = map f c.args.pinned.now in
-    let h = all_head (λ u. (c.args.boundary ≤ u.0) × (u.0 < c.args.leaves)) c.loop-update.left.now c.in-Some.rest.now c.in-Some.update.now c.in-Some.ensures.cases.0 c.loop-update.invariant.there in
+    let h = all_head (λ u. (c.args.boundary ≤ u.0) × (u.0 < c.args.leaves)) c.loop-update.left.now c.in-Some.rest.now
+    c.in-Some.update.now c.in-Some.ensures.cases.0 c.loop-update.invariant.there in
     record {
-      there = all_tail (λ u. (c.args.boundary ≤ u.0) × (u.0 < c.args.leaves)) c.loop-update.left.now c.in-Some.rest.now c.in-Some.update.now c.in-Some.ensures.cases.0 c.loop-update.invariant.there;
-      held = λ list dirty len e. halfway_next g.F.Family.shape g.met.F.Family.laws g.H.Hasher.hash_of (g.H.Hasher.layout c.args.hasher.now) (g.H.Hasher.chunk c.args.hasher.now) f list c.args.updates.now c.loop-update.left.now c.in-Some.rest.now c.in-Some.update.now dirty c.args.boundary c.args.leaves c.as_u64-place.result P (map f c.loop-update.nodes) (map f c.write_leaf.new.nodes) c.first_place-next.result
-          c.in-Some.ensures.cases.0 c.as_u64-place.ensures (omega (arith, h.0, c.as_u64-place.ensures)) (omega (arith, h.1, c.as_u64-place.ensures)) c.first_place-next.ensures c.write_leaf.ensures
+      there = all_tail (λ u. (c.args.boundary ≤ u.0) × (u.0 < c.args.leaves)) c.loop-update.left.now c.in-Some.rest.now
+          c.in-Some.update.now c.in-Some.ensures.cases.0 c.loop-update.invariant.there;
+      held = λ list dirty len e. halfway_next g.F.Family.shape g.met.F.Family.laws g.H.Hasher.hash_of
+          (g.H.Hasher.layout c.args.hasher.now) (g.H.Hasher.chunk c.args.hasher.now) f list c.args.updates.now
+          c.loop-update.left.now c.in-Some.rest.now c.in-Some.update.now dirty c.args.boundary c.args.leaves
+          c.as_u64-place.result P (map f c.loop-update.nodes) (map f c.write_leaf.new.nodes) c.first_place-next.result
+          c.in-Some.ensures.cases.0 c.as_u64-place.ensures (omega (arith, h.0, c.as_u64-place.ensures))
+          (omega (arith, h.1, c.as_u64-place.ensures)) c.first_place-next.ensures.next c.write_leaf.ensures
           (c.loop-update.invariant.held list dirty len e);
     }
 
 pub returns : goal.returns
 returns g c list dirty len h =
     let f = g.H.Digest.Write.text in
-    halfway_end g.F.Family.shape g.met.F.Family.laws g.H.Hasher.hash_of (g.H.Hasher.layout c.args.hasher.now) (g.H.Hasher.chunk c.args.hasher.now) f list c.args.updates.now c.loop-update.left.now dirty c.args.boundary c.args.leaves (map f c.args.pinned.now) (map f c.loop-update.nodes) c.in_default.ensures.cases (c.loop-update.invariant.held list dirty len h)
+    halfway_end g.F.Family.shape g.met.F.Family.laws g.H.Hasher.hash_of (g.H.Hasher.layout c.args.hasher.now)
+    (g.H.Hasher.chunk c.args.hasher.now) f list c.args.updates.now c.loop-update.left.now dirty c.args.boundary
+    c.args.leaves (map f c.args.pinned.now) (map f c.loop-update.nodes) c.in_default.ensures.cases
+    (c.loop-update.invariant.held list dirty len h)

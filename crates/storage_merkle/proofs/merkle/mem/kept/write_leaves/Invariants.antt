@@ -13,7 +13,10 @@ invariant-loop-update g l =
     let chunk = g.H.Hasher.chunk l.hasher in
     record {
       there : All (λ u. (l.boundary ≤ u.0) × (u.0 < l.leaves)) l.left;
-      held : (list : List (List ℕ)) (dirty : List ℕ) → length list ≡ l.leaves → Holds S (node_over g.H.Hasher.hash_of T chunk list) (map (λ u. u.0) l.fn.updates ++ dirty) l.boundary (size S l.leaves) (map f l.pinned) (map f l.fn.nodes) → Halfway S g.met.F.Family.laws g.H.Hasher.hash_of T chunk f list l.fn.updates l.left dirty l.boundary l.leaves (map f l.pinned) (map f l.nodes);
+      held : (list : List (List ℕ)) (dirty : List ℕ) → length list ≡ l.leaves
+          → Holds S (node_over g.H.Hasher.hash_of T chunk list) (map (λ u. u.0) l.fn.updates ++ dirty) l.boundary
+          (size S l.leaves) (map f l.pinned) (map f l.fn.nodes) → Halfway S g.met.F.Family.laws g.H.Hasher.hash_of T
+          chunk f list l.fn.updates l.left dirty l.boundary l.leaves (map f l.pinned) (map f l.nodes);
     }
 
 abbrev pub decreases-loop-update : goal.decreases-loop-update

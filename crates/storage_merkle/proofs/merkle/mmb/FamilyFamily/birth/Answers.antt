@@ -3,4 +3,5 @@ use Rattle.storage_merkle.specs.MmbLaws.{mmb_birth_low}
 use Rattle.storage_merkle.proofs.merkle.mmb.FamilyFamily.birth.Goals as goal
 
 pub power-requires : goal.power-requires
-power-requires c = let h : c.args.height - 1 ≤ 62 = mmb_birth_low c.args.first c.args.height c.if-height-eq0.false c.requires in omega arith
+power-requires c = let h : c.args.height - 1 ≤ 62 =
+    mmb_birth_low c.args.first c.args.height c.if-height-eq0.false c.requires in omega arith

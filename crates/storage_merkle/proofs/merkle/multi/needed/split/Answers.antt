@@ -7,5 +7,8 @@ pub returns-clause-parts : goal.returns-clause-parts
 returns-clause-parts g c = λ first end up le.
     let place = g.L.Located.place in
     rw (c.split_at.ensures.front, c.split_at.ensures.back)
-    (parts_ascend place c.args.items.now c.partition_point.result c.args.middle first end c.partition_point.ensures.bound
-    (IsPartitionPoint-from_clause (λ y. ltb (place y) c.args.middle) c.args.items.now c.partition_point.result c.partition_point.ensures.partitioned (IsPartitionedBy-ltb place c.args.items.now c.args.middle (non_decreasing place first end c.args.items.now up)) (λ a r f k. search (rules, of_calls))) up)
+    (parts_ascend place c.args.items.now c.partition_point.result c.args.middle first end
+    c.partition_point.ensures.bound
+    (IsPartitionPoint-from_clause (λ y. ltb (place y) c.args.middle) c.args.items.now c.partition_point.result
+    c.partition_point.ensures.partitioned (IsPartitionedBy-ltb place c.args.items.now c.args.middle
+    (non_decreasing place first end c.args.items.now up)) (λ a r f k. search (rules, of_calls))) up)

@@ -12,15 +12,18 @@ returns-then-self-eq0-clause-steps g c =
 
 pub position-position-requires-clause-aligned : goal.position-position-requires-clause-aligned
 position-position-requires-clause-aligned g c =
-    let s = step g.F.Family.shape g.met.F.Family.laws c.self.inside.first c.self.inside.left c.first_peak-height.result c.self.invariant.0 c.self.invariant.1 c.first_peak-height.ensures.first in
+    let s = step g.F.Family.shape g.met.F.Family.laws c.self.inside.first c.self.inside.left c.first_peak-height.result
+    c.self.invariant.0 c.self.invariant.1 c.first_peak-height.ensures.first in
     s.aligned
 
 pub position-position-requires-clause-fits : goal.position-position-requires-clause-fits
 position-position-requires-clause-fits g c =
-    let s = step g.F.Family.shape g.met.F.Family.laws c.self.inside.first c.self.inside.left c.first_peak-height.result c.self.invariant.0 c.self.invariant.1 c.first_peak-height.ensures.first in
+    let s = step g.F.Family.shape g.met.F.Family.laws c.self.inside.first c.self.inside.left c.first_peak-height.result
+    c.self.invariant.0 c.self.invariant.1 c.first_peak-height.ensures.first in
     s.fits
 
 pub invariant_of-self : goal.invariant_of-self
 invariant_of-self g c =
-    let s = step g.F.Family.shape g.met.F.Family.laws c.self.inside.first c.self.inside.left c.first_peak-height.result c.self.invariant.0 c.self.invariant.1 c.first_peak-height.ensures.first in
+    let s = step g.F.Family.shape g.met.F.Family.laws c.self.inside.first c.self.inside.left c.first_peak-height.result
+    c.self.invariant.0 c.self.invariant.1 c.first_peak-height.ensures.first in
     (omega (arith, s.within, c.power-leaves.ensures, c.self.invariant.0), rw c.power-leaves.ensures s.rest)

@@ -5,4 +5,5 @@ use Rattle.storage_merkle.proofs.merkle.plan.RangePlan.positions.Goals as goal
 
 pub returns-clause-rising : goal.returns-clause-rising
 returns-clause-rising g c =
-    subst (λ (ps : List ℕ). IsStrictlyIncreasing ps) (sym (c.deref.ensures.value ∙ c.self.invariant.positions_are)) (planned_rises g.F.Family.shape g.met.F.Family.laws c.self.inside.leaves c.self.inside.start c.self.inside.end)
+    subst (λ (ps : List ℕ). IsStrictlyIncreasing ps) (sym (c.deref.ensures.value ∙ c.self.invariant.positions_are))
+    (planned_rises g.F.Family.shape g.met.F.Family.laws c.self.inside.leaves c.self.inside.start c.self.inside.end)

@@ -6,10 +6,12 @@ pub returns-in-ForwardFold-clause-peaks : goal.returns-in-ForwardFold-clause-pea
 returns-in-ForwardFold-clause-peaks g c = all_peaks g.F.Family.shape g.met.F.Family.laws c.args.leaves
 
 pub returns-in-ForwardFold-clause-folded : goal.returns-in-ForwardFold-clause-folded
-returns-in-ForwardFold-clause-folded g c = all_folded_forward g.F.Family.shape _ c.args.inactive c.args.leaves _ c.in-ForwardFold.is c.peak_count-folded.ensures
+returns-in-ForwardFold-clause-folded g c = all_folded_forward g.F.Family.shape _ c.args.inactive c.args.leaves _
+    c.in-ForwardFold.is c.peak_count-folded.ensures
 
 pub returns-in-BackwardFold-clause-peaks : goal.returns-in-BackwardFold-clause-peaks
 returns-in-BackwardFold-clause-peaks g c = all_peaks g.F.Family.shape g.met.F.Family.laws c.args.leaves
 
 pub returns-in-BackwardFold-clause-folded : goal.returns-in-BackwardFold-clause-folded
-returns-in-BackwardFold-clause-folded g c = inactive_folded g.F.Family.shape _ c.args.inactive c.args.leaves c.in-BackwardFold.is
+returns-in-BackwardFold-clause-folded g c =
+    inactive_folded g.F.Family.shape _ c.args.inactive c.args.leaves c.in-BackwardFold.is

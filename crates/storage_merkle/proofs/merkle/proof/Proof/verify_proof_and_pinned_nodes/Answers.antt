@@ -9,20 +9,106 @@ use Rattle.storage_merkle.proofs.merkle.proof.Proof.verify_proof_and_pinned_node
 
 pub returns-then-is_empty-clause-exact : goal.returns-then-is_empty-clause-exact
 returns-then-is_empty-clause-exact g c = λ same.
-    nothing_pinned g.H.Hasher.hash_of (g.H.Hasher.layout c.args.hasher.now) (g.H.Hasher.bagging c.args.hasher.now) (record { leaves = c.args.self.now.leaves; inactive = c.args.self.now.inactive_peaks; digests = map g.D.Write.text c.args.self.now.digests.items }) c.args.start (record { elements = map g.E.AsSlice.items c.args.elements.now; chunk = g.H.Hasher.chunk c.args.hasher.now }) (map g.D.Write.text c.args.pinned.now) (g.D.Write.text c.args.root.now) ((c.in_ok-verify_range_inclusion.ensures.exact same).0 c.if-not-branch.false) (subst Laws (sym same) g.met.F.Family.laws) (no_elements g.E.AsSlice.items c.args.elements.now c.if-is_empty.ensures) c.is_empty-then-is_empty.result (c.is_empty-then-is_empty.ensures ∙ ap (λ n. n == 0) (sym (length-map c.args.pinned.now g.D.Write.text)))
+    nothing_pinned g.H.Hasher.hash_of (g.H.Hasher.layout c.args.hasher.now) (g.H.Hasher.bagging c.args.hasher.now)
+    (record {
+      leaves = c.args.self.now.leaves;
+      inactive = c.args.self.now.inactive_peaks;
+      digests = map g.D.Write.text c.args.self.now.digests.items;
+    }) c.args.start
+    (record { elements = map g.E.AsSlice.items c.args.elements.now; chunk = g.H.Hasher.chunk c.args.hasher.now })
+    (map g.D.Write.text c.args.pinned.now) (g.D.Write.text c.args.root.now)
+    ((c.in_ok-verify_range_inclusion.ensures.exact same).0 c.if-not-branch.false)
+    (subst Laws (sym same) g.met.F.Family.laws)
+    (no_elements g.E.AsSlice.items c.args.elements.now c.if-is_empty.ensures) c.is_empty-then-is_empty.result
+    (c.is_empty-then-is_empty.ensures ∙ ap (λ n. n == 0) (sym (length-map c.args.pinned.now g.D.Write.text)))
 
 pub returns-then-is_empty-clause-means : goal.returns-then-is_empty-clause-means
 returns-then-is_empty-clause-means g c = λ plain empty y.
     let same : (g.H.Hasher.layout c.args.hasher.now).shape ≡ g.F.Family.shape = ap (λ (T : Layout). T.shape) plain in
-    pinned_proved g.D.FixedSize.size g.H.Hasher.hash_of g.met.H.Hasher.sized g.F.Family.shape g.met.F.Family.laws (g.H.Hasher.layout c.args.hasher.now) plain (g.H.Hasher.chunk c.args.hasher.now) empty (g.H.Hasher.bagging c.args.hasher.now) (record { leaves = c.args.self.now.leaves; inactive = c.args.self.now.inactive_peaks; digests = map g.D.Write.text c.args.self.now.digests.items }) c.args.start (map g.E.AsSlice.items c.args.elements.now) (map g.D.Write.text c.args.pinned.now) (g.D.Write.text c.args.root.now) (all_digests g.D.Write.text g.D.FixedSize.size g.met.D.FixedSize.sized c.args.self.now.digests.items) (all_digests g.D.Write.text g.D.FixedSize.size g.met.D.FixedSize.sized c.args.pinned.now)
-    ((nothing_pinned g.H.Hasher.hash_of (g.H.Hasher.layout c.args.hasher.now) (g.H.Hasher.bagging c.args.hasher.now) (record { leaves = c.args.self.now.leaves; inactive = c.args.self.now.inactive_peaks; digests = map g.D.Write.text c.args.self.now.digests.items }) c.args.start (record { elements = map g.E.AsSlice.items c.args.elements.now; chunk = g.H.Hasher.chunk c.args.hasher.now }) (map g.D.Write.text c.args.pinned.now) (g.D.Write.text c.args.root.now) ((c.in_ok-verify_range_inclusion.ensures.exact same).0 c.if-not-branch.false) (subst Laws (sym same) g.met.F.Family.laws) (no_elements g.E.AsSlice.items c.args.elements.now c.if-is_empty.ensures) c.is_empty-then-is_empty.result (c.is_empty-then-is_empty.ensures ∙ ap (λ n. n == 0) (sym (length-map c.args.pinned.now g.D.Write.text)))).0 y)
+    pinned_proved g.D.FixedSize.size g.H.Hasher.hash_of g.met.H.Hasher.sized g.F.Family.shape g.met.F.Family.laws
+    (g.H.Hasher.layout c.args.hasher.now) plain (g.H.Hasher.chunk c.args.hasher.now) empty
+    (g.H.Hasher.bagging c.args.hasher.now) (record {
+      leaves = c.args.self.now.leaves;
+      inactive = c.args.self.now.inactive_peaks;
+      digests = map g.D.Write.text c.args.self.now.digests.items;
+    })
+    c.args.start (map g.E.AsSlice.items c.args.elements.now) (map g.D.Write.text c.args.pinned.now)
+    (g.D.Write.text c.args.root.now)
+    (all_digests g.D.Write.text g.D.FixedSize.size g.met.D.FixedSize.sized c.args.self.now.digests.items)
+    (all_digests g.D.Write.text g.D.FixedSize.size g.met.D.FixedSize.sized c.args.pinned.now)
+    ((nothing_pinned g.H.Hasher.hash_of (g.H.Hasher.layout c.args.hasher.now) (g.H.Hasher.bagging c.args.hasher.now)
+    (record {
+      leaves = c.args.self.now.leaves;
+      inactive = c.args.self.now.inactive_peaks;
+      digests = map
+          g.D.Write.text c.args.self.now.digests.items;
+    }) c.args.start (record {
+      elements = map g.E.AsSlice.items
+          c.args.elements.now;
+      chunk = g.H.Hasher.chunk c.args.hasher.now;
+    }) (map g.D.Write.text c.args.pinned.now)
+    (g.D.Write.text c.args.root.now) ((c.in_ok-verify_range_inclusion.ensures.exact same).0 c.if-not-branch.false)
+    (subst Laws (sym same) g.met.F.Family.laws)
+    (no_elements g.E.AsSlice.items c.args.elements.now c.if-is_empty.ensures) c.is_empty-then-is_empty.result
+    (c.is_empty-then-is_empty.ensures ∙ ap (λ n. n == 0) (sym (length-map c.args.pinned.now g.D.Write.text)))).0 y)
 
 pub returns-clause-exact : goal.returns-clause-exact
 returns-clause-exact g c = λ same.
-    (let accepted = ((c.in_ok-verify_range_inclusion.ensures.exact same).0 c.if-not-branch.false) in if_ok _ _ c.agrees_with.result (λ answer i. agreeing_pinned g.H.Hasher.hash_of (g.H.Hasher.layout c.args.hasher.now) (g.H.Hasher.bagging c.args.hasher.now) (record { leaves = c.args.self.now.leaves; inactive = c.args.self.now.inactive_peaks; digests = map g.D.Write.text c.args.self.now.digests.items }) c.args.start (record { elements = map g.E.AsSlice.items c.args.elements.now; chunk = g.H.Hasher.chunk c.args.hasher.now }) (map g.D.Write.text c.args.pinned.now) (g.D.Write.text c.args.root.now) accepted answer i) (c.agrees_with.ensures (map g.E.AsSlice.items c.args.elements.now) same (length-map c.args.elements.now g.E.AsSlice.items) (counts_fit g.H.Hasher.hash_of (g.H.Hasher.layout c.args.hasher.now) (g.H.Hasher.bagging c.args.hasher.now) (record { leaves = c.args.self.now.leaves; inactive = c.args.self.now.inactive_peaks; digests = map g.D.Write.text c.args.self.now.digests.items }) c.args.start (record { elements = map g.E.AsSlice.items c.args.elements.now; chunk = g.H.Hasher.chunk c.args.hasher.now }) (map g.D.Write.text c.args.pinned.now) (g.D.Write.text c.args.root.now) accepted (some_elements g.E.AsSlice.items c.args.elements.now c.if-is_empty.ensures))))
+    (let accepted = ((c.in_ok-verify_range_inclusion.ensures.exact same).0 c.if-not-branch.false) in
+    if_ok _ _ c.agrees_with.result (λ answer i.
+    agreeing_pinned g.H.Hasher.hash_of (g.H.Hasher.layout c.args.hasher.now) (g.H.Hasher.bagging c.args.hasher.now)
+    (record {
+      leaves = c.args.self.now.leaves;
+      inactive = c.args.self.now.inactive_peaks;
+      digests = map g.D.Write.text c.args.self.now.digests.items;
+    }) c.args.start
+    (record { elements = map g.E.AsSlice.items c.args.elements.now; chunk = g.H.Hasher.chunk c.args.hasher.now })
+    (map g.D.Write.text c.args.pinned.now) (g.D.Write.text c.args.root.now) accepted answer i)
+    (c.agrees_with.ensures (map g.E.AsSlice.items c.args.elements.now) same (length-map c.args.elements.now
+    g.E.AsSlice.items) (counts_fit g.H.Hasher.hash_of (g.H.Hasher.layout c.args.hasher.now)
+    (g.H.Hasher.bagging c.args.hasher.now) (record {
+      leaves = c.args.self.now.leaves;
+      inactive =
+          c.args.self.now.inactive_peaks;
+      digests = map g.D.Write.text c.args.self.now.digests.items;
+    }) c.args.start
+    (record { elements = map g.E.AsSlice.items c.args.elements.now; chunk = g.H.Hasher.chunk c.args.hasher.now })
+    (map g.D.Write.text c.args.pinned.now) (g.D.Write.text c.args.root.now) accepted
+    (some_elements g.E.AsSlice.items c.args.elements.now c.if-is_empty.ensures))))
 
 pub returns-clause-means : goal.returns-clause-means
 returns-clause-means g c = λ plain empty.
     let same : (g.H.Hasher.layout c.args.hasher.now).shape ≡ g.F.Family.shape = ap (λ (T : Layout). T.shape) plain in
-    if_ok _ _ c.agrees_with.result (λ answer i y. pinned_proved g.D.FixedSize.size g.H.Hasher.hash_of g.met.H.Hasher.sized g.F.Family.shape g.met.F.Family.laws (g.H.Hasher.layout c.args.hasher.now) plain (g.H.Hasher.chunk c.args.hasher.now) empty (g.H.Hasher.bagging c.args.hasher.now) (record { leaves = c.args.self.now.leaves; inactive = c.args.self.now.inactive_peaks; digests = map g.D.Write.text c.args.self.now.digests.items }) c.args.start (map g.E.AsSlice.items c.args.elements.now) (map g.D.Write.text c.args.pinned.now) (g.D.Write.text c.args.root.now) (all_digests g.D.Write.text g.D.FixedSize.size g.met.D.FixedSize.sized c.args.self.now.digests.items) (all_digests g.D.Write.text g.D.FixedSize.size g.met.D.FixedSize.sized c.args.pinned.now) (i.0 y))
-    (let accepted = ((c.in_ok-verify_range_inclusion.ensures.exact same).0 c.if-not-branch.false) in if_ok _ _ c.agrees_with.result (λ answer i. agreeing_pinned g.H.Hasher.hash_of (g.H.Hasher.layout c.args.hasher.now) (g.H.Hasher.bagging c.args.hasher.now) (record { leaves = c.args.self.now.leaves; inactive = c.args.self.now.inactive_peaks; digests = map g.D.Write.text c.args.self.now.digests.items }) c.args.start (record { elements = map g.E.AsSlice.items c.args.elements.now; chunk = g.H.Hasher.chunk c.args.hasher.now }) (map g.D.Write.text c.args.pinned.now) (g.D.Write.text c.args.root.now) accepted answer i) (c.agrees_with.ensures (map g.E.AsSlice.items c.args.elements.now) same (length-map c.args.elements.now g.E.AsSlice.items) (counts_fit g.H.Hasher.hash_of (g.H.Hasher.layout c.args.hasher.now) (g.H.Hasher.bagging c.args.hasher.now) (record { leaves = c.args.self.now.leaves; inactive = c.args.self.now.inactive_peaks; digests = map g.D.Write.text c.args.self.now.digests.items }) c.args.start (record { elements = map g.E.AsSlice.items c.args.elements.now; chunk = g.H.Hasher.chunk c.args.hasher.now }) (map g.D.Write.text c.args.pinned.now) (g.D.Write.text c.args.root.now) accepted (some_elements g.E.AsSlice.items c.args.elements.now c.if-is_empty.ensures))))
+    if_ok _ _ c.agrees_with.result (λ answer i y. pinned_proved g.D.FixedSize.size g.H.Hasher.hash_of
+    g.met.H.Hasher.sized g.F.Family.shape g.met.F.Family.laws (g.H.Hasher.layout c.args.hasher.now) plain
+    (g.H.Hasher.chunk c.args.hasher.now) empty (g.H.Hasher.bagging c.args.hasher.now)
+    (record {
+      leaves = c.args.self.now.leaves;
+      inactive = c.args.self.now.inactive_peaks;
+      digests = map
+          g.D.Write.text c.args.self.now.digests.items;
+    }) c.args.start (map g.E.AsSlice.items c.args.elements.now)
+    (map g.D.Write.text c.args.pinned.now) (g.D.Write.text c.args.root.now)
+    (all_digests g.D.Write.text g.D.FixedSize.size g.met.D.FixedSize.sized c.args.self.now.digests.items)
+    (all_digests g.D.Write.text g.D.FixedSize.size g.met.D.FixedSize.sized c.args.pinned.now) (i.0 y))
+    (let accepted = ((c.in_ok-verify_range_inclusion.ensures.exact same).0 c.if-not-branch.false) in
+    if_ok _ _ c.agrees_with.result (λ answer i.
+    agreeing_pinned g.H.Hasher.hash_of (g.H.Hasher.layout c.args.hasher.now) (g.H.Hasher.bagging c.args.hasher.now)
+    (record {
+      leaves = c.args.self.now.leaves;
+      inactive = c.args.self.now.inactive_peaks;
+      digests = map g.D.Write.text c.args.self.now.digests.items;
+    }) c.args.start
+    (record { elements = map g.E.AsSlice.items c.args.elements.now; chunk = g.H.Hasher.chunk c.args.hasher.now })
+    (map g.D.Write.text c.args.pinned.now) (g.D.Write.text c.args.root.now) accepted answer i)
+    (c.agrees_with.ensures (map g.E.AsSlice.items c.args.elements.now) same (length-map c.args.elements.now
+    g.E.AsSlice.items) (counts_fit g.H.Hasher.hash_of (g.H.Hasher.layout c.args.hasher.now)
+    (g.H.Hasher.bagging c.args.hasher.now) (record {
+      leaves = c.args.self.now.leaves;
+      inactive =
+          c.args.self.now.inactive_peaks;
+      digests = map g.D.Write.text c.args.self.now.digests.items;
+    }) c.args.start
+    (record { elements = map g.E.AsSlice.items c.args.elements.now; chunk = g.H.Hasher.chunk c.args.hasher.now })
+    (map g.D.Write.text c.args.pinned.now) (g.D.Write.text c.args.root.now) accepted
+    (some_elements g.E.AsSlice.items c.args.elements.now c.if-is_empty.ensures))))

@@ -6,18 +6,81 @@ use Rattle.storage_merkle.proofs.merkle.proof.Proof.verify_range_inclusion.Goals
 
 pub returns-then-is_empty-clause-exact : goal.returns-then-is_empty-clause-exact
 returns-then-is_empty-clause-exact g c = λ same.
-    chained (c.verify_nothing.ensures (record { elements = map g.E.AsSlice.items c.args.elements.now; chunk = g.H.Hasher.chunk c.args.hasher.now }) (no_elements g.E.AsSlice.items c.args.elements.now c.if-is_empty.ensures)) (accepted_nothing g.H.Hasher.hash_of (g.H.Hasher.layout c.args.hasher.now) (g.H.Hasher.bagging c.args.hasher.now) (record { leaves = c.args.self.now.leaves; inactive = c.args.self.now.inactive_peaks; digests = map g.D.Write.text c.args.self.now.digests.items }) c.args.start (record { elements = map g.E.AsSlice.items c.args.elements.now; chunk = g.H.Hasher.chunk c.args.hasher.now }) (g.D.Write.text c.args.root.now) (no_elements g.E.AsSlice.items c.args.elements.now c.if-is_empty.ensures))
+    chained (c.verify_nothing.ensures
+    (record { elements = map g.E.AsSlice.items c.args.elements.now; chunk = g.H.Hasher.chunk c.args.hasher.now })
+    (no_elements g.E.AsSlice.items c.args.elements.now c.if-is_empty.ensures)) (accepted_nothing g.H.Hasher.hash_of
+    (g.H.Hasher.layout c.args.hasher.now) (g.H.Hasher.bagging c.args.hasher.now)
+    (record {
+      leaves = c.args.self.now.leaves;
+      inactive = c.args.self.now.inactive_peaks;
+      digests = map g.D.Write.text c.args.self.now.digests.items;
+    }) c.args.start
+    (record { elements = map g.E.AsSlice.items c.args.elements.now; chunk = g.H.Hasher.chunk c.args.hasher.now })
+    (g.D.Write.text c.args.root.now) (no_elements g.E.AsSlice.items c.args.elements.now c.if-is_empty.ensures))
 
 pub returns-then-is_empty-clause-means : goal.returns-then-is_empty-clause-means
 returns-then-is_empty-clause-means g c = λ same accepted.
-    accepted_proved g.H.Hasher.hash_of (g.H.Hasher.layout c.args.hasher.now) (g.H.Hasher.bagging c.args.hasher.now) (record { leaves = c.args.self.now.leaves; inactive = c.args.self.now.inactive_peaks; digests = map g.D.Write.text c.args.self.now.digests.items }) c.args.start (record { elements = map g.E.AsSlice.items c.args.elements.now; chunk = g.H.Hasher.chunk c.args.hasher.now }) (g.D.Write.text c.args.root.now) g.D.FixedSize.size g.met.H.Hasher.sized (subst Laws (sym same) g.met.F.Family.laws) (all_digests g.D.Write.text g.D.FixedSize.size g.met.D.FixedSize.sized c.args.self.now.digests.items)
-    ((chained (c.verify_nothing.ensures (record { elements = map g.E.AsSlice.items c.args.elements.now; chunk = g.H.Hasher.chunk c.args.hasher.now }) (no_elements g.E.AsSlice.items c.args.elements.now c.if-is_empty.ensures)) (accepted_nothing g.H.Hasher.hash_of (g.H.Hasher.layout c.args.hasher.now) (g.H.Hasher.bagging c.args.hasher.now) (record { leaves = c.args.self.now.leaves; inactive = c.args.self.now.inactive_peaks; digests = map g.D.Write.text c.args.self.now.digests.items }) c.args.start (record { elements = map g.E.AsSlice.items c.args.elements.now; chunk = g.H.Hasher.chunk c.args.hasher.now }) (g.D.Write.text c.args.root.now) (no_elements g.E.AsSlice.items c.args.elements.now c.if-is_empty.ensures))).0 accepted)
+    accepted_proved g.H.Hasher.hash_of (g.H.Hasher.layout c.args.hasher.now) (g.H.Hasher.bagging c.args.hasher.now)
+    (record {
+      leaves = c.args.self.now.leaves;
+      inactive = c.args.self.now.inactive_peaks;
+      digests = map g.D.Write.text c.args.self.now.digests.items;
+    }) c.args.start
+    (record { elements = map g.E.AsSlice.items c.args.elements.now; chunk = g.H.Hasher.chunk c.args.hasher.now })
+    (g.D.Write.text c.args.root.now) g.D.FixedSize.size g.met.H.Hasher.sized
+    (subst Laws (sym same) g.met.F.Family.laws)
+    (all_digests g.D.Write.text g.D.FixedSize.size g.met.D.FixedSize.sized c.args.self.now.digests.items)
+    ((chained (c.verify_nothing.ensures (record {
+      elements = map g.E.AsSlice.items c.args.elements.now;
+      chunk =
+          g.H.Hasher.chunk c.args.hasher.now;
+    }) (no_elements g.E.AsSlice.items c.args.elements.now c.if-is_empty.ensures))
+    (accepted_nothing g.H.Hasher.hash_of (g.H.Hasher.layout c.args.hasher.now)
+    (g.H.Hasher.bagging c.args.hasher.now) (record {
+      leaves = c.args.self.now.leaves;
+      inactive = c.args.self.now.inactive_peaks;
+      digests = map g.D.Write.text c.args.self.now.digests.items;
+    })
+    c.args.start (record {
+      elements = map g.E.AsSlice.items c.args.elements.now;
+      chunk = g.H.Hasher.chunk c.args.hasher.now;
+    }) (g.D.Write.text c.args.root.now)
+    (no_elements g.E.AsSlice.items c.args.elements.now c.if-is_empty.ensures))).0 accepted)
 
 pub returns-clause-exact : goal.returns-clause-exact
 returns-clause-exact g c = λ same.
-    chained (same_option g.D.PartialEq.eq g.D.Write.text g.met.D.Digest.same c.in_ok-computed.computed c.args.root.now c.eq.result c.eq.ensures) (accepted_some g.H.Hasher.hash_of (g.H.Hasher.layout c.args.hasher.now) (g.H.Hasher.bagging c.args.hasher.now) (record { leaves = c.args.self.now.leaves; inactive = c.args.self.now.inactive_peaks; digests = map g.D.Write.text c.args.self.now.digests.items }) c.args.start (record { elements = map g.E.AsSlice.items c.args.elements.now; chunk = g.H.Hasher.chunk c.args.hasher.now }) (g.D.Write.text c.args.root.now) (some_elements g.E.AsSlice.items c.args.elements.now c.if-is_empty.ensures) (option_map g.D.Write.text c.in_ok-computed.computed) (c.in_ok-computed.ensures same))
+    chained (same_option g.D.PartialEq.eq g.D.Write.text g.met.D.Digest.same c.in_ok-computed.computed c.args.root.now
+    c.eq.result c.eq.ensures) (accepted_some g.H.Hasher.hash_of (g.H.Hasher.layout c.args.hasher.now)
+    (g.H.Hasher.bagging c.args.hasher.now) (record {
+      leaves = c.args.self.now.leaves;
+      inactive =
+          c.args.self.now.inactive_peaks;
+      digests = map g.D.Write.text c.args.self.now.digests.items;
+    }) c.args.start
+    (record { elements = map g.E.AsSlice.items c.args.elements.now; chunk = g.H.Hasher.chunk c.args.hasher.now })
+    (g.D.Write.text c.args.root.now) (some_elements g.E.AsSlice.items c.args.elements.now c.if-is_empty.ensures)
+    (option_map g.D.Write.text c.in_ok-computed.computed) (c.in_ok-computed.ensures same))
 
 pub returns-clause-means : goal.returns-clause-means
 returns-clause-means g c = λ same accepted.
-    accepted_proved g.H.Hasher.hash_of (g.H.Hasher.layout c.args.hasher.now) (g.H.Hasher.bagging c.args.hasher.now) (record { leaves = c.args.self.now.leaves; inactive = c.args.self.now.inactive_peaks; digests = map g.D.Write.text c.args.self.now.digests.items }) c.args.start (record { elements = map g.E.AsSlice.items c.args.elements.now; chunk = g.H.Hasher.chunk c.args.hasher.now }) (g.D.Write.text c.args.root.now) g.D.FixedSize.size g.met.H.Hasher.sized (subst Laws (sym same) g.met.F.Family.laws) (all_digests g.D.Write.text g.D.FixedSize.size g.met.D.FixedSize.sized c.args.self.now.digests.items)
-    ((chained (same_option g.D.PartialEq.eq g.D.Write.text g.met.D.Digest.same c.in_ok-computed.computed c.args.root.now c.eq.result c.eq.ensures) (accepted_some g.H.Hasher.hash_of (g.H.Hasher.layout c.args.hasher.now) (g.H.Hasher.bagging c.args.hasher.now) (record { leaves = c.args.self.now.leaves; inactive = c.args.self.now.inactive_peaks; digests = map g.D.Write.text c.args.self.now.digests.items }) c.args.start (record { elements = map g.E.AsSlice.items c.args.elements.now; chunk = g.H.Hasher.chunk c.args.hasher.now }) (g.D.Write.text c.args.root.now) (some_elements g.E.AsSlice.items c.args.elements.now c.if-is_empty.ensures) (option_map g.D.Write.text c.in_ok-computed.computed) (c.in_ok-computed.ensures same))).0 accepted)
+    accepted_proved g.H.Hasher.hash_of (g.H.Hasher.layout c.args.hasher.now) (g.H.Hasher.bagging c.args.hasher.now)
+    (record {
+      leaves = c.args.self.now.leaves;
+      inactive = c.args.self.now.inactive_peaks;
+      digests = map g.D.Write.text c.args.self.now.digests.items;
+    }) c.args.start
+    (record { elements = map g.E.AsSlice.items c.args.elements.now; chunk = g.H.Hasher.chunk c.args.hasher.now })
+    (g.D.Write.text c.args.root.now) g.D.FixedSize.size g.met.H.Hasher.sized
+    (subst Laws (sym same) g.met.F.Family.laws)
+    (all_digests g.D.Write.text g.D.FixedSize.size g.met.D.FixedSize.sized c.args.self.now.digests.items)
+    ((chained (same_option g.D.PartialEq.eq g.D.Write.text g.met.D.Digest.same c.in_ok-computed.computed c.args.root.now
+    c.eq.result c.eq.ensures) (accepted_some g.H.Hasher.hash_of (g.H.Hasher.layout c.args.hasher.now)
+    (g.H.Hasher.bagging c.args.hasher.now) (record {
+      leaves = c.args.self.now.leaves;
+      inactive =
+          c.args.self.now.inactive_peaks;
+      digests = map g.D.Write.text c.args.self.now.digests.items;
+    }) c.args.start
+    (record { elements = map g.E.AsSlice.items c.args.elements.now; chunk = g.H.Hasher.chunk c.args.hasher.now })
+    (g.D.Write.text c.args.root.now) (some_elements g.E.AsSlice.items c.args.elements.now c.if-is_empty.ensures)
+    (option_map g.D.Write.text c.in_ok-computed.computed) (c.in_ok-computed.ensures same))).0 accepted)

@@ -9,26 +9,107 @@ use Rattle.storage_merkle.proofs.merkle.proof.Proof.verify_range_inclusion_and_e
 
 pub returns-in-Ok-clause-handed : goal.returns-in-Ok-clause-handed
 returns-in-Ok-clause-handed g c = λ same.
-    handed_none g.H.Hasher.hash_of (g.H.Hasher.layout c.args.hasher.now) (g.H.Hasher.bagging c.args.hasher.now) (record { leaves = c.args.self.now.leaves; inactive = c.args.self.now.inactive_peaks; digests = map g.D.Write.text c.args.self.now.digests.items }) c.args.start (record { elements = map g.E.AsSlice.items c.args.elements.now; chunk = g.H.Hasher.chunk c.args.hasher.now }) (g.D.Write.text c.args.root.now) g.D.FixedSize.size g.met.H.Hasher.sized (subst Laws (sym same) g.met.F.Family.laws) (all_digests g.D.Write.text g.D.FixedSize.size g.met.D.FixedSize.sized c.args.self.now.digests.items) (c.in-Ok.ensures (record { elements = map g.E.AsSlice.items c.args.elements.now; chunk = g.H.Hasher.chunk c.args.hasher.now }) (no_elements g.E.AsSlice.items c.args.elements.now c.if-is_empty.ensures)) _ (ap (texts g.D.Write.text) c.new.ensures.items)
+    handed_none g.H.Hasher.hash_of (g.H.Hasher.layout c.args.hasher.now) (g.H.Hasher.bagging c.args.hasher.now)
+    (record {
+      leaves = c.args.self.now.leaves;
+      inactive = c.args.self.now.inactive_peaks;
+      digests = map g.D.Write.text c.args.self.now.digests.items;
+    }) c.args.start
+    (record { elements = map g.E.AsSlice.items c.args.elements.now; chunk = g.H.Hasher.chunk c.args.hasher.now })
+    (g.D.Write.text c.args.root.now) g.D.FixedSize.size g.met.H.Hasher.sized
+    (subst Laws (sym same) g.met.F.Family.laws) (all_digests g.D.Write.text g.D.FixedSize.size
+    g.met.D.FixedSize.sized c.args.self.now.digests.items) (c.in-Ok.ensures
+    (record { elements = map g.E.AsSlice.items c.args.elements.now; chunk = g.H.Hasher.chunk c.args.hasher.now })
+    (no_elements g.E.AsSlice.items c.args.elements.now c.if-is_empty.ensures)) _
+    (ap (texts g.D.Write.text) c.new.ensures.items)
 
 pub returns-in-Err-clause-why : goal.returns-in-Err-clause-why
 returns-in-Err-clause-why g c =
     let none = no_elements g.E.AsSlice.items c.args.elements.now c.if-is_empty.ensures in
-    elim (c.in-Err.ensures (record { elements = map g.E.AsSlice.items c.args.elements.now; chunk = g.H.Hasher.chunk c.args.hasher.now }) none) [
-      | inl e ↦ inr (inl (e.0, λ same. misfit_none g.H.Hasher.hash_of (g.H.Hasher.layout c.args.hasher.now) (g.H.Hasher.bagging c.args.hasher.now) (record { leaves = c.args.self.now.leaves; inactive = c.args.self.now.inactive_peaks; digests = map g.D.Write.text c.args.self.now.digests.items }) c.args.start (record { elements = map g.E.AsSlice.items c.args.elements.now; chunk = g.H.Hasher.chunk c.args.hasher.now }) (g.D.Write.text c.args.root.now) none e.1))
-      | inr e ↦ inr (inr (e.0, λ same. other_root_none g.H.Hasher.hash_of (g.H.Hasher.layout c.args.hasher.now) (g.H.Hasher.bagging c.args.hasher.now) (record { leaves = c.args.self.now.leaves; inactive = c.args.self.now.inactive_peaks; digests = map g.D.Write.text c.args.self.now.digests.items }) c.args.start (record { elements = map g.E.AsSlice.items c.args.elements.now; chunk = g.H.Hasher.chunk c.args.hasher.now }) (g.D.Write.text c.args.root.now) none e.1 e.2))
+    elim (c.in-Err.ensures (record {
+      elements = map g.E.AsSlice.items c.args.elements.now;
+      chunk = g.H.Hasher.chunk c.args.hasher.now;
+    }) none) [
+      | inl e ↦ inr (inl (
+        e.0,
+        λ same. misfit_none g.H.Hasher.hash_of (g.H.Hasher.layout c.args.hasher.now)
+            (g.H.Hasher.bagging c.args.hasher.now) (record {
+              leaves = c.args.self.now.leaves;
+              inactive = c.args.self.now.inactive_peaks;
+              digests = map g.D.Write.text c.args.self.now.digests.items;
+            })
+            c.args.start (record {
+              elements = map g.E.AsSlice.items c.args.elements.now;
+              chunk = g.H.Hasher.chunk c.args.hasher.now;
+            }) (g.D.Write.text c.args.root.now) none e.1,
+      ))
+      | inr e ↦ inr (inr (
+        e.0,
+        λ same. other_root_none g.H.Hasher.hash_of (g.H.Hasher.layout c.args.hasher.now)
+            (g.H.Hasher.bagging c.args.hasher.now) (record {
+              leaves = c.args.self.now.leaves;
+              inactive = c.args.self.now.inactive_peaks;
+              digests = map g.D.Write.text c.args.self.now.digests.items;
+            })
+            c.args.start (record {
+              elements = map g.E.AsSlice.items c.args.elements.now;
+              chunk = g.H.Hasher.chunk c.args.hasher.now;
+            }) (g.D.Write.text c.args.root.now) none e.1 e.2,
+      ))
     ]
 
 pub returns-then-ne-clause-why : goal.returns-then-ne-clause-why
 returns-then-ne-clause-why g c = inr (inr (
   refl,
   λ same.
-      let r = subst (λ o. IsRecomputed g.H.Hasher.hash_of (g.H.Hasher.layout c.args.hasher.now) (g.H.Hasher.bagging c.args.hasher.now) (record { leaves = c.args.self.now.leaves; inactive = c.args.self.now.inactive_peaks; digests = map g.D.Write.text c.args.self.now.digests.items }) c.args.start (record { elements = map g.E.AsSlice.items c.args.elements.now; chunk = g.H.Hasher.chunk c.args.hasher.now }) (option_map (λ p. g.D.Write.text p.0) o)) c.in-Some.is (c.in_ok-given.ensures.root same) in
-      other_root g.H.Hasher.hash_of (g.H.Hasher.layout c.args.hasher.now) (g.H.Hasher.bagging c.args.hasher.now) (record { leaves = c.args.self.now.leaves; inactive = c.args.self.now.inactive_peaks; digests = map g.D.Write.text c.args.self.now.digests.items }) c.args.start (record { elements = map g.E.AsSlice.items c.args.elements.now; chunk = g.H.Hasher.chunk c.args.hasher.now }) (g.D.Write.text c.args.root.now) (some_elements g.E.AsSlice.items c.args.elements.now c.if-is_empty.ensures) _ r (differ g.D.PartialEq.eq g.D.Write.text g.met.D.Digest.same _ c.args.root.now c.if-ne.ensures),
+      let r = subst (λ o. IsRecomputed g.H.Hasher.hash_of (g.H.Hasher.layout c.args.hasher.now)
+      (g.H.Hasher.bagging c.args.hasher.now) (record {
+        leaves = c.args.self.now.leaves;
+        inactive =
+            c.args.self.now.inactive_peaks;
+        digests = map g.D.Write.text c.args.self.now.digests.items;
+      }) c.args.start
+      (record { elements = map g.E.AsSlice.items c.args.elements.now; chunk = g.H.Hasher.chunk c.args.hasher.now })
+      (option_map (λ p. g.D.Write.text p.0) o)) c.in-Some.is (c.in_ok-given.ensures.root same) in
+      other_root g.H.Hasher.hash_of (g.H.Hasher.layout c.args.hasher.now) (g.H.Hasher.bagging c.args.hasher.now)
+      (record {
+        leaves = c.args.self.now.leaves;
+        inactive = c.args.self.now.inactive_peaks;
+        digests = map g.D.Write.text c.args.self.now.digests.items;
+      }) c.args.start
+      (record { elements = map g.E.AsSlice.items c.args.elements.now; chunk = g.H.Hasher.chunk c.args.hasher.now })
+      (g.D.Write.text c.args.root.now) (some_elements g.E.AsSlice.items c.args.elements.now c.if-is_empty.ensures) _
+      r (differ g.D.PartialEq.eq g.D.Write.text g.met.D.Digest.same _ c.args.root.now c.if-ne.ensures),
 ))
 
 pub returns-clause-handed : goal.returns-clause-handed
 returns-clause-handed g c = λ same.
-    let r = subst (λ o. IsRecomputed g.H.Hasher.hash_of (g.H.Hasher.layout c.args.hasher.now) (g.H.Hasher.bagging c.args.hasher.now) (record { leaves = c.args.self.now.leaves; inactive = c.args.self.now.inactive_peaks; digests = map g.D.Write.text c.args.self.now.digests.items }) c.args.start (record { elements = map g.E.AsSlice.items c.args.elements.now; chunk = g.H.Hasher.chunk c.args.hasher.now }) (option_map (λ p. g.D.Write.text p.0) o)) c.in-Some.is (c.in_ok-given.ensures.root same) in
-    let all = subst (λ o. MatchOption o (Unit {0}) (λ p. texts g.D.Write.text p.1.items ≡ extracted g.H.Hasher.hash_of (g.H.Hasher.layout c.args.hasher.now) (g.H.Hasher.bagging c.args.hasher.now) (record { leaves = c.args.self.now.leaves; inactive = c.args.self.now.inactive_peaks; digests = map g.D.Write.text c.args.self.now.digests.items }) c.args.start (record { elements = map g.E.AsSlice.items c.args.elements.now; chunk = g.H.Hasher.chunk c.args.hasher.now }))) c.in-Some.is (c.in_ok-given.ensures.digests same) in
-    handed_some g.H.Hasher.hash_of (g.H.Hasher.layout c.args.hasher.now) (g.H.Hasher.bagging c.args.hasher.now) (record { leaves = c.args.self.now.leaves; inactive = c.args.self.now.inactive_peaks; digests = map g.D.Write.text c.args.self.now.digests.items }) c.args.start (record { elements = map g.E.AsSlice.items c.args.elements.now; chunk = g.H.Hasher.chunk c.args.hasher.now }) (g.D.Write.text c.args.root.now) g.D.FixedSize.size g.met.H.Hasher.sized (subst Laws (sym same) g.met.F.Family.laws) (all_digests g.D.Write.text g.D.FixedSize.size g.met.D.FixedSize.sized c.args.self.now.digests.items) _ r (alike g.D.PartialEq.eq g.D.Write.text g.met.D.Digest.same _ c.args.root.now c.if-ne.ensures) _ all
+    let r = subst (λ o. IsRecomputed g.H.Hasher.hash_of (g.H.Hasher.layout c.args.hasher.now)
+    (g.H.Hasher.bagging c.args.hasher.now) (record {
+      leaves = c.args.self.now.leaves;
+      inactive =
+          c.args.self.now.inactive_peaks;
+      digests = map g.D.Write.text c.args.self.now.digests.items;
+    }) c.args.start
+    (record { elements = map g.E.AsSlice.items c.args.elements.now; chunk = g.H.Hasher.chunk c.args.hasher.now })
+    (option_map (λ p. g.D.Write.text p.0) o)) c.in-Some.is (c.in_ok-given.ensures.root same) in
+    let all = subst (λ o. MatchOption o (Unit {0}) (λ p. texts g.D.Write.text p.1.items
+    ≡ extracted g.H.Hasher.hash_of (g.H.Hasher.layout c.args.hasher.now) (g.H.Hasher.bagging c.args.hasher.now)
+    (record {
+      leaves = c.args.self.now.leaves;
+      inactive = c.args.self.now.inactive_peaks;
+      digests = map g.D.Write.text c.args.self.now.digests.items;
+    }) c.args.start
+    (record { elements = map g.E.AsSlice.items c.args.elements.now; chunk = g.H.Hasher.chunk c.args.hasher.now })))
+    c.in-Some.is (c.in_ok-given.ensures.digests same) in
+    handed_some g.H.Hasher.hash_of (g.H.Hasher.layout c.args.hasher.now) (g.H.Hasher.bagging c.args.hasher.now)
+    (record {
+      leaves = c.args.self.now.leaves;
+      inactive = c.args.self.now.inactive_peaks;
+      digests = map g.D.Write.text c.args.self.now.digests.items;
+    }) c.args.start
+    (record { elements = map g.E.AsSlice.items c.args.elements.now; chunk = g.H.Hasher.chunk c.args.hasher.now })
+    (g.D.Write.text c.args.root.now) g.D.FixedSize.size g.met.H.Hasher.sized
+    (subst Laws (sym same) g.met.F.Family.laws)
+    (all_digests g.D.Write.text g.D.FixedSize.size g.met.D.FixedSize.sized c.args.self.now.digests.items) _ r
+    (alike g.D.PartialEq.eq g.D.Write.text g.met.D.Digest.same _ c.args.root.now c.if-ne.ensures) _ all

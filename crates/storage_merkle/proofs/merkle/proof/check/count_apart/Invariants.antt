@@ -8,7 +8,9 @@ abbrev pub invariant-loop-rest : goal.invariant-loop-rest
 invariant-loop-rest g l = record {
   peaks : ArePeaks g.F.Family.shape (l.initial.rest.first + l.initial.rest.left) l.rest.first l.rest.left;
   few : l.count + l.rest.left ≤ l.initial.rest.left;
-  exact : l.count + length (top_sites l.start l.end (peaks_from g.F.Family.shape l.rest.first l.rest.left) l.rest.folded) ≡ length (top_sites l.start l.end (peaks_from g.F.Family.shape l.initial.rest.first l.initial.rest.left) l.initial.rest.folded);
+  exact : l.count + length
+      (top_sites l.start l.end (peaks_from g.F.Family.shape l.rest.first l.rest.left) l.rest.folded) ≡ length (top_sites
+      l.start l.end (peaks_from g.F.Family.shape l.initial.rest.first l.initial.rest.left) l.initial.rest.folded);
 }
 
 abbrev pub decreases-loop-rest : goal.decreases-loop-rest

@@ -6,4 +6,6 @@ use Rattle.storage_merkle.proofs.merkle.proof.codec.write_digests.Goals as goal
 pub returns-in_err-write-clause-err : goal.returns-in_err-write-clause-err
 returns-in_err-write-clause-err g c =
     let T = g.D.Write.text in
-    on_err c.from_residual.result _ (writing_stops _ _ _ _ _ (T c.in-Some.digest.now) (joined_text (map T c.in-Some.rest.now)) c.loop-digest.invariant (ap (λ ds. joined_text (map T ds)) c.in-Some.ensures.cases.0) c.in_err-write.ensures.err)
+    on_err c.from_residual.result _ (writing_stops _ _ _ _ _ (T c.in-Some.digest.now)
+    (joined_text (map T c.in-Some.rest.now)) c.loop-digest.invariant
+    (ap (λ ds. joined_text (map T ds)) c.in-Some.ensures.cases.0) c.in_err-write.ensures.err)

@@ -7,6 +7,9 @@ use Rattle.storage_merkle.proofs.merkle.proof_store.ProofStore.digests_at.Goals 
 pub returns-in_default-clause-why : goal.returns-in_default-clause-why
 returns-in_default-clause-why g c =
     elim c.missing.ensures [
-      | inl e ↦ inl (c.loop-position.invariant.refusal ∙ needed_missing g.row.F.Denot c.args.self.now (texts g.D.Write.text c.args.peaks.now) (suffix_positions g.F.Family.shape c.args.self.now) c.args.positions.now c.loop-position.position-index c.position-item.result c.loop-position-test.true c.position-item.is (sym c.in_default.ensures) ∙ ap (λ x. Some x) (sym e))
+      | inl e ↦ inl (c.loop-position.invariant.refusal
+          ∙ needed_missing g.row.F.Denot c.args.self.now (texts g.D.Write.text c.args.peaks.now) (suffix_positions
+          g.F.Family.shape c.args.self.now) c.args.positions.now c.loop-position.position-index c.position-item.result
+          c.loop-position-test.true c.position-item.is (sym c.in_default.ensures) ∙ ap (λ x. Some x) (sym e))
       | inr e ↦ inr e
     ]

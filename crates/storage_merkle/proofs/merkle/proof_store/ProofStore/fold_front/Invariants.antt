@@ -10,7 +10,10 @@ use Rattle.storage_merkle.proofs.merkle.proof_store.ProofStore.fold_front.Given 
 abbrev pub invariant-loop-rest : goal.invariant-loop-rest
 invariant-loop-rest g l = record {
   peaks : ArePeaks g.F.Family.shape l.self.leaves l.rest.first l.rest.left;
-  folds : forward_from g.H.Hasher.hash_of (option_map g.D.Write.text l.folded) (peaks_by (kept_of g.H.Hasher.hash_of g.F.Family.shape l.self) (leading l.start (take l.rest.folded (peaks_from g.F.Family.shape l.rest.first l.rest.left)))) ≡ front_fold_of g.H.Hasher.hash_of g.F.Family.shape l.self l.start;
+  folds : forward_from g.H.Hasher.hash_of (option_map g.D.Write.text l.folded)
+      (peaks_by (kept_of g.H.Hasher.hash_of g.F.Family.shape l.self)
+      (leading l.start (take l.rest.folded (peaks_from g.F.Family.shape l.rest.first l.rest.left))))
+      ≡ front_fold_of g.H.Hasher.hash_of g.F.Family.shape l.self l.start;
 }
 
 abbrev pub decreases-loop-rest : goal.decreases-loop-rest

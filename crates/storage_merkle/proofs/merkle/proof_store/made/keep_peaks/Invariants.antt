@@ -11,9 +11,17 @@ use Rattle.storage_merkle.proofs.merkle.proof_store.made.keep_peaks.Given as goa
 abbrev pub invariant-loop-rest : goal.invariant-loop-rest
 invariant-loop-rest g l = record {
   peaks : ArePeaks g.F.Family.shape (l.initial.rest.first + l.initial.rest.left) l.rest.first l.rest.left;
-  enough : length (top_sites l.start l.end (peaks_from g.F.Family.shape l.rest.first l.rest.left) l.rest.folded) ≤ length l.digests;
-  reads : (digest : Site → List ℕ) (later : List (List ℕ)) → map g.D.Write.text l.initial.digests ≡ map digest (top_sites l.start l.end (peaks_from g.F.Family.shape l.initial.rest.first l.initial.rest.left) l.initial.rest.folded) ++ later →
-      Reads g.F.Family.shape digest later (map g.D.Write.text l.digests) (texts g.D.Write.text l.kept.items) (texts g.D.Write.text l.fn.kept.items ++ peak_entries g.F.Family.shape digest later (top_sites l.start l.end (peaks_from g.F.Family.shape l.initial.rest.first l.initial.rest.left) l.initial.rest.folded)) (top_sites l.start l.end (peaks_from g.F.Family.shape l.rest.first l.rest.left) l.rest.folded) (back_among digest (top_sites l.start l.end (peaks_from g.F.Family.shape l.initial.rest.first l.initial.rest.left) l.initial.rest.folded));
+  enough : length (top_sites l.start l.end (peaks_from g.F.Family.shape l.rest.first l.rest.left) l.rest.folded)
+      ≤ length l.digests;
+  reads : (digest : Site → List ℕ) (later : List (List ℕ))
+      → map g.D.Write.text l.initial.digests ≡ map digest (top_sites l.start l.end
+      (peaks_from g.F.Family.shape l.initial.rest.first l.initial.rest.left) l.initial.rest.folded) ++ later →
+      Reads g.F.Family.shape digest later (map g.D.Write.text l.digests) (texts g.D.Write.text l.kept.items)
+      (texts g.D.Write.text l.fn.kept.items ++ peak_entries g.F.Family.shape digest later (top_sites l.start l.end
+      (peaks_from g.F.Family.shape l.initial.rest.first l.initial.rest.left) l.initial.rest.folded))
+      (top_sites l.start l.end (peaks_from g.F.Family.shape l.rest.first l.rest.left) l.rest.folded)
+      (back_among digest (top_sites l.start l.end
+      (peaks_from g.F.Family.shape l.initial.rest.first l.initial.rest.left) l.initial.rest.folded));
 }
 
 abbrev pub decreases-loop-rest : goal.decreases-loop-rest

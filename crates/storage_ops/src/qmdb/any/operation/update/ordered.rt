@@ -38,8 +38,11 @@ pub struct Update<K: Key, V: ValueEncoding> {
 impl<K: Key, V: ValueEncoding> Update<K, V> {
     /// A second update that is seen and written as this one, or want of memory.
     pub fn clone(&self) -> Result<Update<K, V>, NoMemory>
-        ensures seen { IfOk result (λ u. ◌≡◌ {A = K.View × V.Value.View × K.View} (K.view u.key, V.Value.view u.value, K.view u.next_key) (K.view self.now.key, V.Value.view self.now.value, K.view self.now.next_key)) }
-        ensures text { IfOk result (λ u. K.text u.key ++ V.Value.text u.value ++ K.text u.next_key ≡ K.text self.now.key ++ V.Value.text self.now.value ++ K.text self.now.next_key) }
+        ensures seen { IfOk result (λ u. ◌≡◌ {A = K.View × V.Value.View × K.View}
+            (K.view u.key, V.Value.view u.value, K.view u.next_key)
+            (K.view self.now.key, V.Value.view self.now.value, K.view self.now.next_key)) }
+        ensures text { IfOk result (λ u. K.text u.key ++ V.Value.text u.value ++ K.text u.next_key
+            ≡ K.text self.now.key ++ V.Value.text self.now.value ++ K.text self.now.next_key) }
     {
         Ok(Update {
             key: self.key.clone()?,
@@ -93,7 +96,8 @@ impl<K: Key, V: ValueEncoding> UpdateTrait for Update<K, V> {
         Ok(update.deref().next_key.clone()?)
     }
 
-    ghost shown = { λ u. shown_ordered (encode_lower (K.bytes_of u.key)) (encode_lower (K.bytes_of u.next_key)) (encode_lower (V.Value.text u.value)) };
+    ghost shown = { λ u. shown_ordered (encode_lower (K.bytes_of u.key))
+        (encode_lower (K.bytes_of u.next_key)) (encode_lower (V.Value.text u.value)) };
 
     fn fmt<W: fmt::Write>(&self, alloc: Global, f: &mut fmt::Formatter<W>) -> fmt::Result {
         let key = hex_of_bytes(alloc, self.key.bytes())?;
@@ -126,7 +130,8 @@ fn read<K: Key, V: ValueEncoding, B: Buf>(
     key: &K::Cfg,
     value: &<V::Value as Read>::Cfg,
 ) -> Result<Update<K, V>, Error>
-    ensures gives { Gives (λ u. (K.view u.key, V.Value.view u.value, K.view u.next_key)) result (B.unread buf.new)
+    ensures gives { Gives (λ u. (K.view u.key, V.Value.view u.value, K.view u.next_key)) result
+        (B.unread buf.new)
         (ordered_at (K.parse key.now) (V.Value.parse value.now) (B.unread buf.old)) }
     ensures ends { IsEnding (B.unread buf.old) (B.unread buf.new) }
 {
@@ -148,7 +153,8 @@ impl<K: Key + Small + Read<Cfg = ()>, V: FixedValue> FixedSize for Update<K, Fix
         key + small_size::<V>() + key
     }
 
-    ghost sized = { λ u. ordered_sized K.text V.text K.size V.size K.sized V.sized u.key u.value u.next_key };
+    ghost sized = { λ u.
+        ordered_sized K.text V.text K.size V.size K.sized V.sized u.key u.value u.next_key };
 }
 
 impl<K: Key + Read<Cfg = ()>, V: FixedValue> Read for Update<K, FixedEncoding<V>> {
@@ -186,7 +192,8 @@ impl<K: Key, V: VariableValue> Read for Update<K, VariableEncoding<V>> {
 
     ghost view = { λ u. (K.view u.key, V.view u.value, K.view u.next_key) };
 
-    ghost admits = { λ cfg u. K.admits cfg.0 u.key × V.admits cfg.1 u.value × K.admits cfg.0 u.next_key };
+    ghost admits = { λ cfg u.
+        K.admits cfg.0 u.key × V.admits cfg.1 u.value × K.admits cfg.0 u.next_key };
 
     ghost parse = { λ cfg. ordered_at (K.parse cfg.0) (V.parse cfg.1) };
 
@@ -200,25 +207,29 @@ impl<K: Key, V: VariableValue> Read for Update<K, VariableEncoding<V>> {
 }
 
 impl<K: Key + Read<Cfg = ()>, V: FixedValue> Codec for Update<K, FixedEncoding<V>> {
-    ghost again = { λ _ u rest h. ordered_again K.text V.text K.view V.view (K.parse tt) (V.parse tt) (K.admits tt) (V.admits tt)
-        (record { again = K.again tt }) (record { again = V.again tt }) u.key u.value u.next_key rest h };
+    ghost again = { λ _ u rest h. ordered_again K.text V.text K.view V.view (K.parse tt)
+        (V.parse tt) (K.admits tt) (V.admits tt) (record { again = K.again tt })
+        (record { again = V.again tt }) u.key u.value u.next_key rest h };
 }
 
 impl<K: Key, V: VariableValue> Codec for Update<K, VariableEncoding<V>> {
-    ghost again = { λ cfg u rest h. ordered_again K.text V.text K.view V.view (K.parse cfg.0) (V.parse cfg.1) (K.admits cfg.0) (V.admits cfg.1)
-        (record { again = K.again cfg.0 }) (record { again = V.again cfg.1 }) u.key u.value u.next_key rest h };
+    ghost again = { λ cfg u rest h. ordered_again K.text V.text K.view V.view (K.parse cfg.0)
+        (V.parse cfg.1) (K.admits cfg.0) (V.admits cfg.1) (record { again = K.again cfg.0 })
+        (record { again = V.again cfg.1 }) u.key u.value u.next_key rest h };
 }
 
 impl<K: Key + Canonical + Read<Cfg = ()>, V: FixedValue + Canonical> Canonical
     for Update<K, FixedEncoding<V>> {
-    ghost back = { λ _ bytes u rest fits e. ordered_back K.text V.text K.view V.view (K.parse tt) (V.parse tt)
-        (record { back = K.back tt }) (record { back = V.back tt }) bytes u.key u.value u.next_key rest fits e };
+    ghost back = { λ _ bytes u rest fits e. ordered_back K.text V.text K.view V.view (K.parse tt)
+        (V.parse tt) (record { back = K.back tt })
+        (record { back = V.back tt }) bytes u.key u.value u.next_key rest fits e };
 }
 
 impl<K: Key + Canonical, V: VariableValue + Canonical> Canonical
     for Update<K, VariableEncoding<V>> {
-    ghost back = { λ cfg bytes u rest fits e. ordered_back K.text V.text K.view V.view (K.parse cfg.0) (V.parse cfg.1)
-        (record { back = K.back cfg.0 }) (record { back = V.back cfg.1 }) bytes u.key u.value u.next_key rest fits e };
+    ghost back = { λ cfg bytes u rest fits e. ordered_back K.text V.text K.view V.view
+        (K.parse cfg.0) (V.parse cfg.1) (record { back = K.back cfg.0 })
+        (record { back = V.back cfg.1 }) bytes u.key u.value u.next_key rest fits e };
 }
 
 impl<K: Key + Read<Cfg = ()>, V: FixedValue> CodecUpdate for Update<K, FixedEncoding<V>> {

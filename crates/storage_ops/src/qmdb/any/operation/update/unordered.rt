@@ -34,8 +34,10 @@ pub struct Update<K: Key, V: ValueEncoding>(pub K, pub V::Value);
 impl<K: Key, V: ValueEncoding> Update<K, V> {
     /// A second update that is seen and written as this one, or want of memory.
     pub fn clone(&self) -> Result<Update<K, V>, NoMemory>
-        ensures seen { IfOk result (λ u. ◌≡◌ {A = K.View × V.Value.View} (K.view u.0, V.Value.view u.1) (K.view self.now.0, V.Value.view self.now.1)) }
-        ensures text { IfOk result (λ u. K.text u.0 ++ V.Value.text u.1 ≡ K.text self.now.0 ++ V.Value.text self.now.1) }
+        ensures seen { IfOk result (λ u. ◌≡◌ {A = K.View × V.Value.View}
+            (K.view u.0, V.Value.view u.1) (K.view self.now.0, V.Value.view self.now.1)) }
+        ensures text { IfOk result (λ u.
+            K.text u.0 ++ V.Value.text u.1 ≡ K.text self.now.0 ++ V.Value.text self.now.1) }
     {
         Ok(Update(self.0.clone()?, self.1.clone()?))
     }
@@ -84,7 +86,8 @@ impl<K: Key, V: ValueEncoding> UpdateTrait for Update<K, V> {
         Ok(())
     }
 
-    ghost shown = { λ u. shown_unordered (encode_lower (K.bytes_of u.0)) (encode_lower (V.Value.text u.1)) };
+    ghost shown = { λ u.
+        shown_unordered (encode_lower (K.bytes_of u.0)) (encode_lower (V.Value.text u.1)) };
 
     fn fmt<W: fmt::Write>(&self, alloc: Global, f: &mut fmt::Formatter<W>) -> fmt::Result {
         let key = hex_of_bytes(alloc, self.0.bytes())?;
@@ -181,25 +184,29 @@ impl<K: Key, V: VariableValue> Read for Update<K, VariableEncoding<V>> {
 }
 
 impl<K: Key + Read<Cfg = ()>, V: FixedValue> Codec for Update<K, FixedEncoding<V>> {
-    ghost again = { λ _ u rest h. unordered_again K.text V.text K.view V.view (K.parse tt) (V.parse tt) (K.admits tt) (V.admits tt)
-        (record { again = K.again tt }) (record { again = V.again tt }) u.0 u.1 rest h };
+    ghost again = { λ _ u rest h. unordered_again K.text V.text K.view V.view (K.parse tt)
+        (V.parse tt) (K.admits tt) (V.admits tt) (record { again = K.again tt })
+        (record { again = V.again tt }) u.0 u.1 rest h };
 }
 
 impl<K: Key, V: VariableValue> Codec for Update<K, VariableEncoding<V>> {
-    ghost again = { λ cfg u rest h. unordered_again K.text V.text K.view V.view (K.parse cfg.0) (V.parse cfg.1) (K.admits cfg.0) (V.admits cfg.1)
-        (record { again = K.again cfg.0 }) (record { again = V.again cfg.1 }) u.0 u.1 rest h };
+    ghost again = { λ cfg u rest h. unordered_again K.text V.text K.view V.view (K.parse cfg.0)
+        (V.parse cfg.1) (K.admits cfg.0) (V.admits cfg.1) (record { again = K.again cfg.0 })
+        (record { again = V.again cfg.1 }) u.0 u.1 rest h };
 }
 
 impl<K: Key + Canonical + Read<Cfg = ()>, V: FixedValue + Canonical> Canonical
     for Update<K, FixedEncoding<V>> {
-    ghost back = { λ _ bytes u rest fits e. unordered_back K.text V.text K.view V.view (K.parse tt) (V.parse tt)
+    ghost back = { λ _ bytes u rest fits e.
+        unordered_back K.text V.text K.view V.view (K.parse tt) (V.parse tt)
         (record { back = K.back tt }) (record { back = V.back tt }) bytes u.0 u.1 rest fits e };
 }
 
 impl<K: Key + Canonical, V: VariableValue + Canonical> Canonical
     for Update<K, VariableEncoding<V>> {
-    ghost back = { λ cfg bytes u rest fits e. unordered_back K.text V.text K.view V.view (K.parse cfg.0) (V.parse cfg.1)
-        (record { back = K.back cfg.0 }) (record { back = V.back cfg.1 }) bytes u.0 u.1 rest fits e };
+    ghost back = { λ cfg bytes u rest fits e. unordered_back K.text V.text K.view V.view
+        (K.parse cfg.0) (V.parse cfg.1) (record { back = K.back cfg.0 })
+        (record { back = V.back cfg.1 }) bytes u.0 u.1 rest fits e };
 }
 
 impl<K: Key + Read<Cfg = ()>, V: FixedValue> CodecUpdate for Update<K, FixedEncoding<V>> {

@@ -6,8 +6,13 @@ use Rattle.replay.proofs.lists.combined.lacking.Lacking.look_up_all.Goals as goa
 pub loop-position-preserved : goal.loop-position-preserved
 loop-position-preserved g c =
     let s = c.args.self.now in
-    let node = λ (p : ℕ). (if eqb p s.lacks then None else kept_at g.F.Family.shape s.tree.boundary s.tree.pinned s.tree.nodes p) in
+    let node = λ (p : ℕ).
+    (if eqb p s.lacks then None else kept_at g.F.Family.shape s.tree.boundary s.tree.pinned s.tree.nodes p) in
     record {
-      served = rw c.in_ok-push.ensures.items (read_more node c.loop-position.digests.items c.in-Some-look_up.digest c.in-Some.position.now c.in-Some.rest.now c.loop-position.left.now c.args.positions.now c.in-Some.ensures.cases.0 c.in-Some-look_up.ensures c.loop-position.invariant.served);
-      absent = absent_later node c.in-Some-look_up.digest c.in-Some.position.now c.in-Some.rest.now c.loop-position.left.now c.args.positions.now c.in-Some.ensures.cases.0 c.in-Some-look_up.ensures c.loop-position.invariant.absent;
+      served = rw c.in_ok-push.ensures.items (read_more node c.loop-position.digests.items c.in-Some-look_up.digest
+          c.in-Some.position.now c.in-Some.rest.now c.loop-position.left.now c.args.positions.now
+          c.in-Some.ensures.cases.0 c.in-Some-look_up.ensures c.loop-position.invariant.served);
+      absent =
+          absent_later node c.in-Some-look_up.digest c.in-Some.position.now c.in-Some.rest.now c.loop-position.left.now
+          c.args.positions.now c.in-Some.ensures.cases.0 c.in-Some-look_up.ensures c.loop-position.invariant.absent;
     }

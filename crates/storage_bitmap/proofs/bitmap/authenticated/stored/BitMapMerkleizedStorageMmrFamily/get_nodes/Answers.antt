@@ -4,4 +4,5 @@ use Rattle.storage_bitmap.proofs.bitmap.authenticated.stored.BitMapMerkleizedSto
 
 pub returns-clause-answers : goal.returns-clause-answers
 returns-clause-answers g c =
-    rw (← c.self.view_is) (MatchResult-from_both c.get_nodes.result _ _ c.get_nodes.ensures.answers (IfErr-weaker c.get_nodes.result _ _ (λ e w. ⊎_elim (λ a. inl a) (λ m. inr (inr m)) w) c.get_nodes.ensures.why))
+    rw (← c.self.view_is) (MatchResult-from_both c.get_nodes.result _ _ c.get_nodes.ensures.answers
+    (IfErr-weaker c.get_nodes.result _ _ (λ e w. ⊎_elim (λ a. inl a) (λ m. inr (inr m)) w) c.get_nodes.ensures.why))

@@ -7,6 +7,7 @@ get_chunk-requires g c = (
   omega (arith, c.requires.chunks.1),
   (
     c.requires.unpruned,
-    below_product c.args.self.now.graftable c.args.self.now.complete (8 * g.row.N) _ (search rules) c.requires.within (omega (arith, size_some g.row.N c.requires.chunks)),
+    below_product c.args.self.now.graftable c.args.self.now.complete (8 * g.row.N) _ (search rules) c.requires.within
+        (omega (arith, size_some g.row.N c.requires.chunks)),
   ),
 )

@@ -11,26 +11,41 @@ empty (x ∷ xs) e = absurd (omega arith)
 pub loop-position-preserved-in_ok-push-in-Below-2 : goal.loop-position-preserved-in_ok-push-in-Below-2
 loop-position-preserved-in_ok-push-in-Below-2 g c = record {
   split = λ operations.
-      let node = joined g.F.Family.shape c.args.height c.args.size (g.R.Readable.node c.args.grafted_tree.now) operations in
+      let node =
+      joined g.F.Family.shape c.args.height c.args.size (g.R.Readable.node c.args.grafted_tree.now) operations in
       let here = rw c.in-Some.ensures.cases.0 at (c.loop-position.invariant.split operations) in
-      rw (c.in_ok-push-in-Below-2.ensures.items, c.in_ok-push-in-Below.ensures.items) (more_below node operations c.in-Some.position.now c.in-Some.rest.now c.loop-position.nodes.items c.args.positions.now c.loop-position.below.items (c.in-Below.ensures operations) here);
+      rw (c.in_ok-push-in-Below-2.ensures.items, c.in_ok-push-in-Below.ensures.items)
+      (more_below node operations c.in-Some.position.now c.in-Some.rest.now c.loop-position.nodes.items
+      c.args.positions.now c.loop-position.below.items (c.in-Below.ensures operations) here);
   none = c.loop-position.invariant.none;
 }
 
 pub loop-position-preserved : goal.loop-position-preserved
 loop-position-preserved g c = record {
   split = λ operations.
-      let node = joined g.F.Family.shape c.args.height c.args.size (g.R.Readable.node c.args.grafted_tree.now) operations in
+      let node =
+      joined g.F.Family.shape c.args.height c.args.size (g.R.Readable.node c.args.grafted_tree.now) operations in
       let here = rw c.in-Some.ensures.cases.0 at (c.loop-position.invariant.split operations) in
-      rw c.in_ok-push-in-Found.ensures.items (more_found node operations c.in-Some.position.now c.in-Found.digest c.in-Some.rest.now c.loop-position.nodes.items c.args.positions.now c.loop-position.below.items (c.in-Found.ensures operations) here);
+      rw c.in_ok-push-in-Found.ensures.items (more_found node operations c.in-Some.position.now c.in-Found.digest
+      c.in-Some.rest.now c.loop-position.nodes.items c.args.positions.now c.loop-position.below.items
+      (c.in-Found.ensures operations) here);
   none = c.loop-position.invariant.none;
 }
 
 pub returns : goal.returns
 returns g c operations =
-    let node = joined g.F.Family.shape c.args.height c.args.size (g.R.Readable.node c.args.grafted_tree.now) operations in
+    let node =
+    joined g.F.Family.shape c.args.height c.args.size (g.R.Readable.node c.args.grafted_tree.now) operations in
     let here = c.loop-position.invariant.split operations in
     elim c.match-split_first.branch [
-      | in-Some+in-Absent w ↦ (c.loop-position.left.now, here, rw w.missing-is (w.in-Some.rest.now, w.in-Some.ensures.cases.0, w.in-Absent.ensures operations))
-      | in_default w ↦ (c.loop-position.left.now, here, rw (w.missing-is, c.loop-position.invariant.none) (empty c.loop-position.left.now w.in_default.ensures.cases))
+      | in-Some+in-Absent w ↦ (
+        c.loop-position.left.now,
+        here,
+        rw w.missing-is (w.in-Some.rest.now, w.in-Some.ensures.cases.0, w.in-Absent.ensures operations),
+      )
+      | in_default w ↦ (
+        c.loop-position.left.now,
+        here,
+        rw (w.missing-is, c.loop-position.invariant.none) (empty c.loop-position.left.now w.in_default.ensures.cases),
+      )
     ]

@@ -5,7 +5,8 @@ use Rattle.storage_current.proofs.qmdb.current.grafting.storage.find_all.Given a
 
 abbrev pub invariant-loop-position : goal.invariant-loop-position
 invariant-loop-position g l = record {
-  split : (operations : ℕ → Option g.row.R-Digest.Denot) → IsSplit (joined g.F.Family.shape l.height l.size (g.R.Readable.node l.grafted_tree) operations) operations l.left l.nodes.items l.positions l.below.items;
+  split : (operations : ℕ → Option g.row.R-Digest.Denot) → IsSplit (joined g.F.Family.shape l.height l.size
+      (g.R.Readable.node l.grafted_tree) operations) operations l.left l.nodes.items l.positions l.below.items;
   none : l.missing ≡ None;
 }
 

@@ -13,8 +13,16 @@ returns-clause-meaning g c = λ wide.
     let p = operation_of g.D.Write.text g.C.Chunk.text c.args.proof.now in
     let u = c.args.update.now in
     let text = update_bytes g.K.Write.text g.V.Value.Write.text in
-    means_absent g.H.Hasher.hash_of (record { shape = g.F.Family.shape; bytes = length p.chunk }) (g.D.Write.text c.args.root.now) c.verify.result
-    (record { key = g.K.Write.text; value = g.V.Value.Write.text; operation = g.V.OperationCodec.operation_text; cmp = g.K.Ord.cmp })
-    (KeyValue p (u.key, u.value, u.next_key)) c.args.key.now _ (update_same g.V.OperationCodec.operation_text (text c.in_ok-copy.copy) (text u) c.in_ok-copy.ensures.text)
-    (λ s snapshot well active. c.spanned_key_is_absent.ensures s well p.location u.key u.value u.next_key active c.args.key.now (c.excludes.ensures.0 c.if-not-excludes.false))
+    means_absent g.H.Hasher.hash_of (record { shape = g.F.Family.shape; bytes = length p.chunk })
+    (g.D.Write.text c.args.root.now) c.verify.result
+    (record {
+      key = g.K.Write.text;
+      value = g.V.Value.Write.text;
+      operation = g.V.OperationCodec.operation_text;
+      cmp = g.K.Ord.cmp;
+    })
+    (KeyValue p (u.key, u.value, u.next_key)) c.args.key.now _
+    (update_same g.V.OperationCodec.operation_text (text c.in_ok-copy.copy) (text u) c.in_ok-copy.ensures.text)
+    (λ s snapshot well active. c.spanned_key_is_absent.ensures s well p.location u.key u.value u.next_key active
+    c.args.key.now (c.excludes.ensures.0 c.if-not-excludes.false))
     (c.verify.ensures.meaning wide)

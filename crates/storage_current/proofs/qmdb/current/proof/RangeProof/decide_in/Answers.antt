@@ -9,9 +9,12 @@ pub returns-then-not-match_chunks : goal.returns-then-not-match_chunks
 returns-then-not-match_chunks g c = λ n of sized.
     let P = current_of g.D.Write.text c.args.self.now in
     let S : Grafting = record { shape = g.F.Family.shape; bytes = n } in
-    let seen = seen_lengths g.E.AsSlice.items g.C.Chunk.text c.args.operations.now c.args.chunks.now S c.args.self.now.proof.leaves c.args.start c.args.window.now of in (
+    let seen = seen_lengths g.E.AsSlice.items g.C.Chunk.text c.args.operations.now c.args.chunks.now S
+    c.args.self.now.proof.leaves c.args.start c.args.window.now of in (
       λ yes. absurd cc,
-      λ current. unmatched g.H.Hasher.hash_of S P c.args.start (map g.E.AsSlice.items c.args.operations.now) (map g.C.Chunk.text c.args.chunks.now) c.args.window.now seen c.match_chunks.result c.match_chunks.ensures.1 c.if-not-match_chunks.true current,
+      λ current. unmatched g.H.Hasher.hash_of S P c.args.start (map g.E.AsSlice.items c.args.operations.now)
+          (map g.C.Chunk.text c.args.chunks.now) c.args.window.now seen c.match_chunks.result c.match_chunks.ensures.1
+          c.if-not-match_chunks.true current,
     )
 
 pub recompute_root-requires : goal.recompute_root-requires
@@ -25,10 +28,13 @@ returns-in_default g c = λ n of sized.
     let S : Grafting = record { shape = g.F.Family.shape; bytes = n } in
     let v = c.new-verifier.result in
     let e = c.new-verifier.ensures in
-    let seen = seen_lengths g.E.AsSlice.items g.C.Chunk.text c.args.operations.now c.args.chunks.now S c.args.self.now.proof.leaves c.args.start c.args.window.now of in (
+    let seen = seen_lengths g.E.AsSlice.items g.C.Chunk.text c.args.operations.now c.args.chunks.now S
+    c.args.self.now.proof.leaves c.args.start c.args.window.now of in (
       λ yes. absurd cc,
-      λ current. unfit g.H.Hasher.hash_of S P c.args.start (map g.E.AsSlice.items c.args.operations.now) (map g.C.Chunk.text c.args.chunks.now) c.args.window.now seen
-          v.height v.start_chunk_index v.graftable_chunks (map (λ b. b.now) v.chunks.items) e.height e.start e.graftable (e.chunks ∙ c.in_ok-lent.ensures)
+      λ current. unfit g.H.Hasher.hash_of S P c.args.start (map g.E.AsSlice.items c.args.operations.now)
+          (map g.C.Chunk.text c.args.chunks.now) c.args.window.now seen
+          v.height v.start_chunk_index v.graftable_chunks (map (λ b. b.now) v.chunks.items) e.height e.start e.graftable
+          (e.chunks ∙ c.in_ok-lent.ensures)
           (rw c.in_default.is at (c.in_ok-computed.ensures refl)) current,
     )
 
@@ -38,8 +44,13 @@ returns g c = λ n of sized.
     let S : Grafting = record { shape = g.F.Family.shape; bytes = n } in
     let v = c.new-verifier.result in
     let e = c.new-verifier.ensures in
-    let seen = seen_lengths g.E.AsSlice.items g.C.Chunk.text c.args.operations.now c.args.chunks.now S c.args.self.now.proof.leaves c.args.start c.args.window.now of in
-    decided g.H.Hasher.hash_of S P c.args.start (map g.E.AsSlice.items c.args.operations.now) (map g.C.Chunk.text c.args.chunks.now) c.args.window.now seen
-    v.height v.start_chunk_index v.graftable_chunks (map (λ b. b.now) v.chunks.items) e.height e.start e.graftable (e.chunks ∙ c.in_ok-lent.ensures)
-    (g.D.Write.text c.in-Some.grafted_root) (rw c.in-Some.is at (c.in_ok-computed.ensures refl)) sized (c.match_chunks.ensures.0 c.if-not-match_chunks.false)
-    (g.D.Write.text c.canonical.result) (g.D.Write.text c.args.root.now) c.canonical.ensures c.eq.result (rw c.eq.ensures (g.met.D.Digest.same c.canonical.result c.args.root.now))
+    let seen = seen_lengths g.E.AsSlice.items g.C.Chunk.text c.args.operations.now c.args.chunks.now S
+    c.args.self.now.proof.leaves c.args.start c.args.window.now of in
+    decided g.H.Hasher.hash_of S P c.args.start (map g.E.AsSlice.items c.args.operations.now)
+    (map g.C.Chunk.text c.args.chunks.now) c.args.window.now seen
+    v.height v.start_chunk_index v.graftable_chunks (map (λ b. b.now) v.chunks.items) e.height e.start e.graftable
+    (e.chunks ∙ c.in_ok-lent.ensures)
+    (g.D.Write.text c.in-Some.grafted_root) (rw c.in-Some.is at (c.in_ok-computed.ensures refl)) sized
+    (c.match_chunks.ensures.0 c.if-not-match_chunks.false)
+    (g.D.Write.text c.canonical.result) (g.D.Write.text c.args.root.now) c.canonical.ensures c.eq.result
+    (rw c.eq.ensures (g.met.D.Digest.same c.canonical.result c.args.root.now))

@@ -9,14 +9,19 @@ pub returns-clause-own : goal.returns-clause-own
 returns-clause-own g c =
     let G : Grafting = record { shape = g.F.Family.shape; bytes = g.row.N } in
     let plan = planned_ok _ c.in-Ok-new.plan _ c.in-Ok-new.ensures in
-    IfOk-weaker c.read.result _ _ (λ proof own. served_own (g.S.Storage.nodes c.args.storage.now) (g.S.Storage.node c.args.storage.now) G c.args.range.start c.args.range.end _ g.met.F.Family.laws c.in-Ok.leaves c.in-Ok-new.plan g.D.Write.text g.H.Hasher.hash_of c.args.floor _ _ c.in-Ok.ensures.tree plan.1 own) c.read.ensures.own
+    IfOk-weaker c.read.result _ _ (λ proof own. served_own (g.S.Storage.nodes c.args.storage.now)
+    (g.S.Storage.node c.args.storage.now) G c.args.range.start c.args.range.end _ g.met.F.Family.laws c.in-Ok.leaves
+    c.in-Ok-new.plan g.D.Write.text g.H.Hasher.hash_of c.args.floor _ _ c.in-Ok.ensures.tree plan.1 own)
+    c.read.ensures.own
 
 pub returns-clause-made : goal.returns-clause-made
 returns-clause-made g c =
     let G : Grafting = record { shape = g.F.Family.shape; bytes = g.row.N } in
     let plan = planned_ok _ c.in-Ok-new.plan _ c.in-Ok-new.ensures in
     on_ok_both c.read.result c.read.ensures.answered c.read.ensures.bits
-    (servable (g.S.Storage.nodes c.args.storage.now) (g.S.Storage.node c.args.storage.now) G c.args.range.start c.args.range.end (g.R.Readable.retained c.args.status.now) g.row.F.Denot c.in-Ok.leaves c.in-Ok-new.plan c.in-Ok.ensures.tree plan.0 plan.1)
+    (servable (g.S.Storage.nodes c.args.storage.now) (g.S.Storage.node c.args.storage.now) G c.args.range.start
+    c.args.range.end (g.R.Readable.retained c.args.status.now) g.row.F.Denot c.in-Ok.leaves c.in-Ok-new.plan
+    c.in-Ok.ensures.tree plan.0 plan.1)
 
 pub returns-clause-why : goal.returns-clause-why
 returns-clause-why g c =
@@ -24,4 +29,6 @@ returns-clause-why g c =
     let node = g.S.Storage.node c.args.storage.now in
     let plan = planned_ok _ c.in-Ok-new.plan _ c.in-Ok-new.ensures in
     IfErr-weaker c.read.result (IsNotRead node G c.in-Ok-new.plan (g.R.Readable.retained c.args.status.now)) _
-    (λ error w. made_why (g.S.Storage.nodes c.args.storage.now) node G c.args.range.start c.args.range.end (g.R.Readable.retained c.args.status.now) c.in-Ok.leaves c.in-Ok-new.plan error c.in-Ok.ensures.tree plan.0 plan.1 w) c.read.ensures.why
+    (λ error w. made_why (g.S.Storage.nodes c.args.storage.now) node G c.args.range.start c.args.range.end
+    (g.R.Readable.retained c.args.status.now) c.in-Ok.leaves c.in-Ok-new.plan error c.in-Ok.ensures.tree plan.0
+    plan.1 w) c.read.ensures.why

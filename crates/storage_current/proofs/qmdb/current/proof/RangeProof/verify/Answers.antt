@@ -9,10 +9,16 @@ use Rattle.storage_current.proofs.qmdb.current.proof.RangeProof.verify.Goals as 
 
 pub returns-clause-exact : goal.returns-clause-exact
 returns-clause-exact g c =
-    subst (λ (chunks : List (List ℕ)). IfOk c.verify_with_chunk_size.result (λ yes. IsTrue yes ↔ IsCurrent g.H.Hasher.hash_of (record { shape = g.F.Family.shape; bytes = g.row.N }) (current_of g.D.Write.text c.args.self.now) c.args.start (map g.O.Write.text c.args.operations.now) chunks (g.D.Write.text c.args.root.now)))
+    subst (λ (chunks : List (List ℕ)).
+    IfOk c.verify_with_chunk_size.result (λ yes. IsTrue yes ↔ IsCurrent g.H.Hasher.hash_of
+    (record { shape = g.F.Family.shape; bytes = g.row.N }) (current_of g.D.Write.text c.args.self.now) c.args.start
+    (map g.O.Write.text c.args.operations.now) chunks (g.D.Write.text c.args.root.now)))
     (map-id c.args.chunks.now) c.verify_with_chunk_size.ensures.exact
 
 pub returns-clause-meaning : goal.returns-clause-meaning
 returns-clause-meaning g c = λ wide.
-    subst (λ (chunks : List (List ℕ)). IfOk c.verify_with_chunk_size.result (λ yes. IsTrue yes → MeansCurrent g.H.Hasher.hash_of (record { shape = g.F.Family.shape; bytes = g.row.N }) (current_of g.D.Write.text c.args.self.now) c.args.start (map g.O.Write.text c.args.operations.now) chunks (g.D.Write.text c.args.root.now)))
+    subst (λ (chunks : List (List ℕ)).
+    IfOk c.verify_with_chunk_size.result (λ yes. IsTrue yes → MeansCurrent g.H.Hasher.hash_of
+    (record { shape = g.F.Family.shape; bytes = g.row.N }) (current_of g.D.Write.text c.args.self.now) c.args.start
+    (map g.O.Write.text c.args.operations.now) chunks (g.D.Write.text c.args.root.now)))
     (map-id c.args.chunks.now) (c.verify_with_chunk_size.ensures.meaning wide)

@@ -12,8 +12,12 @@ returns-clause-handed g c =
     let G : Grafting = record { shape = g.F.Family.shape; bytes = g.row.N } in
     let text = g.H.Digest.Write.text in
     let all = c.in_ok-elements.ensures in
-    handed g.H.Hasher.hash_of G g.met.F.Family.laws (current_of text c.args.proof.now) c.args.start (map g.Op.Write.text c.args.operations.now) c.args.chunks.now (text c.args.root.now) (λ v. texts text v.items) c.extract_in.result c.extracted_positions_ascend.ensures
-    (told g.H.Hasher.hash_of G (current_of text c.args.proof.now) c.args.start (text c.args.root.now) (λ v. texts text v.items) c.extract_in.result (ap (map (λ e. e.items)) c.deref.ensures.value ∙ all.bytes) (map-id c.args.chunks.now)
+    handed g.H.Hasher.hash_of G g.met.F.Family.laws (current_of text c.args.proof.now) c.args.start
+    (map g.Op.Write.text c.args.operations.now) c.args.chunks.now (text c.args.root.now)
+    (λ v. texts text v.items) c.extract_in.result c.extracted_positions_ascend.ensures
+    (told g.H.Hasher.hash_of G (current_of text c.args.proof.now) c.args.start (text c.args.root.now)
+    (λ v. texts text v.items) c.extract_in.result (ap (map (λ e. e.items)) c.deref.ensures.value
+    ∙ all.bytes) (map-id c.args.chunks.now)
     (c.extract_in.ensures g.row.N (rw (c.deref.ensures.value, all.count) c.in-Some.ensures.0) c.in-Some.ensures.1))
 
 pub returns-clause-meaning : goal.returns-clause-meaning
@@ -21,7 +25,12 @@ returns-clause-meaning g c = λ wide.
     let G : Grafting = record { shape = g.F.Family.shape; bytes = g.row.N } in
     let text = g.H.Digest.Write.text in
     let all = c.in_ok-elements.ensures in
-    means c.extracted_current_digests_are_true.ensures g.H.Digest.FixedSize.size g.H.Hasher.hash_of wide g.met.H.Hasher.sized G g.met.F.Family.laws (current_of text c.args.proof.now) c.args.start (map g.Op.Write.text c.args.operations.now) c.args.chunks.now
-    (held_digests text g.H.Digest.FixedSize.size g.met.H.Digest.FixedSize.sized c.args.proof.now) (text c.args.root.now) (λ v. texts text v.items) c.extract_in.result
-    (told g.H.Hasher.hash_of G (current_of text c.args.proof.now) c.args.start (text c.args.root.now) (λ v. texts text v.items) c.extract_in.result (ap (map (λ e. e.items)) c.deref.ensures.value ∙ all.bytes) (map-id c.args.chunks.now)
+    means c.extracted_current_digests_are_true.ensures g.H.Digest.FixedSize.size g.H.Hasher.hash_of wide
+    g.met.H.Hasher.sized G g.met.F.Family.laws (current_of text c.args.proof.now) c.args.start
+    (map g.Op.Write.text c.args.operations.now) c.args.chunks.now
+    (held_digests text g.H.Digest.FixedSize.size g.met.H.Digest.FixedSize.sized c.args.proof.now) (text c.args.root.now)
+    (λ v. texts text v.items) c.extract_in.result
+    (told g.H.Hasher.hash_of G (current_of text c.args.proof.now) c.args.start (text c.args.root.now)
+    (λ v. texts text v.items) c.extract_in.result (ap (map (λ e. e.items)) c.deref.ensures.value
+    ∙ all.bytes) (map-id c.args.chunks.now)
     (c.extract_in.ensures g.row.N (rw (c.deref.ensures.value, all.count) c.in-Some.ensures.0) c.in-Some.ensures.1))

@@ -6,5 +6,6 @@ use Rattle.storage_current.proofs.qmdb.current.snapshot.Snapshot.new.Given as go
 abbrev pub invariant-loop-leaf : goal.invariant-loop-leaf
 invariant-loop-leaf g l = record {
   count : length l.nodes.items ≡ size g.F.Family.shape l.leaf;
-  are : AreNodes g.F.Family.shape (plain_node g.H.Hasher.hash_of g.F.Family.shape (map g.E.AsSlice.items l.operations)) (map g.H.Digest.Write.text l.nodes.items);
+  are : AreNodes g.F.Family.shape (plain_node g.H.Hasher.hash_of g.F.Family.shape (map g.E.AsSlice.items l.operations))
+      (map g.H.Digest.Write.text l.nodes.items);
 }

@@ -20,5 +20,6 @@ returns-clause-grown g c operations over =
       nodes = λ more.
           let list : List (List ℕ) = operations ++ (op ∷ more) in
           let joined : (operations ++ op ∷ []) ++ more ≡ list = append_assoc operations (op ∷ []) more in
-          rw joined (grown list (over'.nodes (op ∷ more)) (ap (λ i. get_or list i []) place ∙ get_or-append-add operations (op ∷ more) 0 []));
+          rw joined (grown list (over'.nodes (op ∷ more)) (ap (λ i. get_or list i []) place
+          ∙ get_or-append-add operations (op ∷ more) 0 []));
     }

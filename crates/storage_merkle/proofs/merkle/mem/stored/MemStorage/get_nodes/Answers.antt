@@ -1,4 +1,3 @@
-use Rattle.std.proofs.Common.{rules}
 use Rattle.storage_merkle.specs.Kept.{kept_at}
 use Rattle.storage_merkle.proofs.Served.{serves, if_ok}
 use Rattle.storage_merkle.proofs.merkle.mem.stored.MemStorage.get_nodes.Goals as goal
@@ -6,7 +5,9 @@ use Rattle.storage_merkle.proofs.merkle.mem.stored.MemStorage.get_nodes.Goals as
 pub returns-clause-answers : goal.returns-clause-answers
 returns-clause-answers g c =
     rw (← c.self.view_is, ← c.deref.ensures.value, ← c.deref-2.ensures.value)
-    (if_ok c.look_up_all.result (λ v z. serves (kept_at g.F.Family.shape c.self.inside.boundary c.deref.result.now c.deref-2.result.now) c.args.positions.now v.items z) c.look_up_all.ensures.served)
+    (if_ok c.look_up_all.result (λ v z. serves (kept_at g.F.Family.shape c.self.inside.boundary c.deref.result.now
+    c.deref-2.result.now) c.args.positions.now v.items z) c.look_up_all.ensures.served)
 
 pub returns-clause-why : goal.returns-clause-why
-returns-clause-why g c = rw (← c.self.view_is, ← c.deref.ensures.value, ← c.deref-2.ensures.value) c.look_up_all.ensures.why
+returns-clause-why g c =
+    rw (← c.self.view_is, ← c.deref.ensures.value, ← c.deref-2.ensures.value) c.look_up_all.ensures.why

@@ -6,55 +6,101 @@ use Rattle.storage_merkle.proofs.Found.{adds_nothing, adds_then, keeps_last, fou
 use Rattle.storage_merkle.proofs.merkle.proof.check.Given.+node.Goals as goal
 
 pub node_position-position-requires-clause-within : goal.node_position-position-requires-clause-within
-node_position-position-requires-clause-within g t c = omega (arith, in_tree_leaves g.F.Family.shape g.met.F.Family.laws c.args.self.now.leaves c.args.first c.args.height c.requires.within, c.requires.given.few)
+node_position-position-requires-clause-within g t c = omega (
+  arith,
+  in_tree_leaves g.F.Family.shape g.met.F.Family.laws
+      c.args.self.now.leaves c.args.first c.args.height c.requires.within,
+  c.requires.given.few,
+)
 
 pub is_apart-requires-clause-within : goal.is_apart-requires-clause-within
-is_apart-requires-clause-within g t c = omega (arith, in_tree_leaves g.F.Family.shape g.met.F.Family.laws c.args.self.now.leaves c.args.first c.args.height c.requires.within, c.requires.given.few)
+is_apart-requires-clause-within g t c = omega (
+  arith,
+  in_tree_leaves g.F.Family.shape g.met.F.Family.laws
+      c.args.self.now.leaves c.args.first c.args.height c.requires.within,
+  c.requires.given.few,
+)
 
 pub sibling-requires-clause-present : goal.sibling-requires-clause-present
-sibling-requires-clause-present g t c = present_itself g.F.Family.shape c.args.self.now.siblings.now c.args.self.now.start c.args.self.now.end c.args.height c.args.first _ c.if-is_apart.ensures c.node_position-position.ensures c.requires.present
+sibling-requires-clause-present g t c =
+    present_itself g.F.Family.shape c.args.self.now.siblings.now c.args.self.now.start c.args.self.now.end c.args.height
+    c.args.first _ c.if-is_apart.ensures c.node_position-position.ensures c.requires.present
 
 pub returns-then-is_apart : goal.returns-then-is_apart
 returns-then-is_apart g t c = λ digest same serves.
-    let v = given_values digest c.args.self.now.start (map g.E.AsSlice.items c.args.self.now.elements.now) (g.H.Hasher.chunk c.args.hasher.now) in
-    let is = node_sibling g.H.Hasher.hash_of (g.H.Hasher.layout c.args.hasher.now) c.args.self.now.start c.args.self.now.end v c.args.height c.args.first _ c.if-is_apart.ensures (c.sibling.ensures digest c.args.first c.args.height serves (record { aligned = c.requires.within.aligned; at = sym c.node_position-position.ensures })) in
-    keeps_last g.D.Write.text _ c.keep.result c.sibling.result _ c.node_position-position.result c.args.found.now c.args.found.now c.keep.new.found [] _ is
-    (found_itself g.H.Hasher.hash_of (g.H.Hasher.layout c.args.hasher.now) c.args.self.now.start c.args.self.now.end v g.F.Family.shape c.args.height c.args.first c.node_position-position.result same c.if-is_apart.ensures c.node_position-position.ensures)
+    let v = given_values digest c.args.self.now.start (map g.E.AsSlice.items c.args.self.now.elements.now)
+    (g.H.Hasher.chunk c.args.hasher.now) in
+    let is =
+    node_sibling g.H.Hasher.hash_of (g.H.Hasher.layout c.args.hasher.now) c.args.self.now.start c.args.self.now.end
+    v c.args.height c.args.first _ c.if-is_apart.ensures (c.sibling.ensures digest c.args.first c.args.height serves
+    (record { aligned = c.requires.within.aligned; at = sym c.node_position-position.ensures })) in
+    keeps_last g.D.Write.text _ c.keep.result c.sibling.result _ c.node_position-position.result c.args.found.now
+    c.args.found.now c.keep.new.found [] _ is
+    (found_itself g.H.Hasher.hash_of
+    (g.H.Hasher.layout c.args.hasher.now) c.args.self.now.start c.args.self.now.end v g.F.Family.shape c.args.height
+    c.args.first c.node_position-position.result same c.if-is_apart.ensures c.node_position-position.ensures)
     (adds_nothing _ c.args.found.now [] refl) c.keep.ensures.same c.keep.ensures.kept
 
 pub returns-then-height-eq0 : goal.returns-then-height-eq0
 returns-then-height-eq0 g t c = λ digest same serves.
-    let v = given_values digest c.args.self.now.start (map g.E.AsSlice.items c.args.self.now.elements.now) (g.H.Hasher.chunk c.args.hasher.now) in
-    let is = node_leaf g.H.Hasher.hash_of (g.H.Hasher.layout c.args.hasher.now) c.args.self.now.start c.args.self.now.end v g.F.Family.shape c.args.height c.args.first _ _ _ same c.if-is_apart.ensures c.if-height-eq0.true c.node_position-position.ensures c.leaf_digest-digest.ensures
-    (c.as_slice.ensures ∙ element_at g.E.AsSlice.items c.args.self.now.elements.now c.args.self.now.start c.args.self.now.end c.args.first c.args.height c.index-self-first.result c.if-is_apart.ensures c.if-height-eq0.true c.requires.given.range) in
-    keeps_last g.D.Write.text _ c.keep-then-height-eq0.result c.leaf_digest-digest.result _ c.node_position-position.result c.args.found.now c.args.found.now c.keep-then-height-eq0.new.found [] _ is
-    (found_leaf g.H.Hasher.hash_of (g.H.Hasher.layout c.args.hasher.now) c.args.self.now.start c.args.self.now.end v g.F.Family.shape c.args.height c.args.first c.node_position-position.result same c.if-height-eq0.true c.node_position-position.ensures)
+    let v = given_values digest c.args.self.now.start (map g.E.AsSlice.items c.args.self.now.elements.now)
+    (g.H.Hasher.chunk c.args.hasher.now) in
+    let is = node_leaf g.H.Hasher.hash_of (g.H.Hasher.layout c.args.hasher.now) c.args.self.now.start
+    c.args.self.now.end v g.F.Family.shape c.args.height c.args.first _ _ _ same c.if-is_apart.ensures
+    c.if-height-eq0.true c.node_position-position.ensures c.leaf_digest-digest.ensures
+    (c.as_slice.ensures ∙ element_at g.E.AsSlice.items c.args.self.now.elements.now c.args.self.now.start
+    c.args.self.now.end c.args.first c.args.height c.index-self-first.result c.if-is_apart.ensures
+    c.if-height-eq0.true c.requires.given.range) in
+    keeps_last g.D.Write.text _ c.keep-then-height-eq0.result c.leaf_digest-digest.result _
+    c.node_position-position.result c.args.found.now c.args.found.now c.keep-then-height-eq0.new.found [] _ is
+    (found_leaf g.H.Hasher.hash_of
+    (g.H.Hasher.layout c.args.hasher.now) c.args.self.now.start c.args.self.now.end v g.F.Family.shape c.args.height
+    c.args.first c.node_position-position.result same c.if-height-eq0.true c.node_position-position.ensures)
     (adds_nothing _ c.args.found.now [] refl) c.keep-then-height-eq0.ensures.same c.keep-then-height-eq0.ensures.kept
 
 pub node-requires : goal.node-requires
 node-requires g t c κs within =
-    let l = in_tree_left g.F.Family.shape g.met.F.Family.laws c.args.self.now.leaves c.args.first c.args.height c.requires.within c.if-height-eq0.false in
-    let p = (present_halves g.F.Family.shape c.args.self.now.siblings.now c.args.self.now.start c.args.self.now.end c.args.height c.args.first c.if-is_apart.ensures c.if-height-eq0.false c.requires.present).0 in
+    let l = in_tree_left g.F.Family.shape g.met.F.Family.laws c.args.self.now.leaves c.args.first c.args.height
+    c.requires.within c.if-height-eq0.false in
+    let p = (present_halves g.F.Family.shape c.args.self.now.siblings.now c.args.self.now.start c.args.self.now.end
+    c.args.height c.args.first c.if-is_apart.ensures c.if-height-eq0.false c.requires.present).0 in
     search rules
 
 pub overflow_add-first : goal.overflow_add-first
 overflow_add-first g t c =
     let h = halves c.args.first c.args.height c.requires.within.aligned c.if-height-eq0.false in
-    omega (arith, in_tree_leaves g.F.Family.shape g.met.F.Family.laws c.args.self.now.leaves c.args.first c.args.height c.requires.within, c.requires.given.few, c.power.ensures, h.length)
+    omega (
+      arith,
+      in_tree_leaves g.F.Family.shape g.met.F.Family.laws c.args.self.now.leaves c.args.first c.args.height
+          c.requires.within,
+      c.requires.given.few,
+      c.power.ensures,
+      h.length,
+    )
 
 pub node-requires-2 : goal.node-requires-2
 node-requires-2 g t c κs within =
-    let l = in_tree_right g.F.Family.shape g.met.F.Family.laws c.args.self.now.leaves c.args.first c.args.height c.requires.within c.if-height-eq0.false in
-    let p = (present_halves g.F.Family.shape c.args.self.now.siblings.now c.args.self.now.start c.args.self.now.end c.args.height c.args.first c.if-is_apart.ensures c.if-height-eq0.false c.requires.present).1 in
+    let l = in_tree_right g.F.Family.shape g.met.F.Family.laws c.args.self.now.leaves c.args.first c.args.height
+    c.requires.within c.if-height-eq0.false in
+    let p = (present_halves g.F.Family.shape c.args.self.now.siblings.now c.args.self.now.start c.args.self.now.end
+    c.args.height c.args.first c.if-is_apart.ensures c.if-height-eq0.false c.requires.present).1 in
     rw c.power.ensures (search rules)
 
 pub returns : goal.returns
 returns g t c = λ digest same serves.
-    let v = given_values digest c.args.self.now.start (map g.E.AsSlice.items c.args.self.now.elements.now) (g.H.Hasher.chunk c.args.hasher.now) in
+    let v = given_values digest c.args.self.now.start (map g.E.AsSlice.items c.args.self.now.elements.now)
+    (g.H.Hasher.chunk c.args.hasher.now) in
     let left = c.in_ok-left.ensures digest same serves in
     let right = rw c.power.ensures at c.in_ok-right.ensures digest same serves in
-    let is = node_halves g.H.Hasher.hash_of (g.H.Hasher.layout c.args.hasher.now) c.args.self.now.start c.args.self.now.end v c.args.height c.args.first _ _ _ c.if-is_apart.ensures c.if-height-eq0.false left.0 right.0
-    (c.node_digest.ensures c.args.first c.args.height (record { aligned = c.requires.within.aligned; at = sym c.node_position-position.ensures })) in
-    keeps_last g.D.Write.text _ c.keep-2.result c.node_digest.result _ c.node_position-position.result c.args.found.now c.node-2.new.found c.keep-2.new.found _ _ is
-    (found_halves g.H.Hasher.hash_of (g.H.Hasher.layout c.args.hasher.now) c.args.self.now.start c.args.self.now.end v g.F.Family.shape c.args.height c.args.first c.node_position-position.result same c.if-is_apart.ensures c.if-height-eq0.false c.node_position-position.ensures)
-    (adds_then _ c.args.found.now c.node.new.found c.node-2.new.found _ _ _ refl left.1 right.1) c.keep-2.ensures.same c.keep-2.ensures.kept
+    let is =
+    node_halves g.H.Hasher.hash_of (g.H.Hasher.layout c.args.hasher.now) c.args.self.now.start c.args.self.now.end v
+    c.args.height c.args.first _ _ _ c.if-is_apart.ensures c.if-height-eq0.false left.0 right.0
+    (c.node_digest.ensures c.args.first c.args.height
+    (record { aligned = c.requires.within.aligned; at = sym c.node_position-position.ensures })) in
+    keeps_last g.D.Write.text _ c.keep-2.result c.node_digest.result _ c.node_position-position.result c.args.found.now
+    c.node-2.new.found c.keep-2.new.found _ _ is
+    (found_halves g.H.Hasher.hash_of (g.H.Hasher.layout c.args.hasher.now) c.args.self.now.start c.args.self.now.end v
+    g.F.Family.shape c.args.height c.args.first c.node_position-position.result same c.if-is_apart.ensures
+    c.if-height-eq0.false c.node_position-position.ensures)
+    (adds_then _ c.args.found.now c.node.new.found c.node-2.new.found _ _ _ refl left.1 right.1) c.keep-2.ensures.same
+    c.keep-2.ensures.kept

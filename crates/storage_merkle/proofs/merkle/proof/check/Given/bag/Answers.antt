@@ -10,44 +10,114 @@ use Rattle.storage_merkle.proofs.merkle.proof.check.Given.bag.Goals as goal
 use Rattle.storage_merkle.proofs.merkle.proof.check.Given.bag.Goals.{then-loop-rest-test+else-rest-gt0-2, else-loop-rest-test}
 
 pub item-requires-clause-within : goal.item-requires-clause-within
-item-requires-clause-within g c = peak_in_tree g.F.Family.shape g.met.F.Family.laws c.args.self.now.leaves c.loop-rest.rest.first c.loop-rest.rest.left c.first_peak-height.result c.requires.given.few c.loop-rest.invariant.peaks c.first_peak-height.ensures.first
+item-requires-clause-within g c = peak_in_tree g.F.Family.shape g.met.F.Family.laws c.args.self.now.leaves
+    c.loop-rest.rest.first c.loop-rest.rest.left c.first_peak-height.result c.requires.given.few
+    c.loop-rest.invariant.peaks c.first_peak-height.ensures.first
 
 pub item-requires-clause-present : goal.item-requires-clause-present
-item-requires-clause-present g c = present_first g.F.Family.shape c.args.self.now.start c.args.self.now.end c.loop-rest.rest.first c.loop-rest.rest.left c.loop-rest.rest.folded c.first_peak-height.result _ _ _ c.first_peak-height.ensures.first refl refl refl c.args.self.now.siblings.now c.loop-rest.invariant.present
+item-requires-clause-present g c = present_first g.F.Family.shape c.args.self.now.start c.args.self.now.end
+    c.loop-rest.rest.first c.loop-rest.rest.left c.loop-rest.rest.folded c.first_peak-height.result _ _ _
+    c.first_peak-height.ensures.first refl refl refl c.args.self.now.siblings.now c.loop-rest.invariant.present
 
 pub item-requires-clause-tops : goal.item-requires-clause-tops
-item-requires-clause-tops g c = some_top g.F.Family.shape c.args.self.now.start c.args.self.now.end c.loop-rest.rest.first c.loop-rest.rest.left c.loop-rest.rest.folded c.first_peak-height.result _ _ _ c.first_peak-height.ensures.first refl refl refl (inl c.if-rest-gt0-2.true) c.loop-rest.tops.now c.loop-rest.invariant.count
+item-requires-clause-tops g c =
+    some_top g.F.Family.shape c.args.self.now.start c.args.self.now.end c.loop-rest.rest.first c.loop-rest.rest.left
+    c.loop-rest.rest.folded c.first_peak-height.result _ _ _ c.first_peak-height.ensures.first refl refl refl
+    (inl c.if-rest-gt0-2.true) c.loop-rest.tops.now c.loop-rest.invariant.count
 
 pub loop-rest-preserved : goal.loop-rest-preserved
 loop-rest-preserved g c = record {
-  peaks = rw (c.next-rest.ensures.first, c.next-rest.ensures.left) (peaks_next g.F.Family.shape g.met.F.Family.laws c.args.self.now.leaves c.loop-rest.rest.first c.loop-rest.rest.left c.first_peak-height.result c.requires.given.few c.loop-rest.invariant.peaks c.first_peak-height.ensures.first);
-  present = present_others g.F.Family.shape c.args.self.now.start c.args.self.now.end c.loop-rest.rest.first c.loop-rest.rest.left c.loop-rest.rest.folded c.first_peak-height.result _ _ _ c.first_peak-height.ensures.first c.next-rest.ensures.first c.next-rest.ensures.left c.next-rest.ensures.folded c.args.self.now.siblings.now c.loop-rest.invariant.present;
-  count = tops_left g.F.Family.shape c.args.self.now.start c.args.self.now.end c.loop-rest.rest.first c.loop-rest.rest.left c.loop-rest.rest.folded c.first_peak-height.result _ _ _ c.first_peak-height.ensures.first c.next-rest.ensures.first c.next-rest.ensures.left c.next-rest.ensures.folded (inl c.if-rest-gt0-2.true) c.loop-rest.tops.now c.in_ok-item.after.now c.loop-rest.invariant.count c.in_ok-item.ensures.left;
+  peaks = rw (c.next-rest.ensures.first, c.next-rest.ensures.left) (peaks_next g.F.Family.shape g.met.F.Family.laws
+      c.args.self.now.leaves c.loop-rest.rest.first c.loop-rest.rest.left c.first_peak-height.result
+      c.requires.given.few c.loop-rest.invariant.peaks c.first_peak-height.ensures.first);
+  present = present_others g.F.Family.shape c.args.self.now.start c.args.self.now.end c.loop-rest.rest.first
+      c.loop-rest.rest.left c.loop-rest.rest.folded c.first_peak-height.result _ _ _ c.first_peak-height.ensures.first
+      c.next-rest.ensures.first c.next-rest.ensures.left c.next-rest.ensures.folded c.args.self.now.siblings.now
+      c.loop-rest.invariant.present;
+  count = tops_left g.F.Family.shape c.args.self.now.start c.args.self.now.end c.loop-rest.rest.first
+      c.loop-rest.rest.left c.loop-rest.rest.folded c.first_peak-height.result _ _ _ c.first_peak-height.ensures.first
+      c.next-rest.ensures.first c.next-rest.ensures.left c.next-rest.ensures.folded (inl c.if-rest-gt0-2.true)
+      c.loop-rest.tops.now c.in_ok-item.after.now c.loop-rest.invariant.count c.in_ok-item.ensures.left;
   exact = λ digest same serves is.
       let invariant = c.loop-rest.invariant.exact digest same serves is in
-      let later = tops g.F.Family.shape c.args.self.now.start c.args.self.now.end c.next-rest.result.first c.next-rest.result.left c.next-rest.result.folded in
-      let item = c.in_ok-item.ensures.exact digest later same serves (top_here g.F.Family.shape c.args.self.now.start c.args.self.now.end c.loop-rest.rest.first c.loop-rest.rest.left c.loop-rest.rest.folded c.first_peak-height.result _ _ _ c.first_peak-height.ensures.first c.next-rest.ensures.first c.next-rest.ensures.left c.next-rest.ensures.folded (inl c.if-rest-gt0-2.true) g.D.Write.text digest c.loop-rest.tops.now invariant.0) in (
-        tops_after g.F.Family.shape c.args.self.now.start c.args.self.now.end c.loop-rest.rest.first c.loop-rest.rest.left c.loop-rest.rest.folded c.first_peak-height.result _ _ _ c.first_peak-height.ensures.first c.next-rest.ensures.first c.next-rest.ensures.left c.next-rest.ensures.folded (inl c.if-rest-gt0-2.true) g.D.Write.text digest c.loop-rest.tops.now c.in_ok-item.after.now invariant.0 c.in_ok-item.ensures.left,
-        bag_step g.F.Family.shape g.H.Hasher.hash_of (λ p. eval g.H.Hasher.hash_of (given_values digest c.args.self.now.start (map g.E.AsSlice.items c.args.self.now.elements.now) (g.H.Hasher.chunk c.args.hasher.now)) (part (g.H.Hasher.layout c.args.hasher.now) (apart c.args.self.now.start c.args.self.now.end) p)) (digest back) c.args.self.now.end c.loop-rest.rest.first c.loop-rest.rest.left c.loop-rest.rest.folded c.first_peak-height.result _ _ _ c.first_peak-height.ensures.first c.next-rest.ensures.first c.next-rest.ensures.left c.next-rest.ensures.folded c.if-rest-gt0-2.true (option_map g.D.Write.text c.loop-rest.folded) _ _ item.0 c.append.ensures ∙ invariant.1,
-        keeps_on _ c.loop-rest.found c.item.new.found _ _ _ _ (found_first g.H.Hasher.hash_of (g.H.Hasher.layout c.args.hasher.now) c.args.self.now.start c.args.self.now.end (given_values digest c.args.self.now.start (map g.E.AsSlice.items c.args.self.now.elements.now) (g.H.Hasher.chunk c.args.hasher.now)) c.first_peak-height.result c.loop-rest.rest.first _ _ (first_and_others g.F.Family.shape c.args.self.now.start c.args.self.now.end c.loop-rest.rest.first c.loop-rest.rest.left c.loop-rest.rest.folded c.first_peak-height.result _ _ _ c.first_peak-height.ensures.first c.next-rest.ensures.first c.next-rest.ensures.left c.next-rest.ensures.folded)) item.1 invariant.2,
+      let later = tops g.F.Family.shape c.args.self.now.start c.args.self.now.end c.next-rest.result.first
+      c.next-rest.result.left c.next-rest.result.folded in
+      let item = c.in_ok-item.ensures.exact digest later same serves (top_here g.F.Family.shape c.args.self.now.start
+      c.args.self.now.end c.loop-rest.rest.first c.loop-rest.rest.left c.loop-rest.rest.folded
+      c.first_peak-height.result _ _ _ c.first_peak-height.ensures.first c.next-rest.ensures.first
+      c.next-rest.ensures.left c.next-rest.ensures.folded
+      (inl c.if-rest-gt0-2.true) g.D.Write.text digest c.loop-rest.tops.now invariant.0) in (
+        tops_after g.F.Family.shape c.args.self.now.start c.args.self.now.end c.loop-rest.rest.first
+            c.loop-rest.rest.left c.loop-rest.rest.folded c.first_peak-height.result _ _ _
+            c.first_peak-height.ensures.first c.next-rest.ensures.first c.next-rest.ensures.left
+            c.next-rest.ensures.folded (inl c.if-rest-gt0-2.true) g.D.Write.text digest c.loop-rest.tops.now
+            c.in_ok-item.after.now invariant.0 c.in_ok-item.ensures.left,
+        bag_step g.F.Family.shape g.H.Hasher.hash_of
+            (λ p. eval g.H.Hasher.hash_of (given_values digest c.args.self.now.start
+            (map g.E.AsSlice.items c.args.self.now.elements.now) (g.H.Hasher.chunk c.args.hasher.now))
+            (part (g.H.Hasher.layout c.args.hasher.now) (apart c.args.self.now.start c.args.self.now.end) p))
+            (digest back) c.args.self.now.end c.loop-rest.rest.first c.loop-rest.rest.left c.loop-rest.rest.folded
+            c.first_peak-height.result _ _ _ c.first_peak-height.ensures.first c.next-rest.ensures.first
+            c.next-rest.ensures.left c.next-rest.ensures.folded c.if-rest-gt0-2.true
+            (option_map g.D.Write.text c.loop-rest.folded) _ _ item.0 c.append.ensures ∙ invariant.1,
+        keeps_on _ c.loop-rest.found c.item.new.found _ _ _ _ (found_first g.H.Hasher.hash_of
+            (g.H.Hasher.layout c.args.hasher.now) c.args.self.now.start c.args.self.now.end
+            (given_values digest c.args.self.now.start (map g.E.AsSlice.items c.args.self.now.elements.now)
+            (g.H.Hasher.chunk c.args.hasher.now)) c.first_peak-height.result c.loop-rest.rest.first _ _
+            (first_and_others g.F.Family.shape c.args.self.now.start c.args.self.now.end c.loop-rest.rest.first
+            c.loop-rest.rest.left c.loop-rest.rest.folded c.first_peak-height.result _ _ _
+            c.first_peak-height.ensures.first c.next-rest.ensures.first c.next-rest.ensures.left
+            c.next-rest.ensures.folded)) item.1 invariant.2,
       );
 }
 
 pub unfolded-requires-clause-tops : goal.unfolded-requires-clause-tops
 unfolded-requires-clause-tops g c =
-    let over : (c.loop-rest.rest.left ≤ 0) ⊎ (c.loop-rest.rest.folded ≤ 0) = elim c.loop-rest-test.branch [ then-loop-rest-test+else-rest-gt0-2 w ↦ inr w.if-rest-gt0-2.false | else-loop-rest-test w ↦ inl w.loop-rest-test.false ] in
-    c.loop-rest.invariant.count ∙ ap length (tops_unfolded g.F.Family.shape g.met.F.Family.laws c.args.self.now.start c.args.self.now.end c.loop-rest.rest.first c.loop-rest.rest.left c.loop-rest.rest.folded over)
+    let over : (c.loop-rest.rest.left ≤ 0) ⊎ (c.loop-rest.rest.folded ≤ 0) =
+    elim c.loop-rest-test.branch [
+      | then-loop-rest-test+else-rest-gt0-2 w ↦
+          inr w.if-rest-gt0-2.false
+      | else-loop-rest-test w ↦ inl w.loop-rest-test.false
+    ] in
+    c.loop-rest.invariant.count ∙ ap length (tops_unfolded g.F.Family.shape g.met.F.Family.laws c.args.self.now.start
+    c.args.self.now.end c.loop-rest.rest.first c.loop-rest.rest.left c.loop-rest.rest.folded over)
 
 pub returns-in-None : goal.returns-in-None
 returns-in-None g c = λ digest same serves is.
-    let over : (c.loop-rest.rest.left ≤ 0) ⊎ (c.loop-rest.rest.folded ≤ 0) = elim c.loop-rest-test.branch [ then-loop-rest-test+else-rest-gt0-2 w ↦ inr w.if-rest-gt0-2.false | else-loop-rest-test w ↦ inl w.loop-rest-test.false ] in
+    let over : (c.loop-rest.rest.left ≤ 0) ⊎ (c.loop-rest.rest.folded ≤ 0) =
+    elim c.loop-rest-test.branch [
+      | then-loop-rest-test+else-rest-gt0-2 w ↦
+          inr w.if-rest-gt0-2.false
+      | else-loop-rest-test w ↦ inl w.loop-rest-test.false
+    ] in
     let invariant = c.loop-rest.invariant.exact digest same serves is in
-    let onto = c.in_ok-onto.ensures digest same serves (invariant.0 ∙ ap (map digest) (tops_unfolded g.F.Family.shape g.met.F.Family.laws c.args.self.now.start c.args.self.now.end c.loop-rest.rest.first c.loop-rest.rest.left c.loop-rest.rest.folded over)) in
-    (bag_none g.F.Family.shape g.met.F.Family.laws g.H.Hasher.hash_of (λ p. eval g.H.Hasher.hash_of (given_values digest c.args.self.now.start (map g.E.AsSlice.items c.args.self.now.elements.now) (g.H.Hasher.chunk c.args.hasher.now)) (part (g.H.Hasher.layout c.args.hasher.now) (apart c.args.self.now.start c.args.self.now.end) p)) (digest back) c.args.self.now.end c.loop-rest.rest.first c.loop-rest.rest.left c.loop-rest.rest.folded over g.D.Write.text c.loop-rest.folded _ _ onto.0 invariant.1 c.in-None.is, onto.1 ∙ invariant.2)
+    let onto = c.in_ok-onto.ensures digest same serves (invariant.0
+    ∙ ap (map digest) (tops_unfolded g.F.Family.shape g.met.F.Family.laws c.args.self.now.start c.args.self.now.end
+    c.loop-rest.rest.first c.loop-rest.rest.left c.loop-rest.rest.folded over)) in (
+      bag_none g.F.Family.shape g.met.F.Family.laws g.H.Hasher.hash_of (λ p. eval g.H.Hasher.hash_of (given_values digest
+          c.args.self.now.start (map g.E.AsSlice.items c.args.self.now.elements.now) (g.H.Hasher.chunk c.args.hasher.now))
+          (part (g.H.Hasher.layout c.args.hasher.now) (apart c.args.self.now.start c.args.self.now.end) p))
+          (digest back) c.args.self.now.end c.loop-rest.rest.first c.loop-rest.rest.left c.loop-rest.rest.folded over
+          g.D.Write.text c.loop-rest.folded _ _ onto.0 invariant.1 c.in-None.is,
+      onto.1 ∙ invariant.2,
+    )
 
 pub returns-in-Some : goal.returns-in-Some
 returns-in-Some g c = λ digest same serves is.
-    let over : (c.loop-rest.rest.left ≤ 0) ⊎ (c.loop-rest.rest.folded ≤ 0) = elim c.loop-rest-test.branch [ then-loop-rest-test+else-rest-gt0-2 w ↦ inr w.if-rest-gt0-2.false | else-loop-rest-test w ↦ inl w.loop-rest-test.false ] in
+    let over : (c.loop-rest.rest.left ≤ 0) ⊎ (c.loop-rest.rest.folded ≤ 0) =
+    elim c.loop-rest-test.branch [
+      | then-loop-rest-test+else-rest-gt0-2 w ↦
+          inr w.if-rest-gt0-2.false
+      | else-loop-rest-test w ↦ inl w.loop-rest-test.false
+    ] in
     let invariant = c.loop-rest.invariant.exact digest same serves is in
-    let onto = c.in_ok-onto.ensures digest same serves (invariant.0 ∙ ap (map digest) (tops_unfolded g.F.Family.shape g.met.F.Family.laws c.args.self.now.start c.args.self.now.end c.loop-rest.rest.first c.loop-rest.rest.left c.loop-rest.rest.folded over)) in
-    (bag_some g.F.Family.shape g.met.F.Family.laws g.H.Hasher.hash_of (λ p. eval g.H.Hasher.hash_of (given_values digest c.args.self.now.start (map g.E.AsSlice.items c.args.self.now.elements.now) (g.H.Hasher.chunk c.args.hasher.now)) (part (g.H.Hasher.layout c.args.hasher.now) (apart c.args.self.now.start c.args.self.now.end) p)) (digest back) c.args.self.now.end c.loop-rest.rest.first c.loop-rest.rest.left c.loop-rest.rest.folded over g.D.Write.text c.loop-rest.folded _ _ onto.0 invariant.1 c.in-Some.folded _ c.in-Some.is c.join.ensures, onto.1 ∙ invariant.2)
+    let onto = c.in_ok-onto.ensures digest same serves (invariant.0
+    ∙ ap (map digest) (tops_unfolded g.F.Family.shape g.met.F.Family.laws c.args.self.now.start c.args.self.now.end
+    c.loop-rest.rest.first c.loop-rest.rest.left c.loop-rest.rest.folded over)) in (
+      bag_some g.F.Family.shape g.met.F.Family.laws g.H.Hasher.hash_of (λ p. eval g.H.Hasher.hash_of (given_values digest
+          c.args.self.now.start (map g.E.AsSlice.items c.args.self.now.elements.now) (g.H.Hasher.chunk c.args.hasher.now))
+          (part (g.H.Hasher.layout c.args.hasher.now) (apart c.args.self.now.start c.args.self.now.end) p)) (digest back)
+          c.args.self.now.end c.loop-rest.rest.first c.loop-rest.rest.left c.loop-rest.rest.folded over g.D.Write.text
+          c.loop-rest.folded _ _ onto.0 invariant.1 c.in-Some.folded _ c.in-Some.is c.join.ensures,
+      onto.1 ∙ invariant.2,
+    )

@@ -10,18 +10,35 @@ use Rattle.storage_merkle.proofs.merkle.proof.pinned.Pinned.fold_leading.Goals a
 use Rattle.storage_merkle.proofs.merkle.proof.pinned.Pinned.fold_leading.Goals.{then-loop-rest-test+else-rest-gt0, else-loop-rest-test, then-loop-rest-test+then-rest-gt0+then-rest-power}
 
 pub loop-rest-init : goal.loop-rest-init
-loop-rest-init g c = record { peaks = c.requires.peaks; passing = passing_starts g.F.Family.shape c.args.self.now.start c.args.peaks.first c.args.peaks.left c.args.peaks.folded; folds = λ same. refl }
+loop-rest-init g c = record {
+  peaks = c.requires.peaks;
+  passing = passing_starts g.F.Family.shape c.args.self.now.start
+      c.args.peaks.first c.args.peaks.left c.args.peaks.folded;
+  folds = λ same. refl;
+}
 
 pub node-requires-clause-within : goal.node-requires-clause-within
-node-requires-clause-within g c = peak_in_tree g.F.Family.shape g.met.F.Family.laws c.args.self.now.leaves c.loop-rest.rest.first c.loop-rest.rest.left c.first_peak-height.result c.requires.pinned.few c.loop-rest.invariant.peaks c.first_peak-height.ensures.first
+node-requires-clause-within g c = peak_in_tree g.F.Family.shape g.met.F.Family.laws c.args.self.now.leaves
+    c.loop-rest.rest.first c.loop-rest.rest.left c.first_peak-height.result c.requires.pinned.few
+    c.loop-rest.invariant.peaks c.first_peak-height.ensures.first
 
 pub loop-rest-preserved : goal.loop-rest-preserved
 loop-rest-preserved g c =
     let ends : c.loop-rest.rest.first + 2 ^ c.first_peak-height.result ≤ c.args.self.now.start = omega arith in
     record {
-      peaks = rw (c.next-rest.ensures.first, c.next-rest.ensures.left) (peaks_next g.F.Family.shape g.met.F.Family.laws c.args.self.now.leaves c.loop-rest.rest.first c.loop-rest.rest.left c.first_peak-height.result c.requires.pinned.few c.loop-rest.invariant.peaks c.first_peak-height.ensures.first);
-      passing = rw (c.next-rest.ensures.first, c.next-rest.ensures.left, c.next-rest.ensures.folded) (passing_goes_on g.F.Family.shape c.args.self.now.start c.args.peaks.first c.args.peaks.left c.args.peaks.folded c.loop-rest.rest.first c.loop-rest.rest.left c.loop-rest.rest.folded c.first_peak-height.result c.if-rest-gt0.true c.first_peak-height.ensures.first ends c.loop-rest.invariant.passing);
-      folds = λ same. rw (c.next-rest.ensures.first, c.next-rest.ensures.left, c.next-rest.ensures.folded) (forward_leads g.F.Family.shape c.loop-rest.rest.first c.loop-rest.rest.left c.first_peak-height.result c.first_peak-height.ensures.first c.args.self.now.start c.loop-rest.rest.folded c.if-rest-gt0.true ends g.H.Hasher.hash_of (digest_before g.H.Hasher.hash_of (g.H.Hasher.layout c.args.hasher.now) c.args.self.now.start (map g.D.Write.text c.args.self.now.digests.now) (g.H.Hasher.chunk c.args.hasher.now)) _ _ _ _ (c.node.ensures same) c.append.ensures (c.loop-rest.invariant.folds same));
+      peaks = rw (c.next-rest.ensures.first, c.next-rest.ensures.left) (peaks_next g.F.Family.shape g.met.F.Family.laws
+          c.args.self.now.leaves c.loop-rest.rest.first c.loop-rest.rest.left c.first_peak-height.result
+          c.requires.pinned.few c.loop-rest.invariant.peaks c.first_peak-height.ensures.first);
+      passing = rw (c.next-rest.ensures.first, c.next-rest.ensures.left, c.next-rest.ensures.folded) (passing_goes_on
+          g.F.Family.shape c.args.self.now.start c.args.peaks.first c.args.peaks.left c.args.peaks.folded
+          c.loop-rest.rest.first c.loop-rest.rest.left c.loop-rest.rest.folded c.first_peak-height.result
+          c.if-rest-gt0.true c.first_peak-height.ensures.first ends c.loop-rest.invariant.passing);
+      folds = λ same. rw (c.next-rest.ensures.first, c.next-rest.ensures.left, c.next-rest.ensures.folded)
+          (forward_leads g.F.Family.shape c.loop-rest.rest.first c.loop-rest.rest.left c.first_peak-height.result
+          c.first_peak-height.ensures.first c.args.self.now.start c.loop-rest.rest.folded c.if-rest-gt0.true ends
+          g.H.Hasher.hash_of (digest_before g.H.Hasher.hash_of (g.H.Hasher.layout c.args.hasher.now)
+          c.args.self.now.start (map g.D.Write.text c.args.self.now.digests.now) (g.H.Hasher.chunk c.args.hasher.now)) _
+          _ _ _ (c.node.ensures same) c.append.ensures (c.loop-rest.invariant.folds same));
     }
 
 pub returns-clause-folded : goal.returns-clause-folded
@@ -31,17 +48,28 @@ returns-clause-folded g c = λ same.
     let start = c.args.self.now.start in
     let none : leading start (take r.folded (peaks_from S r.first r.left)) ≡ [] = elim c.loop-rest-test.branch [
       | then-loop-rest-test+else-rest-gt0 w ↦ leads_none S r.first r.left start r.folded w.if-rest-gt0.false
-      | else-loop-rest-test w ↦ leads_end S r.first r.left start r.folded (no_peaks S g.met.F.Family.laws) w.loop-rest-test.false
-      | then-loop-rest-test+then-rest-gt0+then-rest-power w ↦ leads_not S r.first r.left w.first_peak-height.result w.first_peak-height.ensures.first start r.folded (omega (arith, w.if-rest-power.true, w.power.ensures))
+      | else-loop-rest-test w ↦
+          leads_end S r.first r.left start r.folded (no_peaks S g.met.F.Family.laws) w.loop-rest-test.false
+      | then-loop-rest-test+then-rest-gt0+then-rest-power w ↦
+          leads_not S r.first r.left w.first_peak-height.result w.first_peak-height.ensures.first start r.folded
+          (omega (arith, w.if-rest-power.true, w.power.ensures))
     ] in
-    forward_ends g.H.Hasher.hash_of _ (option_map g.D.Write.text c.loop-rest.folded) _ _ none (c.loop-rest.invariant.folds same)
+    forward_ends g.H.Hasher.hash_of _ (option_map g.D.Write.text c.loop-rest.folded) _ _ none
+    (c.loop-rest.invariant.folds same)
 
 pub returns-clause-after : goal.returns-clause-after
 returns-clause-after g c =
     let r = c.loop-rest.rest in
     let start = c.args.self.now.start in
     elim c.loop-rest-test.branch [
-      | then-loop-rest-test+else-rest-gt0 w ↦ passing_unfolded g.F.Family.shape start c.args.peaks.first c.args.peaks.left c.args.peaks.folded r.first r.left r.folded w.if-rest-gt0.false c.loop-rest.invariant.passing
-      | else-loop-rest-test w ↦ passing_ends g.F.Family.shape start c.args.peaks.first c.args.peaks.left c.args.peaks.folded r.first r.left r.folded (no_peaks g.F.Family.shape g.met.F.Family.laws) w.loop-rest-test.false c.loop-rest.invariant.passing
-      | then-loop-rest-test+then-rest-gt0+then-rest-power w ↦ passing_stops g.F.Family.shape start c.args.peaks.first c.args.peaks.left c.args.peaks.folded r.first r.left r.folded w.first_peak-height.result w.first_peak-height.ensures.first (omega (arith, w.if-rest-power.true, w.power.ensures)) c.loop-rest.invariant.passing
+      | then-loop-rest-test+else-rest-gt0 w ↦
+          passing_unfolded g.F.Family.shape start c.args.peaks.first c.args.peaks.left c.args.peaks.folded r.first
+          r.left r.folded w.if-rest-gt0.false c.loop-rest.invariant.passing
+      | else-loop-rest-test w ↦
+          passing_ends g.F.Family.shape start c.args.peaks.first c.args.peaks.left c.args.peaks.folded r.first r.left
+          r.folded (no_peaks g.F.Family.shape g.met.F.Family.laws) w.loop-rest-test.false c.loop-rest.invariant.passing
+      | then-loop-rest-test+then-rest-gt0+then-rest-power w ↦
+          passing_stops g.F.Family.shape start c.args.peaks.first c.args.peaks.left c.args.peaks.folded r.first r.left
+          r.folded w.first_peak-height.result w.first_peak-height.ensures.first
+          (omega (arith, w.if-rest-power.true, w.power.ensures)) c.loop-rest.invariant.passing
     ]

@@ -17,18 +17,26 @@ pub returns-in-Some-clause-answers : goal.returns-in-Some-clause-answers
 returns-in-Some-clause-answers g c =
     let later = g.S.Storage.node c.args.self.now.ops_tree.now in
     let s = rw (c.size-size.ensures, ← c.deref.ensures.value, c.in-Some.is) at (c.in_ok-found.ensures later) in
-    inl (c.in-Some.position, refl, absent_missing _ later c.in-Some.position s.2.0 s.0 _ _ _ _ s.1 c.in-Ok.ensures.answers s.2.1 s.2.2)
+    inl (
+      c.in-Some.position,
+      refl,
+      absent_missing _ later c.in-Some.position s.2.0 s.0 _ _ _ _ s.1 c.in-Ok.ensures.answers s.2.1 s.2.2,
+    )
 
 pub fill-requires : goal.fill-requires
 fill-requires g c =
     let later = g.S.Storage.node c.args.self.now.ops_tree.now in
-    let s = rw (c.size-size.ensures, ← c.deref.ensures.value, ← c.deref-2.ensures.value) at (c.in_ok-found.ensures later) in
+    let s =
+    rw (c.size-size.ensures, ← c.deref.ensures.value, ← c.deref-2.ensures.value) at (c.in_ok-found.ensures later) in
     let none : gaps c.deref-2.result.now ≡ length c.deref.result.now = gaps_are _ later s.0 _ _ _ s.1 in
-    let read : length c.in-Ok.read.items ≡ length c.deref.result.now = served_length (joined g.F.Family.shape c.args.self.now.height (g.S.Storage.nodes c.args.self.now.ops_tree.now) (g.R.Readable.node c.args.self.now.grafted_tree.now) later) later _ _ c.in-Ok.ensures.answers in
+    let read : length c.in-Ok.read.items ≡ length c.deref.result.now =
+    served_length (joined g.F.Family.shape c.args.self.now.height (g.S.Storage.nodes c.args.self.now.ops_tree.now)
+    (g.R.Readable.node c.args.self.now.grafted_tree.now) later) later _ _ c.in-Ok.ensures.answers in
     omega (arith, none, read, ap length c.deref-3.ensures.value)
 
 pub returns-clause-answers : goal.returns-clause-answers
 returns-clause-answers g c =
     let later = g.S.Storage.node c.args.self.now.ops_tree.now in
-    let s = rw (c.size-size.ensures, ← c.deref.ensures.value, ← c.deref-2.ensures.value, c.in_default.is) at (c.in_ok-found.ensures later) in
+    let s = rw (c.size-size.ensures, ← c.deref.ensures.value, ← c.deref-2.ensures.value, c.in_default.is) at
+    (c.in_ok-found.ensures later) in
     rw (c.in_ok-fill.ensures, c.deref-3.ensures.value) (filled_are _ later s.0 _ _ _ _ s.1 c.in-Ok.ensures.answers s.2)

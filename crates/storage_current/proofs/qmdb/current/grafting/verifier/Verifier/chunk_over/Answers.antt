@@ -5,6 +5,10 @@ use Rattle.storage_current.proofs.qmdb.current.grafting.verifier.Verifier.chunk_
 
 pub returns : goal.returns
 returns g c = λ a k node.
-    let e = same_node g.F.Family.shape g.met.F.Family.laws c.args.position a k _ _ node (rw c.as_u64.ensures at c.node_at-first.ensures.node) in
-    rw (e.0, e.1) (grafted_some (λ (b : Bor (List ℕ)). b.now) c.args.self.now.height c.args.self.now.start_chunk_index c.args.self.now.graftable_chunks
-    c.node_at-first.result.0 c.node_at-first.result.1 c.args.self.now.chunks.items c.index.result.now c.if-height-self.false c.node_at-first.ensures.node.aligned (omega arith) (omega arith) (search rules) c.index.ensures)
+    let e = same_node g.F.Family.shape g.met.F.Family.laws c.args.position a k _ _ node
+    (rw c.as_u64.ensures at c.node_at-first.ensures.node) in
+    rw (e.0, e.1) (grafted_some (λ (b : Bor (List ℕ)). b.now) c.args.self.now.height c.args.self.now.start_chunk_index
+    c.args.self.now.graftable_chunks
+    c.node_at-first.result.0 c.node_at-first.result.1 c.args.self.now.chunks.items c.index.result.now
+    c.if-height-self.false c.node_at-first.ensures.node.aligned (omega arith) (omega arith)
+    (search rules) c.index.ensures)

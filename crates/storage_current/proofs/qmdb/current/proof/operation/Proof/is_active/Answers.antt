@@ -7,7 +7,9 @@ use Rattle.storage_current.proofs.qmdb.current.proof.operation.Proof.is_active.G
 pub returns : goal.returns
 returns g c =
     let chunk = g.C.Chunk.text c.args.self.now.chunk in
-    let e = height_of_power g.F.Family.shape (length c.bytes-chunk.result.now) c.in-Some.height c.in-Some.ensures.power.0 in
-    let bit : c.is_set.result ≡ bit_in chunk (c.args.self.now.loc % 2 ^ height (record { shape = g.F.Family.shape; bytes = length chunk })) =
+    let e =
+    height_of_power g.F.Family.shape (length c.bytes-chunk.result.now) c.in-Some.height c.in-Some.ensures.power.0 in
+    let bit : c.is_set.result
+    ≡ bit_in chunk (c.args.self.now.loc % 2 ^ height (record { shape = g.F.Family.shape; bytes = length chunk })) =
     rw (← c.bytes-chunk.ensures, e, ← c.power.ensures, ← c.as_u64.ensures) c.is_set.ensures in
     (λ yes. (rw c.bytes-chunk.ensures at c.in-Some.ensures.size, sym bit ∙ yes), λ both. bit ∙ both.1)

@@ -7,5 +7,8 @@ use Rattle.storage_current.proofs.qmdb.current.proof.operation.Proof.verify.Goal
 
 pub returns-clause-meaning : goal.returns-clause-meaning
 returns-clause-meaning g c = λ wide.
-    subst (λ (operation : List ℕ). IfOk c.verify_encoded.result (λ yes. IsTrue yes → MeansActive g.H.Hasher.hash_of (record { shape = g.F.Family.shape; bytes = length (g.C.Chunk.text c.args.self.now.chunk) }) (operation_of g.D.Write.text g.C.Chunk.text c.args.self.now) operation (g.D.Write.text c.args.root.now)))
-    (c.deref.ensures.value ∙ (c.in_ok-write.ensures.ok ∙ ap (λ (t : List ℕ). t ++ g.O.Write.text c.args.operation) c.new-bytes.ensures.items)) (c.verify_encoded.ensures.meaning wide)
+    subst (λ (operation : List ℕ). IfOk c.verify_encoded.result (λ yes. IsTrue yes → MeansActive g.H.Hasher.hash_of
+    (record { shape = g.F.Family.shape; bytes = length (g.C.Chunk.text c.args.self.now.chunk) })
+    (operation_of g.D.Write.text g.C.Chunk.text c.args.self.now) operation (g.D.Write.text c.args.root.now)))
+    (c.deref.ensures.value ∙ (c.in_ok-write.ensures.ok ∙ ap (λ (t : List ℕ). t
+    ++ g.O.Write.text c.args.operation) c.new-bytes.ensures.items)) (c.verify_encoded.ensures.meaning wide)

@@ -23,7 +23,8 @@ returns g c =
         few = omega arith;
         within = omega (arith, c.in_ok-end.ensures.1);
         chunk_count = rw e (sym (rw c.in_ok-end.ensures.1 at c.if-last_chunk-first_chunk.false));
-        one_pending = rw e (omega (arith, c.over-counts.ensures.complete, c.over-counts.ensures.graftable, c.if-counts-gt1.false));
+        one_pending = rw e
+            (omega (arith, c.over-counts.ensures.complete, c.over-counts.ensures.graftable, c.if-counts-gt1.false));
       };
       height_is = sym e;
       first_is = rw e refl;

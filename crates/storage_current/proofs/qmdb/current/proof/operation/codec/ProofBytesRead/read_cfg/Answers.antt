@@ -2,7 +2,9 @@ use Rattle.storage_codec.specs.PartsLaws.{ends_then}
 use Rattle.storage_current.proofs.qmdb.current.proof.operation.codec.ProofBytesRead.read_cfg.Goals as goal
 
 pub returns-in-Ok-read_cfg-clause-ends : goal.returns-in-Ok-read_cfg-clause-ends
-returns-in-Ok-read_cfg-clause-ends g c = ends_then c.read_cfg.ensures.ends (ends_then c.cut.ensures.ends c.read_cfg-2.ensures.ends)
+returns-in-Ok-read_cfg-clause-ends g c =
+    ends_then c.read_cfg.ensures.ends (ends_then c.cut.ensures.ends c.read_cfg-2.ensures.ends)
 
 pub returns-in-Err-read_cfg-clause-ends : goal.returns-in-Err-read_cfg-clause-ends
-returns-in-Err-read_cfg-clause-ends g c = ends_then c.read_cfg.ensures.ends (ends_then c.cut.ensures.ends c.read_cfg-2.ensures.ends)
+returns-in-Err-read_cfg-clause-ends g c =
+    ends_then c.read_cfg.ensures.ends (ends_then c.cut.ensures.ends c.read_cfg-2.ensures.ends)

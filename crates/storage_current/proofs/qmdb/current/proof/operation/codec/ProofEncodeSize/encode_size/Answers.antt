@@ -9,4 +9,8 @@ pub returns : goal.returns
 returns g c =
     let chunk : length c.bytes.result.now ≡ length (g.C.Chunk.text c.args.self.now.chunk) = ap length c.bytes.ensures in
     c.sum-2.ensures _ _ c.encode_size.ensures (c.sum.ensures _ _ (fits _ _ chunk (omega arith)) c.encode_size-2.ensures)
-    ∙ ap size_of (operation_length g.F.Graftable.has_pending (record { location = c.args.self.now.loc; chunk = g.C.Chunk.text c.args.self.now.chunk; range = current_of g.D.Write.text c.args.self.now.range_proof }))
+    ∙ ap size_of (operation_length g.F.Graftable.has_pending (record {
+      location = c.args.self.now.loc;
+      chunk = g.C.Chunk.text c.args.self.now.chunk;
+      range = current_of g.D.Write.text c.args.self.now.range_proof;
+    }))

@@ -9,7 +9,8 @@ use Rattle.storage_current.proofs.qmdb.current.proof.operation.codec.ProofWrite.
 pub returns-in_err-write-clause-err : goal.returns-in_err-write-clause-err
 returns-in_err-write-clause-err g c =
     let range = current_text g.F.Graftable.has_pending (current_of g.D.Write.text c.args.self.now.range_proof) in
-    on_err c.from_residual.result _ (starts_first (g.C.Chunk.text c.args.self.now.chunk ++ range) c.in_err-write.ensures.err)
+    on_err c.from_residual.result _
+    (starts_first (g.C.Chunk.text c.args.self.now.chunk ++ range) c.in_err-write.ensures.err)
 
 pub returns-clause-err : goal.returns-clause-err
 returns-clause-err g c =
@@ -17,5 +18,6 @@ returns-clause-err g c =
     let chunk = g.C.Chunk.text c.args.self.now.chunk in
     on_err_to c.write-2.result _ _
     (λ a. starts_then (varint_text c.args.self.now.loc) (chunk ++ range) c.in_ok-write.ensures.ok
-    (starts_then chunk range (c.in_ok-extend_from_slice.ensures.items ∙ ap (λ t. c.write.new.out.items ++ t) c.bytes.ensures) a))
+    (starts_then chunk range (c.in_ok-extend_from_slice.ensures.items
+    ∙ ap (λ t. c.write.new.out.items ++ t) c.bytes.ensures) a))
     c.write-2.ensures.err

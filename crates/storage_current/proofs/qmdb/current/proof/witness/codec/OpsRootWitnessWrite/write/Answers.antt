@@ -12,7 +12,8 @@ use Rattle.storage_current.proofs.qmdb.current.proof.witness.codec.OpsRootWitnes
 pub returns-in_err-write-clause-err : goal.returns-in_err-write-clause-err
 returns-in_err-write-clause-err g c =
     let w = witness_of g.D.Write.text c.args.self.now in
-    on_err c.from_residual.result _ (starts_first (slot_text g.F.Graftable.has_pending as_is w.pending ++ option_text counted_text w.partial) c.in_err-write.ensures.err)
+    on_err c.from_residual.result _ (starts_first (slot_text g.F.Graftable.has_pending as_is w.pending
+    ++ option_text counted_text w.partial) c.in_err-write.ensures.err)
 
 pub returns-in_err-write_pending-clause-err : goal.returns-in_err-write_pending-clause-err
 returns-in_err-write_pending-clause-err g c =
@@ -20,8 +21,10 @@ returns-in_err-write_pending-clause-err g c =
     let there = g.F.Graftable.has_pending in
     let slot = slot_bytes g.D.Write.text there c.args.self.now.pending_chunk_digest in
     on_err c.from_residual-in_err-write_pending.result _
-    (starts_then w.grafted_root (slot_text there as_is w.pending ++ option_text counted_text w.partial) c.in_ok-write.ensures.ok
-    (starts_first (option_text counted_text w.partial) (subst (λ t. AppendsStart c.write.new.out.items c.write_pending.new.out.items t) slot c.in_err-write_pending.ensures.err)))
+    (starts_then w.grafted_root
+    (slot_text there as_is w.pending ++ option_text counted_text w.partial) c.in_ok-write.ensures.ok
+    (starts_first (option_text counted_text w.partial) (subst (λ t.
+    AppendsStart c.write.new.out.items c.write_pending.new.out.items t) slot c.in_err-write_pending.ensures.err)))
 
 pub returns-clause-err : goal.returns-clause-err
 returns-clause-err g c =
@@ -30,7 +33,9 @@ returns-clause-err g c =
     let slot = slot_bytes g.D.Write.text there c.args.self.now.pending_chunk_digest in
     let partial = held_same g.D.Write.text c.with_count.result c.args.self.now.partial_chunk c.with_count.ensures in
     on_err_to c.write-2.result _ _
-    (λ a. starts_then w.grafted_root (slot_text there as_is w.pending ++ option_text counted_text w.partial) c.in_ok-write.ensures.ok
-    (starts_then (slot_text there as_is w.pending) (option_text counted_text w.partial) (c.in_ok-write_pending.ensures.ok ∙ ap (λ t. c.write.new.out.items ++ t) slot)
+    (λ a. starts_then w.grafted_root
+    (slot_text there as_is w.pending ++ option_text counted_text w.partial) c.in_ok-write.ensures.ok
+    (starts_then (slot_text there as_is w.pending) (option_text counted_text w.partial)
+    (c.in_ok-write_pending.ensures.ok ∙ ap (λ t. c.write.new.out.items ++ t) slot)
     (subst (λ t. AppendsStart c.write_pending.new.out.items c.write-2.new.out.items t) partial a)))
     c.write-2.ensures.err
