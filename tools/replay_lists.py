@@ -5,7 +5,8 @@
 
 LISTS is a folder of lists, one case a line, columns with blanks between them, the first line their names. They were
 made by an independent program that computes the definitions over whole lists. A line of stdin is the name of a list
-and the columns that are given, a line of stdout the columns that are asked for. Only cases over SHA-256 are taken.
+and the columns that are given, a line of stdout the columns that are asked for. Only cases over SHA-256 are taken. Left
+out are the list `db`, for databases stand above these crates, and cases of `combined` whose tree over chunks is pruned.
 """
 
 import pathlib
@@ -82,9 +83,8 @@ def cases(folder):
     for given, asked in cut(folder, "plain_checks", 9):
         yield "plain_checks", given, asked
     for columns in rows(folder, "golden"):
-        # the first column is a label; grafted roots and witnesses have no call that answers them
-        canonical, ops, _, _, proof, operation = columns[8:]
-        yield "golden", columns[1:8], [canonical, ops, proof, operation]
+        # the first column is a label
+        yield "golden", columns[1:8], columns[8:]
     for columns in rows(folder, "program"):
         # `root` and `prove` write the root, and `check` is asked about what `prove` wrote
         root, _, _, _, proof, answer = columns[5:]

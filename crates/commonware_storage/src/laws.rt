@@ -1,6 +1,8 @@
 //! What holds between the proofs that a server builds and the checks of a light client.
 
 ghost use Rattle.std.specs.Prelude.{◌≡◌, ℕ, ◌+◌, ◌-◌, ◌*◌, ◌/◌, ◌%◌, ◌^◌, ◌<◌, ◌≤◌, ◌⊎◌, ◌↔◌, IfOk, IfErr, IsTrue, MatchResult, length, true};
+ghost use Rattle.std.specs.List.{All};
+ghost use Rattle.storage_merkle.specs.Plans.{planned};
 ghost use Rattle.storage_bitmap.specs.Chunks.{IsChunkSize};
 ghost use Rattle.storage_current.specs.BuiltProofs.{ArePartsOf, IsNotBuilt};
 ghost use Rattle.storage_current.specs.CurrentWire.{operation_text};
@@ -58,7 +60,8 @@ pub fn built_proofs_are_accepted<
     root: &H::Digest,
 ) -> Result<bool, Error<F>>
     requires size { IsChunkSize N }
-    requires callable { G.IsAlwaysCallable get_node }
+    requires callable { All (λ p. G.pre get_node p)
+        (planned F.shape plan.leaves plan.start plan.end) }
     ensures asked { let g = grafting_of F.shape N in
         (s : SnapshotOf) → ArePartsOf H.Digest.text (G.post get_node) H.hash_of g plan
         (R.retained status.now) floor (H.Digest.text ops_root) s

@@ -7,7 +7,7 @@ mod fault;
 mod lines;
 mod reply;
 
-pub use command::{Action, Chunk, Command, Tree};
+use command::{Action, Chunk, Command, Tree};
 pub use fault::Fault;
 use reply::Reply;
 use std::alloc::Global;

@@ -288,5 +288,7 @@ fn accessors(rt: HostRuntime) -> Result<(), Fail> {
     assert_accessors(&rt, Keyed::Update(update), Some(k), (true, false, false))?;
     assert_accessors(&rt, Keyed::Delete(k), Some(k), (false, true, false))?;
     let commit = Keyed::CommitFloor(None, Location::new(3));
-    assert_accessors(&rt, commit, None, (false, false, true))
+    assert_accessors(&rt, commit, None, (false, false, true))?;
+    let unlinked = Unlinked::Update(update::Unordered(key([9, 8, 7, 6]), 77));
+    assert_accessors(&rt, unlinked, Some(key([9, 8, 7, 6])), (true, false, false))
 }

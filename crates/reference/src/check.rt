@@ -1,4 +1,5 @@
 //! The check of a range proof.
+
 ghost use Rattle.std.specs.Prelude.{◌≡◌, ◌↔◌, ℕ, ◌+◌, ◌-◌, ◌^◌, ◌<◌, ◌≤◌, ◌++◌, List, [], length, map, option_map, get_or, IfOk, OnOk, IsTrue};
 ghost use Rattle.storage_merkle.specs.Calc.{eval};
 ghost use Rattle.storage_merkle.specs.Hashers.{or_nothing};
@@ -22,7 +23,7 @@ use storage_merkle::merkle::{Bagging, MAX_LEAVES, Proof};
 /// What a check is given: the digests of a proof at their sites, and the elements from `low` to before `high`.
 #[derive(Drop)]
 #[derive_where(Clone, Copy)]
-pub struct Claim<'a, D, E> {
+pub(crate) struct Claim<'a, D, E> {
     /// The sites.
     pub sites: &'a [Site],
     /// The digests, in the order of the sites.
@@ -43,7 +44,7 @@ fn no_bytes<H: Hasher>() -> H::Digest
 }
 
 /// The digest that stands for a site in a list; that of no bytes where none does.
-pub fn look_up<H: Hasher>(sites: &[Site], digests: &[H::Digest], site: Site) -> H::Digest
+pub(crate) fn look_up<H: Hasher>(sites: &[Site], digests: &[H::Digest], site: Site) -> H::Digest
     ensures { H.Digest.text result ≡ look_up (H.hash_of []) (map site_of sites.now)
         (map H.Digest.text digests.now) (site_of site) }
 {

@@ -1,4 +1,5 @@
 //! Chunks of bits, and their grafting.
+
 ghost use Rattle.std.specs.Prelude.{◌≡◌, ℕ, ◌+◌, ◌*◌, ◌/◌, ◌%◌, ◌^◌, ◌≤◌, ◌<◌, ◌++◌, Bool, drop, IfOk, OnOk};
 ghost use Rattle.storage_merkle.specs.Calc.{grafted_digest, is_zero};
 ghost use Rattle.storage_bitmap.specs.Chunks.{bytes_of, chunk, digit, number_of};
@@ -97,7 +98,7 @@ fn hash_two<H: Hasher>(first: &[u8], second: &[u8]) -> H::Digest
 
 /// The chunks of some bits, grafted over the nodes of the first of them.
 #[derive(Drop)]
-pub struct Chunks<'a> {
+pub(crate) struct Chunks<'a> {
     /// The bits.
     pub bits: &'a [bool],
     /// How many bytes a chunk has.

@@ -1,4 +1,5 @@
 //! Numbers of chunks, and of inactive peaks.
+
 ghost use Rattle.std.specs.Prelude.{◌≡◌, ℕ, ◌+◌, ◌*◌, ◌%◌, ◌^◌, ◌≤◌, ◌<◌, ◌&&◌, List, length, take, leb, eqb, IfOk};
 ghost use Rattle.storage_bitmap.specs.Chunks.{IsChunkSize};
 ghost use Rattle.storage_merkle.specs.Shape.{Shape, leaves_of};
@@ -8,7 +9,7 @@ use crate::shape::{Digits, highest_place, power};
 use std::alloc::{AllocError, Global};
 
 /// The height of a node over as many operations as a chunk of so many bytes has bits.
-pub fn height(chunk_size: usize) -> u32
+pub(crate) fn height(chunk_size: usize) -> u32
     requires { IsChunkSize chunk_size }
     ensures value { (S : Shape) → result ≡ height (grafting_of S chunk_size) }
     ensures bits { 2 ^ result ≡ 8 * chunk_size }
@@ -31,7 +32,7 @@ pub fn graftable<F: Digits>(leaves: u64, height: u32) -> u64
 }
 
 /// How many leading peaks over so many leaves end at or before a floor. Fails only where memory runs out.
-pub fn exact<F: Digits>(alloc: Global, leaves: u64, floor: u64) -> Result<usize, AllocError>
+pub(crate) fn exact<F: Digits>(alloc: Global, leaves: u64, floor: u64) -> Result<usize, AllocError>
     requires { leaves ≤ 2 ^ 62 }
     ensures { IfOk result (λ count. count ≡ exact F.shape leaves floor) }
 {
@@ -41,7 +42,7 @@ pub fn exact<F: Digits>(alloc: Global, leaves: u64, floor: u64) -> Result<usize,
 
 /// The most leading peaks that end at or before a floor and on a multiple of `2^height`. Fails only where memory runs
 /// out.
-pub fn aligned<F: Digits>(
+pub(crate) fn aligned<F: Digits>(
     alloc: Global,
     leaves: u64,
     floor: u64,

@@ -1,4 +1,5 @@
 //! Folds of digests, and roots from the digests of peaks.
+
 ghost use Rattle.std.specs.Prelude.{◌≡◌, ◌≤◌, ◌++◌, List, [], length, map, option_map};
 ghost use Rattle.storage_merkle.specs.Hashers.{or_nothing};
 ghost use Rattle.storage_merkle.specs.Hashing.{bagged, bagged_peaks, folded_backward, folded_forward, root_of};

@@ -5,10 +5,10 @@
 pub mod check;
 pub mod chunk;
 pub mod count;
-pub mod fold;
+mod fold;
 pub mod node;
-pub mod range_proof;
+mod range_proof;
 pub mod shape;
-pub mod site;
+mod site;
 pub mod snapshot;
 pub mod tree;

@@ -1,4 +1,5 @@
 //! Digests of nodes, from the leaves up.
+
 ghost use Rattle.std.specs.Prelude.{◌≡◌, ◌-◌, ◌<◌, ℕ, ◌+◌, ◌*◌, ◌^◌, ◌≤◌, ◌++◌, List, [], map, get_or, Bool, true, false, if◌then◌else◌, IfOk, OnOk, MatchOption};
 ghost use Rattle.storage_merkle.specs.Calc.{Site, node, eval, be8, grafted_digest};
 ghost use Rattle.storage_merkle.specs.Shape.{leaves_of};
@@ -90,7 +91,7 @@ impl Node {
 }
 
 /// What a calculation is over: elements, and digests that are given.
-pub trait Source<H: Hasher> {
+pub(crate) trait Source<H: Hasher> {
     /// The nodes whose digests are given.
     ghost cut: { Self → ℕ → ℕ → Bool };
 
@@ -149,7 +150,7 @@ impl<H: Hasher> Grafts<H> for Ungrafted {
 /// A whole tree: all elements from the first leaf on, and no digests.
 #[derive(Drop)]
 #[derive_where(Clone, Copy)]
-pub struct Whole<'a, E> {
+pub(crate) struct Whole<'a, E> {
     /// The elements.
     pub elements: &'a [E],
 }
@@ -175,7 +176,7 @@ impl<H: Hasher, E: AsSlice<u8>> Source<H> for Whole<'_, E> {
 
 /// The digest of a node: the one that is given, else of its position in eight bytes and the element, or the digests of
 /// its halves. Fails only where memory runs out.
-pub fn node_digest<F: Digits, H: Hasher, S: Source<H>, G: Grafts<H>>(
+pub(crate) fn node_digest<F: Digits, H: Hasher, S: Source<H>, G: Grafts<H>>(
     alloc: Global,
     source: &S,
     grafts: &G,
@@ -219,7 +220,7 @@ fn pair_digest<H: Hasher>(position: u64, left: &H::Digest, right: &H::Digest) ->
 }
 
 /// Appends the digests of some nodes. Fails only where memory runs out.
-pub fn push_digests<F: Digits, H: Hasher, S: Source<H>, G: Grafts<H>>(
+pub(crate) fn push_digests<F: Digits, H: Hasher, S: Source<H>, G: Grafts<H>>(
     digests: &mut Vec<H::Digest>,
     source: &S,
     grafts: &G,

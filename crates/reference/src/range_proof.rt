@@ -1,4 +1,5 @@
-//! A tree's own range proofs, and the check of a range proof.
+//! A tree's own range proofs.
+
 ghost use Rattle.std.specs.Prelude.{◌≡◌, ℕ, ◌+◌, ◌-◌, ◌^◌, ◌≤◌, ◌++◌, List, [], length, map, option_map, get_or, IfOk, OnOk};
 ghost use Rattle.storage_merkle.specs.Checks.{IsRecomputed};
 ghost use Rattle.storage_merkle.specs.Held.{range_of};
@@ -7,15 +8,15 @@ ghost use Rattle.storage_merkle.specs.Trees.{Content, part, content_of};
 ghost use Rattle.reference.specs.Layouts.{laid_out};
 ghost use Rattle.reference.specs.Sites.{backward_digest, forward_digest, site_of};
 
-use crate::fold::{bag, fold_backward, fold_forward, root_over};
-use crate::node::{Grafts, Node, Source, Whole, node_digest, push_digests};
+use crate::fold::{fold_backward, fold_forward};
+use crate::node::{Grafts, Whole, node_digest, push_digests};
 use crate::shape::Digits;
-use crate::site::{Site, is_apart, is_same, sites, split_folded, split_leading, split_up_to};
+use crate::site::{Site, sites, split_folded, split_leading, split_up_to};
 use crate::tree::peaks;
 use std::alloc::{AllocError, Global};
 use std::convert::AsSlice;
 use storage_codec::digest::Hasher;
-use storage_merkle::merkle::{Bagging, Location, MAX_LEAVES, Proof};
+use storage_merkle::merkle::{Bagging, Location, Proof};
 
 /// A tree: its elements, which nodes have a chunk grafted, and how its peaks are bagged, of which so many are inactive.
 #[derive(Drop)]

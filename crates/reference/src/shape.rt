@@ -1,4 +1,5 @@
 //! The shapes of the two tree families, from the binary digits of numbers of leaves.
+
 ghost use Rattle.std.specs.Prelude.{◌≡◌, ℕ, ◌+◌, ◌-◌, ◌*◌, ◌%◌, ◌^◌, ◌<◌, ◌≤◌, ◌++◌, List, [], length, IfOk, OnOk};
 ghost use Rattle.storage_merkle.specs.Digits.{digit, floor_log2, highest_from};
 ghost use Rattle.storage_merkle.specs.Mmr.{mmr, mmr_digits};

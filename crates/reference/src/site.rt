@@ -1,4 +1,5 @@
 //! Which digests a range proof has, in their order.
+
 ghost use Rattle.std.specs.Prelude.{◌≡◌, ℕ, ◌+◌, ◌^◌, ◌≤◌, ◌++◌, List, [], Bool, length, map, take, drop, IfOk, OnOk, ◌∷◌, ◌<◌};
 ghost use Rattle.storage_merkle.specs.RangeProofs.{apart, back_sites, by_position, front_sites, leading, not_leading, place_in, position_of, same_site, sites, sites_in, sites_over, sites_of, trailing, up_to};
 ghost use Rattle.storage_merkle.specs.Trees.{Layout, folded, part, unfolded};

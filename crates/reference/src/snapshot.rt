@@ -1,4 +1,5 @@
 //! Roots of snapshots.
+
 ghost use Rattle.std.specs.Prelude.{◌≡◌, ℕ, ◌+◌, ◌*◌, ◌/◌, ◌%◌, ◌^◌, ◌≤◌, ◌<◌, ◌++◌, List, [], length, map, option_map, Option, Some, None, ltb, eqb, if◌then◌else◌, IfOk};
 ghost use Rattle.storage_bitmap.specs.Chunks.{IsChunkSize, chunk};
 ghost use Rattle.storage_current.specs.Held.{current_of};
@@ -33,7 +34,7 @@ pub struct Snapshot<'a, E> {
 }
 
 /// The root of the tree over the operations of a snapshot. Fails only where memory runs out.
-pub fn ops_root<F: Digits, H: Hasher, E: AsSlice<u8>>(
+fn ops_root<F: Digits, H: Hasher, E: AsSlice<u8>>(
     alloc: Global,
     of: &Snapshot<'_, E>,
 ) -> Result<H::Digest, AllocError>
@@ -54,7 +55,7 @@ pub fn ops_root<F: Digits, H: Hasher, E: AsSlice<u8>>(
 }
 
 /// The root of the grafted view of a snapshot. Fails only where memory runs out.
-pub fn grafted_root<F: Digits, H: Hasher, E: AsSlice<u8>>(
+fn grafted_root<F: Digits, H: Hasher, E: AsSlice<u8>>(
     alloc: Global,
     of: &Snapshot<'_, E>,
 ) -> Result<H::Digest, AllocError>
@@ -86,7 +87,7 @@ pub fn grafted_root<F: Digits, H: Hasher, E: AsSlice<u8>>(
 
 /// The range proof, of the operations from `low` to before `high`, of the grafted view of a snapshot. Fails only where memory
 /// runs out.
-pub fn own_range<F: Digits, H: Hasher, E: AsSlice<u8>>(
+fn own_range<F: Digits, H: Hasher, E: AsSlice<u8>>(
     alloc: Global,
     of: &Snapshot<'_, E>,
     low: u64,

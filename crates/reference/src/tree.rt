@@ -1,4 +1,5 @@
 //! Peaks and roots of whole trees.
+
 ghost use Rattle.std.specs.Prelude.{◌≡◌, ◌+◌, ◌^◌, ◌≤◌, ◌++◌, length, map, IfOk, OnOk};
 ghost use Rattle.storage_merkle.specs.Shape.{leaves_of};
 ghost use Rattle.storage_merkle.specs.Trees.{places, tree_root, content_of};
@@ -37,7 +38,7 @@ fn push_places(nodes: &mut Vec<Node>, first: u64, heights: &[u32]) -> Result<(),
 
 /// The root of the tree over some elements, of whose peaks so many leading ones are inactive, by its definition. Fails only
 /// where memory runs out.
-pub fn tree_root<F: Digits, H: Hasher, G: Grafts<H>, E: AsSlice<u8>>(
+pub(crate) fn tree_root<F: Digits, H: Hasher, G: Grafts<H>, E: AsSlice<u8>>(
     alloc: Global,
     grafts: &G,
     bagging: Bagging,

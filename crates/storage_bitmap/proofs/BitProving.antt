@@ -41,7 +41,10 @@ module _ (h : HashFunction) (b : Bagging) (n place len : ℕ) (r : Retained) (bi
   module _ {D : Type 0} (text : D → List ℕ) (tree : Kept D) (whole : tree.leaves ≡ bit_count n r / (8 * n))
       (stands : StandsFor text mmr (chunk_nodes h) tree (chunk_digests h n bits tree.leaves))
       (start end leaves inactive : ℕ) (start_is : start ≡ place) (end_is : end ≡ place + 1) (items : List D)
-      (own : (T : Layout) (content : Content) → T.shape ≡ mmr → StandsFor text mmr (node_over h T content.chunk) tree (leaf_digests h T 0 content.elements) → (record { leaves = leaves; inactive = inactive; digests = map text items }) ≡ own_proof h T b content 0 start end)
+      (own : (T : Layout) (content : Content) → T.shape ≡ mmr
+      → StandsFor text mmr (node_over h T content.chunk) tree (leaf_digests h T 0 content.elements)
+      → (record { leaves = leaves; inactive = inactive; digests = map text items })
+      ≡ own_proof h T b content 0 start end)
       (before : place ≢ len / (8 * n)) where
     not_here : place ≢ length bits / (8 * n)
     not_here i = before (i ∙ ap (λ m. m / (8 * n)) (sym all))

@@ -1,17 +1,17 @@
 -- Packed bits and the bytes of chunks.
-use Rattle.std.proofs.Common.{◌≡◌, ◌≢◌, ℕ, zero, suc, ◌+◌, ◌-◌, ◌*◌, ◌/◌, ◌%◌, ◌^◌, ◌<◌, ◌≤◌, ◌↔◌, List, [], ◌∷◌, ◌++◌, length, drop, set, get_or, refl, sym, ap, ◌∙◌, arith, Bool, true, false, eqb, inl, inr, add-zero, zero-mul, get_or-drop, ext_get_or, get_or-set_same, get_or-set_other, length-set, length-drop, length-append, mul_comm, ap₂, replicate, take, Option, Some, None, MatchOption, Bor}
+use Rattle.std.proofs.Common.{◌≡◌, ◌≢◌, ℕ, zero, suc, ◌+◌, ◌-◌, ◌*◌, ◌/◌, ◌%◌, ◌^◌, ◌<◌, ◌≤◌, ◌↔◌, List, [], ◌∷◌, ◌++◌, length, drop, set, get_or, refl, sym, ap, ◌∙◌, arith, Bool, true, false, eqb, inl, inr, zero-mul, get_or-drop, ext_get_or, get_or-set_same, get_or-set_other, length-set, length-drop, length-append, mul_comm, ap₂, replicate, take, Option, Some, None, MatchOption, Bor}
 use Rattle.std.specs.Int.{bit_at}
 use Rattle.std.proofs.lemmas.Nat.Bits.{bit_at-suc, bit_at_lowest, bit_at-zero, same_from_bits_below, bit_at-lt}
 use Rattle.std.proofs.lemmas.List.{drop-drop, get_or_past, length_push, get_or_push, get_or_append_left}
 use Rattle.std.proofs.lemmas.List.FromFn.{length-map-range_with_len, get_or-map-range_with_len}
 use Rattle.std.proofs.lemmas.Bool.{cases_lt, cases_eq}
 use Rattle.std.proofs.lemmas.Nat.{div-add-mod'}
-use Rattle.std.proofs.Math.Nat.{mod-lt, mul-sub, mul-mod_left}
+use Rattle.std.proofs.Math.Nat.{mod-lt, mul-sub, mul-mod_left, mul-le-mul_right}
 use Rattle.std.proofs.lemmas.Nat.{div-mul-add, mod-mul-add}
 use Rattle.std.proofs.Math.Seq.{drop-nil}
-use Rattle.std.proofs.lemmas.List.{length-replicate, nil_from_length, take_all}
-use Rattle.std.specs.Array.{IsWholeChunk}
-use Rattle.storage_bitmap.specs.Chunks.{digit, number_of, bytes_of, chunk, IsChunkSize, Retained, pruned_to}
+use Rattle.std.proofs.lemmas.List.{length-replicate, nil_from_length, take_all, get_or-take, length-take-le}
+use Rattle.std.specs.Array.{IsFirstChunk, IsWholeChunk}
+use Rattle.storage_bitmap.specs.Chunks.{digit, number_of, bytes_of, chunk, IsChunkSize, pruned_to}
 use Rattle.storage_bitmap.specs.Packed.{bit_in, bits_in, IsPacked, IsWritten, HasRoom}
 
 digit-below : (b : Bool) → digit b < 2
@@ -92,13 +92,6 @@ byte_is bytes count narrow clear p =
     (λ k h. sym (bit_at-number_of 8 k (drop (8 * p) (bits_in bytes count)) h
     ∙ (ap digit (get_or-drop (8 * p) (bits_in bytes count) k false ∙ bit_of bytes count clear (8 * p + k))
     ∙ digit-bit_in bytes p k h)))
-
--- the same bits at each place below the count
-pub bits_same : (bytes : List ℕ) (bits : List Bool) → ((i : ℕ) → i < length bits → bit_in bytes i ≡ get_or bits i false)
-    → bits_in bytes (length bits) ≡ bits
-bits_same bytes bits h =
-    ext_get_or false (bits_in bytes (length bits)) bits (length-bits_in bytes (length bits))
-    (λ i below. let b : i < length bits = rw length-bits_in at below in get_or-bits_in bytes (length bits) i b ∙ h i b)
 
 -- ---- the steps of a bitmap
 pub chunk_positive : (n : ℕ) → IsChunkSize n → 0 < n
@@ -320,6 +313,46 @@ pub chunk_within : (n pruned kept index : ℕ) (bytes : List ℕ)
     → 8 * ((index - pruned) * n) < kept
 chunk_within n pruned kept index bytes h low = omega (arith, length-bits_in bytes kept, chunks_split n pruned index low)
 
+-- a chunk that has a bit is there
+pub chunk_there : (n pruned kept index : ℕ) (bytes : List ℕ) → IsPacked n pruned kept bytes
+    → index * (8 * n) < pruned * (8 * n) + length (bits_in bytes kept) → pruned ≤ index
+    → (index - pruned) * n + n ≤ length bytes
+chunk_there n pruned kept index bytes p h low =
+    at (index - pruned) p.chunks (chunk_within n pruned kept index bytes h low) p.room p.enough where
+      at : (j chunks : ℕ) → 8 * (j * n) < kept → length bytes ≡ chunks * n → kept ≤ chunks * (8 * n)
+          → j * n + n ≤ length bytes
+      at j chunks some room enough = elim (cases_lt j chunks) [
+        | inl less ↦
+            let one : suc j * n ≡ j * n + n = grind arith in
+            let most : suc j * n ≤ chunks * n = mul-le-mul_right n less in
+            omega (arith, room, one, most)
+        | inr far ↦
+            let most : chunks * n ≤ j * n = mul-le-mul_right n far in
+            absurd (omega (arith, some, enough, eights n chunks, most))
+      ]
+
+whole_rest : (start : ℕ) (bytes : List ℕ) → take (length bytes - start) (drop start bytes) ≡ drop start bytes
+whole_rest start bytes = take_all (length bytes - start) (drop start bytes) (omega (arith, length-drop start bytes))
+
+pub lent_there : (n start : ℕ) (bytes : List ℕ) → start + n ≤ length bytes
+    → n ≤ length (take (length bytes - start) (drop start bytes))
+lent_there n start bytes h = rw (whole_rest start bytes, length-drop start bytes) (omega arith)
+
+-- a chunk that is lent
+pub lent_is : (n pruned kept j : ℕ) (bytes : List ℕ) (lent : Option (Bor (List ℕ))) (r : Bor (List ℕ))
+    → IsPacked n pruned kept bytes → lent ≡ Some r
+    → MatchOption lent (length (take (length bytes - j * n) (drop (j * n) bytes)) < n)
+    (λ y. IsFirstChunk (take (length bytes - j * n) (drop (j * n) bytes)) y.now n)
+    → r.now ≡ chunk n (bits_in bytes kept) j
+lent_is n pruned kept j bytes lent r p e cases = at (rw e at cases) where
+  at : IsFirstChunk (take (length bytes - j * n) (drop (j * n) bytes)) r.now n → r.now ≡ chunk n (bits_in bytes kept) j
+  at first =
+      chunk_is n j kept bytes r.now p.narrow p.clear
+      (ap length first.same ∙ length-take-le n (take (length bytes - j * n) (drop (j * n) bytes)) first.enough)
+      (λ m b. ap (λ (xs : List ℕ). get_or xs m 0) first.same
+      ∙ (get_or-take n (take (length bytes - j * n) (drop (j * n) bytes)) m 0 b
+      ∙ (ap (λ (xs : List ℕ). get_or xs m 0) (whole_rest (j * n) bytes) ∙ get_or-drop (j * n) bytes m 0)))
+
 pub prune_within : (n pruned kept chunks bit : ℕ) (bytes : List ℕ)
     → bit ≤ pruned * (8 * n) + length (bits_in bytes kept) → chunks ≡ bit / (8 * n) → 0 < n
     → chunks * (8 * n) ≤ pruned * (8 * n) + kept
@@ -327,10 +360,6 @@ prune_within n pruned kept chunks bit bytes h e some =
     omega (arith, length-bits_in bytes kept, whole (8 * n) bit chunks e (omega arith)) where
       whole : (m bit chunks : ℕ) → chunks ≡ bit / m → 0 < m → chunks * m ≤ bit
       whole m bit chunks e some = rw e (omega (arith, div-add-mod' bit m))
-
--- with less than a chunk to prune there is nothing to prune
-pub pruned_none : (n chunks : ℕ) (r : Retained) → chunks ≤ r.pruned → pruned_to n r chunks ≡ r
-pruned_none n chunks r h = let e : chunks - r.pruned ≡ 0 = omega arith in rw (e, add-zero, zero-mul) refl
 
 pub pruned_some : (n pruned kept chunks : ℕ) (old new : List ℕ) → pruned ≤ chunks
     → new ≡ drop ((chunks - pruned) * n) old → 8 * ((chunks - pruned) * n) ≤ kept
@@ -379,9 +408,6 @@ roomy n bytes kept full =
       narrow = λ h i. rw (grown bytes n i) (h i);
       same = λ i. rw (grown bytes n (i / 8)) refl;
     }
-
-pub room_enough : (n : ℕ) (bytes : List ℕ) (kept : ℕ) → kept ≢ 8 * length bytes → HasRoom n bytes bytes kept
-room_enough n bytes kept d = record { more = λ e. absurd (d e); enough = λ x. refl; narrow = λ h. h; same = λ i. refl }
 
 -- what pruning takes is kept
 pub gone_within : (n pruned kept chunks bit : ℕ) (bytes : List ℕ) → bit ≤ pruned * (8 * n) + length (bits_in bytes kept)

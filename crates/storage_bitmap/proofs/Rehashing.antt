@@ -1,5 +1,5 @@
 -- The tree over chunks is that of the bits, and its root gives the root of the bits.
-use Rattle.std.proofs.Common.{◌≡◌, ◌≢◌, ℕ, zero, suc, ◌+◌, ◌-◌, ◌*◌, ◌/◌, ◌%◌, ◌^◌, ◌<◌, ◌≤◌, List, [], ◌∷◌, ◌++◌, length, map, set, get_or, All, Bool, false, refl, sym, ap, ap₂, ◌∙◌, arith, subst, eqb, append_assoc, div-le_self}
+use Rattle.std.proofs.Common.{◌≡◌, ◌≢◌, ℕ, zero, suc, ◌+◌, ◌-◌, ◌*◌, ◌/◌, ◌%◌, ◌^◌, ◌<◌, ◌≤◌, List, [], ◌∷◌, ◌++◌, length, map, set, get_or, All, Bool, false, refl, sym, ap, ap₂, ◌∙◌, arith, subst, eqb, append_assoc, div-le_self, inl, inr, ◌⊎◌}
 use Rattle.std.specs.List.{AllZip}
 use Rattle.std.proofs.lemmas.List.{set-get_or}
 use Rattle.std.proofs.lemmas.List.Elements.{All-head, All-tail}
@@ -13,7 +13,7 @@ use Rattle.storage_merkle.specs.declared.merkle.bagging.Bagging.{Bagging}
 use Rattle.storage_merkle.specs.Trees.{Layout, ungrafted, listed}
 use Rattle.storage_merkle.specs.Hashing.{leaf_digests, node_over, peak_digests, root_of}
 use Rattle.storage_merkle.specs.HashingLaws.{tree_root-leaves}
-use Rattle.storage_merkle.specs.Kept.{Kept, StandsBut, StandsFor, at_peaks, updated}
+use Rattle.storage_merkle.specs.Kept.{IsFirstAway, Kept, StandsBut, StandsFor, at_peaks, updated}
 use Rattle.storage_bitmap.specs.Chunks.{chunk, chunks_from, complete, IsRest, Retained, bit_count}
 use Rattle.storage_bitmap.specs.BitRoots.{partial_string, chunks_root, partial_chunk, bit_root}
 use Rattle.storage_bitmap.specs.StandsForBits.{chunk_digests, chunk_nodes}
@@ -90,6 +90,22 @@ module _ {D : Type 0} (text : D → List ℕ) (digest : ℕ → List ℕ) where
 
   pub leaves_there : (keys : List ℕ) (us : List (ℕ × D)) → AllZip IsLeafOf keys us → map (λ u. u.0) us ≡ keys
   leaves_there = places
+
+-- leaves of dirty chunks are in the tree
+pub none_away : {D : Type 0} (text : D → List ℕ) (digest : ℕ → List ℕ) (keys : List ℕ) (us : List (ℕ × D))
+    (leaves boundary pruned away : ℕ)
+    → AllZip (λ k u. (u.0 ≡ k) × (text u.1 ≡ digest k)) keys us → All (λ k. (pruned ≤ k) × (k < leaves)) keys
+    → boundary ≡ pruned → IsFirstAway leaves boundary (map (λ u. u.0) us) away
+    → (leaves ≤ away) ⊎ (away < boundary) → ⊥
+none_away text digest keys us leaves boundary pruned away zip there low first out =
+    let e : map (λ u. u.0) us ≡ keys = places text digest keys us zip in
+    let within : first.index < length keys = rw e at first.within in
+    let is : get_or keys first.index 0 ≡ away = rw e at first.is in
+    let kept = there first.index 0 within in
+    elim out [
+      | inl far ↦ omega (arith, is, kept.1, far)
+      | inr gone ↦ omega (arith, is, kept.0, low, gone)
+    ]
 
 pub rewritten : {D : Type 0} (text : D → List ℕ) (h : HashFunction) (T : Layout) (c : ℕ → List ℕ) (n : ℕ) (r : Retained)
     (old new : Kept D) (keys : List ℕ) (us : List (ℕ × D)) → T ≡ ungrafted mmr

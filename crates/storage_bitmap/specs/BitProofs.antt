@@ -78,8 +78,8 @@ pub record IsOwnBit (h : HashFunction) (b : Bagging) (n : ℕ) (proof : RangePro
   pub within : bit < length bits
   pub chunk_is : bytes ≡ chunk n bits (bit / (8 * n))
 
--- Of each list of bits with that root, the proof is the list's own and the chunk is the list's, or a string of the check and a
--- different one of the list have one digest. Digests have d bytes.
+-- Of each list of bits with that root, the proof is the list's own and the chunk is the list's, or a string of the
+-- check and a different one of the list have one digest. Digests have d bytes.
 abbrev pub IsBitProved : ℕ → HashFunction → Bagging → ℕ → RangeProof → List ℕ → ℕ → List ℕ → Type 0
 IsBitProved d h b n proof bytes bit root =
     (d ≡ 32) ⊎ (d ≡ 64) → (bits : List Bool) → length bits ≤ 2 ^ 62 → bit_root h b n bits ≡ root →

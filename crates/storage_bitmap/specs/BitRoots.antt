@@ -7,7 +7,8 @@ use Rattle.storage_merkle.specs.Trees.{ungrafted, listed, tree_root, tree_string
 use Rattle.storage_merkle.specs.declared.merkle.bagging.Bagging.{Bagging}
 use Rattle.storage_bitmap.specs.Chunks.{chunk, complete}
 
--- the string of a root where the last chunk is partial: the root of the tree, the number of bits, the partial chunk's digest
+-- the string of a root where the last chunk is partial: the root of the tree, the number of bits, the partial chunk's
+-- digest
 abbrev pub partial_string : List ℕ → ℕ → List ℕ → List ℕ
 partial_string root len last = root ++ (be8 len ++ last)
 

@@ -6,7 +6,7 @@ abbrev pub halves : ℕ → ℕ → Bool
 halves zero n = false
 halves (suc times) n = eqb n 1 || (eqb (n % 2) 0 && halves times (n / 2))
 
--- a number of bytes that chunks may have: a power of two
+-- a number of bytes that chunks may have: a power of two up to 2^59
 abbrev pub IsChunkSize : ℕ → Type 0
 IsChunkSize n = IsTrue (halves n n) × (n ≤ 2 ^ 59)
 
@@ -25,7 +25,8 @@ unfoldable pub bytes_of : ℕ → List Bool → List ℕ
 bytes_of zero bs = []
 bytes_of (suc n) bs = number_of 8 bs ∷ bytes_of n (drop 8 bs)
 
--- chunk j, of n bytes: bit b stands in chunk b / 8n, byte (b mod 8n) / 8, at the place b mod 8, and what is past the bits is 0
+-- chunk j, of n bytes: bit b stands in chunk b / 8n, byte (b mod 8n) / 8, at the place b mod 8, and what is past the
+-- bits is 0
 unfoldable pub chunk : ℕ → List Bool → ℕ → List ℕ
 chunk n bits j = bytes_of n (drop (j * (8 * n)) bits)
 
@@ -49,7 +50,7 @@ pub record Retained : Type 0 where
 abbrev pub bit_count : ℕ → Retained → ℕ
 bit_count n r = r.pruned * (8 * n) + length r.bits
 
--- the bits once moreover the chunks below that of a bit are pruned
+-- what is left once so many chunks in front are pruned, or as many as are already
 abbrev pub pruned_to : ℕ → Retained → ℕ → Retained
 pruned_to n r chunks = record {
   pruned = r.pruned + (chunks - r.pruned);

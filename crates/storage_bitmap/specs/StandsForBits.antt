@@ -11,6 +11,7 @@ use Rattle.storage_merkle.specs.declared.merkle.error.Error.TheVariants.{Missing
 use Rattle.storage_bitmap.specs.Chunks.{IsChunkSize, Retained, IsRest, bit_count, chunks_from}
 use Rattle.storage_bitmap.specs.BitRoots.{bit_root}
 
+-- what an authenticated bitmap keeps: its retained bits, a tree, and whether the tree is that of the bits
 pub record Authenticated (D M : Type 0) : Type 0 where
   pub retained : Retained
   -- the tree over the complete chunks
@@ -18,7 +19,8 @@ pub record Authenticated (D M : Type 0) : Type 0 where
   -- whether the tree is that of the bits
   pub state : M
 
--- true of every bitmap, also of one that stands for no list; `fits` tells what its state asks of the pruned chunks, of the tree's leaves, and of the complete chunks
+-- true of every bitmap, also of one that stands for no list; `fits` tells what its state asks of the pruned chunks, of
+-- the tree's leaves, and of the complete chunks
 pub record IsWholeMap {D : Type 0} (n : ℕ) (retained : Retained) (tree : Kept D)
     (fits : ℕ → ℕ → ℕ → Type 0) : Type 0 where
   pub size : IsChunkSize n
@@ -36,7 +38,8 @@ chunk_digests h n bits c = leaf_digests h (ungrafted mmr) 0 (chunks_from n bits 
 abbrev pub chunk_nodes : HashFunction → NodesOver
 chunk_nodes h = node_over h (ungrafted mmr) (λ a. [])
 
--- the retained bits are these bits' rest, and the digests of the tree are those over their chunks, save over dirty chunks; a digest's bytes are told by `text`
+-- the retained bits are these bits' rest, and the digests of the tree are those over their chunks, save over dirty
+-- chunks; a digest's bytes are told by `text`
 pub record StandsForBits {D M : Type 0} (text : D → List ℕ) (h : HashFunction) (n : ℕ) (b : Authenticated D M)
     (dirty : List ℕ) (bits : List Bool) : Type 0 where
   pub rest : IsRest n b.retained bits
@@ -61,10 +64,19 @@ abbrev pub IsCorrupted : {F : Type 0} → Error F → Type 0
 IsCorrupted (DataCorrupted text) = Unit {0}
 IsCorrupted _ = ⊥
 
--- why no bitmap is made from so many pruned chunks and so many digests: the bits are too many; a peak has no digest, the first of which is named; memory
+-- why no bitmap is made from so many pruned chunks and so many digests: the bits are too many; a peak has no digest,
+-- the first of which is named; memory
 abbrev pub IsRefused : {F : Type 0} → ℕ → ℕ → ℕ → Error F → Type 0
 IsRefused n count given error =
     ((2 ^ 62 < count * (8 * n)) × IsCorrupted error)
     ⊎ ((count * (8 * n) ≤ 2 ^ 62) × (given < length (mmr.peaks count))
     × (error ≡ MissingNode (slice_index (pins mmr count) given)))
     ⊎ ((count * (8 * n) ≤ 2 ^ 62) × (length (mmr.peaks count) ≤ given) × (error ≡ Memory))
+
+-- Two bitmaps that stand for the same bits under one digest function and bagging have the same root, whatever is
+-- pruned of either.
+abbrev pub EqualBitsHaveEqualRoots : Type 0 → Type 0 → Type 0
+EqualBitsHaveEqualRoots D M =
+    (text : D → List ℕ) (h : HashFunction) (bagging : Bagging) (n : ℕ) (a b : Authenticated D M) (root other : D)
+    (bits : List Bool) → StandsMerkleized text h bagging n a root bits → StandsMerkleized text h bagging n b other bits
+    → text root ≡ text other

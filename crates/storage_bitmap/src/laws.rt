@@ -2,6 +2,7 @@
 //! does nothing.
 
 ghost use Rattle.storage_bitmap.specs.BitProofs.{BitProofsAreSound, OwnBitProofsAreAccepted};
+ghost use Rattle.storage_bitmap.specs.StandsForBits.{EqualBitsHaveEqualRoots};
 
 use storage_merkle::laws::{own_range_proofs_are_accepted, range_proofs_are_sound};
 
@@ -19,3 +20,9 @@ pub fn own_bit_proofs_are_accepted()
 {
     own_range_proofs_are_accepted();
 }
+
+/// Two bitmaps that stand for the same bits under one digest function and bagging have the same root, whatever is pruned of
+/// either: pruning a bitmap and restoring one keep the root.
+pub fn equal_bits_have_equal_roots<D, M>()
+    ensures { EqualBitsHaveEqualRoots D M }
+{}

@@ -143,27 +143,8 @@ pub counts_as : {raw fault : Type 0} (before after : ℕ) → (fault → raw) �
     → (after ≡ before) ⊎ (after ≡ before + 1) → Counts fault before after
 counts_as before after to of told once = record { told = (λ f. told.0 (to f), λ grew. of (told.1 grew)); once = once }
 
-pub counts_kept : {fault other : Type 0} (before after : ℕ) → Counts fault before after → (fault → ⊥) → (other → ⊥)
-    → Counts other before after
-counts_kept before after c never none =
-    counts_as before after (λ o. absurd (none o)) (λ f. absurd (never f)) c.told c.once
-
 abbrev Fault : {X F : Type 0} → Result X (Error F) → Type 0
 Fault result = (code : ℕ) × (result ≡ Err (Merkle (tree.Source code)))
-
-pub ok_no_fault : {X F : Type 0} (x : X) → Fault {X = X} {F = F} (Ok x) → ⊥
-ok_no_fault x f = let e = f.1 in cc
-
-pub built_no_fault : {X F D : Type 0} (answers : ℕ → Option D → Type 0) (g : Grafting) (plan : PlanOf)
-    (status : Retained) (result : Result X (Error F))
-    → IfErr result (IsNotBuilt answers g plan status) → Fault result → ⊥
-built_no_fault {X} {F} answers g plan status result why f =
-    source f.0 (subst (λ (r : Result X (Error F)). IfErr r (IsNotBuilt answers g plan status)) f.1 why)
-  where
-    source : (code : ℕ) → IsNotBuilt {F = F} answers g plan status (Merkle (tree.Source code)) → ⊥
-    source code (inl a) = let e = a.2 in cc
-    source code (inr (inl b)) = b.2
-    source code (inr (inr m)) = cc
 
 -- ---- refusals that are passed on
 
@@ -196,12 +177,6 @@ pub unread_not_read : {F D : Type 0} (node : ℕ → Option D) (g : Grafting) (p
 unread_not_read node g plan status error (inl s) = inl s
 unread_not_read node g plan status error (inr (inl a)) = inr (inl a)
 unread_not_read node g plan status error (inr (inr m)) = inr (inr (inr m))
-
--- the same fault of another answer
-pub counts_moved : {X Y F : Type 0} (error : Error F) (before after : ℕ)
-    → Counts (Fault {X = X} (Err error)) before after → Counts (Fault {X = Y} (Err error)) before after
-counts_moved error before after c =
-    counts_as before after (λ f. (f.0, let e = f.1 in cc)) (λ f. (f.0, let e = f.1 in cc)) c.told c.once
 
 pub on_ok : {X E : Type 0} (r : Result X E) (P : Type 0) → P → OnOk r P
 on_ok (Ok x) P p = p

@@ -23,10 +23,3 @@ pub grafted_some : {X : Type 0} (f : X → List ℕ) (h start r a k : ℕ) (chun
     → (grafted_over h r a k ≡ true) × (supplied start (map f chunks) (a / 2 ^ h) ≡ f x)
 grafted_some f h start r a k chunks x e al below from inside read =
     (over_yes h r a k e al below, rw (← e) (supplied_at f start (a / 2 ^ k) chunks x from inside read))
-
-pub supplied_none : {X : Type 0} (f : X → List ℕ) (h start a k : ℕ) (chunks : List X) → k ≡ h → start ≤ a / 2 ^ k
-    → length chunks ≤ a / 2 ^ k - start
-    → supplied start (map f chunks) (a / 2 ^ h) ≡ []
-supplied_none f h start a k chunks e from past =
-    rw (← e) (supplied_from start (a / 2 ^ k) (map f chunks) from
-    ∙ get_or_past (map f chunks) (a / 2 ^ k - start) [] (rw length-map past))

@@ -80,19 +80,6 @@ size_of_power n r e small = (
       pow_le r 59 (omega arith) in omega arith,
 )
 
--- the test of a size finds none that chunks may not have
-pub no_size : (n : ℕ) → (IsChunkSize n → ⊥) → (halves n n && leb n (2 ^ 59)) ≡ false
-no_size n none = test (halves n n) (leb n (2 ^ 59)) refl refl
-  where
-    test : (a b : Bool) → halves n n ≡ a → leb n (2 ^ 59) ≡ b → (a && b) ≡ false
-    test true true e f = absurd (none (e, leb-true n (2 ^ 59) f))
-    test true false e f = refl
-    test false true e f = refl
-    test false false e f = refl
-
-pub some_size : (n : ℕ) → IsChunkSize n → (halves n n && leb n (2 ^ 59)) ≡ true
-some_size n size = rw (size.0, le-leb n (2 ^ 59) size.1) refl
-
 -- ---- the bits of the complete chunks, and of the one after them
 
 pub whole_within : (n h leaves whole count : ℕ) → 8 * n ≡ 2 ^ h → whole ≡ leaves / 2 ^ h → leaves ≡ count

@@ -90,8 +90,3 @@ module _ (S : Shape) (L : Laws S) where
         go true = ap (λ b. if b then (if ltb (height_at S p) g then operations p else chunks (lowered S g p)) else None)
             (lt-leb _ _ l)
         go false = refl
-
--- other nodes of the operations that are the same
-pub joined_same : {D : Type 0} (S : Shape) (g n m : ℕ) (chunks before after : ℕ → Option D) → m ≡ n
-    → ((p : ℕ) → after p ≡ before p) → (p : ℕ) → joined S g m chunks after p ≡ joined S g n chunks before p
-joined_same S g n m chunks before after e same p = rw (e, same p) refl

@@ -1,17 +1,16 @@
 -- A proof that was written is read again, and what is read was written so.
-use Rattle.std.proofs.Common.{◌≡◌, ℕ, zero, suc, ◌+◌, ◌^◌, Bool, true, false, cond, ltb, leb, ◌&&◌, List, [], ◌∷◌, ◌++◌, length, Option, Some, None, Ok, Err, refl, sym, ap, subst, ◌∙◌, append_assoc, arith, length-append}
+use Rattle.std.proofs.Common.{◌≡◌, ℕ, ◌+◌, ◌^◌, Bool, true, false, cond, leb, ◌&&◌, List, ◌++◌, length, Option, Some, None, Ok, Err, refl, sym, ap, subst, ◌∙◌, append_assoc, arith, length-append}
 use Rattle.std.specs.Prelude.{IfSome, option_map, codes}
 use Rattle.std.proofs.lemmas.Bool.{le-leb}
-use Rattle.storage_codec.specs.Faults.{◌>>=◌, Invalid, InvalidLength}
+use Rattle.storage_codec.specs.Faults.{◌>>=◌, Invalid}
 use Rattle.storage_codec.specs.Parts.{IsBytes, option_text, varint_text}
-use Rattle.storage_codec.specs.Codec.{mapped, front_at, option_at, varint_at}
-use Rattle.storage_codec.specs.Laws.{bind_ok, not_fault, mapped_ok, ok_is, front_again, front_back, option_again, option_back}
-use Rattle.storage_codec.specs.VarintLaws.{varint_back}
+use Rattle.storage_codec.specs.Codec.{front_at, option_at}
+use Rattle.storage_codec.specs.Laws.{bind_ok, ok_is, front_again, front_back, option_again, option_back}
 use Rattle.storage_merkle.specs.Wire.{location_at, slot_text, slot_at, IsSlot}
 use Rattle.storage_merkle.specs.WireLaws.{location_again, location_back, slot_again, slot_back}
 use Rattle.storage_merkle.specs.RangeProofs.{RangeProof}
-use Rattle.storage_merkle.specs.ProofWire.{joined_text, digests_at, proof_text, proof_at}
-use Rattle.storage_merkle.specs.ProofWireLaws.{all_digests, proof_again}
+use Rattle.storage_merkle.specs.ProofWire.{proof_text, proof_at}
+use Rattle.storage_merkle.specs.ProofWireLaws.{all_digests, proof_again, proof_back}
 use Rattle.storage_ops.specs.Reading.{tail_bytes, along}
 use Rattle.storage_bitmap.specs.Chunks.{halves}
 use Rattle.storage_current.specs.Snapshots.{CurrentProof, OperationProof}
@@ -141,52 +140,6 @@ sized_again there d size most p rest has ok =
     (operation_again there d size most p rest has ok.array.chunk ok.array.proof)
 
 -- ---- what is read was written so
-
-digests_back : (d n : ℕ) (bytes : List ℕ) (ds : List (List ℕ)) (rest : List ℕ) → digests_at d n bytes ≡ Ok (ds, rest)
-    → (bytes ≡ joined_text ds ++ rest) × (length ds ≡ n)
-digests_back d zero bytes ds rest e =
-    let none : List (List ℕ) = [] in
-    subst (λ (q : List (List ℕ) × List ℕ). (bytes ≡ joined_text q.0 ++ q.1) × (length q.0 ≡ zero))
-    (ok_is (none, bytes) (ds, rest) e) (refl, refl)
-digests_back d (suc n) bytes ds rest e =
-    let b = bind_ok {B = List (List ℕ) × List ℕ} (front_at d bytes) (λ x. mapped (λ ys. x.0 ∷ ys) (digests_at d n x.1))
-    (ds, rest) e in
-    let m = mapped_ok (λ ys. b.0.0 ∷ ys) (digests_at d n b.0.1) ds rest b.2 in
-    let r = digests_back d n b.0.1 m.0 rest m.1 in
-    let f = front_back d bytes b.0.0 b.0.1 b.1 in
-    let whole : bytes ≡ (b.0.0 ++ joined_text m.0) ++ rest =
-    f ∙ ap (λ (t : List ℕ). b.0.0 ++ t) r.0 ∙ sym (append_assoc b.0.0 (joined_text m.0) rest) in
-    subst (λ (q : List (List ℕ)). (bytes ≡ joined_text q ++ rest) × (length q ≡ suc n)) m.2 (whole, ap suc r.1)
-
-abbrev range_of : ℕ → ℕ → List (List ℕ) → RangeProof
-range_of n i ds = record { leaves = n; inactive = i; digests = ds }
-
-proof_back : (d most : ℕ) (bytes : List ℕ) (p : RangeProof) (rest : List ℕ) → IsBytes bytes
-    → proof_at d most bytes ≡ Ok (p, rest) → bytes ≡ proof_text p ++ rest
-proof_back d most bytes p rest fits e =
-    let a = bind_ok {B = RangeProof × List ℕ} (location_at bytes) (λ n. varint_at n.1 >>= λ i. varint_at i.1 >>= λ c.
-    cond (ltb most c.0) (Err (InvalidLength c.0)) (mapped (range_of n.0 i.0) (digests_at d c.0 c.1))) (p, rest) e in
-    let b = bind_ok {B = RangeProof × List ℕ} (varint_at a.0.1) (λ i. varint_at i.1 >>= λ c. cond (ltb most c.0)
-    (Err (InvalidLength c.0)) (mapped (range_of a.0.0 i.0) (digests_at d c.0 c.1))) (p, rest) a.2 in
-    let c = bind_ok {B = RangeProof × List ℕ} (varint_at b.0.1) (λ c. cond (ltb most c.0) (Err (InvalidLength c.0))
-    (mapped (range_of a.0.0 b.0.0) (digests_at d c.0 c.1))) (p, rest) b.2 in
-    let g = not_fault (ltb most c.0.0) (InvalidLength c.0.0) (mapped (range_of a.0.0 b.0.0) (digests_at d c.0.0 c.0.1))
-    (p, rest) c.2 in
-    let m = mapped_ok (range_of a.0.0 b.0.0) (digests_at d c.0.0 c.0.1) p rest g in
-    let r = digests_back d c.0.0 c.0.1 m.0 rest m.1 in
-    let x = location_back bytes a.0.0 a.0.1 fits a.1 in
-    let fits2 = tail_bytes (varint_text a.0.0) a.0.1 (along _ _ x fits) in
-    let y = varint_back a.0.1 b.0.0 b.0.1 fits2 b.1 in
-    let fits3 = tail_bytes (varint_text b.0.0) b.0.1 (along _ _ y fits2) in
-    let z = varint_back b.0.1 c.0.0 c.0.1 fits3 c.1 in
-    let z2 : b.0.1 ≡ varint_text (length m.0) ++ (joined_text m.0 ++ rest) =
-    z ∙ ap (λ (t : List ℕ). varint_text c.0.0 ++ t) r.0
-    ∙ ap (λ (n : ℕ). varint_text n ++ (joined_text m.0 ++ rest)) (sym r.1) in
-    let y2 = y ∙ ap (λ (t : List ℕ). varint_text b.0.0 ++ t) z2 in
-    let x2 = x ∙ ap (λ (t : List ℕ). varint_text a.0.0 ++ t) y2 in
-    let parts : proof_text (range_of a.0.0 b.0.0 m.0) ++ rest ≡ varint_text a.0.0
-    ++ (varint_text b.0.0 ++ (varint_text (length m.0) ++ (joined_text m.0 ++ rest))) = simp append_assoc in
-    subst (λ (q : RangeProof). bytes ≡ proof_text q ++ rest) m.2 (x2 ∙ sym parts)
 
 pub digest_back : (d : ℕ) (bytes x rest : List ℕ) → IsBytes bytes → front_at d bytes ≡ Ok (as_is x, rest)
     → bytes ≡ as_is x ++ rest

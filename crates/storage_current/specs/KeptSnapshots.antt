@@ -31,7 +31,7 @@ pub record HasEachBit (n count : ℕ) (bits : Retained) : Type 0 where
   pub all : bit_count n bits ≡ count
   pub unpruned : bits.pruned ≡ 0
 
--- what is stored is that of no snapshot
+-- the refusal is corrupted data; its text is not told
 abbrev pub IsCorrupted : {F : Type 0} → Error F → Type 0
 IsCorrupted (DataCorrupted text) = Unit {0}
 IsCorrupted _ = ⊥

@@ -24,7 +24,7 @@ pub record Counts (fault : Type 0) (before after : ℕ) : Type 0 where
   pub told : fault ↔ (after ≡ before + 1)
   pub once : (after ≡ before) ⊎ (after ≡ before + 1)
 
--- that of no tree
+-- the refusal is corrupted data of a tree; its text is not told
 abbrev pub IsNoTree : {F : Type 0} → Error F → Type 0
 IsNoTree (Merkle (tree.DataCorrupted text)) = Unit {0}
 IsNoTree _ = ⊥

@@ -5,9 +5,9 @@ use Rattle.storage_codec.specs.Digests.{HashFunction}
 
 -- where a digest that a calculation is given stands
 pub data Site : Type 0 where
-  -- the forward fold of the inactive peaks before a range
+  -- the forward fold of the peaks before a range that are folded from the left
   front : Site
-  -- the backward fold of the active peaks past a range
+  -- the backward fold of the peaks past a range that are folded from the right
   back : Site
   -- the node of a first leaf and a height
   node : ℕ → ℕ → Site

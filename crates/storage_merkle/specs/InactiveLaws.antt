@@ -73,10 +73,6 @@ module _ (S : Shape) (L : Laws S) where
   pub ended : (n c : ℕ) → Reached S n 0 c → c ≡ length (S.peaks n)
   ended n c r = drop_none (S.peaks n) c r.within (r.rest ∙ no_peaks S L)
 
-  pub exact : (n left c floor : ℕ) → Reached S n left c → n - left ≤ floor
-      → ((k : ℕ) → k ≤ length (S.peaks n) → leaves_of (take k (S.peaks n)) ≤ floor → k ≤ c) → IsExact S n floor c
-  exact n left c floor r f m = record { within = r.within; ends = omega (arith, r.sum); most = m }
-
   pub past_end : (n c floor : ℕ) → Reached S n 0 c → (k : ℕ) → k ≤ length (S.peaks n)
       → leaves_of (take k (S.peaks n)) ≤ floor → k ≤ c
   past_end n c floor r k hk ends = omega (arith, ended n c r)
@@ -118,3 +114,8 @@ module _ (S : Shape) where
     whole = t.whole;
     most = λ k hk ends z. t.most k (m k hk ends) z;
   }
+
+  -- every number is a multiple of 2 ^ 0
+  pub unaligned : (n floor r : ℕ) → IsAligned S n floor 0 r → IsExact S n floor r
+  unaligned n floor r a =
+      record { within = a.within; ends = a.ends; most = λ k hk ends. a.most k hk ends (omega arith) }

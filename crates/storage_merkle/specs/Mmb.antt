@@ -16,7 +16,8 @@ mmb_peaks n = mmb_digits (floor_log2 (n + 1)) (n + 1)
 abbrev pub mmb_size : ℕ → ℕ
 mmb_size n = 2 * n - length (mmb_peaks n)
 
--- the number of leaves from which on the tree has the node of height k with first leaf a: half of its own after its last
+-- the number of leaves from which on the tree has the node of height k with first leaf a: those up to its last one, and
+-- one less than half as many as it covers
 abbrev pub mmb_birth : ℕ → ℕ → ℕ
 mmb_birth a zero = a + 1
 mmb_birth a (suc k) = a + 3 * 2 ^ k - 1

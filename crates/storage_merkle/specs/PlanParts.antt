@@ -44,11 +44,12 @@ abbrev pub AreOf : {D : Type 0} → (D → List ℕ) → Shape → List ℕ → 
 AreOf {D} text S positions digests digest_of =
     (p a k : ℕ) (d : D) → StandsAt positions digests p d → IsNode S p a k → text d ≡ digest_of a k
 
--- peaks folded from the left, and from the right
+-- a digest, or another one where there is none
 abbrev pub digest_or : List ℕ → Option (List ℕ) → List ℕ
 digest_or none None = none
 digest_or none (Some x) = x
 
+-- the digests of peaks
 abbrev pub peaks_by : (ℕ → ℕ → List ℕ) → List Peak → List (List ℕ)
 peaks_by digest_of ps = map (λ p. digest_of p.first p.height) ps
 

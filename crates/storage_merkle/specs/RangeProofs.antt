@@ -56,7 +56,7 @@ abbrev pub back_sites : List Peak → List Site
 back_sites [] = []
 back_sites (p ∷ ps) = back ∷ []
 
--- ascending by position
+-- the position of a node; the folds have none
 abbrev pub position_of : Layout → Site → ℕ
 position_of T front = 0
 position_of T back = 0
@@ -66,6 +66,7 @@ abbrev pub place_in : Layout → Site → List Site → List Site
 place_in T s [] = s ∷ []
 place_in T s (t ∷ ts) = if leb (position_of T s) (position_of T t) then s ∷ t ∷ ts else t ∷ place_in T s ts
 
+-- ascending by position
 abbrev pub by_position : Layout → List Site → List Site
 by_position T [] = []
 by_position T (s ∷ ss) = place_in T s (by_position T ss)

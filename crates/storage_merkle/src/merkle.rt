@@ -1,4 +1,4 @@
-//! Tree families: locations, positions and the arithmetic between them.
+//! Trees of two families: places, hashing, trees in memory, plans, proofs and proof stores.
 
 mod bagging;
 mod countable;
@@ -10,7 +10,6 @@ pub mod mem;
 pub mod mmb;
 pub mod mmr;
 mod multi;
-mod order;
 mod peaks;
 mod plan;
 mod position;
@@ -23,7 +22,6 @@ pub use countable::{Countable, leaves_of};
 pub use error::Error;
 pub use family::{Family, Graftable};
 pub use location::Location;
-pub use order::peaks_ascending;
 pub use peaks::{NodesToPin, Peaks};
 pub use plan::{ElementPlan, RangePlan};
 pub use position::Position;

@@ -1,4 +1,5 @@
 //! Authenticated databases of keys and values.
+
 ghost use Rattle.std.specs.Prelude.{◌≡◌};
 ghost use Rattle.storage_merkle.specs.declared.merkle.bagging.Bagging.TheVariants.{BackwardFold};
 

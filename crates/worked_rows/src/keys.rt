@@ -4,6 +4,7 @@ use crate::granted::granted;
 use crate::served::{Digest, bits, key, proof, snapshot};
 use commonware_storage::codec::{FixedBytes, Write};
 use commonware_storage::digest::Sha256;
+use commonware_storage::laws::keys::written_exclusions_are_accepted;
 use commonware_storage::light::check_absence;
 use commonware_storage::merkle::{Location, mmr};
 use commonware_storage::qmdb::any::FixedEncoding;
@@ -56,7 +57,7 @@ fn all_active(
     granted(Snapshot::new(alloc, &written, bits, Location::new(floor)))
 }
 
-/// Whether the proof excludes the key, checked as it is and from its bytes.
+/// Whether the proof excludes the key, checked as it is, from its bytes, and written and checked at once.
 fn excluded(
     alloc: Global,
     snapshot: &Snapshot<mmr::Family, Sha256, 1>,
@@ -76,7 +77,14 @@ fn excluded(
         &key,
         &root,
     )?;
-    if verified == checked {
+    let written = written_exclusions_are_accepted::<_, Sha256, _, FixedEncoding<u64>, 1>(
+        alloc,
+        exclusion,
+        &((), ()),
+        &key,
+        &root,
+    )?;
+    if verified == checked && verified == written {
         Ok(verified)
     } else {
         Err(Fail::new("two answers"))

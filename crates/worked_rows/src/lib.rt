@@ -13,6 +13,8 @@ mod built;
 #[cfg(test)]
 mod combined;
 #[cfg(test)]
+mod copies;
+#[cfg(test)]
 mod faulty;
 #[cfg(test)]
 mod floors;

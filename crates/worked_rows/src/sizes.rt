@@ -4,6 +4,7 @@ use crate::keys::{Exclusion, KeyValue, update};
 use crate::served::{key, proof, snapshot};
 use commonware_storage::codec::{Encode, FixedBytes, Write};
 use commonware_storage::digest::Sha256;
+use commonware_storage::laws::keys::written_values_are_accepted;
 use commonware_storage::light::check_value;
 use commonware_storage::merkle::{Graftable, mmb, mmr};
 use commonware_storage::qmdb::any::FixedEncoding;
@@ -52,6 +53,15 @@ fn assert_key_value(
             &root,
         )?;
         assert_eq!(rt; yes, value == 3);
+        let written = written_values_are_accepted::<_, Sha256, _, FixedEncoding<u64>, 1>(
+            alloc,
+            &key_value,
+            &(),
+            key(6),
+            value,
+            &root,
+        )?;
+        assert_eq!(rt; written, value == 3);
     }
     Ok(())
 }

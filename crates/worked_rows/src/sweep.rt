@@ -1,4 +1,4 @@
-//! Every location of many snapshots.
+//! Every location of many snapshots, and every range of the shorter ones.
 
 use crate::granted::granted;
 use crate::served::{proof, range_proof};
@@ -31,6 +31,23 @@ fn numbers<F: Graftable>(
     Ok((operations, snapshot))
 }
 
+/// The activity bits of these numbers in chunks of one byte, low to high in each.
+fn chunks(alloc: Global, count: u16) -> Result<Vec<[u8; 1]>, Fail> {
+    let mut chunks = Vec::new(alloc);
+    let mut chunk = 0u8;
+    for i in 0..count {
+        if i % 3 != 0 {
+            chunk |= 1 << (i % 8);
+        }
+        if i % 8 == 7 {
+            chunks.push([chunk])?;
+            chunk = 0;
+        }
+    }
+    chunks.push([chunk])?;
+    Ok(chunks)
+}
+
 /// Stops where a proof of an active operation is refused, or one of an inactive operation accepted.
 fn assert_each<F: Graftable>(rt: &impl Abort, alloc: Global, count: u16) -> Result<(), Fail> {
     let (operations, snapshot) = numbers::<F>(alloc, count)?;
@@ -46,11 +63,39 @@ fn assert_each<F: Graftable>(rt: &impl Abort, alloc: Global, count: u16) -> Resu
     Ok(())
 }
 
+/// Stops where the proof of a range that is not empty is refused.
+fn assert_ranges<F: Graftable>(rt: &impl Abort, alloc: Global, count: u16) -> Result<(), Fail> {
+    let (operations, snapshot) = numbers::<F>(alloc, count)?;
+    let floor = (count / 2) as u64;
+    let root = snapshot.root();
+    let chunks = chunks(alloc, count)?;
+    for start in 0..count {
+        for last in start..count {
+            let (first, past) = (start as usize, last as usize + 1);
+            let proof = range_proof(alloc, &snapshot, floor, first as u64, past as u64)?;
+            let yes = proof.verify_encoded::<Sha256, _, [u8; 1]>(
+                alloc,
+                Location::new(first as u64),
+                operations.get(first..past).ok_or("no operations")?,
+                chunks.get(first / 8..past.div_ceil(8)).ok_or("no chunks")?,
+                1,
+                &root,
+            )?;
+            assert!(rt; yes, "{start} to {last} of {count}");
+        }
+    }
+    Ok(())
+}
+
 #[test]
 fn sweep_of_lengths(rt: HostRuntime) -> Result<(), Fail> {
     for count in 1..66 {
         assert_each::<mmr::Family>(&rt, rt.alloc(), count)?;
         assert_each::<mmb::Family>(&rt, rt.alloc(), count)?;
+    }
+    for count in 1..21 {
+        assert_ranges::<mmr::Family>(&rt, rt.alloc(), count)?;
+        assert_ranges::<mmb::Family>(&rt, rt.alloc(), count)?;
     }
     Ok(())
 }

@@ -1,4 +1,5 @@
 //! One location of a tree of the greatest number of leaves. Its root is folded here, node by node.
+
 ghost use Rattle.std.specs.Prelude.{◌≡◌, ◌++◌, [], refl};
 ghost use Rattle.storage_merkle.specs.Calc.{be8};
 ghost use Rattle.storage_merkle.specs.Trees.{ungrafted};

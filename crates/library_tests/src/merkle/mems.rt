@@ -1,4 +1,5 @@
 //! Trees in memory. The digests and roots are computed by an independent program over whole lists.
+
 ghost use Rattle.std.specs.Prelude.{◌+◌, ◌<◌, ◌^◌};
 
 use super::proofs::digest;

@@ -1,4 +1,5 @@
 //! Multi proofs. The digests and roots are computed by an independent program over whole lists.
+
 use super::proofs::digest;
 use std::alloc::{AllocError, Global};
 use std::test::Fail;

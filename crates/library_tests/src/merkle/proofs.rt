@@ -1,4 +1,5 @@
 //! Plans and range proofs. The digests and roots are computed by an independent program over whole lists.
+
 use crate::granted::granted;
 use std::alloc::Global;
 use std::process::Abort;

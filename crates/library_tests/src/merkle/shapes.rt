@@ -1,4 +1,5 @@
 //! Where the nodes of small trees stand.
+
 ghost use Rattle.std.specs.Prelude.{◌^◌, ◌≤◌};
 
 use std::alloc::{AllocError, Global};
@@ -7,9 +8,7 @@ use storage_merkle::merkle::family::{
     aligned_inactive, exact_inactive, graftable_chunks, grafted_to_ops_pos, node_at,
     ops_to_grafted_pos, up_and_down,
 };
-use storage_merkle::merkle::{
-    Family, Graftable, Location, MAX_LEAVES, Position, mmb, mmr, peaks_ascending,
-};
+use storage_merkle::merkle::{Family, Graftable, Location, MAX_LEAVES, Position, mmb, mmr};
 
 fn heights<F: Family>(alloc: Global, leaves: u64) -> Result<Vec<u32>, AllocError>
     requires { leaves ≤ 2 ^ 62 }
@@ -122,11 +121,28 @@ fn around_nodes(rt: HostRuntime) {
     assert_eq!(rt; mmb::Family::subtree_root_position(first, 3).as_u64(), 33);
 }
 
+fn peak_positions<F: Family>(alloc: Global, leaves: u64) -> Result<Vec<u64>, AllocError>
+    requires { leaves ≤ 2 ^ 62 }
+{
+    let nodes = Position::<F>::new(F::nodes_over(leaves));
+    let mut positions = Vec::new(alloc);
+    for (position, _) in F::peaks(nodes) {
+        positions.push(position.as_u64())?;
+    }
+    Ok(positions)
+}
+
 #[test]
-fn peaks_by_position(rt: HostRuntime) -> Result<(), Fail> {
-    let peaks = peaks_ascending::<mmb::Family>(rt.alloc(), 11)?;
-    let expected = [Position::new(16), Position::new(17), Position::new(18)];
-    assert_eq!(rt; peaks.as_slice(), expected.as_slice());
+fn positions_of_peaks(rt: HostRuntime) -> Result<(), Fail> {
+    let alloc = rt.alloc();
+    assert_eq!(rt;
+        peak_positions::<mmr::Family>(alloc, 11)?.as_slice(),
+        [14, 17, 18].as_slice()
+    );
+    assert_eq!(rt;
+        peak_positions::<mmb::Family>(alloc, 11)?.as_slice(),
+        [18, 16, 17].as_slice()
+    );
     Ok(())
 }
 

@@ -1,4 +1,5 @@
 //! Stores of accepted proofs: what they give is what the tree itself gives.
+
 use crate::granted::{granted, told};
 use std::alloc::{AllocError, Global};
 use std::test::Fail;

@@ -1,4 +1,5 @@
 //! Places and pending slots as bytes and as text.
+
 use std::alloc::Global;
 use std::test::Fail;
 use storage_codec::codec::{Decode, Encode, EncodeSize, Error, FixedBytes};

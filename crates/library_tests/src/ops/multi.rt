@@ -1,4 +1,5 @@
 //! Multi proofs over operations. The digests and the root are computed by an independent program over whole lists.
+
 use std::alloc::{AllocError, Global};
 use std::test::Fail;
 use storage_codec::codec::FixedBytes;

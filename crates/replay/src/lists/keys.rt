@@ -1,6 +1,6 @@
 //! Lists on checks of the values of keys, and that keys have none.
 
-use crate::columns::{Fault, bytes, digest, number};
+use crate::columns::{Fault, bytes, digest, number, verdict};
 use commonware_storage::codec::{Decode, Error, FixedBytes, RangeCfg, Read, Small, U64};
 use commonware_storage::digest::Sha256;
 use commonware_storage::light::{check_absence, check_value};
@@ -31,7 +31,7 @@ pub fn answer(alloc: Global, list: &str, columns: &[&str]) -> Result<String, Fau
         "mmb" => over::<mmb::Family>(alloc, list, columns)?,
         _ => return Err(Fault::Malformed),
     };
-    Ok(String::from_str(alloc, if yes { "yes" } else { "no" })?)
+    verdict(alloc, yes)
 }
 
 fn over<F: Graftable>(alloc: Global, list: &str, columns: &[&str]) -> Result<bool, Fault> {

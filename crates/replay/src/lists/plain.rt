@@ -4,7 +4,7 @@
 ghost use Rattle.std.specs.Prelude.{◌+◌, ◌^◌, ◌≤◌};
 ghost use Rattle.storage_bitmap.specs.Chunks.{IsChunkSize};
 
-use crate::columns::{Fault, Series};
+use crate::columns::{Fault, Series, verdict};
 use crate::lists::refusals::merkle_refusal;
 use commonware_storage::qmdb::current::proof::RangeProof;
 use reference::check::{is_accepted, recomputed_root};
@@ -98,7 +98,7 @@ pub fn plain_check<F: Digits>(
     let yes = is_accepted::<F, Sha256, _, _>(
         alloc, &Ungrafted, bagging, proof, start, elements, root,
     )?;
-    let verdict = if yes { "yes" } else { "no" };
+    let accepted = verdict(alloc, yes)?;
     let root = recomputed_root::<F, Sha256, _, _>(
         alloc, &Ungrafted, bagging, proof, start, elements,
     )?;
@@ -106,7 +106,7 @@ pub fn plain_check<F: Digits>(
         Some(root) => hex::encode(alloc, root.bytes)?,
         None => merkle_refusal(alloc, &Error::<F>::InvalidProof)?,
     };
-    Ok(format!(in alloc; "{verdict} {answer}")?)
+    Ok(format!(in alloc; "{accepted} {answer}")?)
 }
 
 /// What the definitions say of a snapshot and a range of its operations.

@@ -1,6 +1,6 @@
 //! Lists on the program and on checks from bytes.
 
-use crate::columns::{Fault, bytes, digest, number};
+use crate::columns::{Fault, bytes, digest, number, verdict};
 use commonware_storage::digest::Sha256;
 use commonware_storage::light::check_operation;
 use commonware_storage::merkle::{Graftable, Location, mmb, mmr};
@@ -108,5 +108,5 @@ fn checked<F: Graftable>(alloc: Global, columns: &[&str]) -> Result<String, Faul
     let proof = bytes(alloc, *proof)?;
     let root = digest(*root)?;
     let yes = check_operation::<F, Sha256>(alloc, &proof, chunk, loc, &operation, &root)?;
-    Ok(String::from_str(alloc, if yes { "yes" } else { "no" })?)
+    verdict(alloc, yes)
 }

@@ -1,6 +1,6 @@
 //! Lists on plans and plain range proofs.
 
-use crate::columns::{Fault, Series, digest, digests, number, strings};
+use crate::columns::{Fault, Series, digest, digests, number, strings, verdict};
 use crate::lists::plain;
 use crate::lists::refusals::merkle_refusal;
 use reference::shape::Digits;
@@ -94,16 +94,16 @@ fn plain_check<F: Family>(
 ) -> Result<String, Fault> {
     let hasher = Standard::<Sha256>::new(bagging);
     let start = Location::new(start);
-    let verdict = proof.verify_range_inclusion(alloc, &hasher, items, start, root)?;
-    let verdict = if verdict { "yes" } else { "no" };
+    let yes = proof.verify_range_inclusion(alloc, &hasher, items, start, root)?;
+    let accepted = verdict(alloc, yes)?;
     match proof.reconstruct_root(alloc, &hasher, items, start) {
         Ok(root) => {
             let root = hex::encode(alloc, root.bytes())?;
-            Ok(format!(in alloc; "{verdict} {root}")?)
+            Ok(format!(in alloc; "{accepted} {root}")?)
         }
         Err(error) => {
             let refusal = merkle_refusal(alloc, &error)?;
-            Ok(format!(in alloc; "{verdict} {refusal}")?)
+            Ok(format!(in alloc; "{accepted} {refusal}")?)
         }
     }
 }

@@ -3,9 +3,10 @@
 ghost use Rattle.std.specs.Prelude.{◌^◌, ◌<◌};
 ghost use Rattle.storage_bitmap.specs.Chunks.{IsChunkSize};
 
-use crate::columns::{Fault, bytes, digest, number, strings};
+use crate::columns::{Fault, bytes, digest, number, strings, verdict};
 use crate::lists::plain::{self, Own};
 use crate::lists::refusals::{database_fault, merkle_fault};
+use crate::lists::unframed::{self, Unframed};
 use commonware_storage::bitmap::{Prunable, Readable};
 use commonware_storage::codec::{Decode, Encode, Error, FixedBytes};
 use commonware_storage::digest::Sha256;
@@ -48,9 +49,9 @@ fn over<F: Graftable + Digits>(
     }
 }
 
-/// `floor bits operations start count`: for `golden` the canonical root, the operations root, the proof of the range and,
-/// where it has one location, of the operation there; for `ranges` the proof of the range, the root, and whether the proof
-/// is accepted. Roots and proofs are compared with the plain program's.
+/// `floor bits operations start count`: for `golden` the canonical root, the operations root, the grafted root, the witness,
+/// the proof of the range and, where it has one location, of the operation there; for `ranges` the proof of the range, the
+/// root, and whether the proof is accepted. Roots and proofs are compared with the plain program's.
 fn over_snapshot<F: Graftable + Digits, const N: usize>(
     alloc: Global,
     list: &str,
@@ -61,6 +62,7 @@ fn over_snapshot<F: Graftable + Digits, const N: usize>(
     let [floor, bits, operations, start, count] = columns else {
         return Err(Fault::Malformed);
     };
+    let claimed = unframed::operations(alloc, *operations)?;
     let operations = strings(alloc, *operations)?;
     let floor = number(*floor)?;
     let start = number(*start)?;
@@ -73,7 +75,7 @@ fn over_snapshot<F: Graftable + Digits, const N: usize>(
     }
     let chunks = chunks_of::<N>(alloc, *bits)?;
     let claim = Claim {
-        operations: places(&operations, start, end)?,
+        operations: places(&claimed, start, end)?,
         chunks: places(&chunks, start / (8 * N as u64), end.div_ceil(8 * N as u64))?,
     };
     served.ranges(alloc, start, count, &claim)
@@ -82,7 +84,7 @@ fn over_snapshot<F: Graftable + Digits, const N: usize>(
 /// Operations, and the chunks with their bits.
 #[derive(Drop)]
 struct Claim<'a, const N: usize> {
-    operations: &'a [Vec<u8>],
+    operations: &'a [Unframed],
     chunks: &'a [[u8; N]],
 }
 
@@ -184,15 +186,19 @@ impl<F: Graftable, const N: usize> Served<F, N> {
     {
         let root = hex::encode(alloc, self.snapshot.root().bytes)?;
         let ops_root = hex::encode(alloc, self.snapshot.ops_root().bytes)?;
+        let witness = self.snapshot.witness();
+        let grafted_root = hex::encode(alloc, witness.grafted_root.bytes)?;
+        let witness = hex::encode(alloc, witness.encode(alloc)?)?;
+        let roots = format!(in alloc; "{root} {ops_root} {grafted_root} {witness}")?;
         if count == 0 {
-            return Ok(format!(in alloc; "{root} {ops_root} - -")?);
+            return Ok(format!(in alloc; "{roots} - -")?);
         }
         let range = hex::encode(alloc, self.range(alloc, start, count)?.encode(alloc)?)?;
         if count > 1 {
-            return Ok(format!(in alloc; "{root} {ops_root} {range} -")?);
+            return Ok(format!(in alloc; "{roots} {range} -")?);
         }
         let operation = hex::encode(alloc, self.operation(alloc, start)?.encode(alloc)?)?;
-        Ok(format!(in alloc; "{root} {ops_root} {range} {operation}")?)
+        Ok(format!(in alloc; "{roots} {range} {operation}")?)
     }
 
     fn ranges(
@@ -207,15 +213,8 @@ impl<F: Graftable, const N: usize> Served<F, N> {
         let proof = self.range(alloc, start, count)?;
         let root = self.snapshot.root();
         let loc = Location::new(start);
-        let yes = proof.verify_encoded::<Sha256, _, _>(
-            alloc,
-            loc,
-            claim.operations,
-            claim.chunks,
-            N,
-            &root,
-        )?;
-        let yes = if yes { "yes" } else { "no" };
+        let yes = proof.verify::<Sha256, _, N>(alloc, loc, claim.operations, claim.chunks, &root)?;
+        let yes = verdict(alloc, yes)?;
         let proof = hex::encode(alloc, proof.encode(alloc)?)?;
         let root = hex::encode(alloc, root.bytes)?;
         Ok(format!(in alloc; "{proof} {root} {yes}")?)
@@ -285,7 +284,7 @@ impl<F: Graftable, const N: usize> Served<F, N> {
 }
 
 /// `most start operations chunks proof root label`: whether the bytes are a range proof of at most so many digests that shows
-/// the operations and chunks. The label says how the case was made.
+/// the operations and chunks, by the check of bytes and by that of operations alike. The label says how the case was made.
 fn ranges_checks<F: Graftable>(
     alloc: Global,
     chunk_size: usize,
@@ -294,6 +293,7 @@ fn ranges_checks<F: Graftable>(
     let [most, start, operations, chunks, proof, root, _] = columns else {
         return Err(Fault::Malformed);
     };
+    let claimed = unframed::operations(alloc, *operations)?;
     let operations = strings(alloc, *operations)?;
     let chunks = strings(alloc, *chunks)?;
     let mut lent = Vec::new(alloc);
@@ -304,17 +304,25 @@ fn ranges_checks<F: Graftable>(
     let root = digest(*root)?;
     let start = Location::new(number(*start)?);
     let most = number(*most)? as usize;
-    let yes = match RangeProof::<F, FixedBytes<32>>::decode_cfg(alloc, proof.as_slice(), &most) {
-        Ok(proof) => proof.verify_encoded::<Sha256, _, &[u8]>(
-            alloc,
-            start,
-            &operations,
-            &lent,
-            chunk_size,
-            &root,
-        )?,
+    let proof = match RangeProof::<F, FixedBytes<32>>::decode_cfg(alloc, proof.as_slice(), &most) {
+        Ok(proof) => proof,
         Err(Error::Memory) => return Err(Fault::Memory),
-        Err(_) => false,
+        Err(_) => return verdict(alloc, false),
     };
-    Ok(String::from_str(alloc, if yes { "yes" } else { "no" })?)
+    let yes = proof.verify_encoded::<Sha256, _, &[u8]>(
+        alloc,
+        start,
+        &operations,
+        &lent,
+        chunk_size,
+        &root,
+    )?;
+    let written = proof.verify_with_chunk_size::<Sha256, _, &[u8]>(
+        alloc, start, &claimed, &lent, chunk_size, &root,
+    )?;
+    if yes == written {
+        verdict(alloc, yes)
+    } else {
+        Err(Fault::Differs)
+    }
 }

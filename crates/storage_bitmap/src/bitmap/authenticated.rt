@@ -74,7 +74,8 @@ impl<D: Digest, const N: usize, M: State<D>> BitMap<D, N, M> {
         8 * N as u64
     }
 
-    /// How many nodes the tree has, which is over the chunks that were complete when the root was last calculated.
+    /// The size of the tree as a node position: how many nodes it has, not how many bits there are. The tree is over the
+    /// chunks that were complete when the root was last calculated.
     pub fn size(&self) -> Position<mmr::Family>
         ensures { result ≡ size mmr self.now.tree.leaves }
     {
@@ -119,13 +120,13 @@ impl<D: Digest, const N: usize, M: State<D>> BitMap<D, N, M> {
     }
 
     /// The chunk of a bit, which is there and not pruned. What is past the bits is 0.
-    pub fn get_chunk_containing(&self, bit: u64) -> [u8; N]
+    pub fn get_chunk_containing(&self, bit: u64) -> &[u8; N]
         requires kept { self.now.retained.pruned * (8 * N) ≤ bit }
         requires within { bit < bit_count N self.now.retained }
-        ensures { result
+        ensures { result.now
             ≡ chunk_of N self.now.retained.bits (bit / (8 * N) - self.now.retained.pruned) }
     {
-        self.bits.get_chunk((bit / (8 * N as u64)) as usize)
+        self.bits.lend_chunk((bit / (8 * N as u64)) as usize)
     }
 
     /// A bit, which is there and not pruned.

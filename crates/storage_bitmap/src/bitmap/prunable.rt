@@ -1,6 +1,6 @@
 //! A list of bits whose front may be forgotten.
 
-ghost use Rattle.std.specs.Prelude.{◌≡◌, ◌≢◌, ℕ, ◌+◌, ◌-◌, ◌*◌, ◌/◌, ◌%◌, ◌^◌, ◌<◌, ◌≤◌, ◌↔◌, [], ◌∷◌, ◌++◌, length, drop, replicate, slice_set, slice_index, slice_index_or, false, MatchOption, OnOk, OnErr};
+ghost use Rattle.std.specs.Prelude.{◌≡◌, ◌≢◌, ℕ, ◌+◌, ◌-◌, ◌*◌, ◌/◌, ◌%◌, ◌^◌, ◌<◌, ◌≤◌, ◌↔◌, [], ◌∷◌, ◌++◌, length, drop, replicate, slice_set, slice_index_or, false, MatchOption, OnOk, OnErr};
 ghost use Rattle.std.specs.Int.{bit_at};
 ghost use Rattle.storage_bitmap.specs.Chunks.{IsChunkSize, Retained, bit_count, chunk, digit, pruned_to};
 ghost use Rattle.storage_bitmap.specs.Packed.{HasRoom, IsPacked, IsWritten, bit_in, bits_in};
@@ -89,6 +89,16 @@ impl<const N: usize> Prunable<N> {
         read(&self.bytes, place)
     }
 
+    /// The chunk of that index, which is not pruned and has a bit. What is past the bits is 0.
+    pub(crate) fn lend_chunk(&self, index: usize) -> &[u8; N]
+        requires kept { self.now.pruned ≤ index }
+        requires within { index * (8 * N) < bit_count N self.now }
+        ensures { result.now ≡ chunk N self.now.bits (index - self.now.pruned) }
+    {
+        let start = (index - self.pruned) * N;
+        self.bytes[start..].first_chunk().unwrap()
+    }
+
     /// The last chunk that is left; `None` where there is none. What is past the bits is 0.
     pub fn last_chunk(&self) -> Option<&[u8; N]>
         ensures { MatchOption result (self.now.bits ≡ []) (λ last. (self.now.bits ≢ [])
@@ -126,21 +136,8 @@ impl<const N: usize> Readable<N> for Prunable<N> {
     }
 
     fn get_chunk(&self, index: usize) -> [u8; N] {
-        chunk_from(&self.bytes, (index - self.pruned) * N)
+        *self.lend_chunk(index)
     }
-}
-
-/// The `N` bytes from a place on, filled up with zeros.
-fn chunk_from<const N: usize>(bytes: &[u8], start: usize) -> [u8; N]
-    requires within { start ≤ length bytes.now }
-    requires fits { start + N < 2 ^ 64 }
-    ensures len { length result ≡ N }
-    ensures bytes { (m : ℕ) → m < N → slice_index result m ≡ slice_index bytes.now (start + m) }
-{
-    let count = N.min(bytes.len() - start);
-    let mut chunk = [0; N];
-    chunk[..count].copy_from_slice(&bytes[start..start + count]);
-    chunk
 }
 
 /// How many bits so many chunks have.

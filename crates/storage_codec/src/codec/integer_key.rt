@@ -82,6 +82,7 @@ impl Read for U64 {
 
     ghost parse = { λ _. front_at 8 };
 
+    /// Refuses `EndOfBuffer` exactly where fewer than eight bytes are left. Takes no memory.
     fn read_cfg<B: Buf>(alloc: Global, buf: &mut B, _cfg: &()) -> Result<U64, Error>
         ensures gives { Gives (λ x. x.0.bytes) result (B.unread buf.new)
             (front_at 8 (B.unread buf.old)) }

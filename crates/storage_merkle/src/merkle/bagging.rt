@@ -1,4 +1,5 @@
 //! How peaks become one root.
+
 ghost use Rattle.std.specs.Prelude.{◌≡◌};
 ghost use Rattle.storage_merkle.specs.Trees.{bagging_byte};
 

@@ -1,4 +1,5 @@
 //! How many leaves a tree with a number of nodes has.
+
 ghost use Rattle.std.specs.Prelude.{◌≡◌, ℕ, ◌+◌, ◌-◌, ◌*◌, ◌/◌, ◌<◌, ◌≤◌, ◌^◌, MatchOption};
 ghost use Rattle.storage_merkle.specs.Shape.{size};
 

@@ -1,4 +1,5 @@
 //! Why a call over a tree was refused.
+
 ghost use Rattle.std.specs.Prelude.{◌≡◌};
 ghost use Rattle.storage_merkle.specs.declared.merkle.error.Error.TheVariants.{Memory};
 

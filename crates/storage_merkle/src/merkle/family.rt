@@ -1,4 +1,5 @@
 //! Tree families: where the nodes of a tree stand. No call takes memory, but writing and reading a pending slot.
+
 ghost use Rattle.std.specs.Prelude.{◌≡◌, ℕ, ◌+◌, ◌-◌, ◌*◌, ◌%◌, ◌^◌, ◌<◌, ◌≤◌, ◌∷◌, ◌++◌, Bool, false, List, length, map, option_map, IfOk, OnOk, OnErr};
 ghost use Rattle.storage_codec.specs.Codec.{Gives, front_at};
 ghost use Rattle.storage_codec.specs.Parts.{AppendsStart, IsEnding};
@@ -17,7 +18,7 @@ use storage_codec::digest::Digest;
 /// perfect trees, its peaks; a node is known by its first leaf and its height, from 0 for a leaf, and has a position among
 /// the nodes, which never changes while the tree grows. No call takes memory.
 ///
-/// A family gives the first five calls; all others stand on them and are written once.
+/// A family gives the first six calls; all others stand on them and are written once.
 pub trait Family: Copy {
     /// The family's peaks, positions and births.
     ghost shape: { Shape };
@@ -179,6 +180,10 @@ pub trait Graftable: Family {
 
     /// Reads the slot of the pending chunk's digest from the front: always `None`, and no byte taken, where the family
     /// has none. After a refusal `buf` is at an ending of what it held.
+    ///
+    /// # Errors
+    ///
+    /// `EndOfBuffer` where bytes are missing; `InvalidBool` where the first one is neither 0 nor 1.
     #[tactic(auto, using(storage_codec::specs::PartsLaws::ends_then))]
     final fn read_pending<D: Digest, B: Buf>(
         alloc: Global,
@@ -301,23 +306,13 @@ pub fn exact_inactive<F: Family>(leaves: u64, floor: u64) -> usize
     requires { leaves ≤ 2 ^ 62 }
     ensures { IsExact F.shape leaves floor result }
 {
-    let mut left = leaves;
-    let mut count: usize = 0;
-    while left > 0 {
-        let rest = left - power(F::first_peak(left));
-        if leaves - rest > floor {
-            break;
-        }
-        left = rest;
-        count += 1;
-    }
-    count
+    aligned_inactive::<F>(leaves, floor, 0)
 }
 
 /// How many of the leading peaks end at or before a floor and on a multiple of `2^height`, counted up to the last such.
 pub fn aligned_inactive<F: Family>(leaves: u64, floor: u64, height: u32) -> usize
     requires few { leaves ≤ 2 ^ 62 }
-    requires low { height ≤ 62 }
+    requires high { height ≤ 62 }
     ensures { IsAligned F.shape leaves floor height result }
 {
     let mut left = leaves;

@@ -52,7 +52,7 @@ pub trait Hasher<F: Family> {
     fn root_bagging(&self) -> Bagging
         ensures { result ≡ bagging self.now };
 
-    /// The digest of the leaf at a position: of the position in eight bytes and the element.
+    /// The digest of the leaf at a position: of the position in eight bytes, highest first, and the element.
     #[tactic(auto, unfolding(crate::specs::Calc::be8))]
     final fn leaf_digest(&self, position: Position<F>, element: &[u8]) -> Self::Digest
     where
@@ -62,7 +62,8 @@ pub trait Hasher<F: Family> {
         self.hash(&[&position.as_u64().to_be_bytes(), element])
     }
 
-    /// The digest of the node at a position, from those of its children.
+    /// The digest of the node at a position: of the position in eight bytes, highest first, and the digests of its children; where a
+    /// chunk is grafted over it, of the chunk and that digest.
     fn node_digest(
         &self,
         position: Position<F>,
@@ -94,8 +95,9 @@ pub trait Hasher<F: Family> {
         ]
     }
 
-    /// The root over so many leaves of which so many leading peaks are inactive, from the digests of the peaks in leaf
-    /// order. Takes no memory.
+    /// The root over so many leaves of which so many leading peaks are inactive, from the digests of the peaks in leaf order: the
+    /// digest of the family's byte, the bagging's, the two numbers in eight bytes each, highest first, and the peaks bagged, no bytes
+    /// for none. Takes no memory.
     final fn root(
         &self,
         leaves: Location<F>,

@@ -1,4 +1,5 @@
 //! The place of a leaf among the leaves.
+
 ghost use Rattle.std.specs.Prelude.{◌≡◌, ℕ, ◌+◌, ◌-◌, ◌^◌, ◌<◌, ◌≤◌, ◌↔◌, min, IsTrue, MatchOption, Some};
 ghost use Rattle.std.specs.Fmt.{decimal, styled_decimal};
 ghost use Rattle.storage_codec.specs.Parts.{varint_text};

@@ -1,4 +1,5 @@
 //! MMBs: the peaks over `n` leaves are as high as the places below the highest digit of `n + 1` with their digits added.
+
 ghost use Rattle.std.specs.Prelude.{◌≡◌, ◌+◌, ◌-◌, ◌*◌, ◌%◌, ◌^◌, ◌<◌, ◌≤◌, ◌∷◌, true};
 ghost use Rattle.std.proofs.lemmas.Bool.{true≢false};
 ghost use Rattle.storage_merkle.specs.Shape.{Shape, Laws, size};
@@ -8,8 +9,8 @@ ghost use Rattle.storage_merkle.specs.Nodes.{IsNode};
 
 use crate::merkle::family::power;
 
-/// The family of MMBs. A parent comes half its number of leaves after the last of them, so that each leaf brings at most one
-/// parent. At most one complete chunk is pending.
+/// The family of MMBs (Merkle mountain belts). A parent over `2^k` leaves comes `2^(k-1) - 1` leaves after the last of them, so
+/// that each leaf brings at most one parent. At most one complete chunk is pending.
 #[derive(Clone, Copy, Drop)]
 pub struct Family;
 

@@ -1,4 +1,5 @@
 //! Merkle mountain ranges: the peaks over `n` leaves are as high as the places of the 1 digits of `n`.
+
 ghost use Rattle.std.specs.Prelude.{◌≡◌, ◌+◌, ◌-◌, ◌*◌, ◌%◌, ◌^◌, ◌<◌, ◌≤◌, ◌∷◌, false, refl};
 ghost use Rattle.storage_merkle.specs.Shape.{Shape, Laws, size};
 ghost use Rattle.storage_merkle.specs.Mmr.{mmr};

@@ -1,4 +1,5 @@
 //! The root that a multi proof and its elements give.
+
 ghost use Rattle.std.specs.Prelude.{◌≡◌, ℕ, ◌+◌, ◌-◌, ◌%◌, ◌^◌, ◌<◌, ◌≤◌, ◌++◌, List, length, map, option_map, IfOk, OnOk, Contains};
 ghost use Rattle.storage_merkle.specs.Calc.{Site, node, eval};
 ghost use Rattle.storage_merkle.specs.CheckSteps.{Present, Serves};

@@ -1,4 +1,5 @@
 //! Which nodes a range proof needs, and the proof from their digests.
+
 ghost use Rattle.std.specs.Prelude.{◌≡◌, ℕ, ◌+◌, ◌-◌, ◌*◌, ◌%◌, ◌^◌, ◌<◌, ◌≤◌, ◌++◌, ◌⊎◌, List, length, map, Some, None, Err, IfOk, IfErr, OnOk, MatchOption, MatchResult};
 ghost use Rattle.std.specs.List.{All, AllZip};
 ghost use Rattle.std.specs.List.Sorted.{IsStrictlyIncreasing};
@@ -132,7 +133,8 @@ impl<F: Family> RangePlan<F> {
         inactive: usize,
         get_node: G,
     ) -> Result<Proof<F, H::Digest>, Error<F>>
-        requires { G.IsAlwaysCallable get_node }
+        requires { All (λ p. G.pre get_node p)
+            (planned F.shape self.now.leaves self.now.start self.now.end) }
         ensures own { IfOk result (λ proof. IsOwnOfEach H.Digest.text (G.post get_node) H.hash_of
             F.shape (H.bagging hasher.now) self.now inactive (range_of H.Digest.text proof)) }
         ensures answered { IfOk result (λ _. All (λ p. (d : _) × G.post get_node p (Some d))
@@ -236,7 +238,7 @@ fn answers<F: Family, D: Digest, G: Fn(Position<F>) -> Option<D>>(
     positions: &[Position<F>],
     get_node: G,
 ) -> Result<Vec<D>, Error<F>>
-    requires { G.IsAlwaysCallable get_node }
+    requires { All (λ p. G.pre get_node p) positions.now }
     ensures served { IfOk result (λ v.
         AllZip (λ p d. G.post get_node p (Some d)) positions.now v.items) }
     ensures why { IfErr result (λ e. ((p : ℕ) × (e ≡ Error.ElementPruned p)

@@ -1,4 +1,5 @@
 //! The place of a node among the nodes.
+
 ghost use Rattle.std.specs.Prelude.{◌≡◌, ℕ, ◌+◌, ◌-◌, ◌^◌, ◌<◌, ◌≤◌, ◌↔◌, min, IsTrue, MatchOption, Some};
 ghost use Rattle.std.specs.Fmt.{decimal, styled_decimal};
 ghost use Rattle.storage_merkle.specs.Shape.{Shape, size};

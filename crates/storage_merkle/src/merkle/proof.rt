@@ -1,4 +1,5 @@
-//! Range proofs over plain trees.
+//! Range proofs and multi proofs.
+
 ghost use Rattle.std.specs.Prelude.{◌≡◌, ◌≢◌, ℕ, ◌+◌, ◌-◌, ◌*◌, ◌%◌, ◌^◌, ◌<◌, ◌≤◌, ◌↔◌, ◌⊎◌, List, [], ◌∷◌, length, map, option_map, Some, None, IsTrue, IsOk, IfOk, IfErr};
 ghost use Rattle.storage_merkle.specs.Checks.{IsRecomputed, IsProved};
 ghost use Rattle.storage_merkle.specs.Hashers.{TakesTree};
@@ -32,7 +33,8 @@ pub struct Proof<F, D> {
     /// How many leading peaks are inactive.
     pub inactive_peaks: usize,
     /// The digests that the elements do not give: of the peaks and folds apart from the range in leaf order, then of
-    /// the nodes beside the range in overlapped peaks, ascending by position.
+    /// the nodes beside the range in overlapped peaks, ascending by position. Of a multi proof: of the greatest nodes with
+    /// no claimed location, ascending by position.
     pub digests: Vec<D>,
 }
 

@@ -1,4 +1,5 @@
 //! What is kept of an accepted range proof, to give other proofs.
+
 ghost use Rattle.std.specs.Prelude.{◌≡◌, ◌≢◌, ℕ, ◌+◌, ◌-◌, ◌*◌, ◌%◌, ◌^◌, ◌<◌, ◌≤◌, ◌⊎◌, ◌++◌, ◌∷◌, [], List, drop, if◌then◌else◌, map, option_map, OnOk, Some, None, IfOk, IfErr, MatchResult};
 ghost use Rattle.storage_merkle.specs.Extracted.{texts};
 ghost use Rattle.storage_merkle.specs.Held.{range_of};
@@ -16,6 +17,7 @@ use crate::merkle::plan::node_position;
 use crate::merkle::{Bagging, Error, Family, Location, Position, Proof};
 use std::alloc::{AllocError, Global};
 use std::marker::Model;
+use storage_codec::NoMemory;
 use storage_codec::digest::Digest;
 
 /// The digests that an accepted range proof gave: of the nodes that its check read or computed, of the peaks apart from the
@@ -94,7 +96,7 @@ impl<F: Family, D: Digest> ProofStore<F, D> {
     }
 
     /// The positions of the peaks inside the fold of those past the source's range, ascending.
-    pub fn suffix_peak_positions(&self, alloc: Global) -> Result<Vec<Position<F>>, AllocError>
+    pub fn suffix_peak_positions(&self, alloc: Global) -> Result<Vec<Position<F>>, NoMemory>
         ensures { IfOk result (λ v. v.items ≡ suffix_positions F.shape self.now) }
     {
         let mut positions = Vec::new(alloc);

@@ -1,4 +1,5 @@
 //! What serves the nodes of a tree.
+
 ghost use Rattle.std.specs.Prelude.{◌≡◌, ℕ, ◌+◌, ◌<◌, ◌^◌, ◌⊎◌, ◌↔◌, map, Option, IfOk, Some, Err, MatchResult};
 ghost use Rattle.storage_merkle.specs.Plans.{IsFirstAbsent};
 

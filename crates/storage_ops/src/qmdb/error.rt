@@ -1,4 +1,5 @@
 //! Why a call over a database was refused.
+
 ghost use Rattle.std.specs.Prelude.{◌≡◌};
 ghost use Rattle.storage_ops.specs.declared.qmdb.error.Error.TheVariants.{Memory};
 
@@ -10,7 +11,7 @@ use storage_merkle::merkle::{self, Location};
 #[derive(Drop, thiserror::Error)]
 #[derive_where(Clone, Copy, Debug, PartialEq, Eq)]
 pub enum Error<F> {
-    /// What is stored is that of no database.
+    /// What was handed in does not fit together, with the reason.
     #[error("corrupted: {0}")]
     DataCorrupted(&'static str),
     /// An operation that is not kept.

@@ -1,5 +1,6 @@
 //! Checks of proofs over lists of operations. Each operation stands in the tree by its encoding, under the hasher of database
 //! trees.
+
 ghost use Rattle.std.specs.Prelude.{◌≡◌, ◌↔◌, ◌⊎◌, [], map, IfErr, IfOk, IsOk, IsTrue};
 ghost use Rattle.storage_merkle.specs.declared.merkle.bagging.Bagging.TheVariants.{BackwardFold};
 ghost use Rattle.storage_merkle.specs.Checks.{IsProved};
@@ -23,8 +24,8 @@ use storage_merkle::merkle::{Error, Family, Location, Position, Proof, ProofStor
 /// Digests that an accepted check hands out, each with its position.
 pub type ExtractedDigests<F, H> = Vec<(Position<F>, DigestOf<H>)>;
 
-/// Whether operations stand at the locations from `start` on of the list with that root. The answer for no operations
-/// takes no memory.
+/// Whether operations stand at the locations from `start` on of the list with that root. The answer for no operations takes no
+/// memory: yes exactly where `start` and all counts of the proof are 0 and the root is that of no operations.
 pub fn verify_proof<H: Hasher, F: Family, Op: Encode>(
     alloc: Global,
     proof: &Proof<F, DigestOf<H>>,
@@ -45,7 +46,8 @@ pub fn verify_proof<H: Hasher, F: Family, Op: Encode>(
 }
 
 /// Whether operations stand at the locations from `start` on of the list with that root, and the pinned digests are those of
-/// the peaks over the locations before `start`, in their order. The answer for no operations takes no memory.
+/// the peaks over the locations before `start`, in their order. The answer for no operations takes no memory: yes exactly where
+/// nothing is pinned and [`verify_proof`] says yes.
 pub fn verify_proof_and_pinned_nodes<H: Hasher, F: Family, Op: Encode>(
     alloc: Global,
     proof: &Proof<F, DigestOf<H>>,

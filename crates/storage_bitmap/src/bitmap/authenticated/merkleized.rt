@@ -5,8 +5,6 @@ ghost use Rattle.storage_codec.specs.Digests.{HashFunction};
 ghost use Rattle.storage_merkle.specs.declared.merkle.bagging.Bagging.{Bagging};
 ghost use Rattle.storage_merkle.specs.Kept.{kept_at};
 ghost use Rattle.storage_merkle.specs.Mmr.{mmr};
-ghost use Rattle.storage_merkle.specs.Plans.{IsFirstAbsent};
-ghost use Rattle.storage_merkle.specs.Shape.{size};
 ghost use Rattle.storage_merkle.specs.Trees.{ungrafted};
 ghost use Rattle.storage_bitmap.specs.BitRoots.{bit_root};
 ghost use Rattle.storage_bitmap.specs.Chunks.{IsChunkSize, bit_count, pruned_to};
@@ -22,7 +20,7 @@ use std::collections::BTreeSet;
 use storage_codec::digest::Digest;
 use storage_merkle::merkle::hasher::Hasher;
 use storage_merkle::merkle::mem::Mem;
-use storage_merkle::merkle::{Error, Location, MAX_LEAVES, Position, Storage, mmr};
+use storage_merkle::merkle::{Error, Location, MAX_LEAVES, Position, mmr};
 
 /// What is left of a bitmap whose bits all are pruned.
 #[derive(Drop)]
@@ -35,7 +33,7 @@ pub struct PrunedState<D> {
 
 impl<D: Digest, const N: usize> BitMap<D, N, Merkleized<D>> {
     /// The bitmap whose bits all are pruned, from what was handed out of it; no bits from no chunks. Digests past those of the
-    /// peaks are ignored. It is the bitmap of no bits at all where no list of bits has these digests.
+    /// peaks are ignored. Where no list of bits has these digests it stands for no list, and nothing is said of its root.
     ///
     /// # Errors
     ///
@@ -98,9 +96,7 @@ impl<D: Digest, const N: usize> BitMap<D, N, Merkleized<D>> {
         ensures why { IfErr result (λ e. e ≡ Error.Memory) }
     {
         let mut pinned = Vec::new(self.alloc);
-        if let Err(_) = pinned.extend_from_slice(self.tree.pinned_nodes()) {
-            return Err(Error::Memory);
-        }
+        pinned.extend_from_slice(self.tree.pinned_nodes())?;
         Ok(PrunedState {
             pruned_chunks: self.bits.pruned_chunks() as u64,
             pinned,
@@ -132,14 +128,16 @@ impl<D: Digest, const N: usize> BitMap<D, N, Merkleized<D>> {
         ensures same { OnErr result (self.new ≡ self.old) }
         ensures why { IfErr result (λ e. e ≡ Error.Memory) }
     {
-        if let Err(_) = self.tree.prune(Location::new(bit / (8 * N as u64))) {
-            return Err(Error::Memory);
+        if let Err(error) = self.tree.prune(Location::new(bit / (8 * N as u64))) {
+            return Err(error);
         }
         self.bits.prune_to_bit(bit);
         Ok(())
     }
 
-    /// The root. Takes no memory.
+    /// The root. It is the tree's where the bits fill their chunks, else the digest of three parts one after another: the
+    /// tree's root, the number of all bits in eight bytes, highest first, and the digest of the last chunk, which is filled up
+    /// with zeros. Takes no memory.
     pub fn root(&self) -> D
         ensures value { result ≡ self.now.state.root }
         ensures means { (h : HashFunction) (bagging : Bagging) (bits : List Bool)

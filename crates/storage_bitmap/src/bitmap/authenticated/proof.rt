@@ -51,9 +51,7 @@ impl<D: Digest, const N: usize> BitMap<D, N, Merkleized<D>> {
             return Err(Error::BitOutOfBounds(bit, length));
         }
         let place = bit / (8 * N as u64);
-        let Ok(digests) = bit_digests(self.alloc, &self.tree, &self.bits, hasher, place) else {
-            return Err(Error::Memory);
-        };
+        let digests = bit_digests(self.alloc, &self.tree, &self.bits, hasher, place)?;
         let proof = Proof {
             leaves: Location::new(length),
             inactive_peaks: 0,

@@ -1,6 +1,6 @@
 //! The tree over the chunks of a bitmap, made that of its bits.
 
-ghost use Rattle.std.specs.Prelude.{◌≡◌, ℕ, ◌+◌, ◌-◌, ◌*◌, ◌/◌, ◌%◌, ◌^◌, ◌<◌, ◌≤◌, ◌∷◌, ◌++◌, [], ◌≢◌, List, Bool, length, map, All, IfOk, OnOk};
+ghost use Rattle.std.specs.Prelude.{◌≡◌, ℕ, ◌+◌, ◌-◌, ◌*◌, ◌/◌, ◌%◌, ◌^◌, ◌<◌, ◌≤◌, ◌∷◌, ◌++◌, [], ◌≢◌, List, Bool, length, map, All, IfOk, IfErr, OnOk};
 ghost use Rattle.std.specs.List.{AllZip};
 ghost use Rattle.storage_merkle.specs.Calc.{be8};
 ghost use Rattle.storage_merkle.specs.Hashers.{TakesTree};
@@ -16,11 +16,10 @@ use crate::bitmap::authenticated::inclusion::partial_root;
 use crate::bitmap::{Prunable, Readable};
 use std::alloc::{AllocError, Global};
 use std::collections::BTreeSet;
-use storage_codec::NoMemory;
 use storage_codec::digest::Digest;
 use storage_merkle::merkle::hasher::Hasher;
 use storage_merkle::merkle::mem::Mem;
-use storage_merkle::merkle::{Family as _, Location, Position, mmr};
+use storage_merkle::merkle::{Error, Family as _, Location, Position, mmr};
 
 /// The digest of the leaf that a chunk is.
 fn chunk_digest<H: Hasher<mmr::Family>, const N: usize>(
@@ -69,7 +68,7 @@ pub(super) fn rehash<D: Digest, H: Hasher<mmr::Family, Digest = D>, const N: usi
     hasher: &H,
     bits: &Prunable<N>,
     dirty: &BTreeSet<u64>,
-) -> Result<(), NoMemory>
+) -> Result<(), Error<mmr::Family>>
     requires few { bit_count N bits.now ≤ 2 ^ 62 }
     requires size { IsChunkSize N }
     requires boundary { tree.old.boundary ≡ bits.now.pruned }
@@ -84,14 +83,13 @@ pub(super) fn rehash<D: Digest, H: Hasher<mmr::Family, Digest = D>, const N: usi
         → StandsBut D.text mmr (chunk_nodes H.hash_of) dirty.now.keys tree.old
         (chunk_digests H.hash_of N list tree.old.leaves) → StandsFor D.text mmr
         (chunk_nodes H.hash_of) tree.new (chunk_digests H.hash_of N list tree.old.leaves)) }
+    ensures why { IfErr result (λ e. e ≡ Error.Memory) }
 {
-    let Ok(leaves) = chunk_leaves(alloc, hasher, bits, dirty) else {
-        return Err(NoMemory);
-    };
-    match tree.update_leaves(hasher, &leaves) {
-        Ok(()) => Ok(()),
-        Err(_) => Err(NoMemory),
+    let leaves = chunk_leaves(alloc, hasher, bits, dirty)?;
+    if let Err(error) = tree.update_leaves(hasher, &leaves) {
+        return Err(error);
     }
+    Ok(())
 }
 
 /// Appends the complete chunks that the tree does not have yet.
@@ -99,7 +97,7 @@ pub(super) fn add_chunks<D: Digest, H: Hasher<mmr::Family, Digest = D>, const N:
     tree: &mut Mem<mmr::Family, D>,
     hasher: &H,
     bits: &Prunable<N>,
-) -> Result<(), NoMemory>
+) -> Result<(), Error<mmr::Family>>
     requires few { bit_count N bits.now ≤ 2 ^ 62 }
     requires size { IsChunkSize N }
     requires order { bits.now.pruned ≤ tree.old.leaves }
@@ -112,11 +110,12 @@ pub(super) fn add_chunks<D: Digest, H: Hasher<mmr::Family, Digest = D>, const N:
         (chunk_nodes H.hash_of) tree.old (chunk_digests H.hash_of N list tree.old.leaves)
         → StandsFor D.text mmr (chunk_nodes H.hash_of) tree.new
         (chunk_digests H.hash_of N list tree.new.leaves)) }
+    ensures why { IfErr result (λ e. e ≡ Error.Memory) }
 {
     let complete = bits.len() / (8 * N as u64);
     for index in tree.leaves().as_u64()..complete {
-        if let Err(_) = tree.add(hasher, &bits.get_chunk(index as usize)) {
-            return Err(NoMemory);
+        if let Err(error) = tree.add(hasher, &bits.get_chunk(index as usize)) {
+            return Err(error);
         }
     }
     Ok(())

@@ -1,6 +1,6 @@
 //! Changes of bits, and the root after them.
 
-ghost use Rattle.std.specs.Prelude.{◌≡◌, ℕ, ◌+◌, ◌-◌, ◌*◌, ◌/◌, ◌^◌, ◌<◌, ◌≤◌, ◌∷◌, ◌++◌, [], List, Bool, length, map, set, slice_set, Contains, IfOk, IfErr, OnOk, OnErr};
+ghost use Rattle.std.specs.Prelude.{◌≡◌, ℕ, ◌+◌, ◌-◌, ◌*◌, ◌/◌, ◌^◌, ◌<◌, ◌≤◌, ◌∷◌, ◌++◌, [], List, Bool, length, map, slice_set, IfOk, IfErr, OnOk, OnErr};
 ghost use Rattle.std.specs.BTreeSet.{insert_key};
 ghost use Rattle.std.specs.Ordering.{nat_cmp};
 ghost use Rattle.storage_codec.specs.Digests.{HashFunction};
@@ -39,9 +39,7 @@ impl<D: Digest, const N: usize> BitMap<D, N, Unmerkleized> {
         ensures same { OnErr result (self.new ≡ self.old) }
         ensures why { IfErr result (λ e. e ≡ Error.Memory) }
     {
-        if let Err(_) = self.bits.push(bit) {
-            return Err(Error::Memory);
-        }
+        self.bits.push(bit)?;
         Ok(())
     }
 
@@ -67,9 +65,7 @@ impl<D: Digest, const N: usize> BitMap<D, N, Unmerkleized> {
     {
         let leaves = self.tree.leaves().as_u64();
         let chunk = bit / (8 * N as u64);
-        if let Err(_) = mark(&mut self.state.dirty, chunk, leaves) {
-            return Err(Error::Memory);
-        }
+        mark(&mut self.state.dirty, chunk, leaves)?;
         self.bits.set_bit(bit, value);
         Ok(())
     }
@@ -99,11 +95,11 @@ impl<D: Digest, const N: usize> BitMap<D, N, Unmerkleized> {
             clear,
             alloc,
         } = self;
-        if let Err(_) = rehash(alloc, &mut tree, hasher, &bits, &state.dirty) {
-            return Err(Error::Memory);
+        if let Err(error) = rehash(alloc, &mut tree, hasher, &bits, &state.dirty) {
+            return Err(error);
         }
-        if let Err(_) = add_chunks(&mut tree, hasher, &bits) {
-            return Err(Error::Memory);
+        if let Err(error) = add_chunks(&mut tree, hasher, &bits) {
+            return Err(error);
         }
         let root = root_of_bits(&tree, hasher, &bits);
         Ok(BitMap {

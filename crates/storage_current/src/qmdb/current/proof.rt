@@ -1,6 +1,8 @@
 //! Range proofs of operations and of their activity.
 
 ghost use Rattle.std.specs.Prelude.{◌≡◌, ℕ, ◌+◌, ◌-◌, ◌*◌, ◌/◌, ◌%◌, ◌^◌, ◌<◌, ◌≤◌, ◌↔◌, ◌⊎◌, OnOk, IfOk, IfErr, MatchOption, IsTrue, Ok, false, length, map, option_map};
+ghost use Rattle.std.specs.List.{All};
+ghost use Rattle.storage_merkle.specs.Plans.{planned};
 ghost use Rattle.storage_merkle.specs.RangeProofs.{AreDigests};
 ghost use Rattle.storage_current.specs.BuiltProofs.{AreAnswered, AreBitsOf, ArePartsOf, IsNotBuilt};
 ghost use Rattle.storage_current.specs.Snapshots.{Snapshot as SnapshotOf, canonical_string, own_current_proof, grafting_of};
@@ -74,7 +76,7 @@ impl<F: Graftable, D: Digest> RangeProof<F, D> {
         floor: Location<F>,
         ops_root: D,
     ) -> Result<Self, Error<F>>
-        requires { G.IsAlwaysCallable get_node }
+        requires { All (λ p. G.pre get_node p) (planned F.shape plan.leaves plan.start plan.end) }
         ensures own { let g = grafting_of F.shape N in
             IfOk result (λ proof. (s : SnapshotOf) → ArePartsOf D.text
             (G.post get_node) H.hash_of g plan (R.retained status.now) floor (D.text ops_root) s

@@ -1,4 +1,5 @@
 //! The nodes that a proof of some locations needs.
+
 ghost use Rattle.std.specs.Prelude.{◌≡◌, ℕ, ◌+◌, ◌-◌, ◌%◌, ◌^◌, ◌<◌, ◌≤◌, ◌↔◌, ◌++◌, map, IsTrue, IfOk, OnOk};
 ghost use Rattle.storage_merkle.specs.Multi.{Ascend, needed_sites, untouched};
 ghost use Rattle.storage_merkle.specs.RangeProofs.{position_of, sites_in, sites_of};

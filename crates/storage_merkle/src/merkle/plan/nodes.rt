@@ -1,4 +1,5 @@
 //! The digests of planned nodes, and the peaks and folds of a proof from them.
+
 ghost use Rattle.std.specs.Prelude.{◌≡◌, ℕ, ◌+◌, ◌-◌, ◌*◌, ◌%◌, ◌^◌, ◌<◌, ◌≤◌, ◌∷◌, ◌++◌, List, [], length, map, take, drop, option_map, None, OnOk, MatchOption};
 ghost use Rattle.std.specs.List.{AllZip};
 ghost use Rattle.storage_merkle.specs.Hashers.{folded_onto, forward_of};

@@ -1,4 +1,5 @@
 //! The root that a range proof and its elements give.
+
 ghost use Rattle.std.specs.Prelude.{◌≡◌, ℕ, ◌+◌, ◌-◌, ◌*◌, ◌%◌, ◌^◌, ◌<◌, ◌≤◌, ◌∷◌, ◌++◌, List, [], length, map, drop, option_map, true, false, if◌then◌else◌, Some, None, IfOk, MatchOption, Contains};
 ghost use Rattle.storage_merkle.specs.Calc.{Site, front, back, node, eval};
 ghost use Rattle.storage_merkle.specs.Checks.{IsRecomputed};

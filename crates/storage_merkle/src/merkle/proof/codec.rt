@@ -1,16 +1,19 @@
 //! Range proofs as bytes.
+
 ghost use Rattle.std.specs.Prelude.{◌≡◌, ℕ, ◌+◌, ◌*◌, ◌++◌, ◌^◌, ◌<◌, ◌≤◌, List, length, map, OnOk, OnErr};
 ghost use Rattle.storage_codec.specs.Codec.{Gives};
 ghost use Rattle.storage_codec.specs.Parts.{AppendsStart, IsEnding, size_of};
 ghost use Rattle.storage_merkle.specs.Held.{range_of};
 ghost use Rattle.storage_merkle.specs.RangeProofs.{RangeProof};
 ghost use Rattle.storage_merkle.specs.ProofWire.{joined_text, digests_at, proof_text, proof_at, IsAdmitted};
-ghost use Rattle.storage_merkle.specs.ProofWireLaws.{all_digests, proof_again};
+ghost use Rattle.storage_merkle.specs.ProofWireLaws.{all_digests, proof_again, proof_back};
 
 use crate::merkle::{Location, Proof};
 use std::alloc::Global;
 use storage_codec::NoMemory;
-use storage_codec::codec::{Buf, Codec, EncodeSize, Error, Read, UInt, Write, small_size};
+use storage_codec::codec::{
+    Buf, Canonical, Codec, EncodeSize, Error, Read, UInt, Write, small_size,
+};
 use storage_codec::digest::Digest;
 
 impl<F, D: Digest> Write for Proof<F, D> {
@@ -101,6 +104,11 @@ impl<F, D: Digest> Read for Proof<F, D> {
 impl<F, D: Digest> Codec for Proof<F, D> {
     ghost again = { λ most p rest ok.
         proof_again D.size most _ rest (all_digests D.text D.size D.sized p.digests.items) ok };
+}
+
+impl<F, D: Digest> Canonical for Proof<F, D> {
+    ghost back = { λ most bytes p rest fits e.
+        proof_back D.size most bytes (range_of D.text p) rest fits e };
 }
 
 /// Reads so many digests.

@@ -1,4 +1,5 @@
 //! The digests that an accepted check hands out.
+
 ghost use Rattle.std.specs.Prelude.{◌≡◌, ◌≢◌, ◌+◌, ◌⊎◌, [], MatchResult, map, option_map, IfErr, IfOk, MatchOption};
 ghost use Rattle.storage_merkle.specs.Checks.{IsRecomputed};
 ghost use Rattle.storage_merkle.specs.Extracted.{AreHandedOut, Fits, extracted, texts};

@@ -1,4 +1,5 @@
 //! The digests that a check comes upon.
+
 ghost use Rattle.std.specs.Prelude.{◌≡◌, ◌∷◌, ◌++◌, [], IfOk, option_map};
 ghost use Rattle.storage_merkle.specs.Extracted.{texts};
 

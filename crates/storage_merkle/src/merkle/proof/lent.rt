@@ -1,4 +1,5 @@
 //! Proofs whose digests are lent.
+
 ghost use Rattle.std.specs.Prelude.{◌≡◌, ℕ, ◌≤◌, map, option_map, IfOk};
 ghost use Rattle.storage_merkle.specs.Checks.{IsRecomputed};
 ghost use Rattle.storage_merkle.specs.Hashers.{TakesTree};

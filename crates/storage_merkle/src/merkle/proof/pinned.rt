@@ -1,4 +1,5 @@
 //! The check of a range proof with the digests of the peaks over the leaves before its range.
+
 ghost use Rattle.std.specs.Prelude.{◌≡◌, ◌≢◌, ℕ, ◌+◌, ◌-◌, ◌^◌, ◌<◌, ◌≤◌, ◌↔◌, ◌++◌, List, [], length, map, take, option_map, true, false, IsTrue, IsOk, IfOk, MatchOption, All};
 ghost use Rattle.storage_merkle.specs.CheckSteps.{top_sites};
 ghost use Rattle.storage_merkle.specs.Calc.{Site, node};

@@ -1,4 +1,5 @@
 //! The store of an accepted range proof.
+
 ghost use Rattle.std.specs.Prelude.{◌≡◌, ◌≢◌, ℕ, ◌+◌, ◌-◌, ◌^◌, ◌<◌, ◌≤◌, ◌⊎◌, ◌++◌, List, [], length, map, option_map, IfOk, IfErr};
 ghost use Rattle.storage_merkle.specs.Calc.{Site};
 ghost use Rattle.storage_merkle.specs.CheckSteps.{top_sites};

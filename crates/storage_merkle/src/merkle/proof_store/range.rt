@@ -1,4 +1,5 @@
 //! Range proofs from a store.
+
 ghost use Rattle.std.specs.Prelude.{◌≡◌, ℕ, ◌+◌, ◌-◌, ◌%◌, ◌^◌, ◌<◌, ◌≤◌, ◌⊎◌, ◌++◌, List, [], drop, map, option_map, Some, None, IfOk, IfErr, OnOk};
 ghost use Rattle.storage_merkle.specs.Calc.{back, eval, front, node};
 ghost use Rattle.storage_merkle.specs.CheckSteps.{right_of, top_sites};

@@ -34,13 +34,16 @@ pub const UPDATE_CONTEXT: u8 = 0xD2;
 /// The tag of a commit.
 pub const COMMIT_CONTEXT: u8 = 0xD3;
 
-/// An operation.
+/// An operation of a database.
 #[derive(Drop)]
 #[derive_where(Debug; S, S::Value)]
 #[derive_where(PartialEq; S, S::Value)]
 pub enum Operation<F: Family, S: Update> {
+    /// The key is removed.
     Delete(S::Key),
+    /// The key gets a value.
     Update(S),
+    /// A commit: its value, if it has one, and the location below which no operation is active.
     CommitFloor(Option<S::Value>, Location<F>),
 }
 
@@ -75,6 +78,12 @@ pub trait OperationCodec<F: Family, S: Update>: ValueEncoding {
             (operation_map S.Key.text S.text S.Value.text (parts operation.now)))) };
 
     /// Reads an operation from the front.
+    ///
+    /// # Errors
+    ///
+    /// The first of: `EndOfBuffer` where the tag is missing, or a fixed operation has not all its bytes; `InvalidEnum` with a
+    /// tag that no operation has; what the parts are refused for, one after the other; of a fixed operation `Invalid` where the
+    /// bytes that fill it up are not zero. A floor past 2^62 is `Invalid`. `Memory` may come where a part takes memory.
     fn read_operation<B: Buf>(
         alloc: Global,
         buf: &mut B,
@@ -140,7 +149,7 @@ where
 }
 
 impl<F: Family, S: Update> Operation<F, S> {
-    /// A second operation that is seen and written as this one.
+    /// A second operation that is seen and written as this one, or want of memory.
     pub fn clone(&self) -> Result<Self, NoMemory>
         ensures seen { IfOk result (λ x. operation_map S.Key.view S.seen S.Value.view (parts x)
             ≡ operation_map S.Key.view S.seen S.Value.view (parts self.now)) }

@@ -1,4 +1,5 @@
 //! Multi proofs over operations at any locations.
+
 ghost use Rattle.std.specs.Prelude.{◌≡◌, ◌↔◌, ◌⊎◌, None, Some, [], map, IfErr, IfOk, IsOk, IsTrue};
 ghost use Rattle.storage_merkle.specs.declared.merkle.bagging.Bagging.TheVariants.{BackwardFold};
 ghost use Rattle.storage_merkle.specs.Extracted.{texts};
@@ -15,8 +16,8 @@ use storage_codec::codec::Encode;
 use storage_codec::digest::{Digest, DigestOf, Hasher};
 use storage_merkle::merkle::{Error, Family, Location, Position, Proof, ProofStore};
 
-/// Whether operations stand at their locations, which must ascend, of the list with that root. The answer for no operations
-/// takes no memory.
+/// Whether operations stand at their locations of the list with that root; no where the locations do not ascend strictly. The
+/// answer for no operations takes no memory.
 pub fn verify_multi_proof<H: Hasher, F: Family, Op: Encode>(
     alloc: Global,
     proof: &Proof<F, DigestOf<H>>,

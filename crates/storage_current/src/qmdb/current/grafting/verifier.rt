@@ -1,7 +1,6 @@
 //! The hasher of checks over a grafted view.
 
-ghost use Rattle.std.specs.Prelude.{◌≡◌, ℕ, ◌+◌, ◌-◌, ◌*◌, ◌/◌, ◌%◌, ◌^◌, ◌<◌, ◌≤◌, ◌&&◌, ◌++◌, List, [], refl, map, eqb, ltb, if◌then◌else◌, slice_index_or, MatchOption};
-ghost use Rattle.storage_codec.specs.Digests.{HashFunction, IsSized};
+ghost use Rattle.std.specs.Prelude.{◌≡◌, ℕ, ◌+◌, ◌-◌, ◌*◌, ◌/◌, ◌%◌, ◌^◌, ◌<◌, ◌≤◌, ◌&&◌, ◌++◌, List, [], refl, map, eqb, ltb, if◌then◌else◌, MatchOption};
 ghost use Rattle.storage_merkle.specs.Shape.{size};
 ghost use Rattle.storage_merkle.specs.Nodes.{IsNode};
 ghost use Rattle.storage_merkle.specs.Trees.{Layout};
@@ -10,6 +9,7 @@ ghost use Rattle.storage_merkle.specs.declared.merkle.bagging.Bagging.TheVariant
 ghost use Rattle.storage_current.specs.Grafted.{IsGraftedWith, IsUngrafted, grafted_over, supplied};
 
 use crate::qmdb::current::grafting::graft;
+use std::alloc::AllocError;
 use std::marker::PhantomData;
 use storage_codec::digest;
 use storage_merkle::merkle::family::node_at;
@@ -79,6 +79,23 @@ impl<'a, F: Graftable, H: digest::Hasher> Verifier<'a, F, H> {
             return None;
         }
         Some(self.chunks[place])
+    }
+}
+
+/// A second hasher over the same chunks, or want of memory.
+impl<F: Graftable, H: digest::Hasher> Clone for Verifier<'_, F, H> {
+    ghost is_clone = { λ x y. (y.height ≡ x.height) × (y.start_chunk_index ≡ x.start_chunk_index)
+        × (map (λ c. c.now) y.chunks.items ≡ map (λ c. c.now) x.chunks.items)
+        × (y.graftable_chunks ≡ x.graftable_chunks) };
+
+    fn clone(&self) -> Result<Self, AllocError> {
+        let chunks = self.chunks.clone()?;
+        Ok(Verifier::new(
+            self.height,
+            self.start_chunk_index,
+            chunks,
+            self.graftable_chunks,
+        ))
     }
 }
 

@@ -1,6 +1,8 @@
 //! Proofs that one operation is active.
 
 ghost use Rattle.std.specs.Prelude.{◌≡◌, ◌↔◌, ◌⊎◌, OnOk, IfOk, IfErr, IsTrue, Ok, true, false, ℕ, ◌+◌, ◌-◌, ◌*◌, ◌/◌, ◌%◌, ◌^◌, ◌<◌, ◌≤◌, length};
+ghost use Rattle.std.specs.List.{All};
+ghost use Rattle.storage_merkle.specs.Plans.{planned};
 ghost use Rattle.storage_bitmap.specs.Chunks.{IsChunkSize};
 ghost use Rattle.storage_bitmap.specs.Packed.{bit_in};
 ghost use Rattle.storage_current.specs.CurrentProofs.{IsActiveCurrent};
@@ -50,7 +52,7 @@ impl<F: Graftable, D: Digest, const N: usize> Proof<F, D, [u8; N]> {
         floor: Location<F>,
         ops_root: D,
     ) -> Result<Self, Error<F>>
-        requires { G.IsAlwaysCallable get_node }
+        requires { All (λ p. G.pre get_node p) (planned F.shape plan.leaves plan.start plan.end) }
         ensures own { let g = grafting_of F.shape N in
             IfOk result (λ proof. (s : SnapshotOf) → ArePartsOf D.text
             (G.post get_node) H.hash_of g plan (R.retained status.now) floor (D.text ops_root) s

@@ -6,7 +6,7 @@ ghost use Rattle.storage_bitmap.specs.Chunks.{IsChunkSize, bit_count, chunks_fro
 ghost use Rattle.storage_ops.specs.declared.qmdb.error.Error.TheVariants.{Log};
 ghost use Rattle.storage_current.specs.Held.{current_of};
 ghost use Rattle.storage_current.specs.Served.{AreServedOf, Counts, HoldsRange, IsAnswerable, IsGone, IsKept, IsLogFault, IsNotAnswered, IsStoreFault, end_of};
-ghost use Rattle.storage_current.specs.Snapshots.{Holds, Snapshot as SnapshotOf, first_chunk, last_chunk, own_current_proof, grafting_of};
+ghost use Rattle.storage_current.specs.Snapshots.{Holds, Snapshot as SnapshotOf, own_current_proof, grafting_of};
 
 use crate::qmdb::current::proof::RangeProof;
 use crate::qmdb::current::{Contiguous, LogError, grafting};

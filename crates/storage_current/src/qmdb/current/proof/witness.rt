@@ -52,7 +52,7 @@ impl<F, D: Digest> OpsRootWitness<F, D> {
 
     /// The same witness. It takes no memory.
     pub fn clone(&self) -> Result<Self, NoMemory>
-        ensures { IfOk result (λ w. w ≡ self.now) }
+        ensures { result ≡ Ok self.now }
     {
         Ok(self.copied())
     }

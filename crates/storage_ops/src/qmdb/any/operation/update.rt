@@ -101,7 +101,7 @@ pub trait Update: sealed::Sealed + Write + EncodeSize + Drop {
 
 /// An update that is also read.
 pub trait CodecUpdate: Update + Codec {
-    /// What is seen of what was read.
+    /// Updates that are read alike are seen alike.
     ghost same_seen: { (x y : Self) → Self.view x ≡ Self.view y → Self.seen x ≡ Self.seen y };
 }
 

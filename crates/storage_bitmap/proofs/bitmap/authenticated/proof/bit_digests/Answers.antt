@@ -34,5 +34,6 @@ returns g c plain list rest s =
     c.if-place-complete.false
     c.digest.result c.push-2.new.self.items c.get_chunk-last.result c.in_ok-push-2.ensures.items c.digest.ensures
     c.get_chunk-last.ensures
-    (let at : c.len-length.result / (8 * g.row.N) ≡ bit_count g.row.N c.args.bits.now / (8 * g.row.N) = ap (λ m. m / (8 * g.row.N)) c.len-length.ensures.value in omega (arith, at, c.requires.order, c.requires.whole))
+    (let at : c.len-length.result / (8 * g.row.N) ≡ bit_count g.row.N c.args.bits.now / (8 * g.row.N) =
+    ap (λ m. m / (8 * g.row.N)) c.len-length.ensures.value in omega (arith, at, c.requires.order, c.requires.whole))
     (λ z. not_both c.is_multiple_of.result (c.is_multiple_of.ensures.1 z) c.if-is_multiple_of.false)

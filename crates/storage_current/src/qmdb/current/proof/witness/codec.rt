@@ -3,7 +3,7 @@
 ghost use Rattle.std.specs.Prelude.{◌≡◌, ℕ, ◌+◌, ◌<◌, ◌^◌, List, option_map};
 ghost use Rattle.storage_current.specs.Snapshots.{Witness};
 ghost use Rattle.storage_current.specs.WitnessWire.{counted_at, counted_text, witness_at, witness_of, witness_text, IsAdmittedWitness};
-ghost use Rattle.storage_current.specs.WitnessWireLaws.{counted_again, counted_back, witness_again, witness_back};
+ghost use Rattle.storage_current.specs.WitnessWireLaws.{witness_again, witness_back};
 
 use crate::qmdb::current::proof::OpsRootWitness;
 use crate::qmdb::current::proof::codec::sum;

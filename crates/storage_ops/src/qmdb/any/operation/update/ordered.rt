@@ -30,8 +30,11 @@ use storage_codec::codec::{
 #[derive_where(PartialEq; V::Value)]
 #[derive_where(Eq; V::Value)]
 pub struct Update<K: Key, V: ValueEncoding> {
+    /// The key.
     pub key: K,
+    /// Its value.
     pub value: V::Value,
+    /// The next greater active key; that of the greatest key is the least one.
     pub next_key: K,
 }
 
@@ -122,7 +125,7 @@ impl<K: Key, V: ValueEncoding> Write for Update<K, V> {
     }
 }
 
-/// Reads the parts, one after the other.
+/// Reads the parts, one after the other. Refused as the first of them that is.
 #[tactic(auto, using(storage_codec::specs::PartsLaws::ends_then))]
 fn read<K: Key, V: ValueEncoding, B: Buf>(
     alloc: Global,

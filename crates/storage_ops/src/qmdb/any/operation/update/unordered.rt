@@ -109,7 +109,7 @@ impl<K: Key, V: ValueEncoding> Write for Update<K, V> {
     }
 }
 
-/// Reads the parts, one after the other.
+/// Reads the parts, one after the other. Refused as the first of them that is.
 #[tactic(auto, using(storage_codec::specs::PartsLaws::ends_then))]
 fn read<K: Key, V: ValueEncoding, B: Buf>(
     alloc: Global,

@@ -7,5 +7,6 @@ returns-clause-stands g c h bits s =
     let i = c.self.invariant in
     handed_out g.D.Write.text h g.row.N c.args.self.now bits c.pruned_chunks.result c.extend_from_slice.new.self.items
     (rw (← c.self.view_is) i.boundary) (rw (← c.self.view_is) i.order)
-    (rw (← c.self.view_is) c.pruned_chunks.ensures.value) (rw (← c.self.view_is) (c.in_default.ensures.items
+    (rw (← c.self.view_is) c.pruned_chunks.ensures.value)
+    (rw (← c.self.view_is) (c.in_ok-extend_from_slice.ensures.items
     ∙ ap (λ xs. xs ++ c.pinned_nodes.result.now) c.new-pinned.ensures.items ∙ c.pinned_nodes.ensures)) s

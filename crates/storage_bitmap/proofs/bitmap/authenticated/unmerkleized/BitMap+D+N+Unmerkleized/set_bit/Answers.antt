@@ -16,7 +16,7 @@ invariant_of-self-2 g c =
     let i = c.self.invariant in
     let low = rw (← c.self.view_is) at c.requires.kept in
     let some = chunk_positive g.row.N i.size in
-    let m = c.in_default.ensures in
+    let m = c.in_ok-mark.ensures in
     let first : c.self.inside.bits.pruned ≤ c.args.bit / (8 * g.row.N) =
     le-div c.self.inside.bits.pruned c.args.bit (8 * g.row.N) (omega arith) low in
     rw c.set_bit.ensures (whole_set g.row.N c.self.inside.bits c.self.inside.tree
@@ -30,7 +30,7 @@ pub returns-clause-stands : goal.returns-clause-stands
 returns-clause-stands g c h bits s =
     let i = c.self.invariant in
     let low = rw (← c.self.view_is) at c.requires.kept in
-    let m = c.in_default.ensures in
+    let m = c.in_ok-mark.ensures in
     let d = marked c.self.inside.state.dirty.keys c.mark.new.dirty.keys
     (c.args.bit / (8 * g.row.N)) c.self.inside.tree.leaves
     (λ l. m.marked (omega (arith, l, c.as_u64-leaves.ensures, c.leaves.ensures)))
