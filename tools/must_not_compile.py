@@ -42,7 +42,7 @@ def main():
             print(f"{edit.relative_to(copy)}: {'refused' if fits else 'NOT refused as named'}")
             refused, missed = refused + fits, missed + (not fits)
     print(f"{refused} refused, {missed} not")
-    return 1 if missed else 0
+    return 1 if missed or not refused else 0
 
 
 sys.exit(main())
