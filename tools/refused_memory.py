@@ -4,7 +4,8 @@
     tools/refused_memory.py [CRATE..]
 
 Takes what `rt ci` left: the tests of each crate that has some, and the programs `stateproof` and `replay`; or of the named
-crates alone. A case is a test, a command of `stateproof`, or a line for `replay`, LINES of them of each list. It is run once with
+crates alone. A case is a test, a command of `stateproof`, or a line for `replay`, LINES of them of each list, and of each list in each
+worked row, whose lines begin with its name and a colon. It is run once with
 all memory that it asks for, and must give the right answer. Then each of its requests for memory is refused in turn: once alone,
 and once with all that come after it. Such a run must give the right answer too, or name want of memory, and write nothing else.
 
@@ -121,12 +122,18 @@ def is_want_of_line(ending):
     return ending.status == 1 and ending.output == "" and re.fullmatch(rf"Error: {WANT}\n", ending.errors) is not None
 
 
+def list_of(line):
+    """The worked row of a line, None where it is of none, and the line's list."""
+    first, second, *_ = line.split()
+    return (first, second) if first.endswith(":") else (None, first)
+
+
 def lines():
-    """Lines of each list that `replay` answers, evenly spread, and the longest one."""
+    """Lines of each list that `replay` answers, and of each list in each row, evenly spread, and the longest one."""
     folder = ROOT / "crates/replay"
     lists = collections.defaultdict(list)
     for given, answer in zip((folder / "stdin").open(), (folder / "stdout").open()):
-        lists[given.split()[0]].append((given, answer))
+        lists[list_of(given)].append((given, answer))
     for cases in lists.values():
         step = -(-len(cases) // (LINES - 1))
         for given, answer in dict.fromkeys([*cases[::step], max(cases, key=lambda it: len(it[0]))]):

@@ -7,6 +7,8 @@ LISTS is a folder of lists, one case a line, columns with blanks between them, t
 made by an independent program that computes the definitions over whole lists. A line of stdin is the name of a list
 and the columns that are given, a line of stdout the columns that are asked for. Only cases over SHA-256 are taken. Left
 out are the list `db`, for databases stand above these crates, and cases of `combined` whose tree over chunks is pruned.
+
+Lines of stdin that begin with the name of a worked row and a colon are kept with their answers, before the lists.
 """
 
 import pathlib
@@ -135,12 +137,19 @@ def cases(folder):
         yield "ranges_extracted", given, asked
 
 
+def worked(crate):
+    """The lines of stdin that begin with the name of a row, which ends with a colon, and their answers."""
+    with (crate / "stdin").open() as stdin, (crate / "stdout").open() as stdout:
+        return [pair for pair in zip(stdin, stdout) if pair[0].split(" ", 1)[0].endswith(":")]
+
+
 def main():
     folder = pathlib.Path(sys.argv[1])
     here = pathlib.Path(__file__).resolve().parent.parent
     crate = pathlib.Path(sys.argv[2]) if len(sys.argv) > 2 else here / "crates" / "replay"
-    given = []
-    asked = []
+    rows_by_hand = worked(crate)
+    given = [line for line, _ in rows_by_hand]
+    asked = [answer for _, answer in rows_by_hand]
     for name, columns, answers in cases(folder):
         given.append(" ".join([name, *columns]) + "\n")
         asked.append(" ".join(answers) + "\n")

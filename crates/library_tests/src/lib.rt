@@ -1,17 +1,8 @@
-//! Tests of single libraries: what no clause says, as vectors from outside, written bytes, texts, and that calls succeed.
+//! Tests of single libraries: calls made again after want of memory, and what a call through a bound gives. The other cases of
+//! single libraries are lines of `replay`.
 #![tactic(auto)]
 
 #[cfg(test)]
-mod bitmap;
-#[cfg(test)]
-mod codec;
-#[cfg(test)]
-mod current;
-#[cfg(test)]
-mod granted;
-#[cfg(test)]
-mod merkle;
-#[cfg(test)]
-mod ops;
+mod bounds;
 #[cfg(test)]
 mod refused;

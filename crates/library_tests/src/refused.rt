@@ -2,9 +2,8 @@
 //! gives what the first would have given. Where memory is found none is made again; `tools/refused_memory.py` refuses each
 //! request of these tests in turn.
 
-use crate::granted::told;
-use crate::merkle::proofs::digest;
 use std::alloc::Global;
+use std::fmt::Debug;
 use std::test::Fail;
 use storage_bitmap::bitmap::authenticated::{
     BitMap, MerkleizedBitMap, PrunedState, UnmerkleizedBitMap,
@@ -14,9 +13,14 @@ use storage_codec::codec::{FixedBytes, Write};
 use storage_codec::digest::Sha256;
 use storage_merkle::merkle::hasher::Standard;
 use storage_merkle::merkle::mem::Mem;
-use storage_merkle::merkle::{Bagging, Location, MAX_LEAVES, Position, mmb};
+use storage_merkle::merkle::{Bagging, Error, Location, MAX_LEAVES, Position, mmb};
 
 type Digest = FixedBytes<32>;
+
+/// The failure of a test whose call was refused, by the name of the refusal.
+fn told<E: Debug>(refusal: &E) -> Fail {
+    Fail::new(format_args!("error: {refusal:?}"))
+}
 
 /// Appends a bit.
 fn push(bits: &mut Prunable<1>, bit: bool) -> Result<(), Fail> {
@@ -48,17 +52,14 @@ fn push_made_again(rt: HostRuntime) -> Result<(), Fail> {
     Ok(())
 }
 
-/// The authenticated bitmap of no bits, open to changes.
-fn no_bits(
+/// The authenticated bitmap that is restored.
+fn restored(
     alloc: Global,
     hasher: &Standard<Sha256>,
-) -> Result<UnmerkleizedBitMap<Digest, 1>, Fail> {
-    let state = PrunedState {
-        pruned_chunks: 0,
-        pinned: Vec::new(alloc),
-    };
+    state: PrunedState<Digest>,
+) -> Result<MerkleizedBitMap<Digest, 1>, Fail> {
     match BitMap::init(alloc, hasher, state) {
-        Ok(bitmap) => Ok(bitmap.into_dirty()),
+        Ok(bitmap) => Ok(bitmap),
         Err(refusal) => Err(told(&refusal)),
     }
 }
@@ -131,7 +132,11 @@ fn prune(bitmap: &mut MerkleizedBitMap<Digest, 1>, bit: u64) -> Result<(), Fail>
 #[test]
 fn bitmap_calls_made_again(rt: HostRuntime) -> Result<(), Fail> {
     let hasher = Standard::<Sha256>::new(Bagging::BackwardFold);
-    let mut bitmap = no_bits(rt.alloc(), &hasher)?;
+    let none = PrunedState {
+        pruned_chunks: 0,
+        pinned: Vec::new(rt.alloc()),
+    };
+    let mut bitmap = restored(rt.alloc(), &hasher, none)?.into_dirty();
     push_all(&mut bitmap, b"0100000001")?;
     let mut bitmap = merkleized(bitmap, &hasher)?.into_dirty();
     push_all(&mut bitmap, b"011011")?;
@@ -149,7 +154,13 @@ fn bitmap_calls_made_again(rt: HostRuntime) -> Result<(), Fail> {
     assert_eq!(rt; bitmap.last_chunk(), (&[0x60], 7));
     assert_eq!(rt;
         bitmap.root(),
-        digest(b"5e3522a5119b4e033fe0d6f83c70dd153f6118e4e2d1c3b96d40012b4f6c42b0")
+        FixedBytes {
+            bytes: [
+                0x5e, 0x35, 0x22, 0xa5, 0x11, 0x9b, 0x4e, 0x03, 0x3f, 0xe0, 0xd6, 0xf8, 0x3c, 0x70,
+                0xdd, 0x15, 0x3f, 0x61, 0x18, 0xe4, 0xe2, 0xd1, 0xc3, 0xb9, 0x6d, 0x40, 0x01, 0x2b,
+                0x4f, 0x6c, 0x42, 0xb0
+            ],
+        }
     );
     Ok(())
 }
@@ -173,22 +184,29 @@ fn add(
     }
 }
 
-/// Writes the digest of a leaf anew.
+/// Writes the digests of leaves anew, once.
+fn write_once(
+    tree: &mut Mem<mmb::Family, Digest>,
+    hasher: &Standard<Sha256>,
+    updates: &[(Location<mmb::Family>, Digest)],
+) -> Result<(), Error<mmb::Family>> {
+    tree.update_leaves(hasher, updates)
+}
+
+/// Writes the digests of leaves anew.
 fn update(
     tree: &mut Mem<mmb::Family, Digest>,
     hasher: &Standard<Sha256>,
-    location: u64,
-    leaf: Digest,
+    updates: &[(Location<mmb::Family>, Digest)],
 ) -> Result<(), Fail> {
-    let updates = [(Location::new(location), leaf)];
     let before = tree.root(hasher, 0);
-    if tree.update_leaves(hasher, &updates).is_ok() {
+    if write_once(tree, hasher, updates).is_ok() {
         return Ok(());
     }
     if tree.root(hasher, 0) != before {
         return Err(Fail::new("a refused leaf was written"));
     }
-    match tree.update_leaves(hasher, &updates) {
+    match write_once(tree, hasher, updates) {
         Ok(()) => Ok(()),
         Err(refusal) => Err(told(&refusal)),
     }
@@ -233,13 +251,25 @@ fn tree_calls_made_again(rt: HostRuntime) -> Result<(), Fail> {
     for element in elements {
         add(&mut tree, &hasher, element)?;
     }
-    let leaf = digest(b"76d2349df3550b8d915f81f940c502a718ba6bdc77a2a4d86236a780d6fd581d");
-    update(&mut tree, &hasher, 0, leaf)?;
+    let leaf = FixedBytes {
+        bytes: [
+            0x76, 0xd2, 0x34, 0x9d, 0xf3, 0x55, 0x0b, 0x8d, 0x91, 0x5f, 0x81, 0xf9, 0x40, 0xc5,
+            0x02, 0xa7, 0x18, 0xba, 0x6b, 0xdc, 0x77, 0xa2, 0xa4, 0xd8, 0x62, 0x36, 0xa7, 0x80,
+            0xd6, 0xfd, 0x58, 0x1d,
+        ],
+    };
+    update(&mut tree, &hasher, &[(Location::new(0), leaf)])?;
     assert_eq!(rt; tree.get_node(Position::new(0)), Some(leaf));
     forget(&mut tree, 9)?;
     assert_eq!(rt; tree.leaves(), Location::new(14));
     assert_eq!(rt; tree.get_node(Position::new(0)), None);
-    let root = digest(b"0e7285ec5ba7dd66acd59c253cfd7ec107d0a5dfe4793b7f281c27e536051767");
+    let root = FixedBytes {
+        bytes: [
+            0x0e, 0x72, 0x85, 0xec, 0x5b, 0xa7, 0xdd, 0x66, 0xac, 0xd5, 0x9c, 0x25, 0x3c, 0xfd,
+            0x7e, 0xc1, 0x07, 0xd0, 0xa5, 0xdf, 0xe4, 0x79, 0x3b, 0x7f, 0x28, 0x1c, 0x27, 0xe5,
+            0x36, 0x05, 0x17, 0x67,
+        ],
+    };
     assert_eq!(rt; tree.root(&hasher, 0), Ok(root));
     Ok(())
 }

@@ -109,6 +109,21 @@ pub fn strings(alloc: Global, column: &str) -> Result<Vec<Vec<u8>>, Fault> {
     Ok(strings)
 }
 
+/// Texts with blanks between them.
+pub fn spaced(alloc: Global, texts: &[&str]) -> Result<String, Fault> {
+    Ok(texts.join(alloc, " ")?)
+}
+
+/// Texts with colons between them.
+pub fn coloned(alloc: Global, texts: &[&str]) -> Result<String, Fault> {
+    Ok(texts.join(alloc, ":")?)
+}
+
+/// A text of its own.
+pub fn owned(alloc: Global, text: &str) -> Result<String, Fault> {
+    Ok(String::from_str(alloc, text)?)
+}
+
 /// A text with `_` for each blank.
 pub fn unblanked(alloc: Global, text: &str) -> Result<String, Fault> {
     let mut answer = String::new(alloc);

@@ -3,6 +3,7 @@
 ghost use Rattle.storage_bitmap.specs.Chunks.{IsChunkSize};
 
 mod histories;
+mod verified;
 
 use crate::columns::{Fault, bytes, digest, digests, number, verdict};
 use crate::lists::proofs::{bagging, proof_of};
@@ -41,6 +42,8 @@ fn over<const N: usize>(
 {
     match list {
         "bitmaps" => histories::bitmaps::<N>(alloc, hasher, columns),
+        "bitmaps_stages" => histories::bitmaps_stages::<N>(alloc, hasher, columns),
+        "bitmaps_verified" => verified::bitmaps_verified::<N>(alloc, hasher, columns),
         "bitmaps_checks" => bitmaps_checks::<N>(alloc, hasher, columns),
         "bitmaps_init" => bitmaps_init::<N>(alloc, hasher, columns),
         _ => Err(Fault::Malformed),

@@ -1,6 +1,6 @@
 //! Lists on codecs and digests.
 
-use crate::columns::{Fault, bytes};
+use crate::columns::{Fault, bytes, strings};
 use crate::lists::refusals::codec_refusal;
 use std::alloc::Global;
 use storage_codec::codec::{Read, UInt};
@@ -37,12 +37,16 @@ fn front_location(alloc: Global, mut input: &[u8]) -> Result<String, Fault> {
     }
 }
 
-/// `input`: its SHA-256 digest.
+/// `parts`: the SHA-256 digest of all of them, one after another.
 pub fn golden_hash(alloc: Global, columns: &[&str]) -> Result<String, Fault> {
-    let [text] = columns else {
+    let [parts] = columns else {
         return Err(Fault::Malformed);
     };
-    let input = bytes(alloc, *text)?;
-    let digest = Sha256::hash(&[input.as_slice()]);
+    let parts = strings(alloc, *parts)?;
+    let mut lent = Vec::new(alloc);
+    for part in &parts {
+        lent.push(part.as_slice())?;
+    }
+    let digest = Sha256::hash(&lent);
     Ok(hex::encode(alloc, digest.bytes())?)
 }

@@ -1,12 +1,14 @@
-//! The list on proofs from a tree over chunks and a tree over the operations, read as one.
+//! Lists on a tree over chunks and a tree over the operations, read as one.
 
 ghost use Rattle.std.specs.Prelude.{◌≡◌, ◌%◌, ◌^◌, ◌≤◌};
 ghost use Rattle.storage_bitmap.specs.Chunks.{IsChunkSize};
 
-mod lacking;
+pub mod whole;
 
 use crate::columns::{Fault, number, strings};
-use crate::lists::refusals::{database_fault, database_refusal, merkle_fault};
+use crate::lists::faulty::{ALWAYS, Faulty, NONE};
+use crate::lists::refusals::{database_refusal, merkle_fault};
+use crate::lists::served;
 use crate::lists::snapshots::bits_of;
 use commonware_storage::bitmap::{Prunable, Readable};
 use commonware_storage::codec::{Encode, FixedBytes};
@@ -14,21 +16,17 @@ use commonware_storage::digest::Sha256;
 use commonware_storage::merkle::hasher::Standard;
 use commonware_storage::merkle::mem::Mem;
 use commonware_storage::merkle::{
-    Bagging, Countable, Graftable, Location, MAX_LEAVES, Position, Storage as _, mmb, mmr,
+    Bagging, Countable, Graftable, Location, MAX_LEAVES, Position, mmb, mmr,
 };
 use commonware_storage::qmdb;
 use commonware_storage::qmdb::current::Snapshot;
 use commonware_storage::qmdb::current::grafting::{self, GraftedHasher, Storage, graftable_chunks};
 use commonware_storage::qmdb::current::proof::constant::OperationProof;
-use lacking::Lacking;
 use std::alloc::Global;
 use storage_current::laws::combined::nodes_over_chunks_are_taken;
 
 /// More chunks than a case has.
 const MANY: u64 = 1000;
-
-/// A position that no tree has.
-const NONE: u64 = u64::MAX;
 
 /// What a case gives.
 #[derive(Drop)]
@@ -43,12 +41,37 @@ struct Case<'a> {
     whole: bool,
     /// The position that the tree over the operations lacks.
     absent: u64,
+    /// How many digests the tree over the operations answers.
+    left: u64,
+}
+
+/// An answer, and how often the tree over the operations was asked and failed.
+#[derive(Drop)]
+struct Asked {
+    answer: String,
+    calls: u64,
+    failures: u64,
 }
 
 /// `family chunk_size bits floor operations location pruned grafted absent`: the proof of the operation at the location, or the
 /// refusal. So many chunks of the status are pruned, the tree over chunks is whole or `empty`, and the one over the operations
 /// lacks a position or `none`.
 pub fn combined(alloc: Global, columns: &[&str]) -> Result<String, Fault> {
+    Ok(asked_of(alloc, columns, ALWAYS)?.answer)
+}
+
+/// The same with a last column, how many digests the tree over the operations answers: the proof or the refusal, and how often
+/// that tree was asked and failed.
+pub fn combined_asked(alloc: Global, columns: &[&str]) -> Result<String, Fault> {
+    let Some((left, columns)) = columns.split_last() else {
+        return Err(Fault::Malformed);
+    };
+    let asked = asked_of(alloc, columns, number(*left)?)?;
+    let (answer, calls, failures) = (asked.answer, asked.calls, asked.failures);
+    Ok(format!(in alloc; "{answer} {calls} {failures}")?)
+}
+
+fn asked_of(alloc: Global, columns: &[&str], left: u64) -> Result<Asked, Fault> {
     let [
         family,
         chunk_size,
@@ -75,6 +98,7 @@ pub fn combined(alloc: Global, columns: &[&str]) -> Result<String, Fault> {
         } else {
             number(*absent)?
         },
+        left,
     };
     match (*family, *chunk_size) {
         ("mmr", "1") => proved::<mmr::Family, 1>(alloc, &case),
@@ -88,26 +112,24 @@ pub fn combined(alloc: Global, columns: &[&str]) -> Result<String, Fault> {
 fn proved<F: Graftable + Countable, const N: usize>(
     alloc: Global,
     case: &Case<'_>,
-) -> Result<String, Fault>
+) -> Result<Asked, Fault>
     requires { IsChunkSize N }
 {
     let height = grafting::height::<N>();
     if height > 8 {
         return Err(Fault::Malformed);
     }
-    let bits = bits_of::<N>(alloc, case.bits)?;
     let floor = Location::new(case.floor);
-    let snapshot = match Snapshot::<F, Sha256, N>::new(alloc, &case.operations, bits, floor) {
-        Ok(snapshot) => snapshot,
-        Err(error) => return Err(database_fault(&error)),
-    };
+    let snapshot = served::snapshot::<F, N>(alloc, &case.operations, case.bits, case.floor)?;
     let grafted = if case.whole {
         grafted_tree(alloc, &snapshot, height)?
     } else {
         Mem::new(alloc)
     };
     let status = status_of::<N>(alloc, case.bits, case.pruned)?;
-    let mut operations = Lacking::new(operations_tree(alloc, &case.operations)?, case.absent);
+    let nodes = operations_nodes::<F>(alloc, &case.operations)?;
+    let size = nodes.len() as u64;
+    let mut operations = Faulty::new(nodes, size, case.absent, case.left);
     let mut both = Storage::new(&grafted, height, &mut operations);
     let answer = OperationProof::new::<Sha256, Prunable<N>, _>(
         alloc,
@@ -117,14 +139,23 @@ fn proved<F: Graftable + Countable, const N: usize>(
         Location::new(case.location),
         snapshot.ops_root(),
     );
-    match answer {
-        Ok(proof) => Ok(hex::encode(alloc, proof.encode(alloc)?)?),
-        Err(error) => database_refusal(alloc, &error),
-    }
+    let answer = match answer {
+        Ok(proof) => hex::encode(alloc, proof.encode(alloc)?)?,
+        Err(error) => database_refusal(alloc, &error)?,
+    };
+    Ok(Asked {
+        answer,
+        calls: operations.calls(),
+        failures: operations.failed(),
+    })
 }
 
 /// A bit for each digit, of which so many chunks are pruned; zeros fill up the last of these.
-fn status_of<const N: usize>(alloc: Global, digits: &str, pruned: u64) -> Result<Prunable<N>, Fault>
+pub fn status_of<const N: usize>(
+    alloc: Global,
+    digits: &str,
+    pruned: u64,
+) -> Result<Prunable<N>, Fault>
     requires { IsChunkSize N }
 {
     let mut status = bits_of::<N>(alloc, digits)?;
@@ -144,19 +175,23 @@ fn status_of<const N: usize>(alloc: Global, digits: &str, pruned: u64) -> Result
     Ok(status)
 }
 
-/// The tree over operations.
-fn operations_tree<F: Graftable>(
+/// The nodes of the tree over operations.
+fn operations_nodes<F: Graftable>(
     alloc: Global,
     operations: &[Vec<u8>],
-) -> Result<Mem<F, FixedBytes<32>>, Fault> {
+) -> Result<Vec<FixedBytes<32>>, Fault> {
     let hasher = qmdb::hasher::<Sha256>();
-    let mut tree = Mem::new(alloc);
+    let mut tree = Mem::<F, _>::new(alloc);
     for operation in operations {
         if let Err(error) = tree.add(&hasher, operation.as_slice()) {
             return Err(merkle_fault(&error));
         }
     }
-    Ok(tree)
+    let mut nodes = Vec::new(alloc);
+    for place in 0..tree.size().as_u64() {
+        nodes.push(tree.get_node(Position::new(place)).ok_or(Fault::Malformed)?)?;
+    }
+    Ok(nodes)
 }
 
 /// The tree over the graftable chunks of a snapshot.

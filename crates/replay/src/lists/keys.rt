@@ -132,8 +132,8 @@ fn any_length() -> (RangeCfg, ()) {
     (lengths, ())
 }
 
-/// The key or the value of these bytes.
-fn decoded<T: Read>(alloc: Global, bytes: &[u8], cfg: &T::Cfg) -> Result<T, Fault> {
+/// What these bytes are as a value of a type.
+pub fn decoded<T: Read>(alloc: Global, bytes: &[u8], cfg: &T::Cfg) -> Result<T, Fault> {
     match T::decode_cfg(alloc, bytes, cfg) {
         Ok(value) => Ok(value),
         Err(Error::Memory) => Err(Fault::Memory),

@@ -1,13 +1,14 @@
 //! The list on checks that compare pinned digests too.
 
-use crate::columns::{Fault, digest, digests, number, strings, verdict};
-use crate::lists::proofs::{bagging, proof_of};
-use crate::lists::unframed::operations;
+use crate::columns::{Fault, digests, strings, verdict};
+use crate::lists::proofs::Claim;
+use crate::lists::unframed::{Unframed, operations};
 use commonware_storage::qmdb::verify::verify_proof_and_pinned_nodes;
 use std::alloc::Global;
+use storage_codec::codec::FixedBytes;
 use storage_codec::digest::Sha256;
 use storage_merkle::merkle::hasher::Standard;
-use storage_merkle::merkle::{Bagging, Family, Location};
+use storage_merkle::merkle::{Bagging, Family};
 
 /// `bagging leaves inactive digests start elements pinned root label`: whether the proof and the pinned digests are accepted;
 /// under the direction of databases, by the check of operations. The label says how the case was made.
@@ -26,25 +27,50 @@ pub fn pinned_checks<F: Family>(alloc: Global, columns: &[&str]) -> Result<Strin
     else {
         return Err(Fault::Malformed);
     };
-    let bagging = bagging(*direction)?;
-    let proof = proof_of::<F>(alloc, *leaves, *inactive, *nodes)?;
-    let start = Location::new(number(*start)?);
+    let claim = Claim::<F>::new(
+        alloc,
+        [*direction, *leaves, *inactive, *nodes, *start, *root],
+    )?;
     let pinned = digests(alloc, *pinned)?;
-    let root = digest(*root)?;
-    let yes = if bagging == Bagging::BackwardFold {
-        let operations = operations(alloc, *items)?;
-        verify_proof_and_pinned_nodes::<Sha256, F, _>(
-            alloc,
-            &proof,
-            start,
-            &operations,
-            &pinned,
-            &root,
-        )?
-    } else {
-        let hasher = Standard::<Sha256>::new(bagging);
-        let items = strings(alloc, *items)?;
-        proof.verify_proof_and_pinned_nodes(alloc, &hasher, &items, start, &pinned, &root)?
-    };
-    verdict(alloc, yes)
+    verdict(alloc, is_accepted(alloc, &claim, *items, &pinned)?)
+}
+
+fn is_accepted<F: Family>(
+    alloc: Global,
+    claim: &Claim<F>,
+    items: &str,
+    pinned: &[FixedBytes<32>],
+) -> Result<bool, Fault> {
+    if claim.bagging == Bagging::BackwardFold {
+        return shows_operations(alloc, claim, &operations(alloc, items)?, pinned);
+    }
+    shows_elements(alloc, claim, &strings(alloc, items)?, pinned)
+}
+
+fn shows_operations<F: Family>(
+    alloc: Global,
+    claim: &Claim<F>,
+    operations: &[Unframed],
+    pinned: &[FixedBytes<32>],
+) -> Result<bool, Fault> {
+    let (proof, root) = (&claim.proof, &claim.root);
+    Ok(verify_proof_and_pinned_nodes::<Sha256, F, _>(
+        alloc,
+        proof,
+        claim.start,
+        operations,
+        pinned,
+        root,
+    )?)
+}
+
+fn shows_elements<F: Family>(
+    alloc: Global,
+    claim: &Claim<F>,
+    items: &[Vec<u8>],
+    pinned: &[FixedBytes<32>],
+) -> Result<bool, Fault> {
+    let hasher = Standard::<Sha256>::new(claim.bagging);
+    let (proof, root) = (&claim.proof, &claim.root);
+    Ok(proof.verify_proof_and_pinned_nodes(alloc, &hasher, items, claim.start, pinned, root)?)
 }

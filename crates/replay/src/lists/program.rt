@@ -1,31 +1,92 @@
 //! Lists on the program and on checks from bytes.
 
-use crate::columns::{Fault, bytes, digest, number, verdict};
+use crate::columns::{Fault, bytes, digest, number, owned, spaced, unblanked, verdict};
 use commonware_storage::digest::Sha256;
 use commonware_storage::light::check_operation;
 use commonware_storage::merkle::{Graftable, Location, mmb, mmr};
 use commonware_storage::stateproof::run;
 use std::alloc::Global;
 
-/// What the program writes for the words of a command line and an input.
-fn output_of(alloc: Global, line: &str, input: &str) -> Result<String, Fault> {
-    let mut words = Vec::new(alloc);
-    for word in line.split(' ') {
-        words.push(String::from_str(alloc, word)?)?;
-    }
+/// What a run wrote, and its status.
+#[derive(Drop)]
+struct Outcome {
+    status: u8,
+    output: String,
+    errors: String,
+}
+
+/// A run over the words of a command line and an input. Want of memory is no outcome.
+fn outcome_of(alloc: Global, words: &[String], input: &[u8]) -> Result<Outcome, Fault> {
     let mut output = Vec::new(alloc);
     let mut errors = Vec::new(alloc);
-    if run(alloc, &words, input.as_bytes(), &mut output, &mut errors) == 2 {
-        // a vector refuses what is written to it for memory alone
-        let wants = errors.is_empty() || errors.as_slice() == b"stateproof: memory\n".as_slice();
-        return Err(if wants {
-            Fault::Memory
-        } else {
-            Fault::Malformed
-        });
+    let status = run(alloc, words, input, &mut output, &mut errors);
+    // a vector refuses what is written to it for memory alone, and then the line is cut short
+    let wants = !errors.ends_with(b"\n") || errors.as_slice() == b"stateproof: memory\n".as_slice();
+    if status == 2 && wants {
+        return Err(Fault::Memory);
     }
-    let output = String::from_utf8(output).map_err(|_| Fault::Malformed)?;
-    unended(alloc, output.as_str())
+    Ok(Outcome {
+        status,
+        output: String::from_utf8(output).map_err(|_| Fault::Malformed)?,
+        errors: String::from_utf8(errors).map_err(|_| Fault::Malformed)?,
+    })
+}
+
+/// The words of a command line, with commas between them; `-` is none.
+fn words_of(alloc: Global, line: &str) -> Result<Vec<String>, Fault> {
+    let mut words = Vec::new(alloc);
+    if line != "-" {
+        for word in line.split(',') {
+            words.push(owned(alloc, word)?)?;
+        }
+    }
+    Ok(words)
+}
+
+/// The same words, each as a string of its own.
+fn owned_words(alloc: Global, line: &[&str]) -> Result<Vec<String>, Fault> {
+    let mut words = Vec::new(alloc);
+    for word in line {
+        words.push(owned(alloc, *word)?)?;
+    }
+    Ok(words)
+}
+
+/// What the program writes for the words of a command line and an input.
+fn output_of(alloc: Global, line: &[&str], input: &str) -> Result<String, Fault> {
+    let words = owned_words(alloc, line)?;
+    let outcome = outcome_of(alloc, &words, input.as_bytes())?;
+    if outcome.status == 2 {
+        return Err(Fault::Malformed);
+    }
+    unended(alloc, outcome.output.as_str())
+}
+
+/// `words input`: the status of a run over words with commas between them, `-` for none, and what it writes to its output and as
+/// its error, each `-` for nothing.
+pub fn runs(alloc: Global, columns: &[&str]) -> Result<String, Fault> {
+    let [line, input] = columns else {
+        return Err(Fault::Malformed);
+    };
+    let words = words_of(alloc, *line)?;
+    let input = bytes(alloc, *input)?;
+    told(alloc, &outcome_of(alloc, &words, &input)?)
+}
+
+/// The columns of an outcome.
+fn told(alloc: Global, outcome: &Outcome) -> Result<String, Fault> {
+    let output = column(alloc, outcome.output.as_str())?;
+    let errors = column(alloc, outcome.errors.as_str())?;
+    let status = outcome.status;
+    Ok(format!(in alloc; "{status} {output} {errors}")?)
+}
+
+/// The lines of a text as a column; `-` is none.
+fn column(alloc: Global, text: &str) -> Result<String, Fault> {
+    if text.is_empty() {
+        return owned(alloc, "-");
+    }
+    unblanked(alloc, unended(alloc, text)?.as_str())
 }
 
 /// The lines of a text with a blank in place of the feed between two of them.
@@ -47,16 +108,21 @@ pub fn program(alloc: Global, columns: &[&str]) -> Result<String, Fault> {
         return Err(Fault::Malformed);
     };
     let input = lines(alloc, *operations)?;
-    let line = format!(in alloc; "root {family} {chunk} {floor}")?;
-    let root = output_of(alloc, line.as_str(), input.as_str())?;
-    let line = format!(in alloc; "prove {family} {chunk} {floor} {location}")?;
-    let made = output_of(alloc, line.as_str(), input.as_str())?;
-    let proof = made.as_str().split_once(' ').map_or("", |(_, proof)| proof);
-    let line = format!(in alloc; "check {family} {chunk} {root} {location}")?;
-    let claimed = claimed(*operations, number(*location)?)?;
-    let input = format!(in alloc; "{claimed}\n{proof}\n")?;
-    let answer = output_of(alloc, line.as_str(), input.as_str())?;
-    Ok(format!(in alloc; "{root} {made} {answer}")?)
+    let line = ["root", *family, *chunk, *floor];
+    let root = output_of(alloc, &line, input.as_str())?;
+    let line = ["prove", *family, *chunk, *floor, *location];
+    let made = output_of(alloc, &line, input.as_str())?;
+    let claim = claim(alloc, *operations, *location, made.as_str())?;
+    let line = ["check", *family, *chunk, root.as_str(), *location];
+    let answer = output_of(alloc, &line, claim.as_str())?;
+    spaced(alloc, &[root.as_str(), made.as_str(), answer.as_str()])
+}
+
+/// The lines to check: the operation at a location, and the proof behind the root that `prove` wrote.
+fn claim(alloc: Global, operations: &str, location: &str, made: &str) -> Result<String, Fault> {
+    let claimed = claimed(operations, number(location)?)?;
+    let proof = made.split_once(' ').map_or("", |(_, proof)| proof);
+    Ok(format!(in alloc; "{claimed}\n{proof}\n")?)
 }
 
 /// The bit of an operation, and its bytes.

@@ -18,6 +18,7 @@ pub fn elements<F: Family>(alloc: Global, columns: &[&str]) -> Result<String, Fa
     let leaves = Location::new(number(*leaves)?);
     let location = Location::new(number(*location)?);
     match ElementPlan::<F>::new(alloc, leaves, location) {
+        Ok(plan) if plan.location() != location => Err(Fault::Differs),
         Ok(plan) => positions(alloc, &plan.into()),
         Err(error) => merkle_refusal(alloc, &error),
     }
@@ -32,6 +33,7 @@ pub fn plans<F: Family>(alloc: Global, columns: &[&str]) -> Result<String, Fault
     let start = Location::new(number(*start)?);
     let end = Location::new(number(*end)?);
     match RangePlan::<F>::new(alloc, leaves, start..end) {
+        Ok(plan) if plan.leaves() != leaves => Err(Fault::Differs),
         Ok(plan) => positions(alloc, &plan),
         Err(error) => merkle_refusal(alloc, &error),
     }
@@ -66,6 +68,31 @@ pub fn proof_of<F>(
         inactive_peaks: number(inactive)? as usize,
         digests: digests(alloc, nodes)?,
     })
+}
+
+/// A proof with what it is checked against, but for the elements.
+#[derive(Drop)]
+pub struct Claim<F> {
+    pub bagging: Bagging,
+    /// The first location.
+    pub start: Location<F>,
+    pub root: FixedBytes<32>,
+    pub proof: Proof<F, FixedBytes<32>>,
+}
+
+impl<F> Claim<F> {
+    /// The claim of `bagging leaves inactive digests start root`.
+    pub fn new(
+        alloc: Global,
+        [direction, leaves, inactive, nodes, start, root]: [&str; 6],
+    ) -> Result<Self, Fault> {
+        Ok(Claim {
+            bagging: bagging(direction)?,
+            start: Location::new(number(start)?),
+            root: digest(root)?,
+            proof: proof_of(alloc, leaves, inactive, nodes)?,
+        })
+    }
 }
 
 /// `bagging leaves inactive digests start elements root label`: whether the proof is accepted, and the root that it

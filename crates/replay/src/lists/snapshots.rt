@@ -5,14 +5,12 @@ ghost use Rattle.storage_bitmap.specs.Chunks.{IsChunkSize};
 
 use crate::columns::{Fault, bytes, digest, number, strings, verdict};
 use crate::lists::plain::{self, Own};
-use crate::lists::refusals::{database_fault, merkle_fault};
+use crate::lists::served;
 use crate::lists::unframed::{self, Unframed};
 use commonware_storage::bitmap::{Prunable, Readable};
 use commonware_storage::codec::{Decode, Encode, Error, FixedBytes};
 use commonware_storage::digest::Sha256;
-use commonware_storage::merkle::{
-    ElementPlan, Graftable, Location, MAX_LEAVES, RangePlan, mmb, mmr,
-};
+use commonware_storage::merkle::{Graftable, Location, MAX_LEAVES, mmb, mmr};
 use commonware_storage::qmdb::current::Snapshot;
 use commonware_storage::qmdb::current::proof::RangeProof;
 use commonware_storage::qmdb::current::proof::constant::OperationProof;
@@ -89,7 +87,7 @@ struct Claim<'a, const N: usize> {
 }
 
 /// What stands from one place to before another.
-fn places<T>(items: &[T], start: u64, end: u64) -> Result<&[T], Fault> {
+pub fn places<T>(items: &[T], start: u64, end: u64) -> Result<&[T], Fault> {
     items
         .get(start as usize..end as usize)
         .ok_or(Fault::Malformed)
@@ -113,7 +111,7 @@ pub fn bits_of<const N: usize>(alloc: Global, digits: &str) -> Result<Prunable<N
 }
 
 /// The digits in chunks, the last one filled up with zeros.
-fn chunks_of<const N: usize>(alloc: Global, digits: &str) -> Result<Vec<[u8; N]>, Fault>
+pub fn chunks_of<const N: usize>(alloc: Global, digits: &str) -> Result<Vec<[u8; N]>, Fault>
     requires { IsChunkSize N }
 {
     let mut chunks = Vec::new(alloc);
@@ -140,7 +138,7 @@ fn set(chunk: &mut [u8], place: usize) {
 #[derive(Drop)]
 struct Served<F: Graftable, const N: usize> {
     snapshot: Snapshot<F, Sha256, N>,
-    floor: Location<F>,
+    floor: u64,
     own: Own<F>,
 }
 
@@ -155,21 +153,15 @@ impl<F: Graftable, const N: usize> Served<F, N> {
     ) -> Result<Self, Fault>
         requires { IsChunkSize N }
     {
-        let bits = bits_of(alloc, bits)?;
-        let floor = Location::new(floor);
-        match Snapshot::new(alloc, operations, bits, floor) {
-            Ok(snapshot) => {
-                if snapshot.root() != own.root || snapshot.ops_root() != own.range.ops_root {
-                    return Err(Fault::Differs);
-                }
-                Ok(Served {
-                    snapshot,
-                    floor,
-                    own,
-                })
-            }
-            Err(error) => Err(database_fault(&error)),
+        let snapshot = served::snapshot(alloc, operations, bits, floor)?;
+        if snapshot.root() != own.root || snapshot.ops_root() != own.range.ops_root {
+            return Err(Fault::Differs);
         }
+        Ok(Served {
+            snapshot,
+            floor,
+            own,
+        })
     }
 
     /// Whether a proof is the own one.
@@ -227,26 +219,9 @@ impl<F: Graftable, const N: usize> Served<F, N> {
         count: u64,
     ) -> Result<RangeProof<F, FixedBytes<32>>, Fault> {
         let end = start.checked_add(count).ok_or(Fault::Malformed)?;
-        let leaves = Location::new(self.snapshot.status().len());
-        let range = Location::new(start)..Location::new(end);
-        let plan = match RangePlan::new(alloc, leaves, range) {
-            Ok(plan) => plan,
-            Err(error) => return Err(merkle_fault(&error)),
-        };
-        match RangeProof::build::<Sha256, Prunable<N>, _, N>(
-            alloc,
-            self.snapshot.status(),
-            plan,
-            |position| self.snapshot.get_node(position),
-            self.floor,
-            self.snapshot.ops_root(),
-        ) {
-            Ok(proof) => {
-                self.compare(&proof)?;
-                Ok(proof)
-            }
-            Err(error) => Err(database_fault(&error)),
-        }
+        let proof = served::range_proof(alloc, &self.snapshot, self.floor, start, end)?;
+        self.compare(&proof)?;
+        Ok(proof)
     }
 
     fn operation(
@@ -256,30 +231,12 @@ impl<F: Graftable, const N: usize> Served<F, N> {
     ) -> Result<OperationProof<F, FixedBytes<32>, N>, Fault>
         requires { IsChunkSize N }
     {
-        let leaves = Location::new(self.snapshot.status().len());
-        let plan = match ElementPlan::new(alloc, leaves, Location::new(location)) {
-            Ok(plan) => plan,
-            Err(error) => return Err(merkle_fault(&error)),
-        };
-        match OperationProof::build::<Sha256, Prunable<N>, _>(
-            alloc,
-            self.snapshot.status(),
-            plan,
-            |position| self.snapshot.get_node(position),
-            self.floor,
-            self.snapshot.ops_root(),
-        ) {
-            Ok(proof) => {
-                self.compare(&proof.range_proof)?;
-                if proof.loc.as_u64() != location
-                    || proof.chunk.as_slice() != self.own.chunk.as_slice()
-                {
-                    return Err(Fault::Differs);
-                }
-                Ok(proof)
-            }
-            Err(error) => Err(database_fault(&error)),
+        let proof = served::operation_proof(alloc, &self.snapshot, self.floor, location)?;
+        self.compare(&proof.range_proof)?;
+        if proof.loc.as_u64() != location || proof.chunk.as_slice() != self.own.chunk.as_slice() {
+            return Err(Fault::Differs);
         }
+        Ok(proof)
     }
 }
 

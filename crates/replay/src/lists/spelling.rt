@@ -1,12 +1,12 @@
 //! How keys, values and operations are spelled in the lists.
 
-use crate::columns::{Fault, array, bytes, number};
+use crate::columns::{Fault, array, bytes, coloned, number, owned, spaced};
 use std::alloc::Global;
 use storage_codec::codec::{FixedBytes, U64};
 use storage_merkle::merkle::{Location, mmr};
 use storage_ops::qmdb::any::operation::{Operation, Update, update};
 use storage_ops::qmdb::any::value::ValueEncoding;
-use storage_ops::qmdb::operation::Key;
+use storage_ops::qmdb::operation::{Committable, Floored, Key, Operation as _};
 
 /// A value that is spelled in a list.
 pub trait Spell: Sized {
@@ -77,7 +77,7 @@ where
         let key = self.key.spell(alloc)?;
         let value = self.value.spell(alloc)?;
         let next_key = self.next_key.spell(alloc)?;
-        Ok(format!(in alloc; "{key}:{value}:{next_key}")?)
+        coloned(alloc, &[key.as_str(), value.as_str(), next_key.as_str()])
     }
 
     fn parse(alloc: Global, text: &str) -> Result<update::Ordered<K, V>, Fault> {
@@ -98,13 +98,27 @@ where
     fn spell(&self, alloc: Global) -> Result<String, Fault> {
         let key = self.0.spell(alloc)?;
         let value = self.1.spell(alloc)?;
-        Ok(format!(in alloc; "{key}:{value}")?)
+        coloned(alloc, &[key.as_str(), value.as_str()])
     }
 
     fn parse(alloc: Global, text: &str) -> Result<update::Unordered<K, V>, Fault> {
         let (key, value) = text.split_once(':').ok_or(Fault::Malformed)?;
         Ok(update::Unordered(K::parse(alloc, key)?, V::Value::parse(alloc, value)?))
     }
+}
+
+/// A kind of operation, and what it is about.
+fn spell_kind<T: Spell>(alloc: Global, kind: &str, value: &T) -> Result<String, Fault> {
+    coloned(alloc, &[kind, value.spell(alloc)?.as_str()])
+}
+
+/// A commit with its value and its floor.
+fn spell_commit<V: Spell>(alloc: Global, value: Option<&V>, floor: u64) -> Result<String, Fault> {
+    let value = match value {
+        Some(value) => value.spell(alloc)?,
+        None => owned(alloc, "none")?,
+    };
+    Ok(format!(in alloc; "commit:{value}:{floor}")?)
 }
 
 impl<S: Update + Spell> Spell for Operation<mmr::Family, S>
@@ -114,19 +128,11 @@ where
 {
     fn spell(&self, alloc: Global) -> Result<String, Fault> {
         match self {
-            Operation::Delete(key) => {
-                let key = key.spell(alloc)?;
-                Ok(format!(in alloc; "delete:{key}")?)
+            Operation::Delete(key) => spell_kind(alloc, "delete", key),
+            Operation::Update(update) => spell_kind(alloc, "update", update),
+            Operation::CommitFloor(value, floor) => {
+                spell_commit(alloc, value.as_ref(), floor.as_u64())
             }
-            Operation::Update(update) => {
-                let update = update.spell(alloc)?;
-                Ok(format!(in alloc; "update:{update}")?)
-            }
-            Operation::CommitFloor(Some(value), floor) => {
-                let value = value.spell(alloc)?;
-                Ok(format!(in alloc; "commit:{value}:{floor}")?)
-            }
-            Operation::CommitFloor(None, floor) => { Ok(format!(in alloc; "commit:none:{floor}")?) }
         }
     }
 
@@ -158,5 +164,59 @@ pub trait Show {
 impl<S: Update> Show for Operation<mmr::Family, S> {
     fn show(&self, alloc: Global) -> Result<String, Fault> {
         Ok(self.display(alloc).to_string(alloc)?)
+    }
+}
+
+/// An operation that is asked what it is.
+pub trait Ask: Sized {
+    /// A copy.
+    fn copied(&self) -> Result<Self, Fault>;
+
+    /// What it is, its key, its floor, and the key that it gives up; `-` for none.
+    fn asked(self, alloc: Global) -> Result<String, Fault>;
+}
+
+impl<S: Update> Ask for Operation<mmr::Family, S>
+where
+    S::Key: Spell,
+{
+    fn copied(&self) -> Result<Self, Fault> {
+        Ok(self.clone()?)
+    }
+
+    fn asked(self, alloc: Global) -> Result<String, Fault> {
+        let kinds = digits(
+            alloc,
+            [self.is_update(), self.is_delete(), self.is_commit()],
+        )?;
+        let key = spell_key(alloc, self.key())?;
+        let floor = spell_floor(alloc, self.has_floor())?;
+        let given = spell_key(alloc, self.into_key().as_ref())?;
+        spaced(
+            alloc,
+            &[kinds.as_str(), key.as_str(), floor.as_str(), given.as_str()],
+        )
+    }
+}
+
+/// A digit for each answer.
+fn digits(alloc: Global, answers: [bool; 3]) -> Result<String, Fault> {
+    let [first, second, third] = answers.map(u8::from);
+    Ok(format!(in alloc; "{first}{second}{third}")?)
+}
+
+/// A key; `-` is none.
+fn spell_key<K: Spell>(alloc: Global, key: Option<&K>) -> Result<String, Fault> {
+    match key {
+        Some(key) => key.spell(alloc),
+        None => owned(alloc, "-"),
+    }
+}
+
+/// A floor; `-` is none.
+fn spell_floor(alloc: Global, floor: Option<Location<mmr::Family>>) -> Result<String, Fault> {
+    match floor {
+        Some(floor) => Ok(format!(in alloc; "{floor}")?),
+        None => owned(alloc, "-"),
     }
 }

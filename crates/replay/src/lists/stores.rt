@@ -1,15 +1,15 @@
 //! The list on what is kept of a proof to give other proofs.
 
-use crate::columns::{Fault, Series, digest, number, strings};
-use crate::lists::proofs::{bagging, proof_of};
+use crate::columns::{Fault, Series, digest, number, spaced, strings};
+use crate::lists::proofs::Claim;
 use crate::lists::refusals::merkle_refusal;
-use crate::lists::unframed::operations;
+use crate::lists::unframed::{Unframed, operations};
 use commonware_storage::qmdb::verify::{create_multi_proof, create_proof_store};
 use std::alloc::Global;
 use storage_codec::codec::FixedBytes;
 use storage_codec::digest::Sha256;
 use storage_merkle::merkle::hasher::Standard;
-use storage_merkle::merkle::{Bagging, Family, Location, Position, ProofStore};
+use storage_merkle::merkle::{Bagging, Error, Family, Location, Position, Proof, ProofStore};
 
 /// `bagging leaves inactive digests start elements root call`: the positions of the store's peaks inside the fold of those past
 /// the range, and the digests of the proof that the call gives, or its refusal; or the refusal of the store. Under the direction
@@ -18,26 +18,57 @@ pub fn stores<F: Family>(alloc: Global, columns: &[&str]) -> Result<String, Faul
     let [direction, leaves, inactive, nodes, start, items, root, call] = columns else {
         return Err(Fault::Malformed);
     };
-    let bagging = bagging(*direction)?;
-    let hasher = Standard::<Sha256>::new(bagging);
-    let proof = proof_of::<F>(alloc, *leaves, *inactive, *nodes)?;
-    let start = Location::new(number(*start)?);
-    let root = digest(*root)?;
-    let made = if bagging == Bagging::BackwardFold {
-        let operations = operations(alloc, *items)?;
-        create_proof_store::<Sha256, F, _>(alloc, &proof, start, &operations, &root)
-    } else {
-        let items = strings(alloc, *items)?;
-        ProofStore::new(alloc, &hasher, &proof, &items, start, &root)
-    };
-    match made {
-        Ok(store) => {
-            let suffix = suffix(alloc, &store)?;
-            let answer = called(alloc, &hasher, &store, *call)?;
-            Ok(format!(in alloc; "{suffix} {answer}")?)
-        }
+    let claim = Claim::<F>::new(
+        alloc,
+        [*direction, *leaves, *inactive, *nodes, *start, *root],
+    )?;
+    match store_of(alloc, &claim, *items)? {
+        Ok(store) => told(alloc, claim.bagging, &store, *call),
         Err(error) => merkle_refusal(alloc, &error),
     }
+}
+
+/// A store, or why there is none.
+type Made<F> = Result<ProofStore<F, FixedBytes<32>>, Error<F>>;
+
+/// The store of a claim on elements or, under the direction of databases, on operations.
+fn store_of<F: Family>(alloc: Global, claim: &Claim<F>, items: &str) -> Result<Made<F>, Fault> {
+    if claim.bagging == Bagging::BackwardFold {
+        return Ok(store_of_operations(alloc, claim, &operations(alloc, items)?));
+    }
+    Ok(store_of_elements(alloc, claim, &strings(alloc, items)?))
+}
+
+fn store_of_operations<F: Family>(
+    alloc: Global,
+    claim: &Claim<F>,
+    operations: &[Unframed],
+) -> Made<F> {
+    create_proof_store::<Sha256, F, _>(alloc, &claim.proof, claim.start, operations, &claim.root)
+}
+
+fn store_of_elements<F: Family>(alloc: Global, claim: &Claim<F>, items: &[Vec<u8>]) -> Made<F> {
+    let hasher = Standard::<Sha256>::new(claim.bagging);
+    ProofStore::new(
+        alloc,
+        &hasher,
+        &claim.proof,
+        items,
+        claim.start,
+        &claim.root,
+    )
+}
+
+/// The positions of the peaks inside the fold of those past the range, and what a call answers.
+fn told<F: Family>(
+    alloc: Global,
+    bagging: Bagging,
+    store: &ProofStore<F, FixedBytes<32>>,
+    call: &str,
+) -> Result<String, Fault> {
+    let suffix = suffix(alloc, store)?;
+    let answer = called(alloc, bagging, store, call)?;
+    spaced(alloc, &[suffix.as_str(), answer.as_str()])
 }
 
 /// The positions of the peaks inside the fold of those past the range.
@@ -56,25 +87,50 @@ fn suffix<F: Family>(
 /// `multi:LOCATION/..:POSITION=DIGEST/..` one of some locations, with peaks that are handed in.
 fn called<F: Family>(
     alloc: Global,
-    hasher: &Standard<Sha256>,
+    bagging: Bagging,
     store: &ProofStore<F, FixedBytes<32>>,
     call: &str,
 ) -> Result<String, Fault> {
     let (verb, rest) = call.split_once(':').ok_or(Fault::Malformed)?;
     let (first, second) = rest.split_once(':').ok_or(Fault::Malformed)?;
-    let answer = match verb {
-        "range" => {
-            let range = Location::new(number(first)?)..Location::new(number(second)?);
-            store.range_proof(alloc, hasher, range)
-        }
-        "multi" => {
-            let locations = locations(alloc, first)?;
-            let peaks = peaks(alloc, second)?;
-            create_multi_proof(alloc, store, &locations, &peaks)
-        }
-        _ => return Err(Fault::Malformed),
-    };
-    match answer {
+    match verb {
+        "range" => of_range(alloc, bagging, store, number(first)?, number(second)?),
+        "multi" => of_locations(alloc, store, first, second),
+        _ => Err(Fault::Malformed),
+    }
+}
+
+/// The digests of the store's proof of a range, or the refusal.
+fn of_range<F: Family>(
+    alloc: Global,
+    bagging: Bagging,
+    store: &ProofStore<F, FixedBytes<32>>,
+    start: u64,
+    end: u64,
+) -> Result<String, Fault> {
+    let hasher = Standard::<Sha256>::new(bagging);
+    let range = Location::new(start)..Location::new(end);
+    digests_of(alloc, store.range_proof(alloc, &hasher, range))
+}
+
+/// The digests of the store's proof of some locations, with peaks that are handed in, or the refusal.
+fn of_locations<F: Family>(
+    alloc: Global,
+    store: &ProofStore<F, FixedBytes<32>>,
+    places: &str,
+    nodes: &str,
+) -> Result<String, Fault> {
+    let locations = locations(alloc, places)?;
+    let peaks = peaks(alloc, nodes)?;
+    digests_of(alloc, create_multi_proof(alloc, store, &locations, &peaks))
+}
+
+/// The digests of a proof, or the refusal.
+pub fn digests_of<F>(
+    alloc: Global,
+    made: Result<Proof<F, FixedBytes<32>>, Error<F>>,
+) -> Result<String, Fault> {
+    match made {
         Ok(proof) => series(alloc, &proof.digests),
         Err(error) => merkle_refusal(alloc, &error),
     }
@@ -91,20 +147,25 @@ fn locations<F>(alloc: Global, column: &str) -> Result<Vec<Location<F>>, Fault> 
     Ok(locations)
 }
 
+/// The peak of `POSITION=DIGEST`.
+fn peak<F>(part: &str) -> Result<(Position<F>, FixedBytes<32>), Fault> {
+    let (position, written) = part.split_once('=').ok_or(Fault::Malformed)?;
+    Ok((Position::new(number(position)?), digest(written)?))
+}
+
 /// Peaks, `POSITION=DIGEST` with slashes between them; `-` is none.
-fn peaks<F>(alloc: Global, column: &str) -> Result<Vec<(Position<F>, FixedBytes<32>)>, Fault> {
+pub fn peaks<F>(alloc: Global, column: &str) -> Result<Vec<(Position<F>, FixedBytes<32>)>, Fault> {
     let mut peaks = Vec::new(alloc);
     if column != "-" {
         for part in column.split('/') {
-            let (position, written) = part.split_once('=').ok_or(Fault::Malformed)?;
-            peaks.push((Position::new(number(position)?), digest(written)?))?;
+            peaks.push(peak(part)?)?;
         }
     }
     Ok(peaks)
 }
 
 /// Digests with commas between them.
-fn series(alloc: Global, digests: &[FixedBytes<32>]) -> Result<String, Fault> {
+pub fn series(alloc: Global, digests: &[FixedBytes<32>]) -> Result<String, Fault> {
     let mut series = Series::new(alloc);
     for digest in digests {
         let digest = hex::encode(alloc, digest.bytes)?;

@@ -5,13 +5,17 @@ ghost use Rattle.storage_merkle.specs.Nodes.{IsNode, CoversSame};
 ghost use Rattle.storage_merkle.specs.Shape.{size};
 
 use crate::columns::{Fault, Series, number};
-use crate::lists::{extracted, mems, multi, pinned, plain, proofs, required, stores, witnesses};
+use crate::lists::combined::whole;
+use crate::lists::{
+    checks, extracted, mems, multi, operation_checks, own, pinned, places, plain, proofs, required,
+    stores, sweeps, witnesses,
+};
 use reference::shape::Digits;
 use std::alloc::Global;
 use storage_merkle::merkle::family::{
     graftable_chunks, grafted_to_ops_pos, leaves_within, node_at, ops_to_grafted_pos,
 };
-use storage_merkle::merkle::{Graftable, Location, MAX_LEAVES, Position, mmb, mmr};
+use storage_merkle::merkle::{Countable, Graftable, Location, MAX_LEAVES, Position, mmb, mmr};
 
 /// The answer of a list whose first column is the family.
 pub fn answer(alloc: Global, list: &str, columns: &[&str]) -> Result<String, Fault> {
@@ -25,7 +29,7 @@ pub fn answer(alloc: Global, list: &str, columns: &[&str]) -> Result<String, Fau
     }
 }
 
-fn over<F: Graftable + Digits>(
+fn over<F: Graftable + Digits + Countable>(
     alloc: Global,
     list: &str,
     columns: &[&str],
@@ -48,7 +52,28 @@ fn over<F: Graftable + Digits>(
         "stores" => stores::stores::<F>(alloc, columns),
         "required" => required::required::<F>(alloc, columns),
         "witnesses" => witnesses::witnesses::<F>(alloc, columns),
-        _ => Err(Fault::Malformed),
+        "element_checks" => checks::element_checks::<F>(alloc, columns),
+        "plain_operations" => checks::plain_operations::<F>(alloc, columns),
+        "parts" => own::parts::<F>(alloc, columns),
+        "served" => own::served::<F>(alloc, columns),
+        "built" => own::built::<F>(alloc, columns),
+        _ => rows::<F>(alloc, list, columns),
+    }
+}
+
+fn rows<F: Graftable + Countable>(
+    alloc: Global,
+    list: &str,
+    columns: &[&str],
+) -> Result<String, Fault> {
+    match list {
+        "each_operation" => sweeps::each_operation::<F>(alloc, columns),
+        "each_range" => sweeps::each_range::<F>(alloc, columns),
+        "operation_checks" => operation_checks::operation_checks::<F>(alloc, columns),
+        "texts" => operation_checks::texts::<F>(alloc, columns),
+        "combined_views" => whole::combined_views::<F>(alloc, columns),
+        "combined_ranges" => whole::combined_ranges::<F>(alloc, columns),
+        _ => places::answer::<F>(alloc, list, columns),
     }
 }
 

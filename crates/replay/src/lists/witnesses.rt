@@ -8,8 +8,8 @@ use commonware_storage::merkle::Graftable;
 use commonware_storage::qmdb::current::proof::OpsRootWitness;
 use std::alloc::Global;
 
-/// `witness ops_root root label`: whether the operations root is that of the snapshot with that root, or why the witness is
-/// none. The label says how the case was made.
+/// `witness ops_root root label`: whether the operations root is that of the snapshot with that root, by a copy of the
+/// witness, or why that is none. The label says how the case was made.
 pub fn witnesses<F: Graftable>(alloc: Global, columns: &[&str]) -> Result<String, Fault> {
     let [witness, ops_root, root, _] = columns else {
         return Err(Fault::Malformed);
@@ -18,7 +18,13 @@ pub fn witnesses<F: Graftable>(alloc: Global, columns: &[&str]) -> Result<String
     let ops_root = digest(*ops_root)?;
     let root = digest(*root)?;
     match OpsRootWitness::<F, FixedBytes<32>>::decode_cfg(alloc, witness.as_slice(), &()) {
-        Ok(witness) => verdict(alloc, witness.verify::<Sha256>(&ops_root, &root)),
+        Ok(witness) => {
+            let copy = witness.clone()?;
+            if copy != witness {
+                return Err(Fault::Differs);
+            }
+            verdict(alloc, copy.verify::<Sha256>(&ops_root, &root))
+        }
         Err(error) => codec_refusal(alloc, error),
     }
 }

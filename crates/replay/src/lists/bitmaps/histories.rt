@@ -1,4 +1,4 @@
-//! The list on calls on bitmaps.
+//! Lists on calls on bitmaps.
 
 ghost use Rattle.storage_bitmap.specs.Chunks.{IsChunkSize};
 
@@ -33,22 +33,100 @@ pub fn bitmaps<const N: usize>(
     let [calls, bits] = columns else {
         return Err(Fault::Malformed);
     };
-    let mut stage = Stage::Merkleized(restored::<N>(alloc, hasher, 0, "-")?);
-    for call in calls.split(',') {
-        let (verb, rest) = call.split_once(':').unwrap_or((call, ""));
-        stage = match stage {
-            Stage::Merkleized(bitmap) => merkleized(alloc, hasher, bitmap, verb, rest)?,
-            Stage::Unmerkleized(bitmap) => unmerkleized(hasher, bitmap, verb, rest)?,
-        };
-    }
-    let Stage::Merkleized(bitmap) = stage else {
-        return Err(Fault::Malformed);
-    };
+    let bitmap = after::<N>(alloc, hasher, *calls)?;
     let counts = counts(alloc, &bitmap)?;
     let kept = kept(alloc, &bitmap)?;
     let proofs = proofs(alloc, hasher, &bitmap, *bits)?;
     let nodes = nodes(alloc, &bitmap)?;
     Ok(format!(in alloc; "{counts} {kept} {proofs} {nodes}")?)
+}
+
+/// The bitmap after calls, which begins without bits.
+pub fn after<const N: usize>(
+    alloc: Global,
+    hasher: &Standard<Sha256>,
+    calls: &str,
+) -> Result<MerkleizedBitMap<FixedBytes<32>, N>, Fault>
+    requires { IsChunkSize N }
+{
+    let mut stage = Stage::Merkleized(restored::<N>(alloc, hasher, 0, "-")?);
+    for call in calls.split(',') {
+        stage = called(alloc, hasher, stage, call)?;
+    }
+    match stage {
+        Stage::Merkleized(bitmap) => Ok(bitmap),
+        Stage::Unmerkleized(_) => Err(Fault::Malformed),
+    }
+}
+
+fn called<const N: usize>(
+    alloc: Global,
+    hasher: &Standard<Sha256>,
+    stage: Stage<N>,
+    call: &str,
+) -> Result<Stage<N>, Fault>
+    requires { IsChunkSize N }
+{
+    let (verb, rest) = call.split_once(':').unwrap_or((call, ""));
+    match stage {
+        Stage::Merkleized(bitmap) => merkleized(alloc, hasher, bitmap, verb, rest),
+        Stage::Unmerkleized(bitmap) => unmerkleized(hasher, bitmap, verb, rest),
+    }
+}
+
+/// `calls`: what stands after each call that leaves the bitmap with its root: how many bits it has and how many of them are
+/// pruned, how many nodes, its last chunk and how many bits that has, how many digests are kept of the pruned chunks, and which
+/// of the roots so far it has, in the order in which they came.
+pub fn bitmaps_stages<const N: usize>(
+    alloc: Global,
+    hasher: &Standard<Sha256>,
+    columns: &[&str],
+) -> Result<String, Fault>
+    requires { IsChunkSize N }
+{
+    let [calls] = columns else {
+        return Err(Fault::Malformed);
+    };
+    let mut stage = Stage::Merkleized(restored::<N>(alloc, hasher, 0, "-")?);
+    let mut roots = Vec::new(alloc);
+    let mut stages = Series::new(alloc);
+    for call in calls.split(',') {
+        stage = called(alloc, hasher, stage, call)?;
+        if let Stage::Merkleized(bitmap) = &stage {
+            stages.push_text(told(alloc, bitmap, &mut roots)?.as_str())?;
+        }
+    }
+    Ok(stages.finish()?)
+}
+
+fn told<const N: usize>(
+    alloc: Global,
+    bitmap: &MerkleizedBitMap<FixedBytes<32>, N>,
+    roots: &mut Vec<FixedBytes<32>>,
+) -> Result<String, Fault> {
+    let (length, pruned, size) = (bitmap.len(), bitmap.pruned_bits(), bitmap.size());
+    let (chunk, count) = bitmap.last_chunk();
+    let chunk = hex::encode(alloc, *chunk)?;
+    let kept = state(bitmap)?.pinned.len();
+    let root = bitmap.root();
+    let place = match roots.iter().position(|known| *known == root) {
+        Some(place) => place,
+        None => {
+            roots.push(root)?;
+            roots.len().saturating_sub(1)
+        }
+    };
+    Ok(format!(in alloc; "{length}:{pruned}:{size}:{chunk}:{count}:{kept}:{place}")?)
+}
+
+/// What is handed out of a bitmap.
+fn state<const N: usize>(
+    bitmap: &MerkleizedBitMap<FixedBytes<32>, N>,
+) -> Result<PrunedState<FixedBytes<32>>, Fault> {
+    match bitmap.write_pruned() {
+        Ok(state) => Ok(state),
+        Err(_) => Err(Fault::Memory),
+    }
 }
 
 /// The bitmap of so many chunks, all pruned, and these digests.
@@ -60,10 +138,24 @@ fn restored<const N: usize>(
 ) -> Result<MerkleizedBitMap<FixedBytes<32>, N>, Fault>
     requires { IsChunkSize N }
 {
-    let state = PrunedState {
-        pruned_chunks,
-        pinned: inner_digests(alloc, pinned)?,
-    };
+    let pinned = inner_digests(alloc, pinned)?;
+    from_state(
+        alloc,
+        hasher,
+        PrunedState {
+            pruned_chunks,
+            pinned,
+        },
+    )
+}
+
+fn from_state<const N: usize>(
+    alloc: Global,
+    hasher: &Standard<Sha256>,
+    state: PrunedState<FixedBytes<32>>,
+) -> Result<MerkleizedBitMap<FixedBytes<32>, N>, Fault>
+    requires { IsChunkSize N }
+{
     match BitMap::init(alloc, hasher, state) {
         Ok(bitmap) => Ok(bitmap),
         Err(Error::Memory) => Err(Fault::Memory),
@@ -71,7 +163,8 @@ fn restored<const N: usize>(
     }
 }
 
-/// The bitmap after a call: `d` opens it to changes, `x:BIT` prunes up to a bit, and `init:COUNT:DIGESTS` takes another one.
+/// The bitmap after a call: `d` opens it to changes, `x:BIT` prunes up to a bit, `init:COUNT:DIGESTS` takes another one, and `r` the
+/// one of what this one hands out.
 fn merkleized<const N: usize>(
     alloc: Global,
     hasher: &Standard<Sha256>,
@@ -83,6 +176,10 @@ fn merkleized<const N: usize>(
 {
     match verb {
         "d" => Ok(Stage::Unmerkleized(bitmap.into_dirty())),
+        "r" => {
+            let state = state(&bitmap)?;
+            Ok(Stage::Merkleized(from_state::<N>(alloc, hasher, state)?))
+        }
         "x" => {
             let bit = number(rest)?;
             if bit > bitmap.len() {
@@ -177,10 +274,7 @@ fn kept<const N: usize>(
     alloc: Global,
     bitmap: &MerkleizedBitMap<FixedBytes<32>, N>,
 ) -> Result<String, Fault> {
-    let state = match bitmap.write_pruned() {
-        Ok(state) => state,
-        Err(_) => return Err(Fault::Memory),
-    };
+    let state = state(bitmap)?;
     let chunks = state.pruned_chunks;
     let pinned = joined(alloc, &state.pinned)?;
     Ok(format!(in alloc; "{chunks}:{pinned}")?)

@@ -1,0 +1,66 @@
+//! The list on proofs of a bitmap that are said to be other ones.
+
+ghost use Rattle.storage_bitmap.specs.Chunks.{IsChunkSize};
+
+use crate::columns::{Fault, Series, number};
+use crate::lists::bitmaps::histories::after;
+use crate::lists::refusals::merkle_refusal;
+use std::alloc::Global;
+use storage_bitmap::bitmap::authenticated::MerkleizedBitMap;
+use storage_codec::codec::FixedBytes;
+use storage_codec::digest::Sha256;
+use storage_merkle::merkle::Location;
+use storage_merkle::merkle::hasher::Standard;
+
+/// `calls claims`: of each claim on the bitmap after the calls the numbers of leaves with which it is accepted. A claim
+/// `BIT:CLAIMED:INACTIVE:FIRST:LAST` is the proof of one bit, said to be one of another bit with so many inactive peaks and, in
+/// turn, each number of leaves from the first to the last.
+pub fn bitmaps_verified<const N: usize>(
+    alloc: Global,
+    hasher: &Standard<Sha256>,
+    columns: &[&str],
+) -> Result<String, Fault>
+    requires { IsChunkSize N }
+{
+    let [calls, claims] = columns else {
+        return Err(Fault::Malformed);
+    };
+    let bitmap = after::<N>(alloc, hasher, *calls)?;
+    let mut answers = Series::new(alloc);
+    for claim in claims.split(',') {
+        answers.push_text(accepted(alloc, hasher, &bitmap, claim)?.as_str())?;
+    }
+    Ok(answers.finish()?)
+}
+
+fn accepted<const N: usize>(
+    alloc: Global,
+    hasher: &Standard<Sha256>,
+    bitmap: &MerkleizedBitMap<FixedBytes<32>, N>,
+    claim: &str,
+) -> Result<String, Fault>
+    requires { IsChunkSize N }
+{
+    let parts: Vec<&str> = claim.split(':').collect(alloc)?;
+    let [bit, claimed, inactive, first, last] = parts.as_slice() else {
+        return Err(Fault::Malformed);
+    };
+    let (bit, claimed) = (number(*bit)?, number(*claimed)?);
+    if bit < bitmap.pruned_bits() {
+        return Err(Fault::Malformed);
+    }
+    let (mut proof, chunk) = match bitmap.proof(hasher, bit) {
+        Ok(proof) => proof,
+        Err(error) => return merkle_refusal(alloc, &error),
+    };
+    proof.inactive_peaks = number(*inactive)? as usize;
+    let root = bitmap.root();
+    let mut numbers = Series::inner(alloc);
+    for leaves in number(*first)?..=number(*last)? {
+        proof.leaves = Location::new(leaves);
+        if MerkleizedBitMap::verify_bit_inclusion(alloc, hasher, &proof, &chunk, claimed, &root)? {
+            numbers.push(leaves)?;
+        }
+    }
+    Ok(numbers.finish_or("-")?)
+}

@@ -1,0 +1,87 @@
+//! Lists on snapshots of trees, and on checks of proofs whose chunk has a size that the type says.
+
+ghost use Rattle.storage_bitmap.specs.Chunks.{IsChunkSize};
+
+use crate::columns::{Fault, bytes, digest, number, strings};
+use crate::lists::refusals::{codec_refusal, database_fault};
+use crate::lists::snapshots::bits_of;
+use commonware_storage::codec::{Decode, Encode, FixedBytes};
+use commonware_storage::digest::Sha256;
+use commonware_storage::merkle::{Graftable, Location, mmb, mmr};
+use commonware_storage::qmdb::current::proof::constant::OperationProof;
+use commonware_storage::qmdb::current::{OperationTree, Snapshot};
+use std::alloc::Global;
+
+/// The answer of a list whose first columns are the family and the size of a chunk.
+pub fn answer(alloc: Global, list: &str, columns: &[&str]) -> Result<String, Fault> {
+    let [family, chunk_size, columns @ ..] = columns else {
+        return Err(Fault::Malformed);
+    };
+    match (*family, *chunk_size) {
+        ("mmr", "1") => over::<mmr::Family, 1>(alloc, list, columns),
+        ("mmb", "1") => over::<mmb::Family, 1>(alloc, list, columns),
+        _ => Err(Fault::Malformed),
+    }
+}
+
+fn over<F: Graftable, const N: usize>(
+    alloc: Global,
+    list: &str,
+    columns: &[&str],
+) -> Result<String, Fault>
+    requires { IsChunkSize N }
+{
+    match list {
+        "tree_roots" => tree_roots::<F, N>(alloc, columns),
+        _ => constant_checks::<F, N>(alloc, columns),
+    }
+}
+
+/// `floor bits operations`: the canonical root of the snapshot of the tree over the operations.
+fn tree_roots<F: Graftable, const N: usize>(
+    alloc: Global,
+    columns: &[&str],
+) -> Result<String, Fault>
+    requires { IsChunkSize N }
+{
+    let [floor, bits, operations] = columns else {
+        return Err(Fault::Malformed);
+    };
+    let mut tree = OperationTree::<F, Sha256>::new(alloc);
+    for operation in &strings(alloc, *operations)? {
+        if let Err(error) = tree.add(operation) {
+            return Err(database_fault(&error));
+        }
+    }
+    let bits = bits_of::<N>(alloc, *bits)?;
+    let floor = Location::new(number(*floor)?);
+    match Snapshot::of_tree(alloc, tree, bits, floor) {
+        Ok(snapshot) => Ok(hex::encode(alloc, snapshot.root().bytes)?),
+        Err(error) => Err(database_fault(&error)),
+    }
+}
+
+/// `most operation proof root`: whether the bytes are a proof with at most so many digests that shows the operation, and whether the proof
+/// is written as these bytes; or the refusal.
+fn constant_checks<F: Graftable, const N: usize>(
+    alloc: Global,
+    columns: &[&str],
+) -> Result<String, Fault>
+    requires { IsChunkSize N }
+{
+    let [most, operation, proof, root] = columns else {
+        return Err(Fault::Malformed);
+    };
+    let most = number(*most)? as usize;
+    let operation = bytes(alloc, *operation)?;
+    let given = bytes(alloc, *proof)?;
+    let root = digest(*root)?;
+    let read = OperationProof::<F, FixedBytes<32>, N>::decode_cfg(alloc, given.as_slice(), &most);
+    let proof = match read {
+        Ok(proof) => proof,
+        Err(error) => return codec_refusal(alloc, error),
+    };
+    let yes = proof.verify_encoded::<Sha256>(alloc, &operation, &root)?;
+    let same = proof.encode(alloc)?.as_slice() == given.as_slice();
+    Ok(format!(in alloc; "{yes} {same}")?)
+}

@@ -1,0 +1,241 @@
+//! A store and a log that fail after so many answers.
+
+ghost use Rattle.std.specs.Prelude.{◌≡◌, ℕ, ◌+◌, ◌<◌, ◌^◌, ◌⊎◌, ◌↔◌, ◌∷◌, [], Option, Some, None, Err, eqb, if◌then◌else◌, map, IfOk, IfErr, MatchResult};
+ghost use Rattle.std.specs.List.{slice_get};
+ghost use Rattle.storage_merkle.specs.Plans.{IsFirstAbsent};
+
+use commonware_storage::codec::FixedBytes;
+use commonware_storage::merkle::{Error, Family, Position, Storage};
+use commonware_storage::qmdb::current::{Contiguous, LogError};
+use std::alloc::Global;
+use std::ops::Range;
+
+/// The code that a store fails with.
+pub const STORE_FAULT: u32 = 7;
+
+/// The code that a log fails with.
+pub const LOG_FAULT: u32 = 9;
+
+/// A position that no tree has.
+pub const NONE: u64 = u64::MAX;
+
+/// More answers than anyone asks for.
+pub const ALWAYS: u64 = u64::MAX;
+
+/// Digests at positions, but for the one at a position. Once it has answered so many it fails.
+#[derive(Drop)]
+pub struct Faulty {
+    nodes: Vec<FixedBytes<32>>,
+    size: u64,
+    lacks: u64,
+    left: u64,
+    calls: u64,
+    failures: u64,
+}
+
+impl Faulty {
+    /// The store of these digests, said to have so many, of which so many are answered.
+    pub fn new(nodes: Vec<FixedBytes<32>>, size: u64, lacks: u64, left: u64) -> Self
+        ensures { result.failures ≡ 0 }
+    {
+        Faulty {
+            nodes,
+            size,
+            lacks,
+            left,
+            calls: 0,
+            failures: 0,
+        }
+    }
+
+    /// How often it failed.
+    pub fn failed(&self) -> u64 {
+        self.failures
+    }
+
+    /// How often it was asked.
+    pub fn calls(&self) -> u64 {
+        self.calls
+    }
+
+    /// Whether so many more are answered. Counts a call.
+    fn takes(&mut self, count: u64) -> bool
+        ensures nodes { self.new.nodes ≡ self.old.nodes }
+        ensures size { self.new.size ≡ self.old.size }
+        ensures lacks { self.new.lacks ≡ self.old.lacks }
+        ensures failures { self.new.failures ≡ self.old.failures }
+    {
+        self.calls = self.calls.saturating_add(1);
+        if self.left < count {
+            return false;
+        }
+        self.left -= count;
+        true
+    }
+
+    /// The digest at a position.
+    fn look_up<F: Family>(&self, position: Position<F>) -> Option<FixedBytes<32>>
+        ensures { result ≡ (if eqb position self.now.lacks then None
+            else slice_get self.now.nodes.items position) }
+    {
+        if position.as_u64() == self.lacks {
+            None
+        } else {
+            self.nodes.get(position.as_u64() as usize).copied()
+        }
+    }
+
+    /// The digests at positions, as far as they are there.
+    fn look_up_all<F: Family>(
+        &self,
+        alloc: Global,
+        positions: &[Position<F>],
+    ) -> Result<Vec<FixedBytes<32>>, Error<F>>
+        ensures served { let node = λ (p : ℕ). (if eqb p self.now.lacks then None
+            else slice_get self.now.nodes.items p) in
+            IfOk result (λ v. map Some v.items ≡ map node positions.now) }
+        ensures why { let node = λ (p : ℕ). (if eqb p self.now.lacks then None
+            else slice_get self.now.nodes.items p) in
+            IfErr result (λ e. ((p : ℕ) × (e ≡ Error.ElementPruned p)
+            × IsFirstAbsent (λ q a. a ≡ node q) positions.now p) ⊎ (e ≡ Error.Memory)) }
+    {
+        let mut digests = Vec::new(alloc);
+        let mut left = positions;
+        while let Some((position, rest)) = left.split_first() {
+            let Some(digest) = self.look_up(*position) else {
+                return Err(Error::ElementPruned(*position));
+            };
+            digests.push(digest)?;
+            left = rest;
+        }
+        Ok(digests)
+    }
+}
+
+impl<F: Family> Storage<F> for Faulty {
+    type Digest = FixedBytes<32>;
+
+    ghost nodes = { λ s. s.size };
+
+    ghost node = { λ s p. (if eqb p s.lacks then None else slice_get s.nodes.items p) };
+
+    ghost failed = { λ s. s.failures };
+
+    fn size(&self) -> Position<F> {
+        Position::new(self.size)
+    }
+
+    fn failures(&self) -> u64 {
+        self.failures
+    }
+
+    fn get_node(&mut self, position: Position<F>) -> Result<Option<FixedBytes<32>>, Error<F>>
+        requires { self.old.failures + 1 < 2 ^ 64 }
+        ensures answer { MatchResult result (λ d. d ≡ (if eqb position self.old.lacks then None
+            else slice_get self.old.nodes.items position)) (λ e.
+            ((code : ℕ) × (e ≡ Error.Source code)) ⊎ (e ≡ Error.Memory)) }
+        ensures failure { ((code : ℕ) × (result ≡ Err (Error.Source code)))
+            ↔ (self.new.failures ≡ self.old.failures + 1) }
+        ensures count { (self.new.failures ≡ self.old.failures)
+            ⊎ (self.new.failures ≡ self.old.failures + 1) }
+        ensures same_size { self.new.size ≡ self.old.size }
+        ensures same { (p : ℕ) → (if eqb p self.new.lacks then None
+            else slice_get self.new.nodes.items p) ≡ (if eqb p self.old.lacks then None
+            else slice_get self.old.nodes.items p) }
+    {
+        if !self.takes(1) {
+            self.failures += 1;
+            return Err(Error::Source(STORE_FAULT));
+        }
+        Ok(self.look_up(position))
+    }
+
+    fn get_nodes(
+        &mut self,
+        alloc: Global,
+        positions: &[Position<F>],
+    ) -> Result<Vec<FixedBytes<32>>, Error<F>>
+        requires { self.old.failures + 1 < 2 ^ 64 }
+        ensures answers { let node = λ (p : ℕ). (if eqb p self.old.lacks then None
+            else slice_get self.old.nodes.items p) in
+            MatchResult result (λ v. map Some v.items ≡ map node positions.now) (λ e. ((p : ℕ)
+            × (e ≡ Error.ElementPruned p) × IsFirstAbsent (λ q a. a ≡ node q) positions.now p)
+            ⊎ (((code : ℕ) × (e ≡ Error.Source code)) ⊎ (e ≡ Error.Memory))) }
+        ensures failure { ((code : ℕ) × (result ≡ Err (Error.Source code)))
+            ↔ (self.new.failures ≡ self.old.failures + 1) }
+        ensures count { (self.new.failures ≡ self.old.failures)
+            ⊎ (self.new.failures ≡ self.old.failures + 1) }
+        ensures same_size { self.new.size ≡ self.old.size }
+        ensures same { (p : ℕ) → (if eqb p self.new.lacks then None
+            else slice_get self.new.nodes.items p) ≡ (if eqb p self.old.lacks then None
+            else slice_get self.old.nodes.items p) }
+    {
+        if !self.takes(positions.len() as u64) {
+            self.failures += 1;
+            return Err(Error::Source(STORE_FAULT));
+        }
+        match self.look_up_all(alloc, positions) {
+            Ok(digests) => Ok(digests),
+            Err(error) => Err(error),
+        }
+    }
+}
+
+/// A log whose item at each location is the location. Once it has answered so many it fails.
+#[derive(Drop)]
+pub struct Log {
+    first: u64,
+    past: u64,
+    left: u64,
+    failures: u64,
+}
+
+impl Log {
+    /// The log that holds these locations, of which so many are answered.
+    pub fn new(first: u64, past: u64, left: u64) -> Self
+        ensures { result.failures ≡ 0 }
+    {
+        Log {
+            first,
+            past,
+            left,
+            failures: 0,
+        }
+    }
+}
+
+impl Contiguous for Log {
+    type Item = u64;
+
+    ghost text = { λ item. item ∷ [] };
+
+    ghost item = { λ s l. l ∷ [] };
+
+    ghost first = { λ s. s.first };
+
+    ghost past = { λ s. s.past };
+
+    ghost failed = { λ s. s.failures };
+
+    fn failures(&self) -> u64 {
+        self.failures
+    }
+
+    fn bounds(&self) -> Range<u64> {
+        self.first..self.past
+    }
+
+    fn read_many(&mut self, alloc: Global, locations: &[u64]) -> Result<Vec<u64>, LogError> {
+        let count = locations.len() as u64;
+        if self.left < count {
+            self.failures += 1;
+            return Err(LogError::Fault(LOG_FAULT));
+        }
+        self.left -= count;
+        let mut items = Vec::new(alloc);
+        match items.extend_from_slice(locations) {
+            Ok(()) => Ok(items),
+            Err(_) => Err(LogError::Memory),
+        }
+    }
+}

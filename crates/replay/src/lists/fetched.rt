@@ -1,0 +1,215 @@
+//! Lists on proofs that a store and a log serve, each of which may fail. The family is the MMR, chunks have one byte, and the
+//! floor is 0.
+
+ghost use Rattle.std.specs.Prelude.{◌≤◌};
+
+use crate::columns::{Fault, Series, number, strings};
+use crate::lists::combined::status_of;
+use crate::lists::faulty::{Faulty, LOG_FAULT, Log, NONE, STORE_FAULT};
+use crate::lists::refusals::{database_fault, database_refusal};
+use crate::lists::served;
+use commonware_storage::bitmap::{Prunable, Readable};
+use commonware_storage::codec::{Encode, FixedBytes};
+use commonware_storage::digest::Sha256;
+use commonware_storage::merkle::{self, Location, Position, mmr};
+use commonware_storage::qmdb::Error;
+use commonware_storage::qmdb::current::proof::constant::OperationProof;
+use commonware_storage::qmdb::current::proof::{RangeProof, RangeProofSpec};
+use commonware_storage::qmdb::current::{Contiguous as _, Snapshot};
+use std::alloc::Global;
+
+type Rows = Snapshot<mmr::Family, Sha256, 1>;
+
+type Proof = RangeProof<mmr::Family, FixedBytes<32>>;
+
+type Answer = Result<(Proof, Vec<u64>, Vec<[u8; 1]>), Error<mmr::Family>>;
+
+/// More answers of a store, or of a log, than a case asks for.
+const ENOUGH: u64 = 8;
+
+/// The digests of a snapshot's grafted view.
+fn view(alloc: Global, snapshot: &Rows) -> Result<Vec<FixedBytes<32>>, Fault> {
+    let mut nodes = Vec::new(alloc);
+    for position in 0..100 {
+        match snapshot.get_node(Position::new(position)) {
+            Some(digest) => nodes.push(digest)?,
+            None => break,
+        }
+    }
+    Ok(nodes)
+}
+
+/// A call for operations of a snapshot.
+#[derive(Clone, Copy)]
+struct Call<'a> {
+    snapshot: &'a Rows,
+    status: &'a Prunable<1>,
+    /// How many nodes the store says to have, where it does not tell the truth.
+    size: Option<u64>,
+    /// The first location that the log holds.
+    first: u64,
+    start: u64,
+    max_ops: u64,
+    ghost some: { 1 ≤ max_ops },
+}
+
+/// `bits operations pruned nodes first start most`: what is answered where so many chunks of the status are pruned, the store says
+/// to have so many nodes, or as many as it has where that is `-`, the log begins at `first`, and at most so many operations
+/// from `start` on are asked for: the proof, the operations and their chunks, or the refusal. Then, for each number of answers of
+/// the store from 0 to 7, and in it of the log, what is told: the fault of the store, `s`, that of the log, `l`, or the same, `=`.
+pub fn fetched_ranges(alloc: Global, columns: &[&str]) -> Result<String, Fault> {
+    let [bits, operations, pruned, size, first, start, most] = columns else {
+        return Err(Fault::Malformed);
+    };
+    let operations = strings(alloc, *operations)?;
+    let snapshot = served::snapshot(alloc, &operations, *bits, 0)?;
+    let status = status_of::<1>(alloc, *bits, number(*pruned)?)?;
+    let max_ops = number(*most)?;
+    if max_ops < 1 {
+        return Err(Fault::Malformed);
+    }
+    let call = Call {
+        snapshot: &snapshot,
+        status: &status,
+        size: if *size == "-" {
+            None
+        } else {
+            Some(number(*size)?)
+        },
+        first: number(*first)?,
+        start: number(*start)?,
+        max_ops,
+    };
+    let (own, _) = answered(alloc, call, u64::MAX, u64::MAX)?;
+    let told = told(alloc, &own)?;
+    let marks = marks(alloc, call, &own)?;
+    Ok(format!(in alloc; "{told} {marks}")?)
+}
+
+/// What is answered, and how often the store and the log failed, where the store has so many answers and the log so many.
+fn answered(
+    alloc: Global,
+    call: Call<'_>,
+    nodes: u64,
+    items: u64,
+) -> Result<(Answer, (u64, u64)), Fault> {
+    let view = view(alloc, call.snapshot)?;
+    let size = call.size.unwrap_or(view.len() as u64);
+    let mut store = Faulty::new(view, size, NONE, nodes);
+    let mut log = Log::new(call.first, call.snapshot.status().len(), items);
+    let spec = RangeProofSpec {
+        start_loc: Location::new(call.start),
+        max_ops: call.max_ops,
+        inactivity_floor: Location::new(0),
+        ops_root: call.snapshot.ops_root(),
+    };
+    let answer = RangeProof::new_with_ops::<Sha256, _, _, _, 1>(
+        alloc,
+        call.status,
+        &mut store,
+        &mut log,
+        spec,
+    );
+    let failures = (store.failed(), log.failures());
+    match answer {
+        Err(Error::Memory) => Err(Fault::Memory),
+        answer => Ok((answer, failures)),
+    }
+}
+
+/// The proof, the operations and their chunks, or the refusal.
+fn told(alloc: Global, answer: &Answer) -> Result<String, Fault> {
+    match answer {
+        Ok((proof, items, chunks)) => {
+            let proof = hex::encode(alloc, proof.encode(alloc)?)?;
+            let parts = parts(alloc, items, chunks)?;
+            Ok(format!(in alloc; "{proof} {parts}")?)
+        }
+        Err(error) => database_refusal(alloc, error),
+    }
+}
+
+/// Operations and their chunks.
+pub fn parts(alloc: Global, items: &[u64], chunks: &[[u8; 1]]) -> Result<String, Fault> {
+    let mut locations = Series::new(alloc);
+    for item in items {
+        locations.push(*item)?;
+    }
+    let mut touched = Series::new(alloc);
+    for chunk in chunks {
+        touched.push_text(hex::encode(alloc, *chunk)?.as_str())?;
+    }
+    let locations = locations.finish()?;
+    let touched = touched.finish()?;
+    Ok(format!(in alloc; "{locations} {touched}")?)
+}
+
+/// What is told, for each number of answers of the store, and in it of the log.
+fn marks(alloc: Global, call: Call<'_>, own: &Answer) -> Result<String, Fault> {
+    let mut rows = Series::inner(alloc);
+    for nodes in 0..ENOUGH {
+        let mut row = String::new(alloc);
+        for items in 0..ENOUGH {
+            let (answer, failures) = answered(alloc, call, nodes, items)?;
+            row.push(mark(&answer, own, failures)?)?;
+        }
+        rows.push_text(row.as_str())?;
+    }
+    Ok(rows.finish()?)
+}
+
+/// `s` where the store's one fault is told, `l` where the log's is, `=` where neither failed and the answer is the same.
+fn mark(answer: &Answer, own: &Answer, failures: (u64, u64)) -> Result<char, Fault> {
+    match (answer, failures) {
+        (Err(Error::Merkle(merkle::Error::Source(code))), (1, 0)) if *code == STORE_FAULT => {
+            Ok('s')
+        }
+        (Err(Error::Log(code)), (0, 1)) if *code == LOG_FAULT => Ok('l'),
+        (answer, (0, 0)) if answer == own => Ok('='),
+        _ => Err(Fault::Differs),
+    }
+}
+
+/// `bits operations location`: how many digests and bytes the proof of the operation there has, and what is told for each number of answers of the store.
+pub fn fetched_operations(alloc: Global, columns: &[&str]) -> Result<String, Fault> {
+    let [bits, operations, location] = columns else {
+        return Err(Fault::Malformed);
+    };
+    let operations = strings(alloc, *operations)?;
+    let snapshot = served::snapshot(alloc, &operations, *bits, 0)?;
+    let location = number(*location)?;
+    let own = served::operation_proof(alloc, &snapshot, 0, location)?;
+    let mut marks = String::new(alloc);
+    for nodes in 0..ENOUGH {
+        marks.push(mark_of_operation(alloc, &snapshot, location, nodes, &own)?)?;
+    }
+    let digests = own.range_proof.proof.digests.len();
+    let size = own.encode(alloc)?.len();
+    Ok(format!(in alloc; "{digests} {size} {marks}")?)
+}
+
+fn mark_of_operation(
+    alloc: Global,
+    snapshot: &Rows,
+    location: u64,
+    nodes: u64,
+    own: &OperationProof<mmr::Family, FixedBytes<32>, 1>,
+) -> Result<char, Fault> {
+    let view = view(alloc, snapshot)?;
+    let size = view.len() as u64;
+    let mut store = Faulty::new(view, size, NONE, nodes);
+    let answer = OperationProof::<mmr::Family, FixedBytes<32>, 1>::new::<Sha256, Prunable<1>, _>(
+        alloc,
+        snapshot.status(),
+        &mut store,
+        Location::new(0),
+        Location::new(location),
+        snapshot.ops_root(),
+    );
+    match (answer, store.failed()) {
+        (Err(Error::Merkle(merkle::Error::Source(code))), 1) if code == STORE_FAULT => Ok('s'),
+        (Ok(proof), 0) if proof == *own => Ok('='),
+        (Err(error), _) => Err(database_fault(&error)),
+        _ => Err(Fault::Differs),
+    }
+}

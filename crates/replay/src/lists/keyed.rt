@@ -1,0 +1,135 @@
+//! The list on proofs about keys that are built, written and checked. Keys have four bytes, values are numbers, chunks have one
+//! byte, and the family is the MMR.
+
+use crate::columns::{Fault, array, number, strings};
+use crate::lists::keys::decoded;
+use crate::lists::served::{operation_proof, snapshot};
+use commonware_storage::codec::{FixedBytes, Write};
+use commonware_storage::digest::Sha256;
+use commonware_storage::laws::keys::{
+    written_exclusions_are_accepted, written_values_are_accepted,
+};
+use commonware_storage::light::{check_absence, check_value};
+use commonware_storage::merkle::mmr;
+use commonware_storage::qmdb::any::FixedEncoding;
+use commonware_storage::qmdb::any::operation::Ordered;
+use commonware_storage::qmdb::current::ordered::constant;
+use commonware_storage::qmdb::current::proof::constant::OperationProof;
+use std::alloc::Global;
+
+type Key = FixedBytes<4>;
+
+type Digest = FixedBytes<32>;
+
+type Operation = Ordered<mmr::Family, Key, FixedEncoding<u64>>;
+
+type Proof = OperationProof<mmr::Family, Digest, 1>;
+
+type Exclusion = constant::ExclusionProof<mmr::Family, Key, FixedEncoding<u64>, Digest, 1>;
+
+type KeyValue = constant::KeyValueProof<mmr::Family, Key, Digest, 1>;
+
+/// `bits operations location key value`: whether the operation at the location, of a snapshot with floor 0, shows that the key
+/// has the value, or none where that is `absent`; and how many bytes the proof has.
+pub fn keyed(alloc: Global, columns: &[&str]) -> Result<String, Fault> {
+    let [bits, operations, location, key, value] = columns else {
+        return Err(Fault::Malformed);
+    };
+    let operations = strings(alloc, *operations)?;
+    let location = number(*location)?;
+    let operation = operations.get(location as usize).ok_or(Fault::Malformed)?;
+    let operation = decoded::<Operation>(alloc, operation, &())?;
+    let key = Key {
+        bytes: array(*key)?,
+    };
+    let snapshot = snapshot::<mmr::Family, 1>(alloc, &operations, *bits, 0)?;
+    let proof = operation_proof(alloc, &snapshot, 0, location)?;
+    let root = snapshot.root();
+    if *value == "absent" {
+        return excluded(alloc, &exclusion_of(proof, operation)?, &key, &root);
+    }
+    let key_value = key_value_of(proof, operation)?;
+    shown(alloc, &key_value, key, number(*value)?, &root)
+}
+
+fn exclusion_of(proof: Proof, operation: Operation) -> Result<Exclusion, Fault> {
+    match operation {
+        Ordered::Update(update) => Ok(Exclusion::KeyValue(proof, update)),
+        Ordered::CommitFloor(value, _) => Ok(Exclusion::Commit(proof, value)),
+        _ => Err(Fault::Malformed),
+    }
+}
+
+fn key_value_of(proof: Proof, operation: Operation) -> Result<KeyValue, Fault> {
+    match operation {
+        Ordered::Update(update) => Ok(KeyValue {
+            proof,
+            next_key: update.next_key,
+        }),
+        _ => Err(Fault::Malformed),
+    }
+}
+
+/// Whether a copy excludes the key, its bytes do, and the proof does that is written and checked at once.
+fn excluded(
+    alloc: Global,
+    exclusion: &Exclusion,
+    key: &Key,
+    root: &Digest,
+) -> Result<String, Fault> {
+    let copy = exclusion.clone()?;
+    let yes = copy.verify::<Sha256>(alloc, key, root)?;
+    let mut bytes = Vec::new(alloc);
+    exclusion.write(&mut bytes)?;
+    let cfgs = ((), ());
+    let checked = check_absence::<mmr::Family, Sha256, Key, FixedEncoding<u64>>(
+        alloc, &bytes, 1, &cfgs, key, root,
+    )?;
+    let at_once = written_exclusions_are_accepted::<_, Sha256, _, FixedEncoding<u64>, 1>(
+        alloc, exclusion, &cfgs, key, root,
+    )?;
+    let same = copy == *exclusion && checked == yes && at_once == yes;
+    sized(alloc, same, yes, bytes.len())
+}
+
+/// The same of the value of the key.
+fn shown(
+    alloc: Global,
+    key_value: &KeyValue,
+    key: Key,
+    value: u64,
+    root: &Digest,
+) -> Result<String, Fault> {
+    let copy = key_value.clone()?;
+    let yes = copy.verify::<Sha256, FixedEncoding<u64>>(alloc, key, value, root)?;
+    let mut bytes = Vec::new(alloc);
+    key_value.write(&mut bytes)?;
+    let checked = check_value::<mmr::Family, Sha256, Key, FixedEncoding<u64>>(
+        alloc,
+        &bytes,
+        1,
+        &(),
+        key,
+        value,
+        root,
+    )?;
+    let at_once = written_values_are_accepted::<_, Sha256, _, FixedEncoding<u64>, 1>(
+        alloc,
+        key_value,
+        &(),
+        key,
+        value,
+        root,
+    )?;
+    let same = copy == *key_value && checked == yes && at_once == yes;
+    sized(alloc, same, yes, bytes.len())
+}
+
+/// An answer and a number of bytes, where all answers are the same.
+fn sized(alloc: Global, same: bool, yes: bool, size: usize) -> Result<String, Fault> {
+    if !same {
+        return Err(Fault::Differs);
+    }
+    let yes = if yes { "yes" } else { "no" };
+    Ok(format!(in alloc; "{yes} {size}")?)
+}

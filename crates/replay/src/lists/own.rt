@@ -1,0 +1,181 @@
+//! Lists on what trees in memory give: their own proofs, their nodes, and proofs from nodes.
+
+use crate::columns::{Fault, number, strings};
+use crate::lists::proofs::bagging;
+use crate::lists::refusals::{merkle_fault, merkle_refusal};
+use crate::lists::stores::{peaks, series};
+use std::alloc::Global;
+use storage_codec::codec::FixedBytes;
+use storage_codec::digest::Sha256;
+use storage_merkle::merkle::hasher::Standard;
+use storage_merkle::merkle::mem::Mem;
+use storage_merkle::merkle::{
+    ElementPlan, Error, Family, Location, Position, Proof, ProofStore, RangePlan, Storage as _,
+};
+
+/// A tree over some elements.
+#[derive(Drop)]
+struct Grown<F: Family> {
+    hasher: Standard<Sha256>,
+    mem: Mem<F, FixedBytes<32>>,
+    inactive: usize,
+}
+
+impl<F: Family> Grown<F> {
+    fn new(alloc: Global, direction: &str, elements: &[Vec<u8>]) -> Result<Self, Fault> {
+        let hasher = Standard::new(bagging(direction)?);
+        let mut mem = Mem::new(alloc);
+        for element in elements {
+            if let Err(error) = mem.add(&hasher, element) {
+                return Err(merkle_fault(&error));
+            }
+        }
+        Ok(Grown {
+            hasher,
+            mem,
+            inactive: 0,
+        })
+    }
+
+    /// The tree's own proof of a range.
+    fn proof(
+        &self,
+        alloc: Global,
+        start: u64,
+        end: u64,
+    ) -> Result<Proof<F, FixedBytes<32>>, Fault> {
+        let range = Location::new(start)..Location::new(end);
+        match self
+            .mem
+            .range_proof(alloc, &self.hasher, range, self.inactive)
+        {
+            Ok(proof) => Ok(proof),
+            Err(error) => Err(merkle_fault(&error)),
+        }
+    }
+
+    /// The store of the tree's own proof of a range.
+    fn store(
+        &self,
+        alloc: Global,
+        elements: &[Vec<u8>],
+        start: u64,
+        end: u64,
+    ) -> Result<ProofStore<F, FixedBytes<32>>, Fault> {
+        let proof = self.proof(alloc, start, end)?;
+        let root = match self.mem.root(&self.hasher, self.inactive) {
+            Ok(root) => root,
+            Err(error) => return Err(merkle_fault(&error)),
+        };
+        let claimed = elements
+            .get(start as usize..end as usize)
+            .ok_or(Fault::Malformed)?;
+        let first = Location::new(start);
+        match ProofStore::new(alloc, &self.hasher, &proof, claimed, first, &root) {
+            Ok(store) => Ok(store),
+            Err(error) => Err(merkle_fault(&error)),
+        }
+    }
+
+    /// Whether a store gives the tree's own proof of a range.
+    fn is_given(
+        &self,
+        alloc: Global,
+        store: &ProofStore<F, FixedBytes<32>>,
+        start: u64,
+        end: u64,
+    ) -> Result<bool, Fault> {
+        let range = Location::new(start)..Location::new(end);
+        match store.range_proof(alloc, &self.hasher, range) {
+            Ok(given) => Ok(given == self.proof(alloc, start, end)?),
+            Err(error) => Err(merkle_fault(&error)),
+        }
+    }
+}
+
+/// `bagging inactive elements start end`: how many ranges there are among these locations, and of how many of them the store of the
+/// tree's proof of the whole gives the tree's own proof.
+pub fn parts<F: Family>(alloc: Global, columns: &[&str]) -> Result<String, Fault> {
+    let [direction, inactive, elements, start, end] = columns else {
+        return Err(Fault::Malformed);
+    };
+    let elements = strings(alloc, *elements)?;
+    let mut tree = Grown::<F>::new(alloc, *direction, &elements)?;
+    tree.inactive = number(*inactive)? as usize;
+    let start = number(*start)?;
+    let end = number(*end)?;
+    let store = tree.store(alloc, &elements, start, end)?;
+    let mut ranges: u64 = 0;
+    let mut own: u64 = 0;
+    for first in start..end {
+        for last in first..end {
+            ranges = ranges.saturating_add(1);
+            if tree.is_given(alloc, &store, first, last.saturating_add(1))? {
+                own = own.saturating_add(1);
+            }
+        }
+    }
+    Ok(format!(in alloc; "{ranges} {own}")?)
+}
+
+/// The digests at positions.
+fn digests_at<F: Family>(
+    alloc: Global,
+    mem: &mut Mem<F, FixedBytes<32>>,
+    positions: &[Position<F>],
+) -> Result<Vec<FixedBytes<32>>, Error<F>> {
+    mem.get_nodes(alloc, positions)
+}
+
+/// `bagging elements positions`: the digests that the tree serves at these positions, or the refusal.
+pub fn served<F: Family>(alloc: Global, columns: &[&str]) -> Result<String, Fault> {
+    let [direction, elements, places] = columns else {
+        return Err(Fault::Malformed);
+    };
+    let elements = strings(alloc, *elements)?;
+    let mut tree = Grown::<F>::new(alloc, *direction, &elements)?;
+    let mut positions = Vec::new(alloc);
+    for place in places.split(',') {
+        positions.push(Position::new(number(place)?))?;
+    }
+    match digests_at(alloc, &mut tree.mem, &positions) {
+        Ok(digests) => series(alloc, &digests),
+        Err(error) => merkle_refusal(alloc, &error),
+    }
+}
+
+/// The digest at a position among some.
+fn at<F: Family>(nodes: &[(Position<F>, FixedBytes<32>)], position: u64) -> Option<FixedBytes<32>> {
+    for node in nodes {
+        if node.0.as_u64() == position {
+            return Some(node.1);
+        }
+    }
+    None
+}
+
+/// `bagging leaves location inactive nodes`: the digests of the proof of one element that is built from these nodes, `POSITION=DIGEST`
+/// with slashes between them or `-` for none, or the refusal.
+pub fn built<F: Family>(alloc: Global, columns: &[&str]) -> Result<String, Fault> {
+    let [direction, leaves, location, inactive, nodes] = columns else {
+        return Err(Fault::Malformed);
+    };
+    let hasher = Standard::<Sha256>::new(bagging(*direction)?);
+    let leaves = Location::new(number(*leaves)?);
+    let location = Location::new(number(*location)?);
+    let inactive = number(*inactive)? as usize;
+    let nodes = peaks::<F>(alloc, *nodes)?;
+    let plan: RangePlan<F> = match ElementPlan::new(alloc, leaves, location) {
+        Ok(plan) => plan.into(),
+        Err(error) => return merkle_refusal(alloc, &error),
+    };
+    match plan.build(
+        alloc,
+        &hasher,
+        inactive,
+        |position| at(&nodes, position.as_u64()),
+    ) {
+        Ok(proof) => series(alloc, &proof.digests),
+        Err(error) => merkle_refusal(alloc, &error),
+    }
+}

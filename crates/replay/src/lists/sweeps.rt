@@ -1,0 +1,138 @@
+//! Lists on every location and every range of a snapshot. Chunks have one byte.
+
+use crate::columns::{Fault, number, strings};
+use crate::lists::keys::decoded;
+use crate::lists::refusals::{database_fault, merkle_fault};
+use crate::lists::served::{operation_proof, range_proof, snapshot};
+use crate::lists::snapshots::{chunks_of, places};
+use commonware_storage::bitmap::{Prunable, Readable};
+use commonware_storage::codec::{Encode, FixedBytes};
+use commonware_storage::digest::Sha256;
+use commonware_storage::laws::built_proofs_are_accepted;
+use commonware_storage::merkle::{ElementPlan, Graftable, Location};
+use commonware_storage::qmdb::current::Snapshot;
+use commonware_storage::qmdb::current::proof::RangeProof;
+use commonware_storage::qmdb::current::proof::constant::OperationProof;
+use std::alloc::Global;
+
+/// A snapshot with its operations and its floor.
+#[derive(Drop)]
+struct Swept<F: Graftable> {
+    snapshot: Snapshot<F, Sha256, 1>,
+    operations: Vec<Vec<u8>>,
+    floor: u64,
+}
+
+/// The snapshot of `floor bits operations`.
+fn swept_of<F: Graftable>(alloc: Global, columns: &[&str]) -> Result<Swept<F>, Fault> {
+    let [floor, bits, operations] = columns else {
+        return Err(Fault::Malformed);
+    };
+    let operations = strings(alloc, *operations)?;
+    let floor = number(*floor)?;
+    let snapshot = snapshot(alloc, &operations, *bits, floor)?;
+    Ok(Swept {
+        snapshot,
+        operations,
+        floor,
+    })
+}
+
+/// `floor bits operations`: a digit for each location, 1 where the snapshot's own proof of the operation there is accepted: as it
+/// was built, and built, written and checked from the bytes in one call. It is also read again, and copied.
+pub fn each_operation<F: Graftable>(alloc: Global, columns: &[&str]) -> Result<String, Fault> {
+    let swept = swept_of::<F>(alloc, columns)?;
+    let mut digits = String::new(alloc);
+    for (place, operation) in swept.operations.iter().enumerate() {
+        let yes = is_shown(alloc, &swept, place as u64, operation)?;
+        digits.push(if yes { '1' } else { '0' })?;
+    }
+    Ok(digits)
+}
+
+/// Whether the proof of the operation at a location is accepted, in both ways.
+fn is_shown<F: Graftable>(
+    alloc: Global,
+    swept: &Swept<F>,
+    location: u64,
+    operation: &[u8],
+) -> Result<bool, Fault> {
+    let root = swept.snapshot.root();
+    let proof = operation_proof(alloc, &swept.snapshot, swept.floor, location)?;
+    let bytes = proof.encode(alloc)?;
+    let read = decoded::<OperationProof<F, FixedBytes<32>, 1>>(alloc, &bytes, &128)?;
+    let yes = proof.verify_encoded::<Sha256>(alloc, operation, &root)?;
+    let at_once = is_shown_at_once(alloc, swept, location, operation)?;
+    if read != proof || proof.clone()? != proof || at_once != yes {
+        return Err(Fault::Differs);
+    }
+    Ok(yes)
+}
+
+/// What a client answers that is given the bytes of the proof.
+fn is_shown_at_once<F: Graftable>(
+    alloc: Global,
+    swept: &Swept<F>,
+    location: u64,
+    operation: &[u8],
+) -> Result<bool, Fault> {
+    let snapshot = &swept.snapshot;
+    let leaves = Location::new(snapshot.status().len());
+    let plan = match ElementPlan::new(alloc, leaves, Location::new(location)) {
+        Ok(plan) => plan,
+        Err(error) => return Err(merkle_fault(&error)),
+    };
+    match built_proofs_are_accepted::<F, Sha256, Prunable<1>, _, 1>(
+        alloc,
+        snapshot.status(),
+        plan,
+        |position| snapshot.get_node(position),
+        Location::new(swept.floor),
+        snapshot.ops_root(),
+        operation,
+        &snapshot.root(),
+    ) {
+        Ok(yes) => Ok(yes),
+        Err(error) => Err(database_fault(&error)),
+    }
+}
+
+/// `floor bits operations`: of how many ranges that are not empty the snapshot's own proof is accepted. It is
+/// also read again, and copied.
+pub fn each_range<F: Graftable>(alloc: Global, columns: &[&str]) -> Result<String, Fault> {
+    let [_, bits, _] = columns else {
+        return Err(Fault::Malformed);
+    };
+    let chunks = chunks_of::<1>(alloc, *bits)?;
+    let swept = swept_of::<F>(alloc, columns)?;
+    let count = swept.operations.len() as u64;
+    let mut shown: u64 = 0;
+    for start in 0..count {
+        for last in start..count {
+            if is_range_shown(alloc, &swept, &chunks, start, last + 1)? {
+                shown = shown.saturating_add(1);
+            }
+        }
+    }
+    Ok(format!(in alloc; "{shown}")?)
+}
+
+fn is_range_shown<F: Graftable>(
+    alloc: Global,
+    swept: &Swept<F>,
+    chunks: &[[u8; 1]],
+    start: u64,
+    end: u64,
+) -> Result<bool, Fault> {
+    let root = swept.snapshot.root();
+    let proof = range_proof(alloc, &swept.snapshot, swept.floor, start, end)?;
+    let bytes = proof.encode(alloc)?;
+    let read = decoded::<RangeProof<F, FixedBytes<32>>>(alloc, &bytes, &128)?;
+    if read != proof || proof.clone()? != proof {
+        return Err(Fault::Differs);
+    }
+    let operations = places(&swept.operations, start, end)?;
+    let chunks = places(chunks, start / 8, end.div_ceil(8))?;
+    let start = Location::new(start);
+    Ok(proof.verify_encoded::<Sha256, _, [u8; 1]>(alloc, start, operations, chunks, 1, &root)?)
+}

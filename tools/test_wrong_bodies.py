@@ -1,0 +1,121 @@
+#!/usr/bin/env python3
+"""Tests tools/wrong_bodies.py on small crates: what it must name, and what it must count as refused.
+
+Of the edits of a crate a harmless one must be named, also where the function that it is in calls one with a wrong body, and where
+it needs a trait's block that is not proved for another edit. An edit that cannot be applied must be named too, and a crate that is
+not proved without an edit. The last line is 'N passed, M failed'.
+"""
+import pathlib
+import shutil
+import subprocess
+import sys
+import tempfile
+
+TOOL = pathlib.Path(__file__).resolve().parent / "wrong_bodies.py"
+
+CRATE = """//! Sums of small numbers.
+#![tactic(auto)]
+
+ghost use Rattle.std.specs.Prelude.{◌≡◌, ◌+◌, ◌<◌, ℕ};
+
+/// One more than a number.
+pub fn one_more(n: u64) -> u64
+    requires { n < 100 }
+    ensures { result ≡ n + 1 }
+{
+    n + 1
+}
+
+/// Two more than a number.
+pub fn two_more(n: u64) -> u64
+    requires { n < 50 }
+    ensures { result ≡ n + 2 }
+{
+    let more = one_more(n);
+    one_more(more)
+}
+
+/// Three more than a number.
+pub fn three_more(n: u64) -> u64
+    requires { n < 50 }
+    ensures { result ≡ n + 3 }
+{
+    n + 3
+}
+
+/// What is written as so many bytes, whatever its value.
+pub trait Measured {
+    /// That number of bytes.
+    ghost length: { ℕ };
+
+    /// How many bytes.
+    fn measure(&self) -> u64
+        ensures { result ≡ Self.length };
+}
+
+/// A word of two bytes.
+pub struct Word {}
+
+impl Measured for Word {
+    ghost length = { 2 };
+
+    fn measure(&self) -> u64 {
+        2
+    }
+}
+
+/// The length of a word.
+pub fn length_of_word(word: &Word) -> u64
+    ensures { result ≡ 2 }
+{
+    word.measure()
+}
+"""
+
+EDITS = {
+    "callee_wrong": ("    n + 1", "    n + 2"),
+    "harmless_caller": ("let more = one_more(n);", "let more = one_more(n + 0);"),
+    "harmless": ("    n + 3", "    3 + n"),
+    "block_wrong": ("        2", "        1"),
+    "harmless_beside_block": ("word.measure()", "word.measure() + 0"),
+    "no_such_text": ("four_more", "five_more"),
+}
+REFUSED = {"callee_wrong", "block_wrong"}
+
+
+def said(text, edits):
+    """What the tool says of a crate with this text and these edits, by the name of each edit, and its status."""
+    with tempfile.TemporaryDirectory() as name:
+        root = pathlib.Path(name)
+        crate = root / "crates/sums"
+        for folder in ("tools", "crates/sums/src", "crates/sums/must-fail"):
+            (root / folder).mkdir(parents=True)
+        shutil.copy(TOOL, root / "tools")
+        (root / "crates.txt").write_text("sums:\n")
+        (crate / "src/lib.rt").write_text(text)
+        group = "".join(f"\nname: {it}\nold: {old}\nnew: {new}\n" for it, (old, new) in edits.items())
+        (crate / "must-fail/src.lib.edit").write_text(f"file: src/lib.rt\n{group}")
+        ran = subprocess.run([root / "tools/wrong_bodies.py"], capture_output=True, text=True)
+    lines = [it.removeprefix("wrong body: sums ").split(": ", 1) for it in ran.stdout.splitlines() if it.startswith("wrong body: ")]
+    return {it[0]: it[-1] for it in lines}, ran.returncode, ran.stdout + ran.stderr
+
+
+def main():
+    tried, status, output = said(CRATE, EDITS)
+    results = {f"{it} is {'refused' if it in REFUSED else 'named'}": tried.get(it, "").startswith("refused") == (it in REFUSED) for it in EDITS}
+    results["each edit has a line"] = EDITS.keys() <= tried.keys()
+    results["the status is 1"] = status == 1
+    wrong, status, _ = said(CRATE.replace("    n + 3", "    n + 4"), {"callee_wrong": EDITS["callee_wrong"]})
+    results["a crate that is not proved is named"] = status == 1 and any("without an edit" in it for it in wrong)
+    only, status, _ = said(CRATE, {"callee_wrong": EDITS["callee_wrong"]})
+    results["one refused edit is well"] = status == 0 and only.keys() == {"callee_wrong"}
+    for name, is_well in results.items():
+        print(f"{name}: {'passed' if is_well else 'FAILED'}")
+    if not all(results.values()):
+        print(output)
+    print(f"{sum(results.values())} passed, {len(results) - sum(results.values())} failed")
+    return 0 if all(results.values()) else 1
+
+
+if __name__ == "__main__":
+    sys.exit(main())

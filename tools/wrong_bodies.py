@@ -1,0 +1,475 @@
+#!/usr/bin/env python3
+"""Tries the must-fail edits of the crates, and sees that the prover refuses each of them at a goal of the edited function.
+
+    tools/wrong_bodies.py [--built FOLDER [--until FILE]] [--jobs N] [--kept] [--only NAME,..] [CRATE..]
+
+A file crates/CRATE/must-fail/NAME.edit has one edit: a line 'file: src/FILE.rt', then pairs of lines 'old: TEXT' and 'new: TEXT'.
+A file with lines 'name: NAME' has a group: an edit of its own under each of them, all of the file named above them.
+
+A crate is checked without an edit first, and must be proved. What that check kept is where the others begin. Then all edits of bodies are
+put into one copy of the crate, and the functions that they are in are checked together, with what they call and nothing that calls
+them. There is another round for methods of `impl` blocks of traits, and where two edits touch one function or one text; an edit of
+anything but the body of a function is tried alone: on the functions of its module, or on the laws where it is one of a definition, and
+if they do not refuse it on the whole crate. An edit is refused where the check names a goal inside the edited function that is
+not proved. That the function calls, or waits for, one that is not proved does not count, nor that a proof file misses a name. A goal
+may also fail since it needs an `impl` block that is not proved for another edit: such an edit is tried again without those that are
+settled. What is still in doubt is tried alone. A function that fails by goals of its own without an edit in it is a fault.
+
+The libraries below a crate are taken from the tree FOLDER, where `rt ci` or `rt lib` left them; without --built they are proved here
+first. With --until a gate is at work in FOLDER, which makes FILE when it ends: until then a crate waits for its libraries, and half of
+the processors are left to the gate. N crates are tried side by side, by default one a processor. While edits are written, --kept begins over what `rt check` kept in
+the crate's folder, and --only takes the edits of these names alone. A line for each edit names the crate, the edit, and the goal
+that refused it or why it was not refused. The last line is 'N refused, M not'.
+"""
+import argparse
+import collections
+import concurrent.futures
+import os
+import pathlib
+import re
+import shutil
+import subprocess
+import sys
+import tempfile
+import threading
+import time
+
+ROOT = pathlib.Path(__file__).resolve().parent.parent
+
+# What the check says of a goal that it leaves, and of a function.
+GOAL = re.compile(r"note: (?:\./)?(src/\S+?\.rt):(\d+):\d+: (it is not proved .*)")
+FUNCTION = re.compile(r"fn (\S+): (.*)")
+WAITS = re.compile(r"no proof: it |not proved; it waits")
+BLOCK = re.compile(r"impl (\S+): not proved")
+# What a function's line says of others that are not proved: those that it calls, and the blocks that it passes on.
+NEEDS = re.compile(r"it (?:calls|passes the blocks?) (.*?), which (?:is|are) not proved")
+# What the check says of an answer in a proof file that does not meet its goal, and of one that only misses a name.
+ANSWER = re.compile(r"(?:\./)?proofs/(\S+)/(?:Answers|Invariants|Proof)\.antt:\d+:\d+: error: `([^`]+)`: (.*)")
+MISSES_NAME = re.compile(r"has no field|is not in scope|has no `|was not admitted")
+# How long a library has been left alone, in seconds, before it is taken for whole.
+WRITTEN = 10
+# A line on which a function begins, with its indentation.
+HEAD = re.compile(r"( *)(?:pub(?:\([\w:]+\))? |default |const |final |unsafe |extern \"C\" )*fn (\w+)")
+
+Change = collections.namedtuple("Change", "file old new")
+Place = collections.namedtuple("Place", "file first body last name owner")
+Goal = collections.namedtuple("Goal", "function file line text")
+
+
+class BadEdit(Exception):
+    """Why an edit cannot be applied."""
+
+
+class Edit:
+    """A named edit of a crate: the lines that it changes, and the functions whose bodies it changes, if it changes nothing else."""
+
+    def __init__(self, name, changes):
+        self.name, self.changes = name, changes
+        self.lines, self.places, self.is_of_bodies = {}, set(), True
+
+    def locate(self, texts):
+        """Finds which lines of the crate's texts become which, and where they stand."""
+        if not self.changes:
+            raise BadEdit("it has no 'old:' and 'new:' pair")
+        edited = {}
+        for change in self.changes:
+            if change.file not in texts:
+                raise BadEdit(f"there is no file {change.file}")
+            text = edited.get(change.file, texts[change.file])
+            if text.count(change.old) != 1:
+                raise BadEdit(f"an 'old:' text is in {change.file} {text.count(change.old)} times, and not once")
+            edited[change.file] = text.replace(change.old, change.new)
+        for file, text in edited.items():
+            before = texts[file].split("\n")
+            for number, line in enumerate(text.split("\n")):
+                if line != before[number]:
+                    self.lines[file, number] = line
+                    self.place(file, before, number, line)
+        self.is_of_bodies = self.is_of_bodies and bool(self.places)
+
+    def place(self, file, before, number, line):
+        """Notes the function whose body a changed line is in. An import beside it is no other place."""
+        place = function_at(file, before, number)
+        if place:
+            self.places.add(place)
+        elif HEAD.match(before[number]) and "{" in line:
+            # a body is written behind the head, and the old one is given to another function
+            self.places.add(Place(file, number + 1, number + 1, number + 1, HEAD.match(line)[2], owner_of(before, number)))
+        elif not re.match(r"(pub |ghost )?use ", before[number]):
+            self.is_of_bodies = False
+
+    def is_of_blocks(self):
+        """Whether it changes a method of an `impl` block of a trait."""
+        return any(len(it.owner) > 1 for it in self.places)
+
+    def overlaps(self, other):
+        """Whether both change the same function or the same line."""
+        return bool(self.lines.keys() & other.lines.keys() or self.places & other.places)
+
+
+def function_at(file, lines, number):
+    """The function in whose body a line of a file is, or None where it is in no body."""
+    found = None
+    for first in range(number + 1 if file.endswith(".rt") else 0):
+        head = HEAD.match(lines[first])
+        span = span_of(lines, first, head[1]) if head else None
+        if span and number <= span[1]:
+            whole = [with_attributes(lines, first) + 1, span[0] + 1, span[1] + 1]
+            found = Place(file, *whole, head[2], owner_of(lines, first))
+    return found if found and number + 1 >= found.body else None
+
+
+def owner_of(lines, first):
+    """The names in the head of the `impl` or `trait` around a line, the type's before the trait's; none outside of one."""
+    for number in range(first - 1, -1, -1):
+        if lines[number] == "}" or re.match(r"\S.*\{\}$", lines[number]):
+            return ()
+        if re.match(r"(unsafe |pub(\([\w:]+\))? )*(impl|trait)\b", lines[number]):
+            end = next(it for it in range(number, len(lines)) if lines[it].rstrip().endswith(("{", "{}")))
+            head = " ".join(lines[number : end + 1]).partition(" where ")[0]
+            parameters = re.match(r"impl\s*<((?:[^<>]|<(?:[^<>]|<[^<>]*>)*>)*)>", head)
+            trait, _, kind = head[parameters.end() if parameters else 0 :].removeprefix("impl").rpartition(" for ")
+            first_name = lambda text: (re.findall(r"(?:\w+::)*(\w+)", text.replace("trait ", "").replace("pub ", "")) or [""])[0]
+            return tuple(it[:1].upper() + it[1:] for it in (first_name(kind), first_name(trait)) if it)
+    return ()
+
+
+def is_of(function, place):
+    """Whether the check's name of a function is that of the function at a place. A method may be named below its type's module."""
+    *path, name = function.split("::")[1:]
+    module = module_of(place.file)
+    if name != place.name:
+        return False
+    if not place.owner:
+        return path == module
+    *above, owner = path or [""]
+    return above == module[: len(above)] and all(it in owner for it in place.owner)
+
+
+def module_of(file):
+    """The path of a source file's module below the crate."""
+    path = re.sub(r"(^|/)(lib|mod)$", "", file.removeprefix("src/").removesuffix(".rt"))
+    return [it for it in path.split("/") if it]
+
+
+def with_attributes(lines, first):
+    """The first of the attributes and comments above a function's first line: a goal may be named there."""
+    while first > 0 and lines[first - 1].strip() and not lines[first - 1].rstrip().endswith(("{", "}", ";")):
+        first -= 1
+    return first
+
+
+def span_of(lines, first, indent):
+    """The lines on which the body of the function that begins at a line opens and ends, or None where it has no body."""
+    body = None
+    for number in range(first, len(lines)):
+        here = lines[number]
+        if body is None and (here.startswith(indent + "{") or here.endswith("{") and not here.startswith(indent + "    ")):
+            body = number
+        if here in (indent + "}", indent + "{}") or number == first and here.endswith("}"):
+            return first if body is None else body, number
+        another = HEAD.match(here) if number > first else None
+        if another and another[1] == indent or here and not here.startswith(indent) or number == first and here.endswith(";"):
+            return None
+    return None
+
+
+def edits_of(folder):
+    """The edits of a crate, in the order of their files."""
+    edits = []
+    for path in sorted((folder / "must-fail").glob("*.edit")):
+        file, old, changes = "", None, []
+        lines = path.read_text().split("\n")
+        is_group = any(line.startswith("name: ") for line in lines)
+        if not is_group:
+            edits.append(Edit(path.stem, changes))
+        for line in lines:
+            if line.startswith("name: "):
+                changes = []
+                edits.append(Edit(line[len("name: ") :].strip(), changes))
+            elif line.startswith("file: "):
+                file = line[len("file: ") :].strip()
+            elif line.startswith("old: "):
+                old = line[len("old: ") :]
+            elif line.startswith("new:") and old is not None:
+                changes.append(Change(file, old, line[len("new:") :].removeprefix(" ")))
+                old = None
+    return edits
+
+
+def rounds_of(edits):
+    """The edits in rounds, in each of which no two touch the same function or text, and all or none are of blocks of traits."""
+    rounds = []
+    for edit in edits:
+        if not edit.is_of_bodies:
+            continue
+        fits = lambda it: it[0].is_of_blocks() == edit.is_of_blocks() and not any(edit.overlaps(other) for other in it)
+        fitting = next(filter(fits, rounds), None)
+        if fitting is None:
+            rounds.append(fitting := [])
+        fitting.append(edit)
+    return rounds + [[it] for it in edits if not it.is_of_bodies]
+
+
+class Verdict:
+    """What a check says: whether the crate is proved, each goal that is left with its function, and what only misses a name."""
+
+    def __init__(self, said):
+        self.said = said
+        self.goals, self.nameless, self.doubtful, self.functions = [], [], set(), []
+        blocks, open_goals = set(BLOCK.findall(said)), []
+        answers = collections.defaultdict(list)
+        for folder, name, why in ANSWER.findall(said):
+            if not MISSES_NAME.search(why):
+                answers[folder.replace("/+", "/")].append(f"`{name}`: {why}")
+        for line in said.split("\n"):
+            goal, function = GOAL.match(line), FUNCTION.match(line)
+            if goal:
+                open_goals.append((goal[1], int(goal[2]), goal[3]))
+            elif function:
+                name, verdict = function.groups()
+                self.functions.append(name)
+                self.goals += [Goal(name, *it) for it in open_goals]
+                self.goals += [Goal(name, None, None, it) for it in answers["/".join(name.split("::")[1:])]]
+                self.note_needs(name, verdict, blocks)
+                if verdict.startswith("not proved") and not WAITS.match(verdict) and not any(it.function == name for it in self.goals):
+                    self.nameless.append(name)
+                open_goals = []
+        some = re.search(r"^only=(\d+) proved=(\d+)", said, re.M)
+        self.is_proved = some[1] == some[2] if some else re.search(r"^logic=proved", said, re.M) is not None
+        self.is_refused = some[1] != some[2] if some else re.search(r"^logic=not-proved", said, re.M) is not None
+
+    def note_needs(self, name, verdict, blocks):
+        """Notes a function that needs an `impl` block which is not proved: goals of it may fail for that alone."""
+        needed = {it for words in NEEDS.findall(verdict) for it in re.findall(r"`([^`]+)`", words)}
+        if needed & blocks or {it.rpartition("::")[0] for it in needed} & blocks:
+            self.doubtful.add(name)
+
+    def refusal_of(self, edit):
+        """The first goal in a function that the edit changes."""
+        return next((it for it in self.goals if is_inside(it, edit.places)), None)
+
+    def strays(self, edits):
+        """The goals in functions that none of the edits changes, and that need no block which is not proved."""
+        places = set().union(*(it.places for it in edits))
+        return [it for it in self.goals if not is_inside(it, places) and it.function not in self.doubtful]
+
+
+def is_inside(goal, places):
+    """Whether a goal is one of a function at these places: by its line, or by the function's name where a proof file has it."""
+    if goal.file is None:
+        return any(is_of(goal.function, it) for it in places)
+    return any(it.file == goal.file and it.first <= goal.line <= it.last for it in places)
+
+
+class Crate:
+    """A crate of the repository: its texts, its libraries and the command that checks it."""
+
+    def __init__(self, name, uses, built, kit):
+        self.name, self.folder = name, ROOT / "crates" / name
+        self.texts = {str(it.relative_to(self.folder)): it.read_text() for it in sorted(self.folder.rglob("*")) if self.is_text(it)}
+        own = [it for it in uses[name] if it in uses]
+        below = libraries_below(name, uses)
+        folder_of = lambda it: built / "crates" / it / "out" / "rlib"
+        self.libraries = [folder_of(it) / f"{it}.rlib" for it in below]
+        words = ["--crate-name", name, "src/lib.rt", "--extern", f"std={kit}/rlibs/std.rlib"]
+        for it in uses[name]:
+            words += ["--extern", f"{it}={folder_of(it) / it}.rlib" if it in own else f"{it}={kit}/rlibs/{it}.rlib"]
+        for folder in [kit / "rlibs", *map(folder_of, below)]:
+            words += ["-L", f"dependency={folder}"]
+        words += ["--antt-project", f"{kit}/rattle/logic/antt-project.json", "--logic-built", f"{kit}/logic_built"]
+        self.command = [f"{kit}/bin/rattle", "check", *words, "--links", f"{name}=", "--jobs", "1"]
+
+    def is_text(self, path):
+        return path.suffix in (".rt", ".antt") and path.relative_to(self.folder).parts[0] in ("src", "specs", "proofs")
+
+    def has_libraries(self):
+        """Whether the libraries below have been built, and are no longer written to."""
+        return all(it.is_dir() and max(map(changed, [it, *it.iterdir()])) + WRITTEN < time.time() for it in self.libraries)
+
+    def check(self, edits, kept, functions=()):
+        """Checks a copy of the crate with the edits, over what earlier checks kept: all of it, or these functions and what they call."""
+        only = [word for it in functions for word in ("--only", it.partition("::")[2])]
+        texts = {file: text.split("\n") for file, text in self.texts.items()}
+        for edit in edits:
+            for (file, number), line in edit.lines.items():
+                texts[file][number] = line
+        with tempfile.TemporaryDirectory(prefix="wrong-bodies-") as room:
+            for file, text in texts.items():
+                path = pathlib.Path(room, file)
+                path.parent.mkdir(parents=True, exist_ok=True)
+                path.write_text("\n".join(text))
+            how = {"cwd": room, "stdin": subprocess.DEVNULL, "stdout": subprocess.PIPE, "stderr": subprocess.STDOUT}
+            ran = subprocess.run([*self.command, "--incremental", kept, *only], text=True, errors="replace", **how)
+        return Verdict(ran.stdout)
+
+
+def changed(path):
+    """When a file or folder was last written to, in seconds, or now where it is gone."""
+    try:
+        return path.stat().st_mtime
+    except FileNotFoundError:
+        return time.time()
+
+
+def tried_in_turn(crates, run, jobs, until):
+    """What a call gives for each crate, so many side by side, in their order; half as many as long as a gate is at work, and then only
+    crates whose libraries are built."""
+    left, given = list(crates), {}
+    with concurrent.futures.ThreadPoolExecutor(jobs) as pool:
+        while left:
+            is_gate_at_work = until is not None and not until.exists()
+            ready = next((it for it in left if not is_gate_at_work or it.has_libraries()), None)
+            running = sum(not it.done() for it in given.values())
+            if ready and running < (max(jobs // 2, 1) if is_gate_at_work else jobs):
+                left.remove(ready)
+                given[ready] = pool.submit(run, ready)
+            else:
+                time.sleep(1)
+    return [given[it].result() for it in crates]
+
+
+def libraries_below(name, uses):
+    """The repository's libraries that a crate stands on, directly or not."""
+    found = []
+    for it in uses[name]:
+        if it in uses:
+            found += [below for below in [*libraries_below(it, uses), it] if below not in found]
+    return found
+
+
+def told(goal):
+    place = f" at {goal.file}:{goal.line}" if goal.file else ""
+    return f"{goal.function}{place}: {goal.text[:160]}"
+
+
+def why_not(edit, verdict):
+    """Why an edit that was tried alone counts as not refused."""
+    if verdict.is_proved:
+        return "NOT REFUSED: it is still proved with it"
+    if not verdict.is_refused:
+        said = next((it for it in verdict.said.split("\n") if "error" in it), verdict.said[-200:])
+        return f"NOT TRIED: the check gave no verdict: {said[:200]}"
+    if verdict.nameless:
+        return f"NOT REFUSED by a goal: a proof file of {verdict.nameless[0]} misses a name"
+    return "NOT REFUSED by a goal of the edited function"
+
+
+class Trial:
+    """The trial of a crate's edits: prints a line for each, and counts them."""
+
+    def __init__(self, crate, printing, names, is_over_kept):
+        self.crate, self.printing, self.names, self.is_over_kept = crate, printing, names, is_over_kept
+        self.refused = self.failed = 0
+
+    def say(self, text, is_refused):
+        self.refused, self.failed = self.refused + is_refused, self.failed + (not is_refused)
+        with self.printing:
+            print(f"wrong body: {self.crate.name} {text}", flush=True)
+
+    def judge(self, edit, verdict, is_alone):
+        """Says that an edit is refused, and by which goal; returns whether it is."""
+        goal = verdict.refusal_of(edit)
+        if goal is None and not edit.is_of_bodies and verdict.goals:
+            goal = verdict.goals[0]
+        if goal is None or not verdict.is_refused or goal.function in verdict.doubtful and not is_alone:
+            return False
+        self.say(f"{edit.name}: refused, {told(goal)}", True)
+        return True
+
+    def run(self):
+        """Tries all edits of the crate; the work that is kept goes from one check to the next."""
+        sound, names = [], collections.Counter()
+        for edit in edits_of(self.crate.folder):
+            names[edit.name] += 1
+            try:
+                if names[edit.name] > 1:
+                    raise BadEdit("another edit has its name")
+                edit.locate(self.crate.texts)
+                sound.append(edit)
+            except BadEdit as why:
+                self.say(f"{edit.name}: BAD EDIT: {why}", False)
+        sound = [it for it in sound if not self.names or it.name in self.names]
+        with tempfile.TemporaryDirectory(prefix="wrong-bodies-kept-") as kept:
+            if self.is_over_kept:
+                shutil.copytree(self.crate.folder / "out/incremental", kept, copy_function=os.link, dirs_exist_ok=True)
+            clean = self.crate.check([], kept)
+            self.functions = clean.functions
+            if not clean.is_proved:
+                self.say("is not proved without an edit", False)
+                return self
+            for edits in rounds_of(sound):
+                self.run_round(edits, kept)
+        return self
+
+    def check(self, edits, kept):
+        """Checks the functions that the edits are in; beside an edit of anything else those of its module, or the laws."""
+        functions = {it for edit in edits for place in edit.places for it in self.named_at(place)}
+        for edit in edits:
+            if not edit.is_of_bodies:
+                functions.update(it for file, _ in edit.lines for it in self.beside(file))
+        return self.crate.check(edits, kept, sorted(functions))
+
+    def beside(self, file):
+        """The functions of a source file's module and those below it; the laws where the file is one of definitions."""
+        module = module_of(file) if file.endswith(".rt") else ["laws"]
+        return [it for it in self.functions if it.split("::")[1 : len(module) + 1] == module]
+
+    def named_at(self, place):
+        """The functions that may be the one at a place: of its module, else of its owner anywhere, else of its name."""
+        named = [it for it in self.functions if it.rpartition("::")[2] == place.name]
+        of_module = [it for it in named if is_of(it, place)]
+        return of_module or [it for it in named if all(owner in it.split("::")[-2] for owner in place.owner)] or named
+
+    def run_round(self, edits, kept):
+        """Tries edits together, then again those that are in doubt as long as that settles some, and the rest alone."""
+        left, tried = edits, None
+        while left and left != tried and len(left) > 1:
+            verdict, tried = self.check(left, kept), left
+            for goal in verdict.strays(left):
+                self.say(f"no edit: a function without one fails, {told(goal)}", False)
+            left = [it for it in left if not self.judge(it, verdict, False)]
+        for edit in left:
+            if not self.judge(edit, self.check([edit], kept), True):
+                alone = self.crate.check([edit], kept)
+                if not self.judge(edit, alone, True):
+                    self.say(f"{edit.name}: {why_not(edit, alone)}", False)
+
+
+def uses_of_crates():
+    """The libraries that each crate of the repository uses, by its name."""
+    uses = {}
+    for line in (ROOT / "crates.txt").read_text().splitlines():
+        head, _, deps = line.partition("#")[0].partition(":")
+        if head.strip():
+            uses[head.split()[0]] = deps.split()
+    return uses
+
+
+def main():
+    asked = argparse.ArgumentParser(usage="wrong_bodies.py [--built FOLDER [--until FILE]] [--jobs N] [--kept] [--only NAME,..] [CRATE..]")
+    asked.add_argument("--built", type=pathlib.Path)
+    asked.add_argument("--until", type=pathlib.Path)
+    asked.add_argument("--jobs", type=int, default=len(os.sched_getaffinity(0)))
+    asked.add_argument("--kept", action="store_true")
+    asked.add_argument("--only", default="")
+    asked.add_argument("crates", nargs="*")
+    asked = asked.parse_args()
+    uses = uses_of_crates()
+    names = asked.crates or [it for it in uses if (ROOT / "crates" / it / "must-fail").is_dir()]
+    kit = pathlib.Path(subprocess.run(["rt", "doc"], capture_output=True, text=True, check=True).stdout.strip()).parent
+    built = asked.built.resolve() if asked.built else ROOT
+    if not asked.built:
+        for it in dict.fromkeys(below for name in names for below in libraries_below(name, uses)):
+            subprocess.run(["rt", "lib"], cwd=ROOT / "crates" / it, check=True, stdout=subprocess.DEVNULL)
+    crates = sorted((Crate(it, uses, built, kit) for it in names), key=lambda it: -sum(map(len, it.texts.values())))
+    printing = threading.Lock()
+    only = set(filter(None, asked.only.split(",")))
+    trials = tried_in_turn(crates, lambda it: Trial(it, printing, only, asked.kept).run(), asked.jobs, asked.until)
+    refused, failed = sum(it.refused for it in trials), sum(it.failed for it in trials)
+    print(f"{refused} refused, {failed} not")
+    return 1 if failed or not refused else 0
+
+
+if __name__ == "__main__":
+    sys.exit(main())
