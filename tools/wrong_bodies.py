@@ -9,8 +9,8 @@ A file with lines 'name: NAME' has a group: an edit of its own under each of the
 A crate is checked without an edit first, and must be proved. What that check kept is where the others begin. Then all edits of bodies are
 put into one copy of the crate, and the functions that they are in are checked together, with what they call and nothing that calls
 them. There is another round for methods of `impl` blocks of traits, and where two edits touch one function or one text; an edit of
-anything but the body of a function is tried alone: on the functions of its module, or on the laws where it is one of a definition, and
-if they do not refuse it on the whole crate. An edit is refused where the check names a goal inside the edited function that is
+anything but the body of a function is tried alone: on the functions of its module and on the laws, and if they do not refuse it on the
+whole crate. An edit is refused where the check names a goal inside the edited function that is
 not proved. That the function calls, or waits for, one that is not proved does not count, nor that a proof file misses a name. A goal
 may also fail since it needs an `impl` block that is not proved for another edit: such an edit is tried again without those that are
 settled. What is still in doubt is tried alone. A function that fails by goals of its own without an edit in it is a fault.
@@ -403,7 +403,7 @@ class Trial:
         return self
 
     def check(self, edits, kept):
-        """Checks the functions that the edits are in; beside an edit of anything else those of its module, or the laws."""
+        """Checks the functions that the edits are in, and with an edit of anything else those of its module and the laws."""
         functions = {it for edit in edits for place in edit.places for it in self.named_at(place)}
         for edit in edits:
             if not edit.is_of_bodies:
@@ -411,9 +411,9 @@ class Trial:
         return self.crate.check(edits, kept, sorted(functions))
 
     def beside(self, file):
-        """The functions of a source file's module and those below it; the laws where the file is one of definitions."""
-        module = module_of(file) if file.endswith(".rt") else ["laws"]
-        return [it for it in self.functions if it.split("::")[1 : len(module) + 1] == module]
+        """The laws, and of a source file the functions of its module and those below it."""
+        modules = [["laws"], module_of(file)] if file.endswith(".rt") else [["laws"]]
+        return [it for it in self.functions if any(it.split("::")[1 : len(module) + 1] == module for module in modules)]
 
     def named_at(self, place):
         """The functions that may be the one at a place: of its module, else of its owner anywhere, else of its name."""
