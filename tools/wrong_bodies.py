@@ -6,20 +6,20 @@
 A file crates/CRATE/must-fail/NAME.edit has one edit: a line 'file: src/FILE.rt', then pairs of lines 'old: TEXT' and 'new: TEXT'.
 A file with lines 'name: NAME' has a group: an edit of its own under each of them, all of the file named above them.
 
-A crate is checked without an edit first, and must be proved. What that check kept is where the others begin. Then all edits of bodies are
-put into one copy of the crate, and the functions that they are in are checked together, with what they call and nothing that calls
-them. There is another round for methods of `impl` blocks of traits, and where two edits touch one function or one text; an edit of
-anything but the body of a function is tried alone: on the functions of its module and on the laws, and if they do not refuse it on the
-whole crate. An edit is refused where the check names a goal inside the edited function that is
-not proved. That the function calls, or waits for, one that is not proved does not count, nor that a proof file misses a name. A goal
-may also fail since it needs an `impl` block that is not proved for another edit: such an edit is tried again without those that are
-settled. What is still in doubt is tried alone. A function that fails by goals of its own without an edit in it is a fault.
+A crate is checked without an edit first, and must be proved. What that check kept is where the others begin. Then all edits of bodies
+are put into one copy of the crate, and the functions that they are in are checked together, with what they call and nothing that
+calls them. There is another round for methods of `impl` blocks of traits, and where two edits touch one function or one text; an edit
+of anything but the body of a function is tried alone: on the functions of its module and on the laws, and if they do not refuse it
+on the whole crate. An edit is refused where the check names a goal inside the edited function that is not proved. That the function
+calls, or waits for, one that is not proved does not count, nor that a proof file misses a name. A goal may also fail since it needs
+an `impl` block that is not proved for another edit: such an edit is tried again without those that are settled. What is still in doubt
+is tried alone. A function that fails by goals of its own without an edit in it is a fault.
 
 The libraries below a crate are taken from the tree FOLDER, where `rt ci` or `rt lib` left them; without --built they are proved here
 first. With --until a gate is at work in FOLDER, which makes FILE when it ends: until then a crate waits for its libraries, and half of
-the processors are left to the gate. N crates are tried side by side, by default one a processor. While edits are written, --kept begins over what `rt check` kept in
-the crate's folder, and --only takes the edits of these names alone. A line for each edit names the crate, the edit, and the goal
-that refused it or why it was not refused. The last line is 'N refused, M not'.
+the processors are left to the gate. N crates are tried side by side, by default one a processor. While edits are written, --kept begins
+over what `rt check` kept in the crate's folder, and --only takes the edits of these names alone. A line for each edit names the crate,
+the edit, and the goal that refused it or why it was not refused. The last line is 'N refused, M not'.
 """
 import argparse
 import collections
