@@ -1,25 +1,26 @@
 #!/usr/bin/env python3
 """Tries the must-fail edits of the crates, and sees that the prover refuses each of them at a goal of the edited function.
 
-    tools/wrong_bodies.py [--built FOLDER [--until FILE]] [--jobs N] [--kept] [--only NAME,..] [CRATE..]
+    tools/wrong_bodies.py [--built FOLDER [--gate LOG]] [--jobs N] [--kept] [--only NAME,..] [CRATE..]
 
 A file crates/CRATE/must-fail/NAME.edit has one edit: a line 'file: src/FILE.rt', then pairs of lines 'old: TEXT' and 'new: TEXT'.
 A file with lines 'name: NAME' has a group: an edit of its own under each of them, all of the file named above them.
 
-A crate is checked without an edit first, and must be proved. What that check kept is where the others begin. Then all edits of bodies
-are put into one copy of the crate, and the functions that they are in are checked together, with what they call and nothing that
-calls them. There is another round for methods of `impl` blocks of traits, and where two edits touch one function or one text; an edit
-of anything but the body of a function is tried alone: on the functions of its module and on the laws, and if they do not refuse it
-on the whole crate. An edit is refused where the check names a goal inside the edited function that is not proved. That the function
+A crate is checked without an edit first, and must be proved. What that check kept is where the others begin. Where a gate has proved the
+crate from nothing, that is the check without an edit, and no function is proved twice. Then all edits of bodies are put into one copy
+of the crate, and the functions that they are in are checked together, with what they call and nothing that calls them. There is another round for methods of `impl` blocks of traits, and where two edits touch one function or one text; an edit
+of anything but the body of a function is tried alone: that of a constant on the functions that name it, any other on those of its
+module and on the laws, and if they do not refuse it on the whole crate. An edit is refused where the check names a goal inside the edited function that is not proved. That the function
 calls, or waits for, one that is not proved does not count, nor that a proof file misses a name. A goal may also fail since it needs
 an `impl` block that is not proved for another edit: such an edit is tried again without those that are settled. What is still in doubt
 is tried alone. A function that fails by goals of its own without an edit in it is a fault.
 
 The libraries below a crate are taken from the tree FOLDER, where `rt ci` or `rt lib` left them; without --built they are proved here
-first. With --until a gate is at work in FOLDER, which makes FILE when it ends: until then a crate waits for its libraries, and half of
-the processors are left to the gate. N crates are tried side by side, by default one a processor. While edits are written, --kept begins
-over what `rt check` kept in the crate's folder, and --only takes the edits of these names alone. A line for each edit names the crate,
-the edit, and the goal that refused it or why it was not refused. The last line is 'N refused, M not'.
+first. With --gate the gate `rt ci` is at work in FOLDER and writes LOG, and makes a file of LOG's name with the ending .status when it
+ends: a crate waits until LOG says that it is proved, is not tried where the gate does not prove it, and half of the processors are left
+to the gate. N crates are tried side by side, by default one a processor. While edits are written, --kept begins over what `rt check`
+kept in the crate's folder, and --only takes the edits of these names alone. A line for each edit names the crate, the edit, and the
+goal that refused it or why it was not refused. The last line is 'N refused, M not'.
 """
 import argparse
 import collections
@@ -46,8 +47,8 @@ NEEDS = re.compile(r"it (?:calls|passes the blocks?) (.*?), which (?:is|are) not
 # What the check says of an answer in a proof file that does not meet its goal, and of one that only misses a name.
 ANSWER = re.compile(r"(?:\./)?proofs/(\S+)/(?:Answers|Invariants|Proof)\.antt:\d+:\d+: error: `([^`]+)`: (.*)")
 MISSES_NAME = re.compile(r"has no field|is not in scope|has no `|was not admitted")
-# How long a library has been left alone, in seconds, before it is taken for whole.
-WRITTEN = 10
+# A line that declares a constant.
+CONSTANT = re.compile(r"(?:pub(?:\([\w:]+\))? )?const (\w+)")
 # A line on which a function begins, with its indentation.
 HEAD = re.compile(r"( *)(?:pub(?:\([\w:]+\))? |default |const |final |unsafe |extern \"C\" )*fn (\w+)")
 
@@ -283,10 +284,6 @@ class Crate:
     def is_text(self, path):
         return path.suffix in (".rt", ".antt") and path.relative_to(self.folder).parts[0] in ("src", "specs", "proofs")
 
-    def has_libraries(self):
-        """Whether the libraries below have been built, and are no longer written to."""
-        return all(it.is_dir() and max(map(changed, [it, *it.iterdir()])) + WRITTEN < time.time() for it in self.libraries)
-
     def check(self, edits, kept, functions=()):
         """Checks a copy of the crate with the edits, over what earlier checks kept: all of it, or these functions and what they call."""
         only = [word for it in functions for word in ("--only", it.partition("::")[2])]
@@ -304,24 +301,34 @@ class Crate:
         return Verdict(ran.stdout)
 
 
-def changed(path):
-    """When a file or folder was last written to, in seconds, or now where it is gone."""
-    try:
-        return path.stat().st_mtime
-    except FileNotFoundError:
-        return time.time()
+class Gate:
+    """A gate at work: what its log says of each crate that it has checked."""
+
+    def __init__(self, log):
+        self.log, self.status = log, log.with_suffix(".status")
+
+    def is_at_work(self):
+        return not self.status.exists()
+
+    def functions_of(self, crate):
+        """The functions of a crate that the gate has proved, or None where it has not proved the crate."""
+        said = re.search(rf"^== {crate.name}$(.*?)^rt: {crate.name} proved$", self.text(), re.M | re.S)
+        return [it[0] for it in re.findall(r"^fn (\S+): (proved)$", said[1], re.M)] if said else None
+
+    def text(self):
+        return self.log.read_text(errors="replace") if self.log.exists() else ""
 
 
-def tried_in_turn(crates, run, jobs, until):
+def tried_in_turn(crates, run, jobs, gate):
     """What a call gives for each crate, so many side by side, in their order; half as many as long as a gate is at work, and then only
-    crates whose libraries are built."""
+    crates that it has proved."""
     left, given = list(crates), {}
     with concurrent.futures.ThreadPoolExecutor(jobs) as pool:
         while left:
-            is_gate_at_work = until is not None and not until.exists()
-            ready = next((it for it in left if not is_gate_at_work or it.has_libraries()), None)
+            waits = gate is not None and gate.is_at_work()
+            ready = next((it for it in left if not waits or gate.functions_of(it)), None)
             running = sum(not it.done() for it in given.values())
-            if ready and running < (max(jobs // 2, 1) if is_gate_at_work else jobs):
+            if ready and running < (max(jobs // 2, 1) if waits else jobs):
                 left.remove(ready)
                 given[ready] = pool.submit(run, ready)
             else:
@@ -358,8 +365,8 @@ def why_not(edit, verdict):
 class Trial:
     """The trial of a crate's edits: prints a line for each, and counts them."""
 
-    def __init__(self, crate, printing, names, is_over_kept):
-        self.crate, self.printing, self.names, self.is_over_kept = crate, printing, names, is_over_kept
+    def __init__(self, crate, printing, names, is_over_kept, gate):
+        self.crate, self.printing, self.names, self.is_over_kept, self.gate = crate, printing, names, is_over_kept, gate
         self.refused = self.failed = 0
 
     def say(self, text, is_refused):
@@ -393,22 +400,38 @@ class Trial:
         with tempfile.TemporaryDirectory(prefix="wrong-bodies-kept-") as kept:
             if self.is_over_kept:
                 shutil.copytree(self.crate.folder / "out/incremental", kept, copy_function=os.link, dirs_exist_ok=True)
-            clean = self.crate.check([], kept)
-            self.functions = clean.functions
-            if not clean.is_proved:
+            self.functions = self.functions_without_edit(kept)
+            if not self.functions:
                 self.say("is not proved without an edit", False)
                 return self
             for edits in rounds_of(sound):
                 self.run_round(edits, kept)
         return self
 
+    def functions_without_edit(self, kept):
+        """The crate's functions, all proved without an edit: by the gate, or here. None where one is not."""
+        if self.gate:
+            return self.gate.functions_of(self.crate)
+        clean = self.crate.check([], kept)
+        return clean.functions if clean.is_proved else None
+
     def check(self, edits, kept):
-        """Checks the functions that the edits are in, and with an edit of anything else those of its module and the laws."""
+        """Checks the functions that the edits are in, and with an edit of anything else those that it is likely to be seen in."""
         functions = {it for edit in edits for place in edit.places for it in self.named_at(place)}
         for edit in edits:
             if not edit.is_of_bodies:
-                functions.update(it for file, _ in edit.lines for it in self.beside(file))
+                constants = {it[1] for line in edit.lines.values() if (it := CONSTANT.match(line))}
+                users = {it for name in constants for it in self.users_of(name)}
+                functions.update(users or {it for file, _ in edit.lines for it in self.beside(file)})
         return self.crate.check(edits, kept, sorted(functions))
+
+    def users_of(self, constant):
+        """The functions in whose bodies a constant is named."""
+        for file, text in self.crate.texts.items():
+            lines = text.split("\n")
+            named = [number for number, line in enumerate(lines) if re.search(rf"\b{constant}\b", line)]
+            for place in filter(None, (function_at(file, lines, it) for it in named)):
+                yield from self.named_at(place)
 
     def beside(self, file):
         """The laws, and of a source file the functions of its module and those below it."""
@@ -447,9 +470,9 @@ def uses_of_crates():
 
 
 def main():
-    asked = argparse.ArgumentParser(usage="wrong_bodies.py [--built FOLDER [--until FILE]] [--jobs N] [--kept] [--only NAME,..] [CRATE..]")
+    asked = argparse.ArgumentParser(usage="wrong_bodies.py [--built FOLDER [--gate LOG]] [--jobs N] [--kept] [--only NAME,..] [CRATE..]")
     asked.add_argument("--built", type=pathlib.Path)
-    asked.add_argument("--until", type=pathlib.Path)
+    asked.add_argument("--gate", type=lambda log: Gate(pathlib.Path(log)))
     asked.add_argument("--jobs", type=int, default=len(os.sched_getaffinity(0)))
     asked.add_argument("--kept", action="store_true")
     asked.add_argument("--only", default="")
@@ -465,7 +488,7 @@ def main():
     crates = sorted((Crate(it, uses, built, kit) for it in names), key=lambda it: -sum(map(len, it.texts.values())))
     printing = threading.Lock()
     only = set(filter(None, asked.only.split(",")))
-    trials = tried_in_turn(crates, lambda it: Trial(it, printing, only, asked.kept).run(), asked.jobs, asked.until)
+    trials = tried_in_turn(crates, lambda it: Trial(it, printing, only, asked.kept, asked.gate).run(), asked.jobs, asked.gate)
     refused, failed = sum(it.refused for it in trials), sum(it.failed for it in trials)
     print(f"{refused} refused, {failed} not")
     return 1 if failed or not refused else 0
