@@ -128,29 +128,56 @@ fn prune(bitmap: &mut MerkleizedBitMap<Digest, 1>, bit: u64) -> Result<(), Fail>
     }
 }
 
+/// A bitmap of ten bits.
+fn ten_bits(alloc: Global, hasher: &Standard<Sha256>) -> Result<MerkleizedBitMap<Digest, 1>, Fail> {
+    let none = PrunedState {
+        pruned_chunks: 0,
+        pinned: Vec::new(alloc),
+    };
+    let mut bitmap = restored(alloc, hasher, none)?.into_dirty();
+    push_all(&mut bitmap, b"0100000001")?;
+    merkleized(bitmap, hasher)
+}
+
+/// The bitmap with six bits more, of which two are changed then.
+fn sixteen_bits(
+    bitmap: MerkleizedBitMap<Digest, 1>,
+    hasher: &Standard<Sha256>,
+) -> Result<MerkleizedBitMap<Digest, 1>, Fail> {
+    let mut bitmap = bitmap.into_dirty();
+    push_all(&mut bitmap, b"011011")?;
+    set(&mut bitmap, 11, true)?;
+    set(&mut bitmap, 14, false)?;
+    merkleized(bitmap, hasher)
+}
+
+/// The bitmap with fifteen bits more, an old one changed and the first three chunks forgotten.
+fn thirty_one_bits(
+    bitmap: MerkleizedBitMap<Digest, 1>,
+    hasher: &Standard<Sha256>,
+) -> Result<MerkleizedBitMap<Digest, 1>, Fail> {
+    let mut bitmap = bitmap.into_dirty();
+    push_all(&mut bitmap, b"01011110")?;
+    push_all(&mut bitmap, b"0000011")?;
+    set(&mut bitmap, 12, false)?;
+    let mut bitmap = merkleized(bitmap, hasher)?;
+    prune(&mut bitmap, 29)?;
+    Ok(bitmap)
+}
+
+/// How many bits there are, how many of them are forgotten, and how many nodes the tree over the chunks has.
+fn counts(bitmap: &MerkleizedBitMap<Digest, 1>) -> (u64, u64, u64) {
+    (bitmap.len(), bitmap.pruned_bits(), bitmap.size().as_u64())
+}
+
 // what is expected is from an independent program over the whole list of bits
 #[test]
 fn bitmap_calls_made_again(rt: HostRuntime) -> Result<(), Fail> {
     let hasher = Standard::<Sha256>::new(Bagging::BackwardFold);
-    let none = PrunedState {
-        pruned_chunks: 0,
-        pinned: Vec::new(rt.alloc()),
-    };
-    let mut bitmap = restored(rt.alloc(), &hasher, none)?.into_dirty();
-    push_all(&mut bitmap, b"0100000001")?;
-    let mut bitmap = merkleized(bitmap, &hasher)?.into_dirty();
-    push_all(&mut bitmap, b"011011")?;
-    set(&mut bitmap, 11, true)?;
-    set(&mut bitmap, 14, false)?;
-    let mut bitmap = merkleized(bitmap, &hasher)?.into_dirty();
-    push_all(&mut bitmap, b"01011110")?;
-    push_all(&mut bitmap, b"0000011")?;
-    set(&mut bitmap, 12, false)?;
-    let mut bitmap = merkleized(bitmap, &hasher)?;
-    prune(&mut bitmap, 29)?;
-    assert_eq!(rt; bitmap.len(), 31);
-    assert_eq!(rt; bitmap.pruned_bits(), 24);
-    assert_eq!(rt; bitmap.size(), Position::new(4));
+    let bitmap = ten_bits(rt.alloc(), &hasher)?;
+    let bitmap = sixteen_bits(bitmap, &hasher)?;
+    let bitmap = thirty_one_bits(bitmap, &hasher)?;
+    assert_eq!(rt; counts(&bitmap), (31, 24, 4));
     assert_eq!(rt; bitmap.last_chunk(), (&[0x60], 7));
     assert_eq!(rt;
         bitmap.root(),

@@ -2,6 +2,7 @@
 
 use hex::{FromHex, FromHexError};
 use std::alloc::{AllocError, AllocFailed, Global};
+use std::fmt::Display;
 use storage_codec::NoMemory;
 use storage_codec::codec::FixedBytes;
 use thiserror::Error;
@@ -109,6 +110,65 @@ pub fn strings(alloc: Global, column: &str) -> Result<Vec<Vec<u8>>, Fault> {
     Ok(strings)
 }
 
+/// The text of a value.
+pub fn spelled<A: Display>(alloc: Global, first: &A) -> Result<String, Fault> {
+    Ok(format!(in alloc; "{first}")?)
+}
+
+/// The texts of two values with a blank between them.
+pub fn spaced_two<A: Display, B: Display>(
+    alloc: Global,
+    first: &A,
+    second: &B,
+) -> Result<String, Fault> {
+    Ok(format!(in alloc; "{first} {second}")?)
+}
+
+/// The texts of three values with blanks between them.
+pub fn spaced_three<A: Display, B: Display, C: Display>(
+    alloc: Global,
+    first: &A,
+    second: &B,
+    third: &C,
+) -> Result<String, Fault> {
+    Ok(format!(in alloc; "{first} {second} {third}")?)
+}
+
+/// The texts of four values with blanks between them.
+pub fn spaced_four<A: Display, B: Display, C: Display, D: Display>(
+    alloc: Global,
+    first: &A,
+    second: &B,
+    third: &C,
+    fourth: &D,
+) -> Result<String, Fault> {
+    Ok(format!(in alloc; "{first} {second} {third} {fourth}")?)
+}
+
+/// The texts of five values with blanks between them.
+pub fn spaced_five<A: Display, B: Display, C: Display, D: Display, E: Display>(
+    alloc: Global,
+    first: &A,
+    second: &B,
+    third: &C,
+    fourth: &D,
+    fifth: &E,
+) -> Result<String, Fault> {
+    Ok(format!(in alloc; "{first} {second} {third} {fourth} {fifth}")?)
+}
+
+/// The texts of numbers with another text between them.
+pub fn numbers_between(alloc: Global, separator: &str, numbers: &[u64]) -> Result<String, Fault> {
+    let mut text = String::new(alloc);
+    for number in numbers {
+        if !text.is_empty() {
+            text.push_str(separator)?;
+        }
+        write!(text, "{number}")?;
+    }
+    Ok(text)
+}
+
 /// Texts with blanks between them.
 pub fn spaced(alloc: Global, texts: &[&str]) -> Result<String, Fault> {
     Ok(texts.join(alloc, " ")?)
@@ -183,6 +243,12 @@ impl Series {
         self.separate()?;
         write!(self.text, "{place}:{digest}")?;
         Ok(())
+    }
+
+    /// Adds a place and the text there at the end.
+    pub fn push_at(&mut self, place: u64, text: &str) -> Result<(), AllocError> {
+        self.separate()?;
+        write!(self.text, "{place}:{text}")
     }
 
     fn separate(&mut self) -> Result<(), AllocError> {

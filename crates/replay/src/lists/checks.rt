@@ -4,7 +4,7 @@ ghost use Rattle.std.specs.Prelude.{◌≡◌, ◌++◌, [], refl};
 ghost use Rattle.storage_merkle.specs.Calc.{be8};
 ghost use Rattle.storage_merkle.specs.Trees.{ungrafted};
 
-use crate::columns::{Fault, bytes, digest, number, verdict};
+use crate::columns::{Fault, bytes, digest, number, spaced_three, verdict};
 use crate::lists::proofs::{bagging, proof_of};
 use crate::lists::unframed::operations;
 use commonware_storage::qmdb::verify::verify_proof;
@@ -96,7 +96,7 @@ pub fn element_checks<F: Family>(alloc: Global, columns: &[&str]) -> Result<Stri
     let accepted = verdict(alloc, yes)?;
     let nodes = hasher.nodes.get();
     let folds = hasher.folds.get();
-    Ok(format!(in alloc; "{accepted} {nodes} {folds}")?)
+    spaced_three(alloc, &accepted, &nodes, &folds)
 }
 
 /// `leaves inactive digests start operations root label`: whether the proof of operations is accepted. The label says how the case was

@@ -3,7 +3,7 @@
 ghost use Rattle.std.specs.Prelude.{◌≡◌, ◌*◌, IfOk};
 ghost use Rattle.storage_bitmap.specs.Chunks.{IsChunkSize};
 
-use crate::columns::{Fault, Series, number};
+use crate::columns::{Fault, Series, number, spaced_five};
 use crate::lists::snapshots::bits_of;
 use commonware_storage::bitmap::{Prunable, Readable};
 use std::alloc::Global;
@@ -49,7 +49,7 @@ fn over<const N: usize>(
         Some(chunk) => hex::encode(alloc, *chunk)?,
         None => String::from_str(alloc, "-")?,
     };
-    Ok(format!(in alloc; "{length} {pruned} {kept} {chunks} {last}")?)
+    spaced_five(alloc, &length, &pruned, &kept, &chunks, &last)
 }
 
 /// The place of the first bit that is left.

@@ -1,6 +1,6 @@
 //! Lists on codecs and digests.
 
-use crate::columns::{Fault, bytes, strings};
+use crate::columns::{Fault, bytes, spaced_three, spelled, strings};
 use crate::lists::refusals::codec_refusal;
 use std::alloc::Global;
 use storage_codec::codec::{Read, UInt};
@@ -15,7 +15,7 @@ pub fn varints(alloc: Global, columns: &[&str]) -> Result<String, Fault> {
     let input = bytes(alloc, *text)?;
     let (varint, left) = front_varint(alloc, input.as_slice())?;
     let location = front_location(alloc, input.as_slice())?;
-    Ok(format!(in alloc; "{varint} {left} {location}")?)
+    spaced_three(alloc, &varint, &left, &location)
 }
 
 /// The varint in front, and how many bytes are left.
@@ -23,7 +23,7 @@ fn front_varint(alloc: Global, mut input: &[u8]) -> Result<(String, String), Fau
     match UInt::read_cfg(alloc, &mut input, &()) {
         Ok(UInt(value)) => {
             let left = input.len();
-            Ok((format!(in alloc; "{value}")?, format!(in alloc; "{left}")?))
+            Ok((spelled(alloc, &value)?, spelled(alloc, &left)?))
         }
         Err(error) => Ok((codec_refusal(alloc, error)?, String::from_str(alloc, "-")?)),
     }
@@ -32,7 +32,7 @@ fn front_varint(alloc: Global, mut input: &[u8]) -> Result<(String, String), Fau
 /// The location in front.
 fn front_location(alloc: Global, mut input: &[u8]) -> Result<String, Fault> {
     match Location::<mmr::Family>::read_cfg(alloc, &mut input, &()) {
-        Ok(location) => Ok(format!(in alloc; "{location}")?),
+        Ok(location) => spelled(alloc, &location),
         Err(error) => codec_refusal(alloc, error),
     }
 }

@@ -5,7 +5,7 @@ ghost use Rattle.storage_bitmap.specs.Chunks.{IsChunkSize};
 
 pub mod whole;
 
-use crate::columns::{Fault, number, strings};
+use crate::columns::{Fault, number, spaced_three, strings};
 use crate::lists::faulty::{ALWAYS, Faulty, NONE};
 use crate::lists::refusals::{database_refusal, merkle_fault};
 use crate::lists::served;
@@ -68,7 +68,7 @@ pub fn combined_asked(alloc: Global, columns: &[&str]) -> Result<String, Fault> 
     };
     let asked = asked_of(alloc, columns, number(*left)?)?;
     let (answer, calls, failures) = (asked.answer, asked.calls, asked.failures);
-    Ok(format!(in alloc; "{answer} {calls} {failures}")?)
+    spaced_three(alloc, &answer, &calls, &failures)
 }
 
 fn asked_of(alloc: Global, columns: &[&str], left: u64) -> Result<Asked, Fault> {

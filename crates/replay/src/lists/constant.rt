@@ -2,7 +2,7 @@
 
 ghost use Rattle.storage_bitmap.specs.Chunks.{IsChunkSize};
 
-use crate::columns::{Fault, bytes, digest, number, strings};
+use crate::columns::{Fault, bytes, digest, number, spaced_two, strings};
 use crate::lists::refusals::{codec_refusal, database_fault};
 use crate::lists::snapshots::bits_of;
 use commonware_storage::codec::{Decode, Encode, FixedBytes};
@@ -47,18 +47,40 @@ fn tree_roots<F: Graftable, const N: usize>(
     let [floor, bits, operations] = columns else {
         return Err(Fault::Malformed);
     };
-    let mut tree = OperationTree::<F, Sha256>::new(alloc);
-    for operation in &strings(alloc, *operations)? {
+    let operations = strings(alloc, *operations)?;
+    let snapshot = snapshot_of_tree::<F, N>(alloc, &operations, *bits, number(*floor)?)?;
+    Ok(hex::encode(alloc, snapshot.root().bytes)?)
+}
+
+/// The snapshot of the tree over operations.
+fn snapshot_of_tree<F: Graftable, const N: usize>(
+    alloc: Global,
+    operations: &[Vec<u8>],
+    bits: &str,
+    floor: u64,
+) -> Result<Snapshot<F, Sha256, N>, Fault>
+    requires { IsChunkSize N }
+{
+    let tree = tree_over::<F>(alloc, operations)?;
+    let bits = bits_of::<N>(alloc, bits)?;
+    match Snapshot::of_tree(alloc, tree, bits, Location::new(floor)) {
+        Ok(snapshot) => Ok(snapshot),
+        Err(error) => Err(database_fault(&error)),
+    }
+}
+
+/// The tree over operations.
+fn tree_over<F: Graftable>(
+    alloc: Global,
+    operations: &[Vec<u8>],
+) -> Result<OperationTree<F, Sha256>, Fault> {
+    let mut tree = OperationTree::new(alloc);
+    for operation in operations {
         if let Err(error) = tree.add(operation) {
             return Err(database_fault(&error));
         }
     }
-    let bits = bits_of::<N>(alloc, *bits)?;
-    let floor = Location::new(number(*floor)?);
-    match Snapshot::of_tree(alloc, tree, bits, floor) {
-        Ok(snapshot) => Ok(hex::encode(alloc, snapshot.root().bytes)?),
-        Err(error) => Err(database_fault(&error)),
-    }
+    Ok(tree)
 }
 
 /// `most operation proof root`: whether the bytes are a proof with at most so many digests that shows the operation, and whether the proof
@@ -83,5 +105,5 @@ fn constant_checks<F: Graftable, const N: usize>(
     };
     let yes = proof.verify_encoded::<Sha256>(alloc, &operation, &root)?;
     let same = proof.encode(alloc)?.as_slice() == given.as_slice();
-    Ok(format!(in alloc; "{yes} {same}")?)
+    spaced_two(alloc, &yes, &same)
 }

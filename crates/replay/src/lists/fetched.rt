@@ -3,7 +3,7 @@
 
 ghost use Rattle.std.specs.Prelude.{◌≤◌};
 
-use crate::columns::{Fault, Series, number, strings};
+use crate::columns::{Fault, Series, number, spaced_three, spaced_two, strings};
 use crate::lists::combined::status_of;
 use crate::lists::faulty::{Faulty, LOG_FAULT, Log, NONE, STORE_FAULT};
 use crate::lists::refusals::{database_fault, database_refusal};
@@ -83,7 +83,7 @@ pub fn fetched_ranges(alloc: Global, columns: &[&str]) -> Result<String, Fault> 
     let (own, _) = answered(alloc, call, u64::MAX, u64::MAX)?;
     let told = told(alloc, &own)?;
     let marks = marks(alloc, call, &own)?;
-    Ok(format!(in alloc; "{told} {marks}")?)
+    spaced_two(alloc, &told, &marks)
 }
 
 /// What is answered, and how often the store and the log failed, where the store has so many answers and the log so many.
@@ -123,7 +123,7 @@ fn told(alloc: Global, answer: &Answer) -> Result<String, Fault> {
         Ok((proof, items, chunks)) => {
             let proof = hex::encode(alloc, proof.encode(alloc)?)?;
             let parts = parts(alloc, items, chunks)?;
-            Ok(format!(in alloc; "{proof} {parts}")?)
+            spaced_two(alloc, &proof, &parts)
         }
         Err(error) => database_refusal(alloc, error),
     }
@@ -141,7 +141,7 @@ pub fn parts(alloc: Global, items: &[u64], chunks: &[[u8; 1]]) -> Result<String,
     }
     let locations = locations.finish()?;
     let touched = touched.finish()?;
-    Ok(format!(in alloc; "{locations} {touched}")?)
+    spaced_two(alloc, &locations, &touched)
 }
 
 /// What is told, for each number of answers of the store, and in it of the log.
@@ -185,7 +185,7 @@ pub fn fetched_operations(alloc: Global, columns: &[&str]) -> Result<String, Fau
     }
     let digests = own.range_proof.proof.digests.len();
     let size = own.encode(alloc)?.len();
-    Ok(format!(in alloc; "{digests} {size} {marks}")?)
+    spaced_three(alloc, &digests, &size, &marks)
 }
 
 fn mark_of_operation(

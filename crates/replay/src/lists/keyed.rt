@@ -1,7 +1,7 @@
 //! The list on proofs about keys that are built, written and checked. Keys have four bytes, values are numbers, chunks have one
 //! byte, and the family is the MMR.
 
-use crate::columns::{Fault, array, number, strings};
+use crate::columns::{Fault, array, number, spaced_two, strings};
 use crate::lists::keys::decoded;
 use crate::lists::served::{operation_proof, snapshot};
 use commonware_storage::codec::{FixedBytes, Write};
@@ -131,5 +131,5 @@ fn sized(alloc: Global, same: bool, yes: bool, size: usize) -> Result<String, Fa
         return Err(Fault::Differs);
     }
     let yes = if yes { "yes" } else { "no" };
-    Ok(format!(in alloc; "{yes} {size}")?)
+    spaced_two(alloc, &yes, &size)
 }

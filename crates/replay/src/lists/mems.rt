@@ -1,6 +1,8 @@
 //! Lists on trees in memory.
 
-use crate::columns::{Fault, Series, bytes, digest, digests, inner_digests, number};
+use crate::columns::{
+    Fault, Series, bytes, coloned, digest, digests, inner_digests, number, spaced_five, spelled,
+};
 use crate::lists::proofs::bagging;
 use crate::lists::refusals::merkle_refusal;
 use std::alloc::Global;
@@ -23,7 +25,7 @@ pub fn mem_init<F: Family>(alloc: Global, columns: &[&str]) -> Result<String, Fa
         Ok(tree) => tree,
         Err(error) => return merkle_refusal(alloc, &error),
     };
-    let nodes = tree.size();
+    let nodes = spelled(alloc, &tree.size())?;
     let root = match tree.root(&hasher, 0) {
         Ok(root) => hex::encode(alloc, root.bytes)?,
         Err(error) => return merkle_refusal(alloc, &error),
@@ -32,7 +34,7 @@ pub fn mem_init<F: Family>(alloc: Global, columns: &[&str]) -> Result<String, Fa
         Ok(()) => String::from_str(alloc, "ok")?,
         Err(error) => merkle_refusal(alloc, &error)?,
     };
-    Ok(format!(in alloc; "{nodes}:{root}:{added}")?)
+    coloned(alloc, &[nodes.as_str(), root.as_str(), added.as_str()])
 }
 
 /// `bagging calls`: the places of the refused calls on a tree in memory and their refusals, and what stands after the last call:
@@ -47,8 +49,7 @@ pub fn mems<F: Family>(alloc: Global, columns: &[&str]) -> Result<String, Fault>
     let mut refusals = Series::new(alloc);
     for (place, call) in calls.split(',').enumerate() {
         if let Some(refusal) = called(alloc, &hasher, &mut tree, call)? {
-            let refusal = format!(in alloc; "{place}:{refusal}")?;
-            refusals.push_text(refusal.as_str())?;
+            refusals.push_at(place as u64, refusal.as_str())?;
         }
     }
     let refusals = refusals.finish()?;
@@ -60,7 +61,7 @@ pub fn mems<F: Family>(alloc: Global, columns: &[&str]) -> Result<String, Fault>
         nodes.push_digest(alloc, place, tree.get_node(Position::new(place)))?;
     }
     let nodes = nodes.finish()?;
-    Ok(format!(in alloc; "{refusals} {leaves} {size} {roots} {nodes}")?)
+    spaced_five(alloc, &refusals, &leaves, &size, &roots, &nodes)
 }
 
 /// Makes a call: `a:ELEMENT` adds a leaf, `u:LOCATION=DIGEST/..` changes leaves, `x:LOCATION` forgets those before it, and
@@ -137,8 +138,7 @@ fn roots<F: Family>(
             Ok(root) => roots.push_digest(alloc, inactive as u64, Some(root))?,
             Err(error) => {
                 let refusal = merkle_refusal(alloc, &error)?;
-                let refusal = format!(in alloc; "{inactive}:{refusal}")?;
-                roots.push_text(refusal.as_str())?;
+                roots.push_at(inactive as u64, refusal.as_str())?;
                 break;
             }
         }

@@ -1,6 +1,6 @@
 //! Lists on the encodings of operations.
 
-use crate::columns::{Fault, bytes, number, unblanked};
+use crate::columns::{Fault, bytes, number, spaced_three, spelled, unblanked};
 use crate::lists::refusals::codec_refusal;
 use crate::lists::spelling::{Show, Spell};
 use std::alloc::Global;
@@ -97,7 +97,7 @@ fn sized<O: Codec + EncodeSize + FixedSize + Read<Cfg = ()> + Spell + Show>(
     job: Job<'_>,
 ) -> Result<String, Fault> {
     let size = O::fixed_size();
-    let size = format!(in alloc; "{size}")?;
+    let size = spelled(alloc, &size)?;
     done::<O>(alloc, &(), job, size.as_str())
 }
 
@@ -135,7 +135,7 @@ fn done<O: Codec + EncodeSize + Spell + Show>(
             }
             let bytes = hex::encode(alloc, bytes.as_slice())?;
             let text = unblanked(alloc, operation.show(alloc)?.as_str())?;
-            Ok(format!(in alloc; "{bytes} {size} {text}")?)
+            spaced_three(alloc, &bytes, &size, &text)
         }
     }
 }
@@ -146,7 +146,7 @@ fn read<O: Read + Spell>(alloc: Global, input: &[u8], cfg: &O::Cfg) -> Result<St
         Ok(operation) => operation.spell(alloc)?,
         Err(error) => codec_refusal(alloc, error)?,
     };
-    Ok(format!(in alloc; "{front} {left} {whole}")?)
+    spaced_three(alloc, &front, &left, &whole)
 }
 
 /// The operation in front, and how many bytes are left.
@@ -159,7 +159,7 @@ fn front<O: Read + Spell>(
         Ok(operation) => {
             let operation = operation.spell(alloc)?;
             let left = input.len();
-            Ok((operation, format!(in alloc; "{left}")?))
+            Ok((operation, spelled(alloc, &left)?))
         }
         Err(error) => {
             let refusal = codec_refusal(alloc, error)?;

@@ -1,6 +1,6 @@
 //! Lists on what trees in memory give: their own proofs, their nodes, and proofs from nodes.
 
-use crate::columns::{Fault, number, strings};
+use crate::columns::{Fault, number, spaced_two, strings};
 use crate::lists::proofs::bagging;
 use crate::lists::refusals::{merkle_fault, merkle_refusal};
 use crate::lists::stores::{peaks, series};
@@ -115,7 +115,7 @@ pub fn parts<F: Family>(alloc: Global, columns: &[&str]) -> Result<String, Fault
             }
         }
     }
-    Ok(format!(in alloc; "{ranges} {own}")?)
+    spaced_two(alloc, &ranges, &own)
 }
 
 /// The digests at positions.

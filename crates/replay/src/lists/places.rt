@@ -1,6 +1,8 @@
 //! Lists on single places of trees, and on what is written of them.
 
-use crate::columns::{Fault, bytes, digest, number, unblanked};
+use crate::columns::{
+    Fault, bytes, digest, number, spaced_five, spaced_four, spaced_two, unblanked,
+};
 use crate::lists::refusals::codec_refusal;
 use std::alloc::Global;
 use storage_codec::codec::{Encode, EncodeSize, FixedBytes};
@@ -36,7 +38,7 @@ fn around<F: Graftable>(alloc: Global, columns: &[&str]) -> Result<String, Fault
     let (left, right) = F::children(position, height);
     let first = F::leftmost_leaf(position, height);
     let birth = F::peak_birth_size(position, height);
-    Ok(format!(in alloc; "{height} {left} {right} {first} {birth}")?)
+    spaced_five(alloc, &height, &left, &right, &first, &birth)
 }
 
 /// `leaves floor height`: how many leading peaks end at or before the floor, and how many up to the last that ends on a multiple of
@@ -53,7 +55,7 @@ fn inactive<F: Graftable>(alloc: Global, columns: &[&str]) -> Result<String, Fau
     }
     let exact = exact_inactive::<F>(leaves, floor);
     let aligned = aligned_inactive::<F>(leaves, floor, height as u32);
-    Ok(format!(in alloc; "{exact} {aligned}")?)
+    spaced_two(alloc, &exact, &aligned)
 }
 
 /// `number`: the text of this location, that of this position in four columns, the bytes of the location, and their number.
@@ -68,7 +70,7 @@ fn places<F: Graftable>(alloc: Global, columns: &[&str]) -> Result<String, Fault
     let position = unblanked(alloc, position.as_str())?;
     let written = hex::encode(alloc, location.encode(alloc)?)?;
     let size = location.encode_size().ok_or(Fault::Malformed)?;
-    Ok(format!(in alloc; "{location} {position} {written} {size}")?)
+    spaced_four(alloc, &location, &position, &written, &size)
 }
 
 /// `digest`: what the slot of a pending chunk is written as that has this digest, or none for `-`, and how many bytes these are.
@@ -85,7 +87,7 @@ fn slots<F: Graftable>(alloc: Global, columns: &[&str]) -> Result<String, Fault>
         return Ok(format!(in alloc; "- {size}")?);
     }
     let written = hex::encode(alloc, &written)?;
-    Ok(format!(in alloc; "{written} {size}")?)
+    spaced_two(alloc, &written, &size)
 }
 
 /// `bytes`: the digest in the slot in front, or `-` for none, and how many bytes are left; or the refusal.
@@ -104,5 +106,5 @@ fn slots_read<F: Graftable>(alloc: Global, columns: &[&str]) -> Result<String, F
         return Ok(format!(in alloc; "- {left}")?);
     };
     let digest = hex::encode(alloc, digest.bytes)?;
-    Ok(format!(in alloc; "{digest} {left}")?)
+    spaced_two(alloc, &digest, &left)
 }

@@ -4,7 +4,7 @@
 ghost use Rattle.std.specs.Prelude.{◌+◌, ◌^◌, ◌≤◌};
 ghost use Rattle.storage_bitmap.specs.Chunks.{IsChunkSize};
 
-use crate::columns::{Fault, Series, verdict};
+use crate::columns::{Fault, Series, spaced_four, spaced_two, spelled, verdict};
 use crate::lists::refusals::merkle_refusal;
 use commonware_storage::qmdb::current::proof::RangeProof;
 use reference::check::{is_accepted, recomputed_root};
@@ -43,7 +43,7 @@ pub fn families<F: Digits>(alloc: Global, leaves: u64) -> Result<String, Fault>
     }
     let heights = heights.finish()?;
     let positions = positions.finish()?;
-    Ok(format!(in alloc; "{nodes} {heights} {positions} {positions}")?)
+    spaced_four(alloc, &nodes, &heights, &positions, &positions)
 }
 
 /// Of how many leaves this is the number of nodes, where that is `leaves` or, as `-` says, none, as it lies between the
@@ -52,7 +52,7 @@ pub fn sizes<F: Digits>(alloc: Global, nodes: u64, leaves: u64) -> Result<String
     requires { leaves ≤ 2 ^ 62 }
 {
     if node_count::<F>(alloc, leaves)? == nodes {
-        return Ok(format!(in alloc; "{leaves}")?);
+        return spelled(alloc, &leaves);
     }
     let between = node_count::<F>(alloc, leaves)? < nodes
         && nodes < node_count::<F>(alloc, leaves + 1)?;
@@ -74,7 +74,7 @@ pub fn nodes<F: Digits>(alloc: Global, first: u64, height: u32) -> Result<String
         first + reference::shape::power(height - 1),
         height - 1,
     )?;
-    Ok(format!(in alloc; "{position} {birth} {left} {right}")?)
+    spaced_four(alloc, &position, &birth, &left, &right)
 }
 
 /// How many chunks are graftable.
@@ -82,7 +82,7 @@ pub fn graftable_chunks<F: Digits>(alloc: Global, leaves: u64, height: u32) -> R
     requires { height ≤ 62 }
 {
     let chunks = graftable::<F>(leaves, height);
-    Ok(format!(in alloc; "{chunks}")?)
+    spelled(alloc, &chunks)
 }
 
 /// Whether the check of a plain range proof accepts it, and the root that it recomputes, or its refusal where a count does not
@@ -106,7 +106,7 @@ pub fn plain_check<F: Digits>(
         Some(root) => hex::encode(alloc, root.bytes)?,
         None => merkle_refusal(alloc, &Error::<F>::InvalidProof)?,
     };
-    Ok(format!(in alloc; "{accepted} {answer}")?)
+    spaced_two(alloc, &accepted, &answer)
 }
 
 /// What the definitions say of a snapshot and a range of its operations.

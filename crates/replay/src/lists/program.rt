@@ -1,6 +1,8 @@
 //! Lists on the program and on checks from bytes.
 
-use crate::columns::{Fault, bytes, digest, number, owned, spaced, unblanked, verdict};
+use crate::columns::{
+    Fault, bytes, digest, number, owned, spaced, spaced_three, unblanked, verdict,
+};
 use commonware_storage::digest::Sha256;
 use commonware_storage::light::check_operation;
 use commonware_storage::merkle::{Graftable, Location, mmb, mmr};
@@ -78,7 +80,7 @@ fn told(alloc: Global, outcome: &Outcome) -> Result<String, Fault> {
     let output = column(alloc, outcome.output.as_str())?;
     let errors = column(alloc, outcome.errors.as_str())?;
     let status = outcome.status;
-    Ok(format!(in alloc; "{status} {output} {errors}")?)
+    spaced_three(alloc, &status, &output, &errors)
 }
 
 /// The lines of a text as a column; `-` is none.

@@ -1,6 +1,6 @@
 //! Lists on plans and plain range proofs.
 
-use crate::columns::{Fault, Series, digest, digests, number, strings, verdict};
+use crate::columns::{Fault, Series, digest, digests, number, spaced_two, strings, verdict};
 use crate::lists::plain;
 use crate::lists::refusals::merkle_refusal;
 use reference::shape::Digits;
@@ -126,11 +126,11 @@ fn plain_check<F: Family>(
     match proof.reconstruct_root(alloc, &hasher, items, start) {
         Ok(root) => {
             let root = hex::encode(alloc, root.bytes())?;
-            Ok(format!(in alloc; "{accepted} {root}")?)
+            spaced_two(alloc, &accepted, &root)
         }
         Err(error) => {
             let refusal = merkle_refusal(alloc, &error)?;
-            Ok(format!(in alloc; "{accepted} {refusal}")?)
+            spaced_two(alloc, &accepted, &refusal)
         }
     }
 }

@@ -3,7 +3,9 @@
 ghost use Rattle.std.specs.Prelude.{◌^◌, ◌<◌};
 ghost use Rattle.storage_bitmap.specs.Chunks.{IsChunkSize};
 
-use crate::columns::{Fault, bytes, digest, number, strings, verdict};
+use crate::columns::{
+    Fault, bytes, digest, number, owned, spaced_four, spaced_three, spaced_two, strings, verdict,
+};
 use crate::lists::plain::{self, Own};
 use crate::lists::served;
 use crate::lists::unframed::{self, Unframed};
@@ -176,21 +178,44 @@ impl<F: Graftable, const N: usize> Served<F, N> {
     fn golden(&self, alloc: Global, start: u64, count: u64) -> Result<String, Fault>
         requires { IsChunkSize N }
     {
+        let roots = self.roots_told(alloc)?;
+        let witness = self.witness_told(alloc)?;
+        let range = self.range_told(alloc, start, count)?;
+        let operation = self.operation_told(alloc, start, count)?;
+        spaced_four(alloc, &roots, &witness, &range, &operation)
+    }
+
+    /// The canonical root and that of the operations.
+    fn roots_told(&self, alloc: Global) -> Result<String, Fault> {
         let root = hex::encode(alloc, self.snapshot.root().bytes)?;
         let ops_root = hex::encode(alloc, self.snapshot.ops_root().bytes)?;
+        spaced_two(alloc, &root, &ops_root)
+    }
+
+    /// The grafted root and the bytes of the witness.
+    fn witness_told(&self, alloc: Global) -> Result<String, Fault> {
         let witness = self.snapshot.witness();
         let grafted_root = hex::encode(alloc, witness.grafted_root.bytes)?;
         let witness = hex::encode(alloc, witness.encode(alloc)?)?;
-        let roots = format!(in alloc; "{root} {ops_root} {grafted_root} {witness}")?;
+        spaced_two(alloc, &grafted_root, &witness)
+    }
+
+    /// The bytes of the proof of a range; `-` where it has no location.
+    fn range_told(&self, alloc: Global, start: u64, count: u64) -> Result<String, Fault> {
         if count == 0 {
-            return Ok(format!(in alloc; "{roots} - -")?);
+            return owned(alloc, "-");
         }
-        let range = hex::encode(alloc, self.range(alloc, start, count)?.encode(alloc)?)?;
-        if count > 1 {
-            return Ok(format!(in alloc; "{roots} {range} -")?);
+        Ok(hex::encode(alloc, self.range(alloc, start, count)?.encode(alloc)?)?)
+    }
+
+    /// The bytes of the proof of an operation where the range has this one location, else `-`.
+    fn operation_told(&self, alloc: Global, start: u64, count: u64) -> Result<String, Fault>
+        requires { IsChunkSize N }
+    {
+        if count != 1 {
+            return owned(alloc, "-");
         }
-        let operation = hex::encode(alloc, self.operation(alloc, start)?.encode(alloc)?)?;
-        Ok(format!(in alloc; "{roots} {range} {operation}")?)
+        Ok(hex::encode(alloc, self.operation(alloc, start)?.encode(alloc)?)?)
     }
 
     fn ranges(
@@ -209,7 +234,7 @@ impl<F: Graftable, const N: usize> Served<F, N> {
         let yes = verdict(alloc, yes)?;
         let proof = hex::encode(alloc, proof.encode(alloc)?)?;
         let root = hex::encode(alloc, root.bytes)?;
-        Ok(format!(in alloc; "{proof} {root} {yes}")?)
+        spaced_three(alloc, &proof, &root, &yes)
     }
 
     fn range(

@@ -1,6 +1,6 @@
 //! How keys, values and operations are spelled in the lists.
 
-use crate::columns::{Fault, array, bytes, coloned, number, owned, spaced};
+use crate::columns::{Fault, array, bytes, coloned, number, owned, spaced, spelled};
 use std::alloc::Global;
 use storage_codec::codec::{FixedBytes, U64};
 use storage_merkle::merkle::{Location, mmr};
@@ -216,7 +216,7 @@ fn spell_key<K: Spell>(alloc: Global, key: Option<&K>) -> Result<String, Fault> 
 /// A floor; `-` is none.
 fn spell_floor(alloc: Global, floor: Option<Location<mmr::Family>>) -> Result<String, Fault> {
     match floor {
-        Some(floor) => Ok(format!(in alloc; "{floor}")?),
+        Some(floor) => spelled(alloc, &floor),
         None => owned(alloc, "-"),
     }
 }

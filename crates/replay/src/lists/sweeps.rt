@@ -1,6 +1,6 @@
 //! Lists on every location and every range of a snapshot. Chunks have one byte.
 
-use crate::columns::{Fault, number, strings};
+use crate::columns::{Fault, number, spelled, strings};
 use crate::lists::keys::decoded;
 use crate::lists::refusals::{database_fault, merkle_fault};
 use crate::lists::served::{operation_proof, range_proof, snapshot};
@@ -114,7 +114,7 @@ pub fn each_range<F: Graftable>(alloc: Global, columns: &[&str]) -> Result<Strin
             }
         }
     }
-    Ok(format!(in alloc; "{shown}")?)
+    spelled(alloc, &shown)
 }
 
 fn is_range_shown<F: Graftable>(

@@ -4,7 +4,7 @@ ghost use Rattle.std.specs.Prelude.{◌≡◌, ℕ, ◌+◌, ◌*◌, ◌%◌, �
 ghost use Rattle.storage_merkle.specs.Nodes.{IsNode, CoversSame};
 ghost use Rattle.storage_merkle.specs.Shape.{size};
 
-use crate::columns::{Fault, Series, number};
+use crate::columns::{Fault, Series, number, spaced_four, spaced_two, spelled};
 use crate::lists::combined::whole;
 use crate::lists::{
     checks, extracted, mems, multi, operation_checks, own, pinned, places, plain, proofs, required,
@@ -115,7 +115,7 @@ fn families<F: Graftable + Digits>(alloc: Global, columns: &[&str]) -> Result<St
     let heights = heights.finish()?;
     let positions = positions.finish()?;
     let pins = pins.finish()?;
-    let fast = format!(in alloc; "{nodes} {heights} {positions} {pins}")?;
+    let fast = spaced_four(alloc, &nodes, &heights, &positions, &pins)?;
     plain::agreed(fast, plain::families::<F>(alloc, leaves)?.as_str())
 }
 
@@ -130,7 +130,7 @@ fn sizes<F: Graftable + Digits>(alloc: Global, columns: &[&str]) -> Result<Strin
     }
     let leaves = leaves_within::<F>(nodes);
     let fast = if F::nodes_over(leaves) == nodes {
-        format!(in alloc; "{leaves}")?
+        spelled(alloc, &leaves)?
     } else {
         String::from_str(alloc, "-")?
     };
@@ -173,7 +173,7 @@ fn node<F: Graftable>(alloc: Global, first: u64, height: u32) -> Result<String, 
     let position = position.as_u64();
     let left = left.as_u64();
     let right = right.as_u64();
-    Ok(format!(in alloc; "{position} {birth} {left} {right}")?)
+    spaced_four(alloc, &position, &birth, &left, &right)
 }
 
 /// `leaves height`: how many chunks are graftable.
@@ -187,7 +187,7 @@ fn graftable<F: Graftable + Digits>(alloc: Global, columns: &[&str]) -> Result<S
         return Err(Fault::Malformed);
     }
     let chunks = graftable_chunks::<F>(leaves, height as u32);
-    let fast = format!(in alloc; "{chunks}")?;
+    let fast = spelled(alloc, &chunks)?;
     let plain = plain::graftable_chunks::<F>(alloc, leaves, height as u32)?;
     plain::agreed(fast, plain.as_str())
 }
@@ -224,5 +224,5 @@ fn map<F: Graftable>(alloc: Global, position: u64, height: u32) -> Result<String
     }
     let above = grafted_to_ops_pos::<F>(position, height);
     let below = ops_to_grafted_pos::<F>(above, height);
-    Ok(format!(in alloc; "{above} {below}")?)
+    spaced_two(alloc, &above, &below)
 }

@@ -1,6 +1,6 @@
 //! Lists on values as bytes.
 
-use crate::columns::{Fault, array, number};
+use crate::columns::{Fault, array, number, spaced_three, spaced_two};
 use crate::lists::spelling::Spell;
 use bytes::Bytes;
 use std::alloc::Global;
@@ -50,7 +50,7 @@ fn through<T: Codec + EncodeSize + PartialEq + Drop>(
     let from_slice = is_read(alloc, bytes.as_slice(), cfg, value)?;
     let from_shared = is_read(alloc, shared, cfg, value)?;
     let bytes = hex::encode(alloc, bytes.as_slice())?;
-    Ok(format!(in alloc; "{bytes} {from_slice} {from_shared}")?)
+    spaced_three(alloc, &bytes, &from_slice, &from_shared)
 }
 
 /// Whether the bytes are this value.
@@ -77,7 +77,7 @@ pub fn cuts(alloc: Global, columns: &[&str]) -> Result<String, Fault> {
     let shared = Bytes::copy_from_slice(alloc, &text)?;
     let from_slice = cut(alloc, text.as_slice(), count)?;
     let from_shared = cut(alloc, shared, count)?;
-    Ok(format!(in alloc; "{from_slice} {from_shared}")?)
+    spaced_two(alloc, &from_slice, &from_shared)
 }
 
 fn cut<B: Buf>(alloc: Global, mut buf: B, count: usize) -> Result<String, Fault> {
@@ -85,7 +85,7 @@ fn cut<B: Buf>(alloc: Global, mut buf: B, count: usize) -> Result<String, Fault>
         Ok(front) => {
             let front = hex::encode(alloc, &front)?;
             let left = buf.remaining();
-            Ok(format!(in alloc; "{front} {left}")?)
+            spaced_two(alloc, &front, &left)
         }
         Err(Error::Memory) => Err(Fault::Memory),
         Err(_) => Err(Fault::Malformed),

@@ -2,7 +2,7 @@
 
 ghost use Rattle.storage_bitmap.specs.Chunks.{IsChunkSize};
 
-use crate::columns::{Fault, Series, inner_digests, number};
+use crate::columns::{Fault, Series, coloned, inner_digests, number, numbers_between, spaced_four};
 use crate::lists::refusals::merkle_refusal;
 use std::alloc::Global;
 use storage_bitmap::bitmap::authenticated::{
@@ -38,7 +38,7 @@ pub fn bitmaps<const N: usize>(
     let kept = kept(alloc, &bitmap)?;
     let proofs = proofs(alloc, hasher, &bitmap, *bits)?;
     let nodes = nodes(alloc, &bitmap)?;
-    Ok(format!(in alloc; "{counts} {kept} {proofs} {nodes}")?)
+    spaced_four(alloc, &counts, &kept, &proofs, &nodes)
 }
 
 /// The bitmap after calls, which begins without bits.
@@ -104,19 +104,37 @@ fn told<const N: usize>(
     bitmap: &MerkleizedBitMap<FixedBytes<32>, N>,
     roots: &mut Vec<FixedBytes<32>>,
 ) -> Result<String, Fault> {
-    let (length, pruned, size) = (bitmap.len(), bitmap.pruned_bits(), bitmap.size());
+    let lengths = lengths(alloc, ":", bitmap)?;
     let (chunk, count) = bitmap.last_chunk();
     let chunk = hex::encode(alloc, *chunk)?;
-    let kept = state(bitmap)?.pinned.len();
-    let root = bitmap.root();
-    let place = match roots.iter().position(|known| *known == root) {
-        Some(place) => place,
-        None => {
-            roots.push(root)?;
-            roots.len().saturating_sub(1)
-        }
-    };
-    Ok(format!(in alloc; "{length}:{pruned}:{size}:{chunk}:{count}:{kept}:{place}")?)
+    let kept = state(bitmap)?.pinned.len() as u64;
+    let place = place_of(roots, bitmap.root())?;
+    let rest = numbers_between(alloc, ":", &[count, kept, place])?;
+    coloned(alloc, &[lengths.as_str(), chunk.as_str(), rest.as_str()])
+}
+
+/// How many bits there are and how many of them are pruned, and how many nodes, with a text between them.
+fn lengths<const N: usize>(
+    alloc: Global,
+    separator: &str,
+    bitmap: &MerkleizedBitMap<FixedBytes<32>, N>,
+) -> Result<String, Fault> {
+    let size = bitmap.size().as_u64();
+    numbers_between(
+        alloc,
+        separator,
+        &[bitmap.len(), bitmap.pruned_bits(), size],
+    )
+}
+
+/// The place of a root among roots, to which it is added where it is new.
+fn place_of(roots: &mut Vec<FixedBytes<32>>, root: FixedBytes<32>) -> Result<u64, Fault> {
+    if let Some(place) = roots.iter().position(|known| *known == root) {
+        return Ok(place as u64);
+    }
+    let place = roots.len();
+    roots.push(root)?;
+    Ok(place as u64)
 }
 
 /// What is handed out of a bitmap.
@@ -260,13 +278,11 @@ fn counts<const N: usize>(
     alloc: Global,
     bitmap: &MerkleizedBitMap<FixedBytes<32>, N>,
 ) -> Result<String, Fault> {
-    let length = bitmap.len();
-    let pruned = bitmap.pruned_bits();
-    let size = bitmap.size();
+    let lengths = lengths(alloc, " ", bitmap)?;
     let (chunk, count) = bitmap.last_chunk();
     let chunk = hex::encode(alloc, *chunk)?;
     let root = hex::encode(alloc, bitmap.root().bytes)?;
-    Ok(format!(in alloc; "{length} {pruned} {size} {chunk} {count} {root}")?)
+    spaced_four(alloc, &lengths, &chunk, &count, &root)
 }
 
 /// What is kept of the pruned chunks: their number and the digests of the peaks over them.

@@ -2,12 +2,13 @@
 
 ghost use Rattle.std.specs.Prelude.{◌≤◌};
 
-use crate::columns::{Fault, number, strings, verdict};
+use crate::columns::{Fault, number, spaced_two, spelled, strings, verdict};
 use crate::lists::combined::{grafted_tree, operations_nodes};
 use crate::lists::faulty::{ALWAYS, Faulty, Log, NONE};
 use crate::lists::fetched::parts;
 use crate::lists::refusals::{database_fault, merkle_fault};
 use crate::lists::served::{self, range_proof};
+use crate::lists::snapshots::places;
 use commonware_storage::bitmap::{Prunable, Readable};
 use commonware_storage::codec::FixedBytes;
 use commonware_storage::digest::Sha256;
@@ -48,7 +49,7 @@ pub fn combined_views<F: Graftable>(alloc: Global, columns: &[&str]) -> Result<S
             return Err(Fault::Differs);
         }
     }
-    Ok(format!(in alloc; "{nodes}")?)
+    spelled(alloc, &nodes)
 }
 
 /// What a store has at a position.
@@ -76,28 +77,65 @@ pub fn combined_ranges<F: Graftable + Countable>(
     };
     let operations = strings(alloc, *operations)?;
     let snapshot = served::snapshot::<F, 1>(alloc, &operations, *bits, 0)?;
-    let (start, most) = (number(*start)?, number(*most)?);
+    range_told(
+        alloc,
+        &snapshot,
+        &operations,
+        number(*start)?,
+        number(*most)?,
+    )
+}
+
+/// At most so many operations from `start` on, their chunks, and whether the proof is accepted.
+fn range_told<F: Graftable + Countable>(
+    alloc: Global,
+    snapshot: &Snapshot<F, Sha256, 1>,
+    operations: &[Vec<u8>],
+    start: u64,
+    most: u64,
+) -> Result<String, Fault> {
     if most < 1 {
         return Err(Fault::Malformed);
     }
+    let (proof, items, chunks) = with_operations(alloc, snapshot, operations, start, most)?;
     let end = start.checked_add(most).ok_or(Fault::Malformed)?;
-    let own = range_proof(alloc, &snapshot, 0, start, end)?;
-    if without_operations(alloc, &snapshot, &operations, start, end)? != own {
-        return Err(Fault::Differs);
-    }
-    let (proof, items, chunks) = with_operations(alloc, &snapshot, &operations, start, most)?;
-    if proof != own {
-        return Err(Fault::Differs);
-    }
-    let claimed = operations
-        .get(start as usize..end as usize)
-        .ok_or(Fault::Malformed)?;
-    let root = snapshot.root();
-    let loc = Location::new(start);
-    let yes = proof.verify_encoded::<Sha256, _, _>(alloc, loc, claimed, &chunks, 1, &root)?;
-    let yes = verdict(alloc, yes)?;
+    compare(alloc, snapshot, operations, start, end, &proof)?;
+    let claimed = places(operations, start, end)?;
+    let yes = shown(alloc, &proof, start, claimed, &chunks, &snapshot.root())?;
     let parts = parts(alloc, &items, &chunks)?;
-    Ok(format!(in alloc; "{parts} {yes}")?)
+    spaced_two(alloc, &parts, &yes)
+}
+
+/// Whether the snapshot's own proof of a range is this one, and that without operations from both trees too.
+fn compare<F: Graftable + Countable>(
+    alloc: Global,
+    snapshot: &Snapshot<F, Sha256, 1>,
+    operations: &[Vec<u8>],
+    start: u64,
+    end: u64,
+    proof: &RangeProof<F, FixedBytes<32>>,
+) -> Result<(), Fault> {
+    let own = range_proof(alloc, snapshot, 0, start, end)?;
+    let without = without_operations(alloc, snapshot, operations, start, end)?;
+    if *proof == own && without == own {
+        Ok(())
+    } else {
+        Err(Fault::Differs)
+    }
+}
+
+/// Whether a proof shows operations and their chunks.
+fn shown<F: Graftable>(
+    alloc: Global,
+    proof: &RangeProof<F, FixedBytes<32>>,
+    start: u64,
+    operations: &[Vec<u8>],
+    chunks: &[[u8; 1]],
+    root: &FixedBytes<32>,
+) -> Result<String, Fault> {
+    let start = Location::new(start);
+    let yes = proof.verify_encoded::<Sha256, _, _>(alloc, start, operations, chunks, 1, root)?;
+    verdict(alloc, yes)
 }
 
 /// The proof of the operations from `start` to before `end` from both trees.
