@@ -7,13 +7,14 @@ A file crates/CRATE/must-fail/NAME.edit has one edit: a line 'file: src/FILE.rt'
 A file with lines 'name: NAME' has a group: an edit of its own under each of them, all of the file named above them.
 
 A crate is checked without an edit first, and must be proved. What that check kept is where the others begin. Where a gate has proved the
-crate from nothing, that is the check without an edit, and no function is proved twice. Then all edits of bodies are put into one copy
-of the crate, and the functions that they are in are checked together, with what they call and nothing that calls them. There is another round for methods of `impl` blocks of traits, and where two edits touch one function or one text; an edit
-of anything but the body of a function is tried alone: that of a constant on the functions that name it, any other on those of its
-module and on the laws, and if they do not refuse it on the whole crate. An edit is refused where the check names a goal inside the edited function that is not proved. That the function
-calls, or waits for, one that is not proved does not count, nor that a proof file misses a name. A goal may also fail since it needs
-an `impl` block that is not proved for another edit: such an edit is tried again without those that are settled. What is still in doubt
-is tried alone. A function that fails by goals of its own without an edit in it is a fault.
+crate from nothing, that is the check without an edit, and the others begin with nothing kept. Then all edits of bodies are put into one
+copy of the crate, and the functions that they are in are checked together, with what they call and nothing that calls them. There is
+another round for methods of `impl` blocks of traits, and where two edits touch one function or one text; an edit of anything but the
+body of a function is tried alone: that of a constant on the functions that name it, any other on those of its module and on the laws,
+and if they do not refuse it on the whole crate. An edit is refused where the check names a goal inside the edited function that is not
+proved. That the function calls, or waits for, one that is not proved does not count, nor that a proof file misses a name. A goal may
+also fail since it needs an `impl` block that is not proved for another edit: such an edit is tried again without those that are
+settled. What is still in doubt is tried alone. A function that fails by goals of its own without an edit in it is a fault.
 
 The libraries below a crate are taken from the tree FOLDER, where `rt ci` or `rt lib` left them; without --built they are proved here
 first. With --gate the gate `rt ci` is at work in FOLDER and writes LOG, and makes a file of LOG's name with the ending .status when it
