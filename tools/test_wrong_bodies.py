@@ -3,7 +3,7 @@
 
 Of the edits of a crate a harmless one must be named, also where the function that it is in calls one with a wrong body, and where
 it needs a trait's block that is not proved for another edit. An edit that cannot be applied must be named too, and a crate that is
-not proved without an edit. The last line is 'N passed, M failed'.
+not proved without an edit. A crate that a gate keeps from an earlier run is tried all the same. The last line is 'N passed, M failed'.
 """
 import pathlib
 import shutil
@@ -83,8 +83,9 @@ EDITS = {
 REFUSED = {"callee_wrong", "block_wrong"}
 
 
-def said(text, edits):
-    """What the tool says of a crate with this text and these edits, by the name of each edit, and its status."""
+def said(text, edits, gate=None):
+    """What the tool says of a crate with this text and these edits, by the name of each edit, and its status; beside a gate where its log
+    is given."""
     with tempfile.TemporaryDirectory() as name:
         root = pathlib.Path(name)
         crate = root / "crates/sums"
@@ -95,7 +96,12 @@ def said(text, edits):
         (crate / "src/lib.rt").write_text(text)
         group = "".join(f"\nname: {it}\nold: {old}\nnew: {new}\n" for it, (old, new) in edits.items())
         (crate / "must-fail/src.lib.edit").write_text(f"file: src/lib.rt\n{group}")
-        ran = subprocess.run([root / "tools/wrong_bodies.py"], capture_output=True, text=True)
+        words = [root / "tools/wrong_bodies.py"]
+        if gate:
+            (root / "gate.log").write_text(gate)
+            (root / "gate.status").write_text("0")
+            words += ["--built", root, "--gate", root / "gate.log"]
+        ran = subprocess.run(words, capture_output=True, text=True)
     lines = [it.removeprefix("wrong body: sums ").split(": ", 1) for it in ran.stdout.splitlines() if it.startswith("wrong body: ")]
     return {it[0]: it[-1] for it in lines}, ran.returncode, ran.stdout + ran.stderr
 
@@ -109,6 +115,11 @@ def main():
     results["a crate that is not proved is named"] = status == 1 and any("without an edit" in it for it in wrong)
     only, status, _ = said(CRATE, {"callee_wrong": EDITS["callee_wrong"]})
     results["one refused edit is well"] = status == 0 and only.keys() == {"callee_wrong"}
+    kept = "rt: sums is kept: an earlier run on this machine proved the same files over the same libraries\n"
+    over, status, _ = said(CRATE, {"callee_wrong": EDITS["callee_wrong"]}, kept)
+    results["a crate that the gate keeps is tried"] = status == 0 and over.keys() == {"callee_wrong"}
+    lost, status, _ = said(CRATE, {"callee_wrong": EDITS["callee_wrong"]}, "rt: sums NOT PROVED\n")
+    results["a crate that the gate does not prove is named"] = status == 1 and any("without an edit" in it for it in lost)
     for name, is_well in results.items():
         print(f"{name}: {'passed' if is_well else 'FAILED'}")
     if not all(results.values()):

@@ -6,12 +6,13 @@
 A file crates/CRATE/must-fail/NAME.edit has one edit: a line 'file: src/FILE.rt', then pairs of lines 'old: TEXT' and 'new: TEXT'.
 A file with lines 'name: NAME' has a group: an edit of its own under each of them, all of the file named above them.
 
-A crate is checked without an edit first, and must be proved. What that check kept is where the others begin. Where a gate has proved the
-crate from nothing, that is the check without an edit, and the others begin with nothing kept. Then all edits of bodies are put into one
-copy of the crate, and the functions that they are in are checked together, with what they call and nothing that calls them. There is
-another round for methods of `impl` blocks of traits, and where two edits touch one function or one text; an edit of anything but the
-body of a function is tried alone: that of a constant on the functions that name it, any other on those of its module and on the laws,
-and if they do not refuse it on the whole crate. An edit is refused where the check names a goal inside the edited function that is not
+A crate is checked without an edit first, and must be proved. What that check kept is where the others begin. Where a gate has proved
+the crate from nothing, that is the check without an edit, and the others begin with nothing kept; where it says that an earlier run
+proved the same files, the crate is checked here. Then all edits of bodies are put into one copy of the crate, and the functions that
+they are in are checked together, with what they call and nothing that calls them. There is another round for methods of `impl` blocks
+of traits, and where two edits touch one function or one text; an edit of anything but the body of a function is tried alone: that of a
+constant on the first function that names it, then on all of them; any other on the laws, then on the functions of its module too; and
+what they do not refuse on the whole crate. An edit is refused where the check names a goal inside the edited function that is not
 proved. That the function calls, or waits for, one that is not proved does not count, nor that a proof file misses a name. A goal may
 also fail since it needs an `impl` block that is not proved for another edit: such an edit is tried again without those that are
 settled. What is still in doubt is tried alone. A function that fails by goals of its own without an edit in it is a fault.
@@ -311,10 +312,18 @@ class Gate:
     def is_at_work(self):
         return not self.status.exists()
 
+    def has_passed(self, crate):
+        """Whether the gate has proved a crate, or says that an earlier run of it proved the same files."""
+        return bool(self.functions_of(crate)) or self.keeps(crate)
+
     def functions_of(self, crate):
         """The functions of a crate that the gate has proved, or None where it has not proved the crate."""
         said = re.search(rf"^== {crate.name}$(.*?)^rt: {crate.name} proved$", self.text(), re.M | re.S)
         return [it[0] for it in re.findall(r"^fn (\S+): (proved)$", said[1], re.M)] if said else None
+
+    def keeps(self, crate):
+        """Whether the gate takes a crate from an earlier run, so that its log names no function of it."""
+        return re.search(rf"^rt: {crate.name} is kept: ", self.text(), re.M) is not None
 
     def text(self):
         return self.log.read_text(errors="replace") if self.log.exists() else ""
@@ -327,7 +336,7 @@ def tried_in_turn(crates, run, jobs, gate):
     with concurrent.futures.ThreadPoolExecutor(jobs) as pool:
         while left:
             waits = gate is not None and gate.is_at_work()
-            ready = next((it for it in left if not waits or gate.functions_of(it)), None)
+            ready = next((it for it in left if not waits or gate.has_passed(it)), None)
             running = sum(not it.done() for it in given.values())
             if ready and running < (max(jobs // 2, 1) if waits else jobs):
                 left.remove(ready)
@@ -411,20 +420,24 @@ class Trial:
 
     def functions_without_edit(self, kept):
         """The crate's functions, all proved without an edit: by the gate, or here. None where one is not."""
-        if self.gate:
+        if self.gate and not self.gate.keeps(self.crate):
             return self.gate.functions_of(self.crate)
         clean = self.crate.check([], kept)
         return clean.functions if clean.is_proved else None
 
     def check(self, edits, kept):
-        """Checks the functions that the edits are in, and with an edit of anything else those that it is likely to be seen in."""
+        """Checks the functions that the edits of bodies are in."""
         functions = {it for edit in edits for place in edit.places for it in self.named_at(place)}
-        for edit in edits:
-            if not edit.is_of_bodies:
-                constants = {it[1] for line in edit.lines.values() if (it := CONSTANT.match(line))}
-                users = {it for name in constants for it in self.users_of(name)}
-                functions.update(users or {it for file, _ in edit.lines for it in self.beside(file)})
         return self.crate.check(edits, kept, sorted(functions))
+
+    def likely(self, edit):
+        """Lists of functions that an edit of anything but a body is likely to be seen in, those that are checked soonest first."""
+        constants = {it[1] for line in edit.lines.values() if (it := CONSTANT.match(line))}
+        users = sorted({it for name in constants for it in self.users_of(name)})
+        laws = self.of_modules([["laws"]])
+        beside = self.of_modules([["laws"], *(module_of(file) for file, _ in edit.lines if file.endswith(".rt"))])
+        lists = [users[:1], users] if users else [laws, beside]
+        return [it for number, it in enumerate(lists) if it and it not in lists[:number]]
 
     def users_of(self, constant):
         """The functions in whose bodies a constant is named."""
@@ -434,9 +447,8 @@ class Trial:
             for place in filter(None, (function_at(file, lines, it) for it in named)):
                 yield from self.named_at(place)
 
-    def beside(self, file):
-        """The laws, and of a source file the functions of its module and those below it."""
-        modules = [["laws"], module_of(file)] if file.endswith(".rt") else [["laws"]]
+    def of_modules(self, modules):
+        """The functions of some modules and of those below them."""
         return [it for it in self.functions if any(it.split("::")[1 : len(module) + 1] == module for module in modules)]
 
     def named_at(self, place):
@@ -454,7 +466,8 @@ class Trial:
                 self.say(f"no edit: a function without one fails, {told(goal)}", False)
             left = [it for it in left if not self.judge(it, verdict, False)]
         for edit in left:
-            if not self.judge(edit, self.check([edit], kept), True):
+            verdicts = [self.check([edit], kept)] if edit.is_of_bodies else (self.crate.check([edit], kept, it) for it in self.likely(edit))
+            if not any(self.judge(edit, it, True) for it in verdicts):
                 alone = self.crate.check([edit], kept)
                 if not self.judge(edit, alone, True):
                     self.say(f"{edit.name}: {why_not(edit, alone)}", False)

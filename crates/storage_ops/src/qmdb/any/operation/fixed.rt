@@ -246,7 +246,7 @@ impl<F: Family, K: Key + Small + Read<Cfg = ()>, V: FixedValue> FixedSize
 impl<F: Family, K: Key + Small + Read<Cfg = ()>, V: FixedValue> EncodeSize
     for Operation<F, Ordered<K, FixedEncoding<V>>> {
     fn encode_size(&self) -> Option<u64> {
-        size_of_all::<Self>()
+        size_of_all::<Operation<F, Ordered<K, FixedEncoding<V>>>>()
     }
 }
 
@@ -283,7 +283,7 @@ impl<F: Family, K: Key + Small + Read<Cfg = ()>, V: FixedValue> FixedSize
 impl<F: Family, K: Key + Small + Read<Cfg = ()>, V: FixedValue> EncodeSize
     for Operation<F, Unordered<K, FixedEncoding<V>>> {
     fn encode_size(&self) -> Option<u64> {
-        size_of_all::<Self>()
+        size_of_all::<Operation<F, Unordered<K, FixedEncoding<V>>>>()
     }
 }
 

@@ -133,14 +133,14 @@ impl<
 impl<F: Family, K: Key, V: VariableValue> EncodeSize
     for Operation<F, Ordered<K, VariableEncoding<V>>> {
     fn encode_size(&self) -> Option<u64> {
-        variable_size(self)
+        variable_size::<F, Ordered<K, VariableEncoding<V>>>(self)
     }
 }
 
 impl<F: Family, K: Key, V: VariableValue> EncodeSize
     for Operation<F, Unordered<K, VariableEncoding<V>>> {
     fn encode_size(&self) -> Option<u64> {
-        variable_size(self)
+        variable_size::<F, Unordered<K, VariableEncoding<V>>>(self)
     }
 }
 
