@@ -7,7 +7,7 @@ The documents are README.md, docs/*.md and crates/*/README.md. A citation is one
 
     `src/light.rt`, `specs/`, `crates.txt`     a word in backticks with a slash, or with the ending of a file of the repository:
                                                what git lists has such a file or folder, at the top, beside the document, or
-                                               anywhere below
+                                               anywhere below; `merkle/mmr`, without an ending, is a module's file too
     docs/GATE.md                               the same of a plain word that begins with a folder at the top
     `check.rt::Given::node`, `light.rt:50`     such a file, and in it each of the names, or a line of that number
     `Trees.tree_root`                          a definition of a file Trees.antt in the specs/ of a crate
@@ -15,7 +15,7 @@ The documents are README.md, docs/*.md and crates/*/README.md. A citation is one
 
 In a path `*` and the words NAME, CRATE, FILE and FOLDER stand for any name, and `...` for any folders; then the ending of a file
 may be left out. What the kit makes below out/ is not looked for, nor anything outside of the repository. A line for each citation
-that is missing names the document and the line. The last line is 'N cited, M missing'; the status is 1 where one is missing.
+that is missing names the document and the line. The last line is 'N citations, M of them missing'; the status is 1 where one is missing.
 """
 import pathlib
 import re
@@ -55,7 +55,7 @@ class Files:
             return [str(beside.relative_to(ROOT))]
         parts = [ANY_NAME.sub("*", re.sub(r"[.+-]", r"\\\g<0>", it)).replace("*", "[^/]*") for it in path.split("/")]
         pattern = "/".join(".*" if it == r"\.\.\." else it for it in parts)
-        ending = r"(?:\.\w+)?" if "..." in path else ""
+        ending = r"(?:\.\w+)?" if "..." in path else "" if ENDING.search(path) else r"(?:\.rt)?"
         return [it for it in self.paths if re.search(f"(?:^|/){pattern}{ending}$", it)]
 
     def define(self, module, name):
@@ -110,7 +110,7 @@ def main():
             if there is False:
                 missing += 1
                 print(f"{document.relative_to(ROOT)}:{text.count(chr(10), 0, place) + 1}: {word} is missing")
-    print(f"{cited} cited, {missing} missing")
+    print(f"{cited} citations, {missing} of them missing")
     return 1 if missing else 0
 
 
