@@ -9,8 +9,8 @@ use crate::merkle::Family;
 use crate::merkle::mem::Mem;
 use storage_codec::digest::Digest;
 
-/// A tree in memory that stands for a list of leaf digests has each of the list's nodes from the position of the boundary's leaf
-/// on.
+/// Where `tree`, in memory, stands for a list of leaf digests, it has each of the list's nodes from the position of its
+/// boundary's leaf on.
 pub fn trees_keep_the_nodes_of_their_list<F: Family, D: Digest>(tree: &Mem<F, D>)
     ensures { (N : NodesOver) (list : List (List ℕ)) → StandsFor D.text F.shape N tree.now list
         → (position first height : ℕ) → IsNode F.shape position first height

@@ -1,4 +1,4 @@
-//! How peaks become one root.
+//! How the peaks of a tree are folded into one digest.
 
 ghost use Rattle.std.specs.Prelude.{◌≡◌};
 ghost use Rattle.storage_merkle.specs.Trees.{bagging_byte};
@@ -15,7 +15,7 @@ pub enum Bagging {
 }
 
 impl Bagging {
-    /// The byte that stands for the direction in the string of a root.
+    /// The byte that stands for the direction in the string of a root: 0 for `ForwardFold`, 1 for `BackwardFold`.
     pub fn byte(self) -> u8
         ensures { result ≡ bagging_byte self }
     {

@@ -5,17 +5,17 @@ ghost use Rattle.storage_merkle.specs.Shape.{size};
 
 use crate::merkle::{Family, Location, Position};
 
-/// A family whose greatest tree is known of which a `u64` counts the nodes.
+/// A family that knows the largest `n` whose tree has a number of nodes that fits `u64`.
 pub trait Countable: Family {
-    /// How many leaves that tree has.
+    /// The largest `n` for which the tree over `n` leaves has fewer than `2^64` nodes. Takes no memory.
     fn most_leaves() -> u64
         ensures small { result + 1 < 2 ^ 64 }
         ensures fits { size Self.shape result < 2 ^ 64 }
         ensures most { 2 ^ 64 ≤ size Self.shape (result + 1) };
 }
 
-/// How many leaves the tree with so many nodes has, also past [`MAX_LEAVES`](crate::merkle::MAX_LEAVES); `None` where no
-/// tree has so many nodes. Takes no memory.
+/// How many leaves the tree with `nodes` nodes has, also past [`MAX_LEAVES`](crate::merkle::MAX_LEAVES); `None` where no
+/// tree has exactly `nodes` nodes. Takes no memory.
 pub fn leaves_of<F: Countable>(nodes: Position<F>) -> Option<Location<F>>
     ensures { MatchOption result ((n : ℕ) → size F.shape n ≡ nodes → ⊥)
         (λ n. size F.shape n ≡ nodes) }

@@ -11,31 +11,31 @@ use storage_codec::NoMemory;
 #[derive(Drop, thiserror::Error)]
 #[derive_where(Clone, Copy, Debug, PartialEq, Eq)]
 pub enum Error<F> {
-    /// A range of no leaves.
+    /// A range with no leaf, or a list of no locations.
     #[error("no leaves")]
     Empty,
-    /// A leaf that is not in the tree.
+    /// A location that is no leaf of the tree.
     #[error("location {0} out of bounds")]
     RangeOutOfBounds(Location<F>),
-    /// More leaves than any tree has, or a leaf that is in none.
+    /// A number of leaves past `MAX_LEAVES`, or a location that no tree has.
     #[error("location {0} overflows")]
     LocationOverflow(Location<F>),
-    /// A node that is not kept.
+    /// The position of a node whose digest is not kept.
     #[error("node {0} is pruned")]
     ElementPruned(Position<F>),
-    /// A node that was to be handed over.
+    /// The position of a node whose digest was to be handed over, and was not.
     #[error("node {0} is missing")]
     MissingNode(Position<F>),
-    /// What is stored is that of no tree.
+    /// What is stored is that of no tree; the text says what is wrong.
     #[error("corrupted: {0}")]
     DataCorrupted(&'static str),
-    /// A bit, and the number of bits that it is not below.
+    /// The number of a bit, and the number of bits, which it is not below.
     #[error("bit {0} out of bounds of {1}")]
     BitOutOfBounds(u64, u64),
-    /// A proof whose counts do not fit.
+    /// A proof whose counts do not fit, or more inactive peaks than the tree has.
     #[error("invalid proof")]
     InvalidProof,
-    /// A proof of another root.
+    /// Another root comes out than the given one.
     #[error("root mismatch")]
     RootMismatch,
     /// A location that is listed twice.
@@ -44,13 +44,13 @@ pub enum Error<F> {
     /// A location that is listed after a greater one.
     #[error("location {0} out of order")]
     UnsortedLocation(Location<F>),
-    /// A node that is known only as a part of a fold.
+    /// The position of a node whose digest is known only as a part of a fold.
     #[error("node {0} is folded")]
     CompressedDigest(Position<F>),
     /// A fault of a store, by its number.
     #[error("store fault {0}")]
     Source(u32),
-    /// A growth was refused.
+    /// Out of memory.
     #[error("out of memory")]
     Memory,
 }

@@ -23,16 +23,17 @@ pub trait Family: Copy {
     /// The family's peaks, positions and births.
     ghost shape: { Shape };
 
-    /// The byte that stands for the family in the string of a root.
+    /// The byte that stands for the family in the string of a root: 0 for the MMR, 1 for the MMB.
     fn byte() -> u8
         ensures { result ≡ shape.byte };
 
-    /// How many nodes the tree over so many leaves has.
+    /// How many nodes the tree over `leaves` leaves has.
     fn nodes_over(leaves: u64) -> u64
         requires { size shape leaves < 2 ^ 64 }
         ensures { result ≡ size shape leaves };
 
-    /// The height of the first peak over so many leaves. The peaks after it are those over the leaves that are left.
+    /// The height of the first peak of the tree over `leaves` leaves. The peaks after it are those of the tree over the
+    /// leaves that are left, `leaves` less 2 to the power of that height.
     fn first_peak(leaves: u64) -> u32
         requires some { 0 < leaves }
         requires few { leaves ≤ 2 ^ 62 }
@@ -40,25 +41,24 @@ pub trait Family: Copy {
         ensures within { 2 ^ result ≤ leaves }
         ensures small { result ≤ 62 };
 
-    /// From how many leaves on the tree has the node of that height with that first leaf.
+    /// The least number of leaves whose tree has the node of height `height` over the leaves from `first` on.
     fn birth(first: u64, height: u32) -> u64
         requires { shape.birth first height ≤ 2 ^ 63 }
         ensures { result ≡ shape.birth first height };
 
-    /// The position of the node of that height with that first leaf, a multiple of `2^height`.
+    /// The position of the node of height `height` over the leaves from `first` on; `first` is a multiple of `2^height`.
     fn position(first: u64, height: u32) -> u64
         requires aligned { first % 2 ^ height ≡ 0 }
         requires fits { shape.position first height < 2 ^ 64 }
         ensures { result ≡ shape.position first height };
 
-    /// The node that stands so many places after the first node that comes with the leaf past `leaves` leaves: its
-    /// first leaf and its height.
+    /// The `offset`-th node, from 0, of those that are added with leaf number `leaves`, as (first leaf, height).
     fn node_after(leaves: u64, offset: u64) -> (u64, u32)
         requires few { leaves ≤ 2 ^ 62 }
         requires within { size shape leaves + offset < size shape (leaves + 1) }
         ensures { IsNode shape (size shape leaves + offset) result.0 result.1 };
 
-    /// The height of the node at a valid position, from 0 for a leaf.
+    /// The height of the node at the valid position `position`, from 0 for a leaf.
     final fn pos_to_height(position: Position<Self>) -> u32
     where
         Self: Sized,
@@ -70,8 +70,8 @@ pub trait Family: Copy {
         height
     }
 
-    /// The peaks of the tree with so many nodes, from the first leaf on: the position and the height of each. So many
-    /// nodes are those of some tree over at most [`MAX_LEAVES`](crate::merkle::MAX_LEAVES) leaves.
+    /// The peaks of the tree with `nodes` nodes, from the first leaf on, each as (position, height). `nodes` is the number
+    /// of nodes of some tree over at most [`MAX_LEAVES`](crate::merkle::MAX_LEAVES) leaves.
     final fn peaks(nodes: Position<Self>) -> Peaks<Self>
     where
         Self: Sized,
@@ -82,8 +82,8 @@ pub trait Family: Copy {
         Peaks::over(leaves_within::<Self>(nodes.as_u64()))
     }
 
-    /// The positions of the left and the right child of the node at a valid position, where `height` is the node's own
-    /// and at least 1.
+    /// The positions of the left and the right child of the node at the valid position `position`, whose own height is
+    /// `height`, at least 1.
     final fn children(position: Position<Self>, height: u32) -> (Position<Self>, Position<Self>)
     where
         Self: Sized,
@@ -100,7 +100,7 @@ pub trait Family: Copy {
         (Position::new(left), Position::new(right))
     }
 
-    /// The positions of the nodes that are kept when the leaves below a valid location are pruned: the peaks over them,
+    /// The positions of the nodes that are kept when the leaves below `location` are pruned: the peaks over those leaves,
     /// from the first leaf on.
     final fn nodes_to_pin(location: Location<Self>) -> NodesToPin<Self>
     where
@@ -121,7 +121,7 @@ pub trait Graftable: Family {
     /// Whether a tree of the family may have a pending chunk.
     ghost has_pending: { Bool };
 
-    /// The first leaf below the node at a valid position, where `height` is the node's own.
+    /// The first leaf under the node at the valid position `position`, whose own height is `height`.
     final fn leftmost_leaf(position: Position<Self>, height: u32) -> Location<Self>
     where
         Self: Sized,
@@ -133,7 +133,7 @@ pub trait Graftable: Family {
         Location::new(first)
     }
 
-    /// The position of the node of that height with that first leaf, a multiple of `2^height`.
+    /// The position of the node of height `height` over the leaves from `first` on; `first` is a multiple of `2^height`.
     final fn subtree_root_position(first: Location<Self>, height: u32) -> Position<Self>
     where
         Self: Sized,
@@ -144,7 +144,8 @@ pub trait Graftable: Family {
         Position::new(Self::position(first.as_u64(), height))
     }
 
-    /// From how many leaves on the tree has the node at a valid position, where `height` is the node's own and at least 1.
+    /// The least number of leaves whose tree has the node at the valid position `position`, whose own height is `height`,
+    /// at least 1.
     final fn peak_birth_size(position: Position<Self>, height: u32) -> u64
     where
         Self: Sized,
@@ -158,12 +159,14 @@ pub trait Graftable: Family {
         Self::birth(first, height)
     }
 
-    /// Whether a complete chunk may lie in no single peak, so that there is a slot for a pending chunk's digest.
+    /// Whether the family may have a pending chunk: a complete chunk that lies in no single peak, for whose digest there
+    /// is a slot.
     fn has_pending() -> bool
         ensures { result ≡ has_pending };
 
-    /// Appends what the slot of the pending chunk's digest is written as: nothing where the family has none, whatever
-    /// the value, else an option of a digest. A refused growth leaves a beginning of it.
+    /// Appends to `out` what `slot`, the digest of the pending chunk or none, is written as: nothing where the family has
+    /// no pending chunks, whatever `slot` is, else an option of a digest. `NoMemory` where `out` was refused a growth;
+    /// then it holds its old bytes and a beginning of these.
     final fn write_pending<D: Digest>(slot: &Option<D>, out: &mut Vec<u8>) -> Result<(), NoMemory>
     where
         Self: Sized,
@@ -178,12 +181,12 @@ pub trait Graftable: Family {
         Ok(())
     }
 
-    /// Reads the slot of the pending chunk's digest from the front: always `None`, and no byte taken, where the family
-    /// has none. After a refusal `buf` is at an ending of what it held.
+    /// Reads the digest of the pending chunk or none from the front of `buf`: always `None`, and no byte taken, where the
+    /// family has no pending chunks. After a refusal `buf` is at an ending of what it held.
     ///
     /// # Errors
     ///
-    /// `EndOfBuffer` where bytes are missing; `InvalidBool` where the first one is neither 0 nor 1.
+    /// `EndOfBuffer` where bytes are missing; `InvalidBool` where the first one is neither 0 nor 1; `Memory`.
     #[tactic(auto, using(storage_codec::specs::PartsLaws::ends_then))]
     final fn read_pending<D: Digest, B: Buf>(
         alloc: Global,
@@ -202,7 +205,7 @@ pub trait Graftable: Family {
         Ok(Some(D::read(alloc, buf)?))
     }
 
-    /// How many bytes the slot takes. Takes no memory.
+    /// How many bytes [`write_pending`](Self::write_pending) appends for `slot`. Takes no memory.
     final fn pending_size<D: Digest>(slot: &Option<D>) -> u64
     where
         Self: Sized,
@@ -222,8 +225,8 @@ pub trait Graftable: Family {
     ghost prompt: { has_pending ≡ false → (first height : ℕ) → Self.shape.birth first height ≡ first + 2 ^ height };
 }
 
-/// How many leaves the largest tree with at most so many nodes has, for up to as many nodes as
-/// [`MAX_LEAVES`](crate::merkle::MAX_LEAVES) leaves have. Takes no memory.
+/// How many leaves the largest tree with at most `nodes` nodes has. `nodes` is at most the number of nodes of the tree
+/// over [`MAX_LEAVES`](crate::merkle::MAX_LEAVES) leaves. Takes no memory.
 pub fn leaves_within<F: Family>(nodes: u64) -> u64
     requires { nodes ≤ size F.shape (2 ^ 62) }
     ensures few { result ≤ 2 ^ 62 }
@@ -243,7 +246,7 @@ pub fn leaves_within<F: Family>(nodes: u64) -> u64
     low
 }
 
-/// The first leaf and the height of the node at a valid position. Takes no memory.
+/// The node at the valid position `position`, as (first leaf, height). Takes no memory.
 pub fn node_at<F: Family>(position: u64) -> (u64, u32)
     requires { position ≤ size F.shape (2 ^ 62) }
     ensures node { IsNode F.shape position result.0 result.1 }
@@ -255,7 +258,8 @@ pub fn node_at<F: Family>(position: u64) -> (u64, u32)
     F::node_after(leaves, position - F::nodes_over(leaves))
 }
 
-/// How many chunks of `2^height` leaves lie inside one peak of the tree over so many leaves.
+/// How many chunks of `2^height` leaves are graftable, that is, lie inside one peak each, in the tree over `leaves`
+/// leaves.
 pub fn graftable_chunks<F: Family>(leaves: u64, height: u32) -> u64
     requires low { 1 ≤ height }
     requires high { height ≤ 62 }
@@ -269,7 +273,8 @@ pub fn graftable_chunks<F: Family>(leaves: u64, height: u32) -> u64
     }
 }
 
-/// The position among the chunks' nodes of the node that covers the same leaves.
+/// The position in the tree over chunks of the node over the same leaves as the node at `position` in the tree over the
+/// operations, where a chunk is over `2^height` operations. The node at `position` has at least height `height`.
 pub fn ops_to_grafted_pos<F: Family>(position: u64, height: u32) -> u64
     requires low { 1 ≤ height }
     requires valid { position ≤ size F.shape (2 ^ 62) }
@@ -280,7 +285,8 @@ pub fn ops_to_grafted_pos<F: Family>(position: u64, height: u32) -> u64
     F::position(first >> height, own - height)
 }
 
-/// The position among the operations' nodes of the node that covers the same leaves.
+/// The position in the tree over the operations of the node over the same leaves as the node at `position` in the tree
+/// over chunks, where a chunk is over `2^height` operations.
 pub fn grafted_to_ops_pos<F: Family>(position: u64, height: u32) -> u64
     requires low { 1 ≤ height }
     requires valid { position ≤ size F.shape (2 ^ 62) }
@@ -291,7 +297,7 @@ pub fn grafted_to_ops_pos<F: Family>(position: u64, height: u32) -> u64
     F::position(first * power(height), own + height)
 }
 
-/// A position that is mapped up and down again.
+/// `position` itself: [`ops_to_grafted_pos`] undoes [`grafted_to_ops_pos`].
 pub fn up_and_down<F: Family>(position: u64, height: u32) -> u64
     requires low { 1 ≤ height }
     requires valid { position ≤ size F.shape (2 ^ 62) }
@@ -301,7 +307,7 @@ pub fn up_and_down<F: Family>(position: u64, height: u32) -> u64
     ops_to_grafted_pos::<F>(grafted_to_ops_pos::<F>(position, height), height)
 }
 
-/// How many of the leading peaks over so many leaves end at or before a floor.
+/// How many of the leading peaks of the tree over `leaves` leaves end at or before the leaf `floor`.
 pub fn exact_inactive<F: Family>(leaves: u64, floor: u64) -> usize
     requires { leaves ≤ 2 ^ 62 }
     ensures { IsExact F.shape leaves floor result }
@@ -309,7 +315,8 @@ pub fn exact_inactive<F: Family>(leaves: u64, floor: u64) -> usize
     aligned_inactive::<F>(leaves, floor, 0)
 }
 
-/// How many of the leading peaks end at or before a floor and on a multiple of `2^height`, counted up to the last such.
+/// How many leading peaks of the tree over `leaves` leaves end at or before the leaf `floor`, up to the last of them that
+/// ends on a multiple of `2^height`.
 pub fn aligned_inactive<F: Family>(leaves: u64, floor: u64, height: u32) -> usize
     requires few { leaves ≤ 2 ^ 62 }
     requires high { height ≤ 62 }
@@ -332,7 +339,7 @@ pub fn aligned_inactive<F: Family>(leaves: u64, floor: u64, height: u32) -> usiz
     best
 }
 
-/// Two to the power of an exponent of at most 63. Takes no memory.
+/// `2^exponent`, for `exponent` of at most 63. Takes no memory.
 pub fn power(exponent: u32) -> u64
     requires { exponent ≤ 63 }
     ensures { result ≡ 2 ^ exponent }

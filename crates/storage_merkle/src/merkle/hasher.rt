@@ -1,4 +1,4 @@
-//! How the nodes of a tree are hashed.
+//! How the leaves, nodes and roots of a tree are hashed.
 
 ghost use Rattle.std.specs.Prelude.{◌≡◌, ℕ, ◌^◌, ◌≤◌, ◌++◌, List, [], flat_map, length, map, false, refl, All, Option, option_map};
 ghost use Rattle.std.specs.List.{AllZip};
@@ -15,9 +15,9 @@ use crate::merkle::{Bagging, Family, Location, Position};
 use std::marker::PhantomData;
 use storage_codec::digest::{self, Digest};
 
-/// Digests of leaves, nodes and roots.
+/// Digests of the leaves, nodes and roots of a tree of the family `F`.
 pub trait Hasher<F: Family> {
-    /// Its digests.
+    /// The digests that it answers.
     type Digest: Digest;
 
     /// The digest function.
@@ -35,11 +35,11 @@ pub trait Hasher<F: Family> {
     /// The positions whose node digests may be asked for.
     ghost takes: { Self → ℕ → Type 0 };
 
-    /// The digest of the joined parts.
+    /// The digest of `parts`, joined one after another.
     fn hash(&self, parts: &[&[u8]]) -> Self::Digest
         ensures { Self.Digest.text result ≡ hash_of (flat_map (λ part. part.now) parts.now) };
 
-    /// The digest of some bytes.
+    /// The digest of `bytes`.
     final fn digest(&self, bytes: &[u8]) -> Self::Digest
     where
         Self: Sized,
@@ -52,7 +52,7 @@ pub trait Hasher<F: Family> {
     fn root_bagging(&self) -> Bagging
         ensures { result ≡ bagging self.now };
 
-    /// The digest of the leaf at a position: of the position in eight bytes, highest first, and the element.
+    /// The digest of the leaf at `position`: of `position` in eight bytes, highest first, and then `element`.
     #[tactic(auto, unfolding(crate::specs::Calc::be8))]
     final fn leaf_digest(&self, position: Position<F>, element: &[u8]) -> Self::Digest
     where
@@ -62,8 +62,8 @@ pub trait Hasher<F: Family> {
         self.hash(&[&position.as_u64().to_be_bytes(), element])
     }
 
-    /// The digest of the node at a position: of the position in eight bytes, highest first, and the digests of its children; where a
-    /// chunk is grafted over it, of the chunk and that digest.
+    /// The digest of the node at `position`: of `position` in eight bytes, highest first, and the digests `left` and `right` of
+    /// its children; where a chunk is grafted over it, of the chunk and that digest.
     fn node_digest(
         &self,
         position: Position<F>,
@@ -75,7 +75,7 @@ pub trait Hasher<F: Family> {
             → Self.Digest.text result ≡ join_digest hash_of (layout self.now) (chunk self.now) first
             height (Self.Digest.text left.now) (Self.Digest.text right.now) };
 
-    /// The digests of two nodes: for each its position and those of its children.
+    /// The digests of two nodes, each given as (position, digest of the left child, digest of the right child).
     final fn node_digest_pair(
         &self,
         nodes: &[(Position<F>, &Self::Digest, &Self::Digest); 2],
@@ -95,9 +95,9 @@ pub trait Hasher<F: Family> {
         ]
     }
 
-    /// The root over so many leaves of which so many leading peaks are inactive, from the digests of the peaks in leaf order: the
-    /// digest of the family's byte, the bagging's, the two numbers in eight bytes each, highest first, and the peaks bagged, no bytes
-    /// for none. Takes no memory.
+    /// The root of the tree over `leaves` leaves whose first `inactive` peaks are inactive, from `peaks`, the digests of its
+    /// peaks in leaf order: the digest of the family's byte, the bagging's byte, `leaves` and `inactive` in eight bytes each,
+    /// highest first, and the bagged peaks, no bytes where there are none. Takes no memory.
     final fn root(
         &self,
         leaves: Location<F>,
@@ -121,7 +121,7 @@ pub trait Hasher<F: Family> {
     ghost over: { (s : Self) → IsOver F.shape (layout s) };
 }
 
-/// Two items folded into one.
+/// The fold of two items: the digest of `left` and `right` joined.
 pub(crate) fn fold<F: Family, H: Hasher<F>>(
     hasher: &H,
     left: &H::Digest,
@@ -132,7 +132,8 @@ pub(crate) fn fold<F: Family, H: Hasher<F>>(
     hasher.hash(&[left.bytes(), right.bytes()])
 }
 
-/// The digests of peaks, of which so many are inactive, bagged; none for none.
+/// The digests `peaks`, bagged in the hasher's direction after the first `inactive` of them are folded into one item; none for no
+/// peaks.
 fn bag_peaks<F: Family, H: Hasher<F>>(
     hasher: &H,
     inactive: usize,
@@ -151,7 +152,7 @@ fn bag_peaks<F: Family, H: Hasher<F>>(
     }
 }
 
-/// Digests folded from the left into one item, and then that item and others from the right; none for none.
+/// `front` folded from the left into one item, and then that item and `rest` folded from the right; none where both are empty.
 fn bag_digests<F: Family, H: Hasher<F>>(
     hasher: &H,
     front: &[H::Digest],
@@ -167,7 +168,7 @@ fn bag_digests<F: Family, H: Hasher<F>>(
     }
 }
 
-/// Items folded from the left; none for no items.
+/// `items` folded from the left; none for no items.
 pub(crate) fn fold_forward<F: Family, H: Hasher<F>>(
     hasher: &H,
     items: &[H::Digest],
@@ -183,7 +184,7 @@ pub(crate) fn fold_forward<F: Family, H: Hasher<F>>(
     Some(folded)
 }
 
-/// Items folded from the right onto what the items after them are folded into; none for none.
+/// `items` folded from the right onto `onto`, which is what the items after them are folded into, or none.
 pub(crate) fn fold_onto<F: Family, H: Hasher<F>>(
     hasher: &H,
     items: &[H::Digest],
@@ -201,7 +202,7 @@ pub(crate) fn fold_onto<F: Family, H: Hasher<F>>(
     folded
 }
 
-/// What the items before an item are folded into, folded with it.
+/// `folded`, what the items before `item` are folded into, folded with it; `item` alone where there are none before it.
 pub(crate) fn append<F: Family, H: Hasher<F>>(
     hasher: &H,
     folded: Option<H::Digest>,
@@ -216,7 +217,7 @@ pub(crate) fn append<F: Family, H: Hasher<F>>(
     }
 }
 
-/// An item folded with what the items after it are folded into.
+/// `item` folded with `onto`, what the items after it are folded into; `item` alone where there are none after it.
 pub(crate) fn join<F: Family, H: Hasher<F>>(
     hasher: &H,
     item: &H::Digest,
@@ -231,7 +232,8 @@ pub(crate) fn join<F: Family, H: Hasher<F>>(
     }
 }
 
-/// The root over so many leaves, of what its items are folded into.
+/// The root of the tree over `leaves` leaves with `inactive` inactive peaks, from `bag`, what its peaks are bagged into, none
+/// where it has no peaks.
 #[tactic(auto, unfolding(crate::specs::Calc::be8))]
 pub(crate) fn bagged_root<F: Family, H: Hasher<F>>(
     hasher: &H,
@@ -248,7 +250,7 @@ pub(crate) fn bagged_root<F: Family, H: Hasher<F>>(
     hash_parts(hasher, &head, &leaves, &inactive, bag_bytes(&bag))
 }
 
-/// The digest of four parts.
+/// The digest of the string of a root: of `head`, `leaves`, `inactive` and `bag`, joined.
 fn hash_parts<F: Family, H: Hasher<F>>(
     hasher: &H,
     head: &[u8],
@@ -262,7 +264,7 @@ fn hash_parts<F: Family, H: Hasher<F>>(
     hasher.hash(&[head, leaves, inactive, bag])
 }
 
-/// The bytes of a digest; none for none.
+/// The bytes of the digest `bag`; no bytes for none.
 fn bag_bytes<D: Digest>(bag: &Option<D>) -> &[u8]
     ensures { result.now ≡ or_nothing (option_map D.text bag.now) }
 {
@@ -281,7 +283,7 @@ pub struct Standard<H> {
 }
 
 impl<H> Standard<H> {
-    /// The hasher that folds peaks in this direction.
+    /// The ordinary hasher whose roots fold the peaks in the direction `bagging`.
     pub fn new(bagging: Bagging) -> Self
         ensures { result.bagging ≡ bagging }
     {

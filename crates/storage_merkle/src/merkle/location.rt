@@ -1,4 +1,4 @@
-//! The place of a leaf among the leaves.
+//! The place of a leaf among the leaves of a tree.
 
 ghost use Rattle.std.specs.Prelude.{◌≡◌, ℕ, ◌+◌, ◌-◌, ◌^◌, ◌<◌, ◌≤◌, ◌↔◌, min, IsTrue, MatchOption, Some};
 ghost use Rattle.std.specs.Fmt.{decimal, styled_decimal};
@@ -13,8 +13,8 @@ use std::marker::{Model, PhantomData};
 use storage_codec::NoMemory;
 use storage_codec::codec::{Buf, Canonical, Codec, EncodeSize, Error, Read, UInt, Write};
 
-/// The place of a leaf of a tree of the family, counted from 0. Locations compare as their numbers and are displayed
-/// as them in decimal. No call takes memory, but writing one to a vector.
+/// The place of a leaf of a tree of the family `F`, counted from 0; also a number of leaves. Locations compare as
+/// their numbers and are displayed as them in decimal. No call takes memory, but writing one to a vector.
 #[derive(Drop)]
 #[derive_where(Clone, Copy, PartialEq, Eq, PartialOrd, Ord, Hash, Debug)]
 pub struct Location<F> {
@@ -32,7 +32,7 @@ impl<F> Model for Location<F> {
 }
 
 impl<F> Location<F> {
-    /// The location of a number.
+    /// The location with the number `value`.
     pub fn new(value: u64) -> Self
         ensures { result ≡ value }
     {
@@ -42,21 +42,21 @@ impl<F> Location<F> {
         }
     }
 
-    /// Its number.
+    /// The number of the location.
     pub fn as_u64(self) -> u64
         ensures { result ≡ self }
     {
         self.value
     }
 
-    /// Whether it is at most [`MAX_LEAVES`], so that a tree may have so many leaves.
+    /// Whether it is at most [`MAX_LEAVES`], so that, as a number of leaves, it is that of some tree.
     pub fn is_valid(self) -> bool
         ensures { IsTrue result ↔ (self ≤ 2 ^ 62) }
     {
         self.value <= MAX_LEAVES
     }
 
-    /// The location so many leaves further on. `None` where its number passes `u64::MAX`.
+    /// The location `by` leaves further on; `None` where its number passes `u64::MAX`.
     pub fn checked_add(self, by: u64) -> Option<Self>
         ensures { MatchOption result (2 ^ 64 ≤ self + by) (λ l. l ≡ self + by) }
     {
@@ -64,7 +64,7 @@ impl<F> Location<F> {
         Some(Location::new(value))
     }
 
-    /// The location so many leaves further on, or that of `u64::MAX` where its number passes it.
+    /// The location `by` leaves further on, or the location `u64::MAX` where its number passes that.
     pub fn saturating_add(self, by: u64) -> Self
         ensures { result ≡ min (self + by) (2 ^ 64 - 1) }
     {

@@ -17,8 +17,8 @@ use std::alloc::{AllocError, Global};
 use std::marker::{Model, PhantomData};
 use storage_codec::digest::Digest;
 
-/// A tree that is kept in memory: its nodes from the position of a leaf on, the boundary, and the peaks over the leaves
-/// before it. What else those leaves had is forgotten.
+/// A tree in memory: the digests of its nodes from the position of a leaf on, the boundary, and those of the peaks over
+/// the leaves before it. What else those leaves had is forgotten.
 #[derive(Drop)]
 pub struct Mem<F: Family, D: Digest> {
     leaves: u64,
@@ -60,13 +60,13 @@ impl<F: Family, D: Digest> Mem<F, D> {
         }
     }
 
-    /// The tree whose leaves are all forgotten, from the digests of the peaks over them, in their order. Digests past
-    /// those are ignored.
+    /// The tree of `boundary` leaves, all of them forgotten, from `pinned`, the digests of the peaks over them in leaf
+    /// order. Digests past those are ignored.
     ///
     /// # Errors
     ///
-    /// `LocationOverflow` of the boundary where no tree has so many leaves; `MissingNode` of the first peak without a
-    /// digest; `Memory`.
+    /// `LocationOverflow(boundary)` where `boundary` is past `MAX_LEAVES`; `MissingNode` of the position of the first
+    /// peak for which `pinned` has no digest; `Memory`.
     pub fn init(alloc: Global, boundary: Location<F>, pinned: &[D]) -> Result<Self, Error<F>>
         ensures kept { IfOk result (λ m. m ≡ record {
           leaves = boundary;
@@ -104,14 +104,14 @@ impl<F: Family, D: Digest> Mem<F, D> {
         })
     }
 
-    /// How many leaves there are. Takes no memory.
+    /// How many leaves the tree has, the forgotten ones among them. Takes no memory.
     pub fn leaves(&self) -> Location<F>
         ensures { result ≡ self.now.leaves }
     {
         Location::new(self.leaves)
     }
 
-    /// How many nodes there are. Takes no memory.
+    /// How many nodes the tree has, the forgotten ones among them, as the position past the last. Takes no memory.
     pub fn size(&self) -> Position<F>
         ensures { result ≡ size F.shape self.now.leaves }
     {
@@ -125,7 +125,7 @@ impl<F: Family, D: Digest> Mem<F, D> {
         self.pinned.as_slice()
     }
 
-    /// The digest at a position; `None` where it is not kept. Takes no memory.
+    /// The digest of the node at `position`; `None` where it is not kept. Takes no memory.
     pub fn get_node(&self, position: Position<F>) -> Option<D>
         ensures { result
             ≡ kept_at F.shape self.now.boundary self.now.pinned self.now.nodes position }
@@ -141,11 +141,11 @@ impl<F: Family, D: Digest> Mem<F, D> {
         let _ = &self.leaves;
     }
 
-    /// The root under a hasher, with so many leading peaks inactive. Takes no memory.
+    /// The root under `hasher`, with the first `inactive` peaks inactive. Takes no memory.
     ///
     /// # Errors
     ///
-    /// `InvalidProof` where more peaks are to be inactive than there are.
+    /// `InvalidProof` where `inactive` is greater than the number of peaks.
     pub fn root<H: Hasher<F, Digest = D>>(&self, hasher: &H, inactive: usize) -> Result<D, Error<F>>
         ensures root { IfOk result (λ d. (list : List (List ℕ)) → StandsFor D.text F.shape
             (node_over H.hash_of (H.layout hasher.now) (H.chunk hasher.now)) self.now list
@@ -174,11 +174,12 @@ impl<F: Family, D: Digest> Mem<F, D> {
         Ok(hasher.root(self.leaves(), inactive, &digests[..count]))
     }
 
-    /// Appends a leaf for an element. Only the leaf and the nodes that are born with it are hashed.
+    /// Appends the leaf of `element`, and the nodes that are added with it.
     ///
     /// # Errors
     ///
-    /// `LocationOverflow` of the leaf where the tree has as many leaves as any may have; `Memory`.
+    /// `LocationOverflow` of the number of leaves where that is `MAX_LEAVES`; `Memory`. After either the tree is as it
+    /// was.
     pub fn add<H: Hasher<F, Digest = D>>(
         &mut self,
         hasher: &H,
@@ -219,13 +220,13 @@ impl<F: Family, D: Digest> Mem<F, D> {
         Ok(())
     }
 
-    /// Writes digests of leaves anew, one after another, and hashes the nodes over them: each once where the list is
-    /// ascending. Takes no memory.
+    /// Gives the leaves of `updates`, in the order of the list, their new digests, and the nodes over them theirs. Takes
+    /// no memory. Where the list ascends, each of these nodes is hashed once: that is how the code goes, and no clause.
     ///
     /// # Errors
     ///
-    /// For the first leaf of the list that is refused: `RangeOutOfBounds` where it is not in the tree; `ElementPruned` of
-    /// its position where it is forgotten.
+    /// For the first leaf of the list that is refused: `RangeOutOfBounds` of it where it is not in the tree;
+    /// `ElementPruned` of its position where it is forgotten. After either the tree is as it was.
     pub fn update_leaves<H: Hasher<F, Digest = D>>(
         &mut self,
         hasher: &H,
@@ -267,12 +268,13 @@ impl<F: Family, D: Digest> Mem<F, D> {
         Ok(())
     }
 
-    /// Forgets the leaves below a location, and all nodes but those that the others need. Below what is forgotten
-    /// already it does nothing.
+    /// Forgets the leaves below `location`, and all nodes but those that the other leaves need. Where these leaves are
+    /// forgotten already it changes nothing.
     ///
     /// # Errors
     ///
-    /// `RangeOutOfBounds` of the location where it is past the number of leaves; `Memory`.
+    /// `RangeOutOfBounds(location)` where `location` is past the number of leaves; `Memory`. After either the tree is as
+    /// it was.
     pub fn prune(&mut self, location: Location<F>) -> Result<(), Error<F>>
         ensures stands { OnOk result ((N : NodesOver) (list : List (List ℕ))
             → StandsFor D.text F.shape N self.old list → StandsFor D.text F.shape N self.new list) }
@@ -306,7 +308,7 @@ impl<F: Family, D: Digest> Mem<F, D> {
     }
 }
 
-/// The first leaf of some updates that is forgotten or not in the tree.
+/// The first leaf of `updates` that is below `boundary` or not below `leaves`; none where there is no such leaf.
 fn first_away<F: Family, D: Digest>(
     leaves: u64,
     boundary: u64,
@@ -325,7 +327,8 @@ fn first_away<F: Family, D: Digest>(
     None
 }
 
-/// How many peaks there are over a location; or the position of the first that is past so many.
+/// How many peaks there are over the leaves below `boundary`; or, where they are more than `given`, the position of peak
+/// number `given`, counted from 0.
 fn needed<F: Family>(boundary: Location<F>, given: usize) -> Result<usize, Position<F>>
     requires { boundary ≤ 2 ^ 62 }
     ensures count { IfOk result (λ n. (n ≡ length (F.shape.peaks boundary)) × (n ≤ given)) }
@@ -342,7 +345,7 @@ fn needed<F: Family>(boundary: Location<F>, given: usize) -> Result<usize, Posit
     Ok(count)
 }
 
-/// A copy of some digests.
+/// A copy of `digests`.
 fn copied<D: Digest>(alloc: Global, digests: &[D]) -> Result<Vec<D>, AllocError>
     ensures { IfOk result (λ v. v.items ≡ digests.now) }
 {

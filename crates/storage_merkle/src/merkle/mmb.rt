@@ -9,8 +9,8 @@ ghost use Rattle.storage_merkle.specs.Nodes.{IsNode};
 
 use crate::merkle::family::power;
 
-/// The family of MMBs (Merkle mountain belts). A parent over `2^k` leaves comes `2^(k-1) - 1` leaves after the last of them, so
-/// that each leaf brings at most one parent. At most one complete chunk is pending.
+/// The family of MMBs (Merkle mountain belts). The parent over `2^k` leaves is added `2^(k-1) - 1` leaves after the last of
+/// them, so that each leaf brings one parent at most. At most one complete chunk is pending.
 #[derive(Clone, Copy, Drop)]
 pub struct Family;
 

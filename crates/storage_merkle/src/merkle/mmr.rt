@@ -8,8 +8,8 @@ ghost use Rattle.storage_merkle.specs.Nodes.{IsNode};
 
 use crate::merkle::family::power;
 
-/// The family of Merkle mountain ranges. A node comes with the last of its leaves, so that every complete chunk lies below
-/// one peak and the slot of a pending chunk is absent.
+/// The family of MMRs (Merkle mountain ranges). A node is added with the last of its leaves, so that each complete chunk
+/// lies inside one peak and there is no slot of a pending chunk.
 #[derive(Clone, Copy, Drop)]
 pub struct Family;
 

@@ -26,7 +26,8 @@ use std::convert::AsSlice;
 use storage_codec::NoMemory;
 use storage_codec::digest::Digest;
 
-/// The root; none where a count does not fit or the locations do not ascend.
+/// The root of the tree in which the elements of `claims` stand at their locations, as `proof` has it; none where a
+/// count does not fit or the locations do not ascend.
 pub(crate) fn recompute<F: Family, H: Hasher<F>, E: AsSlice<u8>>(
     proof: &Proof<F, H::Digest>,
     alloc: Global,
@@ -65,14 +66,15 @@ pub(crate) fn recompute<F: Family, H: Hasher<F>, E: AsSlice<u8>>(
 struct Given<'a, F, D> {
     /// How many leaves the tree has.
     leaves: u64,
-    /// Their positions, ascending.
+    /// The positions of these nodes, ascending.
     positions: &'a [Position<F>],
-    /// Their digests.
+    /// The digests of these nodes, in the order of `positions`.
     digests: &'a [D],
 }
 
 impl<F: Family, D: Digest> Given<'_, F, D> {
-    /// Adds the digests of the peaks over `left` leaves from the leaf `first` on, from the elements claimed there.
+    /// Adds to `peaks` the digests of the peaks over the `left` leaves from the leaf `first` on, from the elements of
+    /// `claims`, which all are of these leaves.
     fn add_peaks<H: Hasher<F, Digest = D>, E: AsSlice<u8>>(
         &self,
         hasher: &H,
@@ -108,7 +110,8 @@ impl<F: Family, D: Digest> Given<'_, F, D> {
         self.add_peaks(hasher, next, left - power(height), later, peaks)
     }
 
-    /// The digest of a node, from the elements claimed under it and the digests of the nodes beside them.
+    /// The digest of the node of height `height` over the leaf `first`, from the elements of `claims`, which all are
+    /// under it, and the digests of the nodes beside them.
     fn node<H: Hasher<F, Digest = D>, E: AsSlice<u8>>(
         &self,
         hasher: &H,
@@ -146,7 +149,7 @@ impl<F: Family, D: Digest> Given<'_, F, D> {
         hasher.node_digest(position, &left, &right)
     }
 
-    /// The digest that is given for a position.
+    /// The given digest of the node at `position`, which is among the given ones.
     fn digest(&self, position: Position<F>) -> D
         requires given { AreGiven self.now.leaves self.now.positions.now self.now.digests.now }
         requires present { Contains self.now.positions.now position }

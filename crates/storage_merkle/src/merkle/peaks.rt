@@ -10,7 +10,7 @@ use crate::merkle::{Family, Position};
 use std::iter::FusedIterator;
 use std::marker::{Model, PhantomData};
 
-/// The peaks of a tree from some leaf on: the position and the height of each. It ends, and takes no memory.
+/// The peaks of a tree from some leaf on, each as (position, height). It ends, and takes no memory.
 #[derive(Drop)]
 pub struct Peaks<F: Family> {
     first: u64,
@@ -28,7 +28,7 @@ impl<F: Family> Model for Peaks<F> {
 }
 
 impl<F: Family> Peaks<F> {
-    /// The peaks over so many leaves.
+    /// The peaks of the tree over `leaves` leaves.
     pub(crate) fn over(leaves: u64) -> Self
         requires { leaves ≤ 2 ^ 62 }
         ensures { result ≡ placed F.shape 0 (F.shape.peaks leaves) }
@@ -77,7 +77,7 @@ impl<F: Family> Model for NodesToPin<F> {
 }
 
 impl<F: Family> NodesToPin<F> {
-    /// Those of these peaks.
+    /// The positions of `peaks`.
     pub(crate) fn of(peaks: Peaks<F>) -> Self
         ensures { result ≡ map (λ p. p.0) peaks }
     {

@@ -23,7 +23,7 @@ use std::marker::Model;
 use std::ops::Range;
 use storage_codec::digest::Digest;
 
-/// The nodes that a proof of a range of leaves needs.
+/// The plan of a range proof: which nodes of a tree the proof of a range of leaves needs.
 #[derive(Drop)]
 pub struct RangePlan<F: Family> {
     leaves: Location<F>,
@@ -43,13 +43,13 @@ impl<F: Family> Model for RangePlan<F> {
 }
 
 impl<F: Family> RangePlan<F> {
-    /// The plan of a range of leaves in a tree of `leaves` leaves.
+    /// The plan of the leaves of `range` in the tree over `leaves` leaves.
     ///
     /// # Errors
     ///
-    /// The first of: `LocationOverflow(leaves)` past `MAX_LEAVES`; `Empty` where the range holds no leaf;
-    /// `LocationOverflow` of the range's last leaf where its end passes `MAX_LEAVES`; `RangeOutOfBounds` of that leaf
-    /// where it is not in the tree; `Memory`.
+    /// The first of: `LocationOverflow(leaves)` where `leaves` is past `MAX_LEAVES`; `Empty` where `range` holds no
+    /// leaf; `LocationOverflow` of the last leaf of `range` where its end is past `MAX_LEAVES`; `RangeOutOfBounds` of
+    /// that leaf where it is not in the tree; `Memory`.
     pub fn new(
         alloc: Global,
         leaves: Location<F>,
@@ -62,7 +62,8 @@ impl<F: Family> RangePlan<F> {
         Self::over(alloc, leaves, range.start, range.end)
     }
 
-    /// The plan of the leaves from `start` to before `end`, as `new` answers it.
+    /// The plan of the leaves from `start` to before `end` in the tree over `leaves` leaves, as [`new`](Self::new)
+    /// answers it.
     fn over(
         alloc: Global,
         leaves: Location<F>,
@@ -87,8 +88,8 @@ impl<F: Family> RangePlan<F> {
         })
     }
 
-    /// The positions of every node whose digest the proof needs, ascending and each once: a fold needs each of its
-    /// peaks.
+    /// The positions of all nodes whose digests the proof needs, ascending and each once: of a fold, those of each of
+    /// its peaks.
     pub fn positions(&self) -> &[Position<F>]
         ensures value { result.now ≡ planned F.shape self.now.leaves self.now.start self.now.end }
         ensures rising { IsStrictlyIncreasing result.now }
@@ -112,7 +113,7 @@ impl<F: Family> RangePlan<F> {
         self.start
     }
 
-    /// The leaf past the range.
+    /// The leaf after the last one of the range.
     pub fn end(&self) -> Location<F>
         ensures value { result ≡ self.now.end }
         ensures within { result ≤ self.now.leaves }
@@ -120,12 +121,13 @@ impl<F: Family> RangePlan<F> {
         self.end
     }
 
-    /// The proof, from the digests of the planned nodes, for which `get_node` is asked in ascending order, once each.
+    /// The proof under `hasher` with the first `inactive` peaks inactive, from the digests of the planned nodes, for
+    /// which `get_node` is asked in ascending order of positions.
     ///
     /// # Errors
     ///
-    /// The first of: `InvalidProof` where more peaks are to be inactive than there are; `ElementPruned` of the first
-    /// planned node that `get_node` does not have; `Memory`.
+    /// The first of: `InvalidProof` where `inactive` is greater than the number of peaks; `ElementPruned` of the
+    /// first planned position for which `get_node` answers none; `Memory`.
     pub fn build<H: Hasher<F>, G: Fn(Position<F>) -> Option<H::Digest>>(
         &self,
         alloc: Global,
@@ -161,7 +163,7 @@ impl<F: Family> RangePlan<F> {
         })
     }
 
-    /// The digests of the proof, from those of the planned nodes.
+    /// The digests of the proof, from `answered`, those of the planned nodes in ascending order of positions.
     fn digests<H: Hasher<F>>(
         &self,
         alloc: Global,
@@ -199,11 +201,11 @@ impl<F: Family> RangePlan<F> {
     }
 }
 
-/// Whether the leaves from `start` to before `end` are a range of a tree of `leaves` leaves.
+/// Whether the leaves from `start` to before `end` are a range of the tree over `leaves` leaves.
 ///
 /// # Errors
 ///
-/// Those of [`RangePlan::new`], but `Memory`.
+/// Those of [`RangePlan::new`] but `Memory`.
 pub(crate) fn check_range<F: Family>(
     leaves: Location<F>,
     start: Location<F>,
@@ -228,11 +230,11 @@ pub(crate) fn check_range<F: Family>(
     Ok(())
 }
 
-/// What `get_node` answers at positions, which it is asked for in their order.
+/// The digests that `get_node` answers at `positions`, for which it is asked in their order.
 ///
 /// # Errors
 ///
-/// `ElementPruned` of the first position that it does not have; `Memory`.
+/// `ElementPruned` of the first of `positions` for which it answers none; `Memory`.
 fn answers<F: Family, D: Digest, G: Fn(Position<F>) -> Option<D>>(
     alloc: Global,
     positions: &[Position<F>],
@@ -257,13 +259,17 @@ fn answers<F: Family, D: Digest, G: Fn(Position<F>) -> Option<D>>(
 /// The peaks over `left` leaves from the leaf `first` on, of which `folded` leading ones are folded from the left.
 #[derive(Clone, Copy)]
 pub(crate) struct Rest {
+    /// The leaf that the first of these peaks begins with.
     pub first: u64,
+    /// How many leaves they are over.
     pub left: u64,
+    /// How many leading ones are folded from the left.
     pub folded: u64,
 }
 
 impl Rest {
-    /// All peaks over so many leaves, of which so many are inactive.
+    /// All peaks of the tree over `leaves` leaves, of which the first `inactive` are inactive, folded in the hasher's
+    /// direction.
     pub fn all<F: Family, H: Hasher<F>>(hasher: &H, leaves: u64, inactive: usize) -> Self
         requires { leaves ≤ 2 ^ 62 }
         ensures peaks { ArePeaks F.shape leaves result.first result.left }
@@ -274,7 +280,8 @@ impl Rest {
         Self::bagged::<F>(hasher.root_bagging(), leaves, inactive)
     }
 
-    /// All peaks over so many leaves, of which so many are inactive, folded in that direction.
+    /// All peaks of the tree over `leaves` leaves, of which the first `inactive` are inactive, folded in the
+    /// direction `bagging`.
     pub fn bagged<F: Family>(bagging: Bagging, leaves: u64, inactive: usize) -> Self
         requires { leaves ≤ 2 ^ 62 }
         ensures peaks { ArePeaks F.shape leaves result.first result.left }
@@ -293,7 +300,7 @@ impl Rest {
         }
     }
 
-    /// The peaks after the first one, which has this height.
+    /// The peaks after the first one, whose height is `height`.
     pub fn next(self, height: u32) -> Self
         requires small { height ≤ 62 }
         requires within { 2 ^ height ≤ self.left }
@@ -330,7 +337,7 @@ impl Rest {
     }
 }
 
-/// The plan of one leaf.
+/// The plan of the proof of one leaf.
 #[derive(Drop)]
 pub struct ElementPlan<F: Family> {
     plan: RangePlan<F>,
@@ -345,12 +352,12 @@ impl<F: Family> Model for ElementPlan<F> {
 }
 
 impl<F: Family> ElementPlan<F> {
-    /// The plan of the leaf at a location of a tree of `leaves` leaves.
+    /// The plan of the leaf at `location` in the tree over `leaves` leaves.
     ///
     /// # Errors
     ///
-    /// The first of: `LocationOverflow(leaves)` past `MAX_LEAVES`; `LocationOverflow(location)` from `MAX_LEAVES` on;
-    /// `RangeOutOfBounds(location)` from `leaves` on; `Memory`.
+    /// The first of: `LocationOverflow(leaves)` where `leaves` is past `MAX_LEAVES`; `LocationOverflow(location)`
+    /// where `location` is `MAX_LEAVES` or more; `RangeOutOfBounds(location)` where it is `leaves` or more; `Memory`.
     pub fn new(alloc: Global, leaves: Location<F>, location: Location<F>) -> Result<Self, Error<F>>
         ensures { MatchOption (refusal F leaves location (location + 1)) (MatchResult result
             (λ plan. plan ≡ record { leaves = leaves; start = location; end = location + 1 })
@@ -369,7 +376,7 @@ impl<F: Family> ElementPlan<F> {
         }
     }
 
-    /// The location.
+    /// The location of the leaf.
     pub fn location(&self) -> Location<F>
         ensures value { result ≡ self.now.start }
         ensures within { result < self.now.leaves }
@@ -377,7 +384,7 @@ impl<F: Family> ElementPlan<F> {
         self.plan.start()
     }
 
-    /// The plan of the range of this one leaf.
+    /// The plan of the range that is this one leaf.
     pub fn into(self) -> RangePlan<F>
         ensures value { result ≡ self }
         ensures one { result.end ≡ result.start + 1 }
@@ -386,7 +393,7 @@ impl<F: Family> ElementPlan<F> {
     }
 }
 
-/// How many peaks the tree over so many leaves has.
+/// How many peaks the tree over `leaves` leaves has.
 pub(crate) fn peak_count<F: Family>(leaves: u64) -> u64
     requires { leaves ≤ 2 ^ 62 }
     ensures { result ≡ length (F.shape.peaks leaves) }
@@ -394,7 +401,8 @@ pub(crate) fn peak_count<F: Family>(leaves: u64) -> u64
     2 * leaves - F::nodes_over(leaves)
 }
 
-/// The positions of the greatest nodes in overlapped peaks that hold no leaf of the range, ascending.
+/// The positions, ascending, of the siblings: the greatest nodes with no leaf from `start` to before `end`, inside
+/// those peaks of the tree over `leaves` leaves that have one.
 pub(crate) fn siblings<F: Family>(
     alloc: Global,
     leaves: u64,
@@ -420,7 +428,8 @@ pub(crate) fn siblings<F: Family>(
     Ok(positions)
 }
 
-/// The positions of the greatest nodes that hold no leaf of the range, ascending.
+/// The positions, ascending, of the greatest nodes of the tree over `leaves` leaves with no leaf from `start` to
+/// before `end`.
 fn planned<F: Family>(
     alloc: Global,
     leaves: u64,
@@ -443,7 +452,8 @@ fn planned<F: Family>(
     Ok(positions)
 }
 
-/// Adds the positions of the greatest nodes at or under a node that hold no leaf of the range.
+/// Adds to `positions` those of the greatest nodes with no leaf from `start` to before `end`, at or under the node of
+/// height `height` over the leaf `first`.
 fn add_apart<F: Family>(
     start: u64,
     end: u64,
@@ -469,7 +479,7 @@ fn add_apart<F: Family>(
     add_apart(start, end, first + power(height - 1), height - 1, positions)
 }
 
-/// Whether a node holds no leaf from `start` to before `end`.
+/// Whether the node of height `height` over the leaf `first` has no leaf from `start` to before `end`.
 pub(crate) fn is_apart(start: u64, end: u64, first: u64, height: u32) -> bool
     requires small { height ≤ 62 }
     requires within { first + 2 ^ height ≤ 2 ^ 62 }
@@ -478,7 +488,7 @@ pub(crate) fn is_apart(start: u64, end: u64, first: u64, height: u32) -> bool
     first + power(height) <= start || end <= first
 }
 
-/// The position of a node.
+/// The position of the node of height `height` over the leaf `first`.
 pub(crate) fn node_position<F: Family>(first: u64, height: u32) -> Position<F>
     requires aligned { first % 2 ^ height ≡ 0 }
     requires within { first + 2 ^ height ≤ 2 ^ 62 }

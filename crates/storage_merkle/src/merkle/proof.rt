@@ -24,13 +24,13 @@ mod pinned;
 
 pub use lent::LentProof;
 
-/// A proof that elements stand at a range of leaves.
+/// A proof that elements stand at a range of leaves, or, as a multi proof, at any locations.
 #[derive(Drop)]
 #[derive_where(Debug, PartialEq, Eq; D)]
 pub struct Proof<F, D> {
     /// How many leaves the tree has.
     pub leaves: Location<F>,
-    /// How many leading peaks are inactive.
+    /// How many leading peaks of the tree are inactive.
     pub inactive_peaks: usize,
     /// The digests that the elements do not give: of the peaks and folds apart from the range in leaf order, then of
     /// the nodes beside the range in overlapped peaks, ascending by position. Of a multi proof: of the greatest nodes with
@@ -39,7 +39,7 @@ pub struct Proof<F, D> {
 }
 
 impl<F: Family, D: Digest> Proof<F, D> {
-    /// The proof of no elements in the tree without leaves.
+    /// The proof of no elements in the tree without leaves. Takes no memory.
     pub fn default(alloc: Global) -> Self
         ensures leaves { result.leaves ≡ 0 }
         ensures inactive { result.inactive_peaks ≡ 0 }
@@ -52,7 +52,7 @@ impl<F: Family, D: Digest> Proof<F, D> {
         }
     }
 
-    /// An equal proof.
+    /// A proof equal to this one. `NoMemory` where there is no memory for its digests.
     pub fn clone(&self) -> Result<Self, NoMemory>
         ensures { IfOk result (λ copy. (copy.leaves ≡ self.now.leaves) × (copy.inactive_peaks
             ≡ self.now.inactive_peaks) × (copy.digests.items ≡ self.now.digests.items)) }
@@ -66,7 +66,7 @@ impl<F: Family, D: Digest> Proof<F, D> {
         })
     }
 
-    /// Whether an element stands at a location of the tree with that root.
+    /// Whether `element` stands at `location` of the tree with the root `root`. Out of memory is an error, never a no.
     pub fn verify_element_inclusion<H: Hasher<F, Digest = D>>(
         &self,
         alloc: Global,
@@ -88,8 +88,8 @@ impl<F: Family, D: Digest> Proof<F, D> {
         self.verify_range_inclusion(alloc, hasher, &[element], location, root)
     }
 
-    /// Whether elements stand at the leaves from `start` on of the tree with that root. The answer for no elements takes no
-    /// memory.
+    /// Whether `elements` stand at the leaves from `start` on of the tree with the root `root`. The answer for no elements
+    /// takes no memory: yes just for the proof of nothing, `start` 0 and the root of the tree without leaves.
     pub fn verify_range_inclusion<H: Hasher<F, Digest = D>, E: AsSlice<u8>>(
         &self,
         alloc: Global,
@@ -116,8 +116,8 @@ impl<F: Family, D: Digest> Proof<F, D> {
         Ok(computed == Some(*root))
     }
 
-    /// Whether elements stand at locations, which must ascend, of the tree with that root. The answer for no elements takes
-    /// no memory.
+    /// Whether `elements` stand at their locations, which must ascend, each once, in the tree with the root `root`. The
+    /// answer for no elements takes no memory.
     pub fn verify_multi_inclusion<H: Hasher<F, Digest = D>, E: AsSlice<u8>>(
         &self,
         alloc: Global,
@@ -143,7 +143,7 @@ impl<F: Family, D: Digest> Proof<F, D> {
         Ok(recomputed == Some(*root))
     }
 
-    /// The root of the tree in which the elements stand at the leaves from `start` on; none where a count does not fit or
+    /// The root of the tree in which `elements` stand at the leaves from `start` on; none where a count does not fit or
     /// there are no elements.
     pub fn recompute_root<H: Hasher<F, Digest = D>, E: AsSlice<u8>>(
         &self,
@@ -161,7 +161,7 @@ impl<F: Family, D: Digest> Proof<F, D> {
         self.lent().recompute_root(alloc, hasher, elements, start)
     }
 
-    /// The root of the tree in which the elements stand at the leaves from `start` on.
+    /// The root of the tree in which `elements` stand at the leaves from `start` on.
     ///
     /// # Errors
     ///
@@ -189,7 +189,7 @@ impl<F: Family, D: Digest> Proof<F, D> {
         }
     }
 
-    /// The same proof, with its digests lent.
+    /// This proof, with its digests lent.
     pub(crate) fn lent(&self) -> LentProof<F, D>
         ensures leaves { result.leaves ≡ self.now.leaves }
         ensures inactive { result.inactive_peaks ≡ self.now.inactive_peaks }
@@ -202,7 +202,8 @@ impl<F: Family, D: Digest> Proof<F, D> {
         }
     }
 
-    /// Whether it is the proof of no elements of the tree without leaves, which has that root. Takes no memory.
+    /// Whether it is the proof of no elements of the tree without leaves, `start` is 0, and `root` is that tree's root.
+    /// Takes no memory.
     fn verify_nothing<H: Hasher<F, Digest = D>>(
         &self,
         hasher: &H,

@@ -57,8 +57,8 @@ impl<F: Family, D: Digest> Model for ProofStore<F, D> {
 }
 
 impl<F: Family, D: Digest> ProofStore<F, D> {
-    /// A proof of some locations, from the digests that are kept and, where they lack one, from the first of the given
-    /// peaks at its position, which are not checked. The locations must ascend.
+    /// A proof of the leaves at `locations`, which must ascend, each once, from the digests that are kept and, for a node
+    /// without one, from the first of `peaks` at its position. The digests of `peaks` are not checked.
     ///
     /// # Errors
     ///
@@ -95,7 +95,7 @@ impl<F: Family, D: Digest> ProofStore<F, D> {
         }
     }
 
-    /// The positions of the peaks inside the fold of those past the source's range, ascending.
+    /// The positions of the peaks in the fold of those past the leaves that the source proves, ascending.
     pub fn suffix_peak_positions(&self, alloc: Global) -> Result<Vec<Position<F>>, NoMemory>
         ensures { IfOk result (λ v. v.items ≡ suffix_positions F.shape self.now) }
     {
@@ -114,7 +114,8 @@ impl<F: Family, D: Digest> ProofStore<F, D> {
         Ok(positions)
     }
 
-    /// The digests at some positions.
+    /// The digests at `positions`: of each the kept one, else that of the first of `peaks` there. Refuses as
+    /// [`multi_proof`](Self::multi_proof) does for the first position without one.
     fn digests_at(
         &self,
         alloc: Global,
@@ -137,7 +138,7 @@ impl<F: Family, D: Digest> ProofStore<F, D> {
         Ok(digests)
     }
 
-    /// The digest at a position: the one that is kept, else that of the first of the given peaks there.
+    /// The digest at `position`: the kept one, else that of the first of `peaks` there.
     fn digest_at(&self, position: Position<F>, peaks: &[(Position<F>, D)]) -> Option<D>
         ensures { option_map D.text result ≡ found_at self.now (texts D.text peaks.now) position }
     {
@@ -147,7 +148,7 @@ impl<F: Family, D: Digest> ProofStore<F, D> {
         }
     }
 
-    /// The digest that is kept at a position.
+    /// The digest that is kept at `position`.
     fn kept_at(&self, position: Position<F>) -> Option<D>
         ensures { option_map D.text result ≡ entry_at position self.now.kept }
     {
@@ -158,7 +159,8 @@ impl<F: Family, D: Digest> ProofStore<F, D> {
         Some(self.kept[index].1)
     }
 
-    /// Why there is no proof that needs a position whose digest is neither kept nor given; `Memory` where none was found.
+    /// Why there is no proof where the digest of the needed node at `position` is neither kept nor given; `Memory` where
+    /// there was none to find out.
     fn missing(&self, alloc: Global, position: Position<F>) -> Error<F>
         ensures { (result ≡ (if is_among position (suffix_positions F.shape self.now)
             then Error.CompressedDigest position else Error.ElementPruned position))
@@ -177,7 +179,7 @@ impl<F: Family, D: Digest> ProofStore<F, D> {
     }
 }
 
-/// The first digest at a position.
+/// The digest of the first of `entries` at `position`.
 fn first_at<F: Family, D: Digest>(position: Position<F>, entries: &[(Position<F>, D)]) -> Option<D>
     ensures { option_map D.text result ≡ entry_at position (texts D.text entries.now) }
 {
@@ -189,12 +191,12 @@ fn first_at<F: Family, D: Digest>(position: Position<F>, entries: &[(Position<F>
     None
 }
 
-/// Whether the locations ascend, each once, and are those of leaves.
+/// Whether `locations` ascend, each once, and are below `leaves`.
 ///
 /// # Errors
 ///
-/// Of the first location for which it holds: `UnsortedLocation` below the one before it, `DuplicateLocation` where it equals
-/// it, `RangeOutOfBounds` where there is no such leaf.
+/// Of the first location for which it holds: `UnsortedLocation` where it is below the one before it, `DuplicateLocation`
+/// where it equals it, `RangeOutOfBounds` where it is not below `leaves`.
 fn check_locations<F: Family>(locations: &[Location<F>], leaves: u64) -> Result<(), Error<F>>
     requires { leaves ≤ 2 ^ 62 }
     ensures { MatchResult result (λ _. location_refusal F 0 leaves locations.now ≡ None) (λ e.
@@ -217,8 +219,8 @@ fn check_locations<F: Family>(locations: &[Location<F>], leaves: u64) -> Result<
     Ok(())
 }
 
-/// Adds the positions of the peaks that begin at `past` or after it, of those over `left` leaves from the leaf `first` on
-/// without the first `folded` ones.
+/// Adds to `positions` those of the peaks over the `left` leaves from the leaf `first` on that begin at the leaf `past` or
+/// after it, but of the first `folded` peaks none.
 fn add_past<F: Family>(
     past: u64,
     first: u64,

@@ -7,7 +7,7 @@ use crate::merkle::{Error, Family, Position};
 use std::alloc::Global;
 use storage_codec::digest::Digest;
 
-/// Nodes in memory.
+/// What serves the nodes of a tree from memory, without failing.
 pub trait Readable {
     /// The family of the tree.
     type Family: Family;
@@ -17,12 +17,12 @@ pub trait Readable {
     /// The digest at each position; none where there is none.
     ghost node: { Self → ℕ → Option Self.Digest };
 
-    /// The digest at a position; none where it has none. Takes no memory.
+    /// The digest of the node at `position`; none where it has none. Takes no memory.
     fn get_node(&self, position: Position<Self::Family>) -> Option<Self::Digest>
         ensures { result ≡ node self.now position };
 }
 
-/// Nodes that may fail to be read.
+/// What serves the nodes of a tree and may fail at it, as a disk does.
 pub trait Storage<F: Family> {
     /// The digests of the nodes.
     type Digest: Digest;
@@ -36,15 +36,15 @@ pub trait Storage<F: Family> {
     /// How often it has failed.
     ghost failed: { Self → ℕ };
 
-    /// How many nodes the tree has.
+    /// How many nodes the tree has, as the position past the last.
     fn size(&self) -> Position<F>
         ensures { result ≡ nodes self.now };
 
-    /// How often it has failed.
+    /// How often a read has failed.
     fn failures(&self) -> u64
         ensures { result ≡ failed self.now };
 
-    /// The digest at a position; none where it has none.
+    /// The digest of the node at `position`; none where it has none.
     ///
     /// # Errors
     ///
@@ -60,12 +60,12 @@ pub trait Storage<F: Family> {
         ensures same_size { nodes self.new ≡ nodes self.old }
         ensures same { (p : ℕ) → node self.new p ≡ node self.old p };
 
-    /// The digests at positions, in their order.
+    /// The digests of the nodes at `positions`, in their order.
     ///
     /// # Errors
     ///
-    /// The first in the order of the list: `Source` where the store failed, just where its count of failures grew, by
-    /// one; `ElementPruned` of a position where it has none. Or `Memory`.
+    /// `Source` where the store failed, just where its count of failures grew, by one; `ElementPruned` of the first
+    /// of `positions` where it has no digest; `Memory`.
     fn get_nodes(
         &mut self,
         alloc: Global,

@@ -14,7 +14,8 @@ use crate::merkle::{Family, Location, Position};
 use std::alloc::AllocError;
 use storage_codec::digest::Digest;
 
-/// The digest that is kept at a position.
+/// The digest at `position`, where it is kept: in `pinned` those of the peaks over the leaves below `boundary`, in
+/// `nodes` those of the nodes from that leaf's position on.
 pub(crate) fn look_up<F: Family, D: Digest>(
     boundary: u64,
     pinned: &[D],
@@ -40,7 +41,7 @@ pub(crate) fn look_up<F: Family, D: Digest>(
     None
 }
 
-/// The digest of the node that is born so many places after the leaf that comes.
+/// The digest of the `offset`-th node, from 0, of those that are added with leaf number `leaves`, that of `element`.
 pub(crate) fn born<F: Family, H: Hasher<F>>(
     hasher: &H,
     leaves: u64,
@@ -87,7 +88,8 @@ pub(crate) fn born<F: Family, H: Hasher<F>>(
     hasher.node_digest(position, &left, &right)
 }
 
-/// Appends the nodes that come with a leaf.
+/// Appends to `nodes` the digests of the nodes that are added with leaf number `leaves`, that of `element`. Out of
+/// memory changes nothing.
 pub(crate) fn grow<F: Family, H: Hasher<F>>(
     hasher: &H,
     leaves: u64,
@@ -123,7 +125,7 @@ pub(crate) fn grow<F: Family, H: Hasher<F>>(
     Ok(())
 }
 
-/// The digest of the node of a height over a leaf, from its children.
+/// The digest of the node of height `height`, at least 1, over the leaf `place`, from the digests of its children.
 pub(crate) fn above<F: Family, H: Hasher<F>>(
     hasher: &H,
     leaves: u64,
@@ -167,7 +169,7 @@ pub(crate) fn above<F: Family, H: Hasher<F>>(
     hasher.node_digest(Position::new(position), &left, &right)
 }
 
-/// Whether the next leaf is below the node of a height over a leaf.
+/// Whether there is a leaf `next`, and it is under the node of height `height` over the leaf `first`.
 pub(crate) fn is_below(next: Option<u64>, first: u64, height: u32) -> bool
     requires { height ≤ 63 }
     ensures { IsTrue result ↔ Reaches next first height }
@@ -178,7 +180,8 @@ pub(crate) fn is_below(next: Option<u64>, first: u64, height: u32) -> bool
     }
 }
 
-/// Writes the digest of a leaf, and those of the nodes over it, up to the first one that is over the next leaf too.
+/// Writes `digest` as that of the leaf `place`, and those of the nodes over it, up to the first one that is over the
+/// leaf `next` too.
 pub(crate) fn write_leaf<F: Family, H: Hasher<F>>(
     hasher: &H,
     leaves: u64,
@@ -215,7 +218,7 @@ pub(crate) fn write_leaf<F: Family, H: Hasher<F>>(
     }
 }
 
-/// The leaf of the first of some updates, if there is one.
+/// The leaf of the first of `updates`; none where there are none.
 fn first_place<F: Family, D: Digest>(updates: &[(Location<F>, D)]) -> Option<u64>
     ensures next { IsNext result (map (λ u. u.0) updates.now) }
     ensures first { result ≡ slice_get (map (λ u. u.0) updates.now) 0 }
@@ -224,7 +227,7 @@ fn first_place<F: Family, D: Digest>(updates: &[(Location<F>, D)]) -> Option<u64
     Some(location.as_u64())
 }
 
-/// Writes the digests of leaves, one after another, and those of the nodes over them.
+/// Writes the digests `updates` of leaves in their order, and those of the nodes over them.
 pub(crate) fn write_leaves<F: Family, H: Hasher<F>>(
     hasher: &H,
     leaves: u64,
@@ -257,7 +260,7 @@ pub(crate) fn write_leaves<F: Family, H: Hasher<F>>(
     }
 }
 
-/// The digests of the peaks over so many leaves, and how many they are.
+/// The digests of the peaks of the tree over `leaves` leaves, in front of an array of 64, and how many they are.
 pub(crate) fn peaks_over<F: Family, D: Digest>(
     boundary: u64,
     pinned: &[D],

@@ -1,4 +1,4 @@
-//! Proofs of a tree in memory.
+//! Range proofs of a tree in memory.
 
 ghost use Rattle.std.specs.Prelude.{◌≡◌, ◌≢◌, ℕ, ◌^◌, ◌<◌, ◌≤◌, ◌⊎◌, length, map, Err, IfOk, IfErr, MatchOption};
 ghost use Rattle.storage_merkle.specs.Hashing.{leaf_digests, node_over};
@@ -16,13 +16,14 @@ use std::ops::Range;
 use storage_codec::digest::Digest;
 
 impl<F: Family, D: Digest> Mem<F, D> {
-    /// The tree's own proof of a range of leaves, with so many leading peaks inactive.
+    /// The tree's own proof of the leaves of `range`, with the first `inactive` peaks inactive.
     ///
     /// # Errors
     ///
-    /// The first of: `LocationOverflow`, `Empty` and `RangeOutOfBounds` as a plan of the range answers them; `InvalidProof`
-    /// where more peaks are to be inactive than there are; `ElementPruned` of the first node that is needed and not kept,
-    /// which comes for no range that begins at the pruning location or past it; `Memory`.
+    /// The first of: `LocationOverflow`, `Empty` and `RangeOutOfBounds` as
+    /// [`RangePlan::new`](crate::merkle::RangePlan::new) answers them; `InvalidProof` where `inactive` is greater than the
+    /// number of peaks; `ElementPruned` of the first position that is needed and not kept, which comes for no range that
+    /// begins at the boundary or past it; `Memory`.
     pub fn range_proof<H: Hasher<F, Digest = D>>(
         &self,
         alloc: Global,
@@ -49,7 +50,7 @@ impl<F: Family, D: Digest> Mem<F, D> {
         })
     }
 
-    /// The proof, where `get_node` answers what is kept.
+    /// The proof that [`range_proof`](Self::range_proof) answers, where `get_node` answers the digests that are kept.
     fn proof_by<H: Hasher<F, Digest = D>, G: Fn(Position<F>) -> Option<D>>(
         &self,
         alloc: Global,

@@ -64,11 +64,11 @@ impl<F: Family, D: Digest> Storage<F> for Mem<F, D> {
     }
 }
 
-/// The digests that are kept at positions, in their order.
+/// The digests at `positions`, in their order, as [`look_up`] finds them.
 ///
 /// # Errors
 ///
-/// `ElementPruned` of the first position where none is kept; `Memory`.
+/// `ElementPruned` of the first of `positions` whose digest is not kept; `Memory`.
 fn look_up_all<F: Family, D: Digest>(
     alloc: Global,
     boundary: u64,

@@ -1,4 +1,4 @@
-//! The nodes that a proof of some locations needs.
+//! The nodes that a multi proof of some locations needs.
 
 ghost use Rattle.std.specs.Prelude.{◌≡◌, ℕ, ◌+◌, ◌-◌, ◌%◌, ◌^◌, ◌<◌, ◌≤◌, ◌↔◌, ◌++◌, map, IsTrue, IfOk, OnOk};
 ghost use Rattle.storage_merkle.specs.Multi.{Ascend, needed_sites, untouched};
@@ -12,12 +12,12 @@ use crate::merkle::plan::node_position;
 use crate::merkle::{Family, Location, Position};
 use std::alloc::{AllocError, Global};
 
-/// What stands at a leaf.
+/// What stands at a leaf: a location, or an element with one.
 pub(crate) trait Located {
-    /// Its location.
+    /// The number of its location.
     ghost place: { Self → ℕ };
 
-    /// Its location.
+    /// The number of its location.
     fn location(&self) -> u64
         ensures { result ≡ place self.now };
 }
@@ -38,7 +38,7 @@ impl<E, F: Family> Located for (E, Location<F>) {
     }
 }
 
-/// Whether the locations ascend, each once, and are below the number of leaves.
+/// Whether the locations of `items` ascend, each once, and are all below `leaves`.
 pub(crate) fn ascend<L: Located>(items: &[L], leaves: u64) -> bool
     ensures { IsTrue result ↔ Ascend 0 leaves (map L.place items.now) }
 {
@@ -53,7 +53,7 @@ pub(crate) fn ascend<L: Located>(items: &[L], leaves: u64) -> bool
     true
 }
 
-/// Of items whose locations ascend, those below a location and the others.
+/// The `items`, whose locations ascend, cut in two: those below the location `middle`, and the others.
 pub(crate) fn split<L: Located>(items: &[L], middle: u64) -> (&[L], &[L])
     ensures whole { items.now ≡ result.0.now ++ result.1.now }
     ensures parts { (first end : ℕ) → Ascend first end (map L.place items.now)
@@ -64,7 +64,8 @@ pub(crate) fn split<L: Located>(items: &[L], middle: u64) -> (&[L], &[L])
     items.split_at(items.partition_point(|item| item.location() < middle))
 }
 
-/// The positions of the greatest nodes that hold none of some locations, which ascend, in ascending order.
+/// The positions of the greatest nodes of the tree over `leaves` leaves that hold none of the locations of `items`,
+/// which ascend; in ascending order.
 pub(crate) fn needed<F: Family, L: Located>(
     alloc: Global,
     leaves: u64,
@@ -81,7 +82,8 @@ pub(crate) fn needed<F: Family, L: Located>(
     Ok(positions)
 }
 
-/// Adds the positions of those in the peaks over `left` leaves from the leaf `first` on.
+/// Adds to `positions` those of the greatest nodes that hold no location of `items`, in the peaks over the `left`
+/// leaves from the leaf `first` on.
 fn add_in_peaks<F: Family, L: Located>(
     first: u64,
     left: u64,
@@ -105,7 +107,8 @@ fn add_in_peaks<F: Family, L: Located>(
     add_in_peaks(next, left - power(height), later, positions)
 }
 
-/// Adds the positions of those at or under a node.
+/// Adds to `positions` those of the greatest nodes that hold no location of `items`, at or under the node of height
+/// `height` over the leaf `first`.
 fn add_under<F: Family, L: Located>(
     first: u64,
     height: u32,

@@ -20,12 +20,14 @@ use storage_codec::digest::Digest;
 /// The digests of planned nodes, by their positions in ascending order.
 #[derive_where(Clone, Copy)]
 pub(crate) struct Nodes<'a, F, D> {
+    /// The positions of these nodes, ascending.
     pub positions: &'a [Position<F>],
+    /// Their digests, in the order of `positions`.
     pub digests: &'a [D],
 }
 
 impl<F: Family, D: Digest> Nodes<'_, F, D> {
-    /// The digest at one of the positions.
+    /// The digest of the planned node at `position`.
     fn digest(&self, position: Position<F>) -> D
         requires order { AreInOrder self.now.positions.now self.now.digests.now }
         requires among { IsAmong self.now.positions.now position }
@@ -37,7 +39,7 @@ impl<F: Family, D: Digest> Nodes<'_, F, D> {
         }
     }
 
-    /// The digest of a planned node.
+    /// The digest of the planned node of height `height` over the leaf `first`.
     fn node(&self, first: u64, height: u32) -> D
         requires order { AreInOrder self.now.positions.now self.now.digests.now }
         requires aligned { first % 2 ^ height ≡ 0 }
@@ -49,7 +51,7 @@ impl<F: Family, D: Digest> Nodes<'_, F, D> {
         self.digest(node_position(first, height))
     }
 
-    /// Adds the digests at some of the positions.
+    /// Adds to `digests` those of the planned nodes at `positions`.
     pub fn add_all(&self, positions: &[Position<F>], digests: &mut Vec<D>) -> Result<(), AllocError>
         requires order { AreInOrder self.now.positions.now self.now.digests.now }
         requires among { AreAmong self.now.positions.now positions.now }
@@ -62,7 +64,8 @@ impl<F: Family, D: Digest> Nodes<'_, F, D> {
         Ok(())
     }
 
-    /// Adds the digests of the peaks and folds apart from a range, in leaf order.
+    /// Adds to `digests` those of the peaks and folds of `peaks` apart from the leaves from `start` to before `end`, in
+    /// leaf order.
     pub fn add_peaks<H: Hasher<F, Digest = D>>(
         &self,
         hasher: &H,
@@ -96,8 +99,8 @@ impl<F: Family, D: Digest> Nodes<'_, F, D> {
         push_some(digests, self.fold_back(hasher, rest.first, rest.left))
     }
 
-    /// The leading peaks that are folded from the left and end at or before `start`, folded, none for no peaks; and the
-    /// peaks after them.
+    /// Those of `peaks` that lead, are folded from the left and end at or before `start`, folded from the left, none
+    /// for no peaks; and the peaks after them.
     fn fold_leading<H: Hasher<F, Digest = D>>(
         &self,
         hasher: &H,
@@ -130,7 +133,8 @@ impl<F: Family, D: Digest> Nodes<'_, F, D> {
         (folded, rest)
     }
 
-    /// The last peaks of a tree, from a leaf on, folded from the right; none for no peaks.
+    /// The peaks over the last `left` leaves of a tree, from the leaf `first` on, folded from the right; none for no
+    /// peaks.
     fn fold_back<H: Hasher<F, Digest = D>>(&self, hasher: &H, first: u64, left: u64) -> Option<D>
         requires order { AreInOrder self.now.positions.now self.now.digests.now }
         requires few { first + left ≤ 2 ^ 62 }
@@ -152,7 +156,7 @@ impl<F: Family, D: Digest> Nodes<'_, F, D> {
     }
 }
 
-/// Adds a digest if there is one.
+/// Adds `digest` to `digests`, where it is not none.
 pub(crate) fn push_some<D: Digest>(
     digests: &mut Vec<D>,
     digest: Option<D>,

@@ -24,7 +24,9 @@ use std::convert::AsSlice;
 use storage_codec::NoMemory;
 use storage_codec::digest::Digest;
 
-/// The root; none where a count does not fit or there are no elements.
+/// The root that `proof` gives where `elements` stand at the leaves from `start` on; none where a count does not fit
+/// or there are no elements. The digests that it reads or computes in the peaks over these leaves are added to
+/// `found`, where they are to be kept.
 pub(crate) fn recompute<F: Family, H: Hasher<F>, E: AsSlice<u8>>(
     proof: &LentProof<F, H::Digest>,
     alloc: Global,
@@ -84,7 +86,7 @@ pub(crate) fn recompute<F: Family, H: Hasher<F>, E: AsSlice<u8>>(
     Ok(Some(bagged_root(hasher, leaves, proof.inactive_peaks, bag)))
 }
 
-/// How many digests a proof has for these peaks where they are apart from the range.
+/// How many digests a proof has for the peaks `rest` apart from the leaves from `start` to before `end`.
 fn count_apart<F: Family>(rest: Rest, start: u64, end: u64) -> usize
     requires few { rest.first + rest.left ≤ 2 ^ 62 }
     requires peaks { ArePeaks F.shape (rest.first + rest.left) rest.first rest.left }
@@ -104,7 +106,7 @@ fn count_apart<F: Family>(rest: Rest, start: u64, end: u64) -> usize
     if rest.left > 0 { count + 1 } else { count }
 }
 
-/// What a check is given.
+/// What the check of a range proof is given, of the leaves from `start` to before `end`.
 #[derive_where(Clone, Copy)]
 struct Given<'a, F, D, E> {
     /// How many leaves the tree has.
@@ -114,13 +116,14 @@ struct Given<'a, F, D, E> {
     end: u64,
     /// The positions of the siblings of the range in overlapped peaks, ascending.
     siblings: &'a [Position<F>],
-    /// Their digests.
+    /// The digests of the siblings, in the order of `siblings`.
     digests: &'a [D],
 }
 
 impl<F: Family, D: Digest, E: AsSlice<u8>> Given<'_, F, D, E> {
-    /// What the peaks are folded into, from those after the leading ones that are folded from the left and end before
-    /// the range, and the digests of the peaks and folds apart from it; none for no peaks.
+    /// What all peaks are folded into, none for no peaks, from `rest`, the peaks after the leading ones that are
+    /// folded from the left and end before the range, and `tops`, the digests of the peaks and folds apart from the
+    /// range.
     fn bag<H: Hasher<F, Digest = D>>(
         &self,
         hasher: &H,
@@ -173,7 +176,8 @@ impl<F: Family, D: Digest, E: AsSlice<u8>> Given<'_, F, D, E> {
         }
     }
 
-    /// What peaks are folded into from the right; none for no peaks.
+    /// What the peaks `rest` are folded into from the right, none for no peaks; `tops` has the digests of those apart
+    /// from the range and of their fold.
     fn unfolded<H: Hasher<F, Digest = D>>(
         &self,
         hasher: &H,
@@ -216,7 +220,8 @@ impl<F: Family, D: Digest, E: AsSlice<u8>> Given<'_, F, D, E> {
         Ok(Some(join(hasher, &item, onto)))
     }
 
-    /// The digest of a peak, the first of these where it is apart from the range, and those that are left of them.
+    /// The digest of the peak of height `height` over the leaf `first`, which is the first of `tops` where the peak
+    /// is apart from the range; and the rest of `tops`.
     fn item<'t, H: Hasher<F, Digest = D>>(
         &self,
         hasher: &H,
@@ -259,7 +264,7 @@ impl<F: Family, D: Digest, E: AsSlice<u8>> Given<'_, F, D, E> {
         }
     }
 
-    /// The digest of a node, from the elements and the digests of the nodes beside the range.
+    /// The digest of the node of height `height` over the leaf `first`, from the elements and the siblings' digests.
     fn node<H: Hasher<F, Digest = D>>(
         &self,
         hasher: &H,
@@ -299,7 +304,7 @@ impl<F: Family, D: Digest, E: AsSlice<u8>> Given<'_, F, D, E> {
         keep(found, position, hasher.node_digest(position, &left, &right))
     }
 
-    /// The digest of the sibling at a position.
+    /// The digest of the sibling at `position`.
     fn sibling(&self, position: Position<F>) -> D
         requires given { IsGiven self.now.leaves self.now.start self.now.end self.now.elements.now
             self.now.siblings.now self.now.digests.now }

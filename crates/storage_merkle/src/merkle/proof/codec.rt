@@ -28,7 +28,7 @@ impl<F, D: Digest> Write for Proof<F, D> {
     }
 }
 
-/// Writes digests one after another.
+/// Appends `digests` to `out`, one after another.
 fn write_digests<D: Digest>(digests: &[D], out: &mut Vec<u8>) -> Result<(), NoMemory>
     ensures ok { OnOk result
         (out.new.items ≡ out.old.items ++ joined_text (map D.text digests.now)) }
@@ -53,14 +53,14 @@ impl<F, D: Digest> EncodeSize for Proof<F, D> {
     }
 }
 
-/// The sum of two sizes; none where it, or one of them, is no u64.
+/// The sum of two numbers of bytes; none where it, or one of them, is no `u64`.
 fn sum(first: Option<u64>, second: Option<u64>) -> Option<u64>
     ensures { (m n : ℕ) → first ≡ size_of m → second ≡ size_of n → result ≡ size_of (m + n) }
 {
     first?.checked_add(second?)
 }
 
-/// How many bytes so many digests take; none where that is no u64.
+/// How many bytes `count` digests take; none where that is no `u64`.
 fn digests_size<D: Digest>(count: u64) -> Option<u64>
     ensures { result ≡ size_of (count * D.size) }
 {
@@ -68,7 +68,7 @@ fn digests_size<D: Digest>(count: u64) -> Option<u64>
 }
 
 impl<F, D: Digest> Read for Proof<F, D> {
-    /// The greatest number of digests.
+    /// The greatest number of digests that is read.
     type Cfg = usize;
 
     ghost View = { RangeProof };
@@ -111,7 +111,7 @@ impl<F, D: Digest> Canonical for Proof<F, D> {
         proof_back D.size most bytes (range_of D.text p) rest fits e };
 }
 
-/// Reads so many digests.
+/// Reads `count` digests from the front of `buf`.
 fn read_digests<D: Digest, B: Buf>(alloc: Global, buf: &mut B, count: u64) -> Result<Vec<D>, Error>
     ensures gives { Gives (λ v. map D.text v.items) result (B.unread buf.new)
         (digests_at D.size count (B.unread buf.old)) }

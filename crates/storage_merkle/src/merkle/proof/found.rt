@@ -7,10 +7,10 @@ use crate::merkle::{Family, Position};
 use std::alloc::AllocError;
 use storage_codec::digest::Digest;
 
-/// The digests that a check has come upon, each with its position; none where they are not kept.
+/// The digests that a check has come upon, as (position, digest); none where they are not to be kept.
 pub(crate) type Found<F, D> = Option<Vec<(Position<F>, D)>>;
 
-/// The digest, which is kept with its position if digests are kept.
+/// `digest`, which is added to `found` with `position` where digests are to be kept.
 pub(crate) fn keep<F: Family, D: Digest>(
     found: &mut Found<F, D>,
     position: Position<F>,

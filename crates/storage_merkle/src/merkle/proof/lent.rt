@@ -22,12 +22,12 @@ pub struct LentProof<'a, F, D> {
     pub leaves: Location<F>,
     /// How many leading peaks are inactive.
     pub inactive_peaks: usize,
-    /// The digests that the elements do not give, in the order of a proof's.
+    /// The digests that the elements do not give, in the order of [`Proof::digests`](crate::merkle::Proof::digests).
     pub digests: &'a [D],
 }
 
 impl<F: Family, D: Digest> LentProof<'_, F, D> {
-    /// The root of the tree in which the elements stand at the leaves from `start` on; none where a count does not fit or
+    /// The root of the tree in which `elements` stand at the leaves from `start` on; none where a count does not fit or
     /// there are no elements.
     pub fn recompute_root<H: Hasher<F, Digest = D>, E: AsSlice<u8>>(
         &self,

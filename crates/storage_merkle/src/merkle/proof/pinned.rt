@@ -24,8 +24,8 @@ use storage_codec::NoMemory;
 use storage_codec::digest::Digest;
 
 impl<F: Family, D: Digest> Proof<F, D> {
-    /// Whether elements stand at the leaves from `start` on of the tree with that root, and the pinned digests are those
-    /// of the peaks over the leaves before `start`, in leaf order. The answer for no elements takes no memory.
+    /// Whether `elements` stand at the leaves from `start` on of the tree with the root `root`, and `pinned` are the
+    /// digests of the peaks over the leaves before `start`, in leaf order. The answer for no elements takes no memory.
     pub fn verify_proof_and_pinned_nodes<H: Hasher<F, Digest = D>, E: AsSlice<u8>>(
         &self,
         alloc: Global,
@@ -57,8 +57,8 @@ impl<F: Family, D: Digest> Proof<F, D> {
         self.agrees_with(alloc, hasher, elements.len(), start, pinned)
     }
 
-    /// Whether the digests that the proof of so many elements from `start` on has for the leaves before `start` are those
-    /// that the pinned ones give.
+    /// Whether the digests that the proof of `count` elements from `start` on has for the leaves before `start` are those
+    /// that the digests `pinned` give.
     fn agrees_with<H: Hasher<F, Digest = D>>(
         &self,
         alloc: Global,
@@ -103,7 +103,8 @@ impl<F: Family, D: Digest> Proof<F, D> {
     }
 }
 
-/// The digests after a fold, if there is one, which must be the first of them; none where another is.
+/// The digests after the first one, which must be `fold`, or all of them where that is none; none where the first one is
+/// another digest or missing.
 fn after_fold<D: Digest>(fold: Option<D>, digests: &[D]) -> Option<&[D]>
     ensures { MatchOption result ((ds : List (List ℕ))
         → map D.text digests.now ≢ as_list (option_map D.text fold) ++ ds) (λ later.
@@ -116,7 +117,7 @@ fn after_fold<D: Digest>(fold: Option<D>, digests: &[D]) -> Option<&[D]>
     if *first == fold { Some(later) } else { None }
 }
 
-/// The digests of the peaks over the leaves before a start.
+/// The digests of the peaks over the leaves before `start`, in leaf order.
 #[derive_where(Clone, Copy)]
 struct Pinned<'a, D> {
     /// How many leaves the tree has.
@@ -126,8 +127,8 @@ struct Pinned<'a, D> {
 }
 
 impl<D: Digest> Pinned<'_, D> {
-    /// The peaks of the tree that lead, are folded from the left and end before the start, folded, none for no peaks; and
-    /// the peaks after them.
+    /// Those of `peaks`, of the tree of the proof, that lead, are folded from the left and end before the start, folded
+    /// from the left, none for no peaks; and the peaks after them.
     fn fold_leading<F: Family, H: Hasher<F, Digest = D>>(
         &self,
         hasher: &H,
@@ -158,8 +159,8 @@ impl<D: Digest> Pinned<'_, D> {
         (folded, rest)
     }
 
-    /// Whether the first of some digests, of peaks and folds apart from the range, are those of the peaks that end before
-    /// the start.
+    /// Whether those of `digests`, which are of the peaks `rest` and folds apart from the range, that are of peaks ending
+    /// at or before the start are as the pinned digests give them.
     fn give_peaks<F: Family, H: Hasher<F, Digest = D>>(
         &self,
         hasher: &H,
@@ -193,8 +194,8 @@ impl<D: Digest> Pinned<'_, D> {
             && self.give_peaks(hasher, rest.next(height), later)
     }
 
-    /// Whether those of some digests, of nodes beside the range, that are of leaves before the start are as the pinned
-    /// digests give them.
+    /// Whether those of `digests`, which are of the siblings at `positions`, that are of leaves before the start are as
+    /// the pinned digests give them.
     fn give_siblings<F: Family, H: Hasher<F, Digest = D>>(
         &self,
         hasher: &H,
@@ -221,8 +222,8 @@ impl<D: Digest> Pinned<'_, D> {
         true
     }
 
-    /// The digest of a node before the start, from the pinned ones. No element is hashed: a leaf that is not pinned
-    /// counts as the digest of nothing.
+    /// The digest of the node of height `height` over the leaf `first`, all before the start, from the pinned ones. No
+    /// element is hashed: a leaf that is not pinned counts as the digest of nothing.
     fn node<F: Family, H: Hasher<F, Digest = D>>(&self, hasher: &H, first: u64, height: u32) -> D
         requires pinned { ArePinned F.shape self.now.leaves self.now.start self.now.digests.now }
         requires takes { TakesTree (H.takes hasher.now) F.shape self.now.leaves }
@@ -243,7 +244,8 @@ impl<D: Digest> Pinned<'_, D> {
         hasher.node_digest(node_position(first, height), &left, &right)
     }
 
-    /// The pinned digest of a node; none where it is no peak over the leaves before the start.
+    /// The pinned digest of the node of height `height` over the leaf `first`; none where it is no peak over the leaves
+    /// before the start.
     fn pinned<F: Family>(&self, first: u64, height: u32) -> Option<D>
         requires { ArePinned F.shape self.now.leaves self.now.start self.now.digests.now }
         ensures { MatchOption result (is_pinned F.shape self.now.start first height ≡ false) (λ d.

@@ -22,11 +22,12 @@ use std::convert::AsSlice;
 use storage_codec::digest::Digest;
 
 impl<F: Family, D: Digest> ProofStore<F, D> {
-    /// The store of a proof that elements stand at the leaves from `start` on of the tree with that root.
+    /// The store of `proof`, whose check says that `elements` stand at the leaves from `start` on of the tree with the
+    /// root `root`.
     ///
     /// # Errors
     ///
-    /// `InvalidProof` where a count does not fit; `RootMismatch` where another root comes out; `Memory`.
+    /// `InvalidProof` where a count does not fit; `RootMismatch` where another root than `root` comes out; `Memory`.
     pub fn new<H: Hasher<F, Digest = D>, E: AsSlice<u8>>(
         alloc: Global,
         hasher: &H,
@@ -69,7 +70,7 @@ impl<F: Family, D: Digest> ProofStore<F, D> {
         Ok(Self::of_checked(hasher, proof, start, past, kept)?)
     }
 
-    /// The store of the proof of no elements.
+    /// The store of the proof of no elements in the tree without leaves. Takes no memory.
     fn of_nothing<H: Hasher<F, Digest = D>>(alloc: Global, hasher: &H) -> Self
         ensures { result ≡ record {
           leaves = 0;
@@ -95,8 +96,8 @@ impl<F: Family, D: Digest> ProofStore<F, D> {
         }
     }
 
-    /// The store of a proof whose counts fit to the range from `start` to before `past`, from the digests that its check
-    /// came upon.
+    /// The store of `proof`, whose counts fit to the leaves from `start` to before `past`, from `found`, the digests that
+    /// its check came upon.
     fn of_checked<H: Hasher<F, Digest = D>>(
         hasher: &H,
         proof: &Proof<F, D>,
@@ -139,8 +140,9 @@ impl<F: Family, D: Digest> ProofStore<F, D> {
     }
 }
 
-/// Adds the digests of the peaks apart from a range, the first of these, with their positions. The fold of the peaks past
-/// the range, which comes after them; none for no peaks.
+/// Adds to `kept` the digests of those peaks of `rest` that are apart from the leaves from `start` to before `end`, as
+/// (position, digest); they come first in `digests`. Answers the fold of the peaks past the range, which comes after
+/// them; none where there are no such peaks.
 fn keep_peaks<F: Family, D: Digest>(
     rest: Rest,
     start: u64,

@@ -22,13 +22,14 @@ use std::ops::Range;
 use storage_codec::digest::Digest;
 
 impl<F: Family, D: Digest> ProofStore<F, D> {
-    /// The proof of a range of the leaves that the source proves, with the source's leaf count and inactive peaks.
+    /// The proof of the leaves of `range`, which the source must prove, with the source's number of leaves and of inactive
+    /// peaks.
     ///
     /// # Errors
     ///
-    /// The first of: `Empty` where the range holds no leaf; `LocationOverflow` of the range's last leaf where its end passes
-    /// `MAX_LEAVES`; `RangeOutOfBounds` of that leaf where it is not in the tree; `ElementPruned` of the first leaf of the
-    /// range that is not in the source's; `Memory`.
+    /// The first of: `Empty` where `range` holds no leaf; `LocationOverflow` of the last leaf of `range` where its end is
+    /// past `MAX_LEAVES`; `RangeOutOfBounds` of that leaf where it is not in the tree; `ElementPruned` of the position of
+    /// the first leaf of `range` that the source does not prove; `Memory`.
     pub fn range_proof<H: Hasher<F, Digest = D>>(
         &self,
         alloc: Global,
@@ -87,7 +88,7 @@ impl<F: Family, D: Digest> ProofStore<F, D> {
         Ok(digests)
     }
 
-    /// The source's peaks.
+    /// All peaks of the source's tree.
     fn peaks(&self) -> Rest
         ensures peaks { ArePeaks F.shape self.now.leaves result.first result.left }
         ensures first { result.first ≡ 0 }
@@ -99,8 +100,8 @@ impl<F: Family, D: Digest> ProofStore<F, D> {
         Rest::bagged::<F>(self.bagging, self.leaves.as_u64(), self.inactive_peaks)
     }
 
-    /// The fold of the peaks that are folded from the left and end at or before `start`: the source's, extended by peaks
-    /// that are kept; none for no peaks.
+    /// The fold of the peaks that are folded from the left and end at or before `start`: the source's fold, extended by
+    /// peaks that are kept; none for no peaks.
     fn fold_front<H: Hasher<F, Digest = D>>(&self, hasher: &H, start: u64) -> Option<D>
         ensures { option_map D.text result ≡ forward_of H.hash_of
             (map (eval H.hash_of (store_values H.hash_of (ungrafted F.shape) self.now))
@@ -124,8 +125,8 @@ impl<F: Family, D: Digest> ProofStore<F, D> {
         folded
     }
 
-    /// Adds the digests of the peaks apart from a range, of those after the leading ones that are folded, and the fold of
-    /// those past it.
+    /// Adds to `digests` those of the peaks `rest`, which come after the leading fold, apart from the leaves from `start` to
+    /// before `end`, and the fold of those past this range.
     fn add_peaks<H: Hasher<F, Digest = D>>(
         &self,
         hasher: &H,
@@ -154,8 +155,8 @@ impl<F: Family, D: Digest> ProofStore<F, D> {
         push_some(digests, self.fold_back(hasher, rest.first, rest.left))
     }
 
-    /// The last peaks of the tree, from a leaf on, folded from the right: those that are kept, onto the source's fold; none
-    /// for no peaks.
+    /// The peaks over the last `left` leaves of the tree, from the leaf `first` on, folded from the right: those that are
+    /// kept, onto the source's fold; none for no peaks.
     fn fold_back<H: Hasher<F, Digest = D>>(&self, hasher: &H, first: u64, left: u64) -> Option<D>
         requires few { first + left ≤ 2 ^ 62 }
         requires aligned { AreAligned (F.shape.peaks left) first }
@@ -175,7 +176,7 @@ impl<F: Family, D: Digest> ProofStore<F, D> {
         Some(join(hasher, &peak, rest))
     }
 
-    /// The digest that is kept of a peak.
+    /// The digest that is kept of the peak of height `height` over the leaf `first`.
     fn peak<H: Hasher<F, Digest = D>>(&self, hasher: &H, first: u64, height: u32) -> D
         requires aligned { first % 2 ^ height ≡ 0 }
         requires within { first + 2 ^ height ≤ 2 ^ 62 }
@@ -185,8 +186,8 @@ impl<F: Family, D: Digest> ProofStore<F, D> {
         self.at(hasher, node_position(first, height))
     }
 
-    /// The digest that is kept at a position; that of no bytes where there is none, which no position in the source's range
-    /// comes to.
+    /// The digest that is kept at `position`; that of no bytes where there is none, which is no position that a proof of
+    /// leaves of the source comes to.
     fn at<H: Hasher<F, Digest = D>>(&self, hasher: &H, position: Position<F>) -> D
         ensures { D.text result ≡ or_else (H.hash_of []) (entry_at position self.now.kept) }
     {
