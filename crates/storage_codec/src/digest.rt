@@ -1,4 +1,4 @@
-//! Digests, and the functions that make them.
+//! Digests, and the digest functions that make them.
 
 ghost use Rattle.std.specs.Prelude.{◌*◌, ◌<◌, ◌^◌, ◌≡◌, ℕ, List, length, ◌↔◌, replicate, flat_map, option_map, true, Ok, refl};
 ghost use Rattle.std.specs.Mem.{type_size};
@@ -17,12 +17,12 @@ use std::alloc::Global;
 /// A digest: a byte string of one length, the same for each digest of the type. It is written as
 /// its bytes and nothing else.
 pub trait Digest: Copy + Eq + Canonical + EncodeSize + Small + Read<Cfg = ()> {
-    /// The bytes, as many as the type's fixed size. Takes no memory.
+    /// The bytes of the digest, as many as the type's fixed size. Takes no memory.
     fn bytes(&self) -> &[u8]
         ensures { result.now ≡ Self.text self.now };
 
-    /// Reads the next digest, seen by its bytes. Refuses `EndOfBuffer` where fewer bytes are left
-    /// than a digest has, and then leaves an ending of them.
+    /// Reads the next digest from the front of `buf`, seen by its bytes. Refuses `EndOfBuffer` where fewer bytes are
+    /// left than a digest has; then `buf` is at an ending of what it held.
     final fn read<B: Buf>(alloc: Global, buf: &mut B) -> Result<Self, Error>
         ensures gives { Gives Self.text result (B.unread buf.new)
             (front_at Self.size (B.unread buf.old)) }
@@ -31,8 +31,8 @@ pub trait Digest: Copy + Eq + Canonical + EncodeSize + Small + Read<Cfg = ()> {
         Self::read_cfg(alloc, buf, &())
     }
 
-    /// Reads an option of a digest: a truth value, then the digest where it is true. Refuses as they
-    /// do, and then leaves an ending of the bytes.
+    /// Reads an option of a digest from the front of `buf`: a truth value, then the digest where it is true. Refuses
+    /// as they do; then `buf` is at an ending of what it held.
     #[tactic(auto, using(crate::specs::PartsLaws::ends_then))]
     final fn read_option<B: Buf>(alloc: Global, buf: &mut B) -> Result<Option<Self>, Error>
         ensures gives { Gives (option_map Self.text) result (B.unread buf.new)
@@ -64,7 +64,7 @@ pub trait Hasher {
     /// The bytes of the digest of a byte string.
     ghost hash_of: { HashFunction };
 
-    /// The digest of the parts, one after the other. Takes no memory.
+    /// The digest of `parts`, joined one after the other. Takes no memory.
     fn hash(parts: &[&[u8]]) -> Self::Digest
         ensures { Self.Digest.text result ≡ hash_of (flat_map (λ part. part.now) parts.now) };
 
@@ -100,7 +100,7 @@ impl Digest for FixedBytes<64> {
     ghost few = { lit< tt };
 }
 
-/// SHA-256, as FIPS 180-4 has it: digests of 32 bytes.
+/// SHA-256, as FIPS 180-4 defines it: digests of 32 bytes.
 pub struct Sha256;
 
 impl Hasher for Sha256 {

@@ -19,7 +19,7 @@ use std::alloc::Global;
 pub struct U64(pub FixedBytes<8>);
 
 impl U64 {
-    /// The key of a number.
+    /// The key of `number`: its eight bytes, highest first. Takes no memory.
     pub fn new(number: u64) -> U64
         ensures { result.0.bytes ≡ to_be_bytes w64 number }
     {
@@ -28,14 +28,14 @@ impl U64 {
         })
     }
 
-    /// The number.
+    /// The number that the eight bytes give. Takes no memory.
     pub fn number(&self) -> u64
         ensures { result ≡ from_be_bytes w64 self.now.0.bytes }
     {
         u64::from_be_bytes(self.0.bytes)
     }
 
-    /// The eight bytes, highest first.
+    /// The eight bytes, highest first. Takes no memory.
     pub fn bytes(&self) -> &[u8]
         ensures { result.now ≡ self.now.0.bytes }
     {
