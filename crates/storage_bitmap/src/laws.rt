@@ -14,7 +14,7 @@ pub fn bit_proofs_are_sound()
     range_proofs_are_sound();
 }
 
-/// The own proof of a bit is accepted against the root of the list.
+/// A list's own proof of a bit is accepted against the root of the list.
 pub fn own_bit_proofs_are_accepted()
     ensures { OwnBitProofsAreAccepted }
 {

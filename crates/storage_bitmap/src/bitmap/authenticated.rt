@@ -66,7 +66,7 @@ impl<D: Digest, const N: usize, M: State<D>> Model for BitMap<D, N, M> {
 }
 
 impl<D: Digest, const N: usize, M: State<D>> BitMap<D, N, M> {
-    /// How many bits a chunk has.
+    /// How many bits a chunk has: `8 * N`.
     pub fn chunk_size_bits() -> u64
         requires { IsChunkSize N }
         ensures { result ≡ 8 * N }
@@ -97,7 +97,7 @@ impl<D: Digest, const N: usize, M: State<D>> BitMap<D, N, M> {
         self.len() == 0
     }
 
-    /// How many bits are pruned.
+    /// How many bits are pruned: all of the pruned chunks.
     pub fn pruned_bits(&self) -> u64
         ensures { result ≡ self.now.retained.pruned * (8 * N) }
     {
@@ -119,7 +119,7 @@ impl<D: Digest, const N: usize, M: State<D>> BitMap<D, N, M> {
         (last, (left - 1) % chunk_size + 1)
     }
 
-    /// The chunk of a bit, which is there and not pruned. What is past the bits is 0.
+    /// The chunk of the bit number `bit`, which is there and not pruned. What is past the bits is 0.
     pub fn get_chunk_containing(&self, bit: u64) -> &[u8; N]
         requires kept { self.now.retained.pruned * (8 * N) ≤ bit }
         requires within { bit < bit_count N self.now.retained }
@@ -129,7 +129,7 @@ impl<D: Digest, const N: usize, M: State<D>> BitMap<D, N, M> {
         self.bits.lend_chunk((bit / (8 * N as u64)) as usize)
     }
 
-    /// A bit, which is there and not pruned.
+    /// The bit number `bit`, which is there and not pruned.
     pub fn get_bit(&self, bit: u64) -> bool
         requires kept { self.now.retained.pruned * (8 * N) ≤ bit }
         requires within { bit < bit_count N self.now.retained }
@@ -139,7 +139,7 @@ impl<D: Digest, const N: usize, M: State<D>> BitMap<D, N, M> {
         self.bits.get_bit(bit)
     }
 
-    /// A bit, by its place among all bits, from its chunk.
+    /// The bit number `bit` among all bits, from `chunk`, the chunk that it stands in.
     pub fn get_bit_from_chunk(chunk: &[u8; N], bit: u64) -> bool
         requires { IsChunkSize N }
         ensures value { result ≡ bit_in chunk.now (bit % (8 * N)) }

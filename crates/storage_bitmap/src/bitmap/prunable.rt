@@ -40,7 +40,7 @@ impl<const N: usize> Prunable<N> {
         }
     }
 
-    /// No bits but so many pruned chunks. It takes no memory.
+    /// No bits past `chunks` chunks, all of them pruned. It takes no memory.
     pub(crate) fn pruned(alloc: Global, chunks: usize) -> Self
         requires size { IsChunkSize N }
         requires few { chunks * (8 * N) ≤ 2 ^ 62 }
@@ -53,7 +53,7 @@ impl<const N: usize> Prunable<N> {
         }
     }
 
-    /// Appends a bit. After want of memory nothing is changed.
+    /// Appends `bit`. Out of memory, `NoMemory`, changes nothing.
     pub fn push(&mut self, bit: bool) -> Result<(), NoMemory>
         requires { bit_count N self.old < 2 ^ 62 }
         ensures ok { OnOk result (self.new ≡ record self.old { bits = self.old.bits ++ bit ∷ [] }) }
@@ -66,7 +66,7 @@ impl<const N: usize> Prunable<N> {
         Ok(())
     }
 
-    /// Changes a bit, by its place among all bits. It must be there and not be pruned.
+    /// Sets the bit number `bit` among all bits to `value`. It must be there and not be pruned. It takes no memory.
     pub fn set_bit(&mut self, bit: u64, value: bool)
         requires kept { self.old.pruned * (8 * N) ≤ bit }
         requires within { bit < bit_count N self.old }
@@ -79,7 +79,7 @@ impl<const N: usize> Prunable<N> {
         write(&mut self.bytes, place, value);
     }
 
-    /// A bit, by its place among all bits. It must be there and not be pruned.
+    /// The bit number `bit` among all bits. It must be there and not be pruned. It takes no memory.
     pub fn get_bit(&self, bit: u64) -> bool
         requires kept { self.now.pruned * (8 * N) ≤ bit }
         requires within { bit < bit_count N self.now }
@@ -89,7 +89,7 @@ impl<const N: usize> Prunable<N> {
         read(&self.bytes, place)
     }
 
-    /// The chunk of that index, which is not pruned and has a bit. What is past the bits is 0.
+    /// Chunk number `index`, which is not pruned and has a bit. What is past the bits is 0.
     pub(crate) fn lend_chunk(&self, index: usize) -> &[u8; N]
         requires kept { self.now.pruned ≤ index }
         requires within { index * (8 * N) < bit_count N self.now }
@@ -99,7 +99,7 @@ impl<const N: usize> Prunable<N> {
         self.bytes[start..].first_chunk().unwrap()
     }
 
-    /// The last chunk that is left; `None` where there is none. What is past the bits is 0.
+    /// The last chunk that is not pruned; `None` where there is none. What is past the bits is 0.
     pub fn last_chunk(&self) -> Option<&[u8; N]>
         ensures { MatchOption result (self.now.bits ≡ []) (λ last. (self.now.bits ≢ [])
             × (last.now ≡ chunk N self.now.bits ((length self.now.bits - 1) / (8 * N)))) }
@@ -107,7 +107,7 @@ impl<const N: usize> Prunable<N> {
         self.bytes.last_chunk()
     }
 
-    /// Forgets the chunks below that of a bit, which may be one past the last. It takes no memory.
+    /// Forgets the chunks below that of the bit number `bit`, which may be one past the last bit. It takes no memory.
     pub fn prune_to_bit(&mut self, bit: u64)
         requires { bit ≤ bit_count N self.old }
         ensures { self.new ≡ pruned_to N self.old (bit / (8 * N)) }
@@ -140,7 +140,7 @@ impl<const N: usize> Readable<N> for Prunable<N> {
     }
 }
 
-/// How many bits so many chunks have.
+/// How many bits `chunks` chunks have.
 fn pruned_bits<const N: usize>(chunks: usize) -> u64
     requires size { N ≤ 2 ^ 59 }
     requires few { chunks * (8 * N) ≤ 2 ^ 62 }
@@ -149,7 +149,7 @@ fn pruned_bits<const N: usize>(chunks: usize) -> u64
     chunks as u64 * (8 * N as u64)
 }
 
-/// Makes room for one bit more than so many: a clear chunk, where there is none.
+/// Makes room in `bytes`, which have `kept` bits, for one bit more: appends a clear chunk, where they are full.
 fn make_room<const N: usize>(bytes: &mut Vec<u8>, kept: u64) -> Result<(), NoMemory>
     requires few { 8 * (length bytes.old.items + N) < 2 ^ 64 }
     requires whole { (kept % (8 * N) ≡ 0) ↔ (kept ≡ 8 * length bytes.old.items) }
@@ -162,7 +162,7 @@ fn make_room<const N: usize>(bytes: &mut Vec<u8>, kept: u64) -> Result<(), NoMem
     Ok(())
 }
 
-/// Appends a clear chunk.
+/// Appends a clear chunk of `N` bytes to `bytes`.
 #[cold]
 fn add_clear<const N: usize>(bytes: &mut Vec<u8>) -> Result<(), NoMemory>
     requires { length bytes.old.items + N < 2 ^ 64 }
@@ -174,7 +174,7 @@ fn add_clear<const N: usize>(bytes: &mut Vec<u8>) -> Result<(), NoMemory>
     Ok(())
 }
 
-/// The bit at a place in packed bytes.
+/// Bit number `place` of `bytes`: of byte `place / 8`, under the mask `1 << (place mod 8)`.
 pub(crate) fn read(bytes: &[u8], place: u64) -> bool
     requires { place / 8 < length bytes.now }
     ensures { result ≡ bit_in bytes.now place }
@@ -182,7 +182,7 @@ pub(crate) fn read(bytes: &[u8], place: u64) -> bool
     bytes[(place / 8) as usize] >> (place % 8) & 1 == 1
 }
 
-/// Writes the bit at a place in packed bytes.
+/// Sets bit number `place` of `bytes` to `bit`.
 fn write(bytes: &mut Vec<u8>, place: u64, bit: bool)
     requires { place / 8 < length bytes.old.items }
     ensures { IsWritten bytes.old.items bytes.new.items place bit }
@@ -191,7 +191,7 @@ fn write(bytes: &mut Vec<u8>, place: u64, bit: bool)
     bytes[index] = with_bit(bytes[index], (place % 8) as u32, bit);
 }
 
-/// Writes the bit at a place in packed bytes where it is clear.
+/// Sets bit number `place` of `bytes`, which is clear, to `bit`.
 fn fill(bytes: &mut Vec<u8>, place: u64, bit: bool)
     requires within { place / 8 < length bytes.old.items }
     requires clear { bit_in bytes.old.items place ≡ false }
@@ -202,7 +202,7 @@ fn fill(bytes: &mut Vec<u8>, place: u64, bit: bool)
     }
 }
 
-/// A byte with one of its bits changed.
+/// `byte` with its bit number `place`, from the lowest, set to `bit`.
 fn with_bit(byte: u8, place: u32, bit: bool) -> u8
     requires { place < 8 }
     ensures there { bit_at result place ≡ digit bit }
@@ -212,7 +212,7 @@ fn with_bit(byte: u8, place: u32, bit: bool) -> u8
     if bit { byte | mask } else { byte & !mask }
 }
 
-/// Takes away bytes in front.
+/// Takes the first `count` of `bytes` away.
 fn remove_front(bytes: &mut Vec<u8>, count: usize)
     requires { count ≤ length bytes.old.items }
     ensures { bytes.new.items ≡ drop count bytes.old.items }

@@ -14,12 +14,12 @@ pub trait Readable<const N: usize> {
         ensures value { result ≡ bit_count N (retained self.now) }
         ensures size { IsChunkSize N };
 
-    /// How many chunks are pruned.
+    /// How many chunks are pruned: those in front.
     fn pruned_chunks(&self) -> usize
         ensures value { result ≡ (retained self.now).pruned }
         ensures size { IsChunkSize N };
 
-    /// The chunk of that index, which is not pruned and has a bit. What is past the bits is 0.
+    /// Chunk number `index`, which is not pruned and has a bit. What is past the bits is 0.
     fn get_chunk(&self, index: usize) -> [u8; N]
         requires kept { (retained self.now).pruned ≤ index }
         requires within { index * (8 * N) < bit_count N (retained self.now) }

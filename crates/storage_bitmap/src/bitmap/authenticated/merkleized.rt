@@ -22,23 +22,24 @@ use storage_merkle::merkle::hasher::Hasher;
 use storage_merkle::merkle::mem::Mem;
 use storage_merkle::merkle::{Error, Location, MAX_LEAVES, Position, mmr};
 
-/// What is left of a bitmap whose bits all are pruned.
+/// What is kept of a bitmap whose bits all are pruned.
 #[derive(Drop)]
 pub struct PrunedState<D> {
     /// How many chunks are pruned.
     pub pruned_chunks: u64,
-    /// The digests of the peaks over them, in leaf order.
+    /// The digests of the peaks over the pruned chunks, in leaf order.
     pub pinned: Vec<D>,
 }
 
 impl<D: Digest, const N: usize> BitMap<D, N, Merkleized<D>> {
-    /// The bitmap whose bits all are pruned, from what was handed out of it; no bits from no chunks. Digests past those of the
-    /// peaks are ignored. Where no list of bits has these digests it stands for no list, and nothing is said of its root.
+    /// The bitmap of `state.pruned_chunks` chunks, all of them pruned, from `state`, which
+    /// [`write_pruned`](Self::write_pruned) handed out; no bits from no chunks. Digests past those of the peaks are ignored.
+    /// Where no list of bits has these digests it stands for no list, and nothing is said of its root.
     ///
     /// # Errors
     ///
-    /// `DataCorrupted` where there are more bits than a bitmap may have; `MissingNode` of the first peak without a digest;
-    /// `Memory`.
+    /// `DataCorrupted` where there are more than `2^62` bits; `MissingNode` of the position of the first peak without a
+    /// digest; `Memory`.
     pub fn init<H: Hasher<mmr::Family, Digest = D>>(
         alloc: Global,
         hasher: &H,
@@ -103,7 +104,7 @@ impl<D: Digest, const N: usize> BitMap<D, N, Merkleized<D>> {
         })
     }
 
-    /// The digest at a position of the tree; `None` where it is not kept. Takes no memory.
+    /// The digest at `position` of the tree over the chunks; `None` where it is not kept. Takes no memory.
     pub fn get_node(&self, position: Position<mmr::Family>) -> Option<D>
         ensures { result
             ≡ kept_at mmr self.now.tree.boundary self.now.tree.pinned self.now.tree.nodes position }
@@ -111,8 +112,8 @@ impl<D: Digest, const N: usize> BitMap<D, N, Merkleized<D>> {
         self.tree.get_node(position)
     }
 
-    /// Forgets the chunks below that of a bit, which may be one past the last. The root stays. After want of memory nothing is
-    /// changed.
+    /// Forgets the chunks below that of the bit number `bit`, which may be one past the last bit. The root stays. Out of
+    /// memory changes nothing.
     ///
     /// # Errors
     ///

@@ -1,4 +1,4 @@
-//! The tree over the chunks of a bitmap, made that of its bits.
+//! The tree over the chunks of a bitmap, brought to the bitmap's bits.
 
 ghost use Rattle.std.specs.Prelude.{◌≡◌, ℕ, ◌+◌, ◌-◌, ◌*◌, ◌/◌, ◌%◌, ◌^◌, ◌<◌, ◌≤◌, ◌∷◌, ◌++◌, [], ◌≢◌, List, Bool, length, map, All, IfOk, IfErr, OnOk};
 ghost use Rattle.std.specs.List.{AllZip};
@@ -21,7 +21,7 @@ use storage_merkle::merkle::hasher::Hasher;
 use storage_merkle::merkle::mem::Mem;
 use storage_merkle::merkle::{Error, Family as _, Location, Position, mmr};
 
-/// The digest of the leaf that a chunk is.
+/// The digest of the leaf of chunk number `index`.
 fn chunk_digest<H: Hasher<mmr::Family>, const N: usize>(
     hasher: &H,
     bits: &Prunable<N>,
@@ -38,7 +38,7 @@ fn chunk_digest<H: Hasher<mmr::Family>, const N: usize>(
     hasher.leaf_digest(position, &bits.get_chunk(index as usize))
 }
 
-/// The digests of the leaves that some chunks are, each with its place.
+/// The digests of the leaves of `chunks`, each with its location.
 fn chunk_leaves<D: Digest, H: Hasher<mmr::Family, Digest = D>, const N: usize>(
     alloc: Global,
     hasher: &H,
@@ -61,7 +61,7 @@ fn chunk_leaves<D: Digest, H: Hasher<mmr::Family, Digest = D>, const N: usize>(
     Ok(leaves)
 }
 
-/// Writes the leaves that dirty chunks are anew, and hashes the nodes over them, each once.
+/// Gives the leaves of the chunks `dirty` their digests under the bits, and the nodes over them theirs.
 pub(super) fn rehash<D: Digest, H: Hasher<mmr::Family, Digest = D>, const N: usize>(
     alloc: Global,
     tree: &mut Mem<mmr::Family, D>,
@@ -92,7 +92,7 @@ pub(super) fn rehash<D: Digest, H: Hasher<mmr::Family, Digest = D>, const N: usi
     Ok(())
 }
 
-/// Appends the complete chunks that the tree does not have yet.
+/// Appends to `tree` the complete chunks that it does not have yet.
 pub(super) fn add_chunks<D: Digest, H: Hasher<mmr::Family, Digest = D>, const N: usize>(
     tree: &mut Mem<mmr::Family, D>,
     hasher: &H,
@@ -121,7 +121,7 @@ pub(super) fn add_chunks<D: Digest, H: Hasher<mmr::Family, Digest = D>, const N:
     Ok(())
 }
 
-/// The root of the bits whose complete chunks are the leaves of a tree.
+/// The root of `bits`, whose complete chunks are the leaves of `tree`.
 pub(super) fn root_of_bits<D: Digest, H: Hasher<mmr::Family, Digest = D>, const N: usize>(
     tree: &Mem<mmr::Family, D>,
     hasher: &H,

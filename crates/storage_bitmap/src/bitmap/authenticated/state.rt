@@ -6,6 +6,7 @@ use std::collections::BTreeSet;
 use storage_codec::digest::Digest;
 
 mod sealed {
+    /// Keeps the states to those of this module.
     pub trait Sealed {}
 }
 

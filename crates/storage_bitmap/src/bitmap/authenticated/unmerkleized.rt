@@ -19,7 +19,7 @@ use storage_merkle::merkle::hasher::Hasher;
 use storage_merkle::merkle::{Error, mmr};
 
 impl<D: Digest, const N: usize> BitMap<D, N, Unmerkleized> {
-    /// Appends a bit. After want of memory nothing is changed.
+    /// Appends `bit`. Out of memory changes nothing.
     ///
     /// # Errors
     ///
@@ -43,7 +43,7 @@ impl<D: Digest, const N: usize> BitMap<D, N, Unmerkleized> {
         Ok(())
     }
 
-    /// Changes a bit, by its place among all bits. It must be there and not be pruned. After want of memory nothing is changed.
+    /// Sets the bit number `bit` among all bits to `value`. It must be there and not be pruned. Out of memory changes nothing.
     ///
     /// # Errors
     ///
@@ -70,8 +70,8 @@ impl<D: Digest, const N: usize> BitMap<D, N, Unmerkleized> {
         Ok(())
     }
 
-    /// The same bits with their root. Only the dirty chunks, the new complete chunks, and the nodes over them are hashed, each
-    /// once.
+    /// The same bits with their root. That only the dirty chunks, the new complete chunks and the nodes over them are hashed,
+    /// each once, is how the code goes, and no clause.
     ///
     /// # Errors
     ///
@@ -112,7 +112,7 @@ impl<D: Digest, const N: usize> BitMap<D, N, Unmerkleized> {
     }
 }
 
-/// Marks a chunk as dirty if it is one of so many leaves. After want of memory nothing is changed.
+/// Marks chunk number `chunk` as dirty if it is one of the tree's `leaves` leaves. Out of memory changes nothing.
 fn mark(dirty: &mut BTreeSet<u64>, chunk: u64, leaves: u64) -> Result<(), NoMemory>
     ensures marked { OnOk result (chunk < leaves
         → dirty.new.keys ≡ insert_key nat_cmp dirty.old.keys chunk) }
