@@ -1,4 +1,4 @@
-//! Authenticated databases of keys and values.
+//! Authenticated databases of keys and values: their operations, and checks of proofs over these.
 
 ghost use Rattle.std.specs.Prelude.{◌≡◌};
 ghost use Rattle.storage_merkle.specs.declared.merkle.bagging.Bagging.TheVariants.{BackwardFold};

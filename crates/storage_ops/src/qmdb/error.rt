@@ -11,19 +11,19 @@ use storage_merkle::merkle::{self, Location};
 #[derive(Drop, thiserror::Error)]
 #[derive_where(Clone, Copy, Debug, PartialEq, Eq)]
 pub enum Error<F> {
-    /// What was handed in does not fit together, with the reason.
+    /// What was handed in does not fit together; the text says why.
     #[error("corrupted: {0}")]
     DataCorrupted(&'static str),
-    /// An operation that is not kept.
+    /// The location of an operation that is not kept.
     #[error("operation {0} is pruned")]
     OperationPruned(Location<F>),
-    /// A refusal of the tree below.
+    /// A refusal of a call over the tree of the operations.
     #[error("{0}")]
     Merkle(merkle::Error<F>),
-    /// A fault of a log, by its number.
+    /// A fault of a log, by the number that the log gave it.
     #[error("log fault {0}")]
     Log(u32),
-    /// A growth was refused.
+    /// Out of memory.
     #[error("out of memory")]
     Memory,
 }

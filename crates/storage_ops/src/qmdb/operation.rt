@@ -21,11 +21,11 @@ pub trait Key: Codec + EncodeSize + Clone + Ord + Hash + Debug {
     /// The bytes of the key itself, with no length.
     ghost bytes_of: { Self → List ℕ };
 
-    /// The bytes of the key itself, with no length.
+    /// The bytes of the key itself, with no length before them.
     fn bytes(&self) -> &[u8]
         ensures { result.now ≡ bytes_of self.now };
 
-    /// Equal keys exactly if equal encodings.
+    /// Keys are equal exactly where their encodings are.
     ghost same: { (x y : Self) → Self.PartialEq.eq x y ≡ true ↔ Self.text x ≡ Self.text y };
 
     /// A clone is seen and written as the key.
@@ -37,43 +37,43 @@ pub trait Key: Codec + EncodeSize + Clone + Ord + Hash + Debug {
 
 /// An operation that may carry an inactivity floor.
 pub trait Floored<F: Family> {
-    /// The floor of a commit, and none of another operation.
+    /// The floor of a commit; none of another operation.
     ghost floor: { Self → Option ℕ };
 
-    /// The floor of a commit, and none of another operation.
+    /// The inactivity floor of a commit; none of another operation.
     fn has_floor(&self) -> Option<Location<F>>
         ensures { result ≡ floor self.now };
 }
 
-/// An operation on a database.
+/// An operation of a database.
 pub trait Operation<F: Family>: Floored<F> {
-    /// Its keys.
+    /// The keys of the operations.
     type Key: Key;
 
     /// The key, where the operation has one.
     ghost key_of: { Self → Option Self.Key };
 
-    /// Whether it sets a value.
+    /// Whether it gives a key a value.
     ghost updates: { Self → Bool };
 
-    /// Whether it deletes a key.
+    /// Whether it removes a key.
     ghost deletes: { Self → Bool };
 
     /// The key, where the operation has one.
     fn key(&self) -> Option<&Self::Key>
         ensures { option_map (λ k. k.now) result ≡ key_of self.now };
 
-    /// The key, where the operation has one.
+    /// The key, where the operation has one; the operation is given up.
     fn into_key(self) -> Option<Self::Key>
     where
         Self: Sized,
         ensures { result ≡ key_of self };
 
-    /// Whether it sets a value.
+    /// Whether it gives a key a value.
     fn is_update(&self) -> bool
         ensures { result ≡ updates self.now };
 
-    /// Whether it deletes a key.
+    /// Whether it removes a key.
     fn is_delete(&self) -> bool
         ensures { result ≡ deletes self.now };
 }

@@ -43,13 +43,13 @@ pub enum Operation<F: Family, S: Update> {
     Delete(S::Key),
     /// The key gets a value.
     Update(S),
-    /// A commit: its value, if it has one, and the location below which no operation is active.
+    /// A commit: its value, if it has one, and its floor, the location below which no operation is active.
     CommitFloor(Option<S::Value>, Location<F>),
 }
 
 /// How the operations over one encoding of values are written and read.
 pub trait OperationCodec<F: Family, S: Update>: ValueEncoding {
-    /// What a reader is told.
+    /// What the reader of an operation is told.
     type ReadCfg;
 
     /// The bytes of an operation, from those of its parts.
@@ -70,14 +70,15 @@ pub trait OperationCodec<F: Family, S: Update>: ValueEncoding {
     /// What reading answers for these bytes.
     ghost operation_parse: { Self.ReadCfg → List ℕ → Answer View };
 
-    /// Appends the bytes of an operation. A refused growth leaves a beginning of them.
+    /// Appends to `out` the bytes of `operation`. `NoMemory` where `out` was refused a growth; then it holds its old bytes and
+    /// a beginning of these.
     fn write_operation(operation: &Operation<F, S>, out: &mut Vec<u8>) -> Result<(), NoMemory>
         ensures ok { OnOk result (out.new.items ≡ out.old.items ++ operation_text
             (operation_map S.Key.text S.text S.Value.text (parts operation.now))) }
         ensures err { OnErr result (AppendsStart out.old.items out.new.items (operation_text
             (operation_map S.Key.text S.text S.Value.text (parts operation.now)))) };
 
-    /// Reads an operation from the front.
+    /// Reads an operation from the front of `buf`. After a refusal `buf` is at an ending of what it held.
     ///
     /// # Errors
     ///
@@ -149,7 +150,7 @@ where
 }
 
 impl<F: Family, S: Update> Operation<F, S> {
-    /// A second operation that is seen and written as this one, or want of memory.
+    /// A copy of this operation, which is seen and written as it. Out of memory is an error.
     pub fn clone(&self) -> Result<Self, NoMemory>
         ensures seen { IfOk result (λ x. operation_map S.Key.view S.seen S.Value.view (parts x)
             ≡ operation_map S.Key.view S.seen S.Value.view (parts self.now)) }

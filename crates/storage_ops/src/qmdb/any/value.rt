@@ -11,6 +11,7 @@ use std::marker::PhantomData;
 use storage_codec::codec::{Codec, EncodeSize, FixedBytes, Read, Small, U64};
 
 mod sealed {
+    /// Keeps the encodings to those of this module.
     pub trait Sealed {}
 }
 
@@ -34,7 +35,7 @@ pub trait VariableValue: Codec + EncodeSize + Clone {
 
 /// How values are encoded: with one size, or with any.
 pub trait ValueEncoding: sealed::Sealed {
-    /// The values.
+    /// The values that are encoded.
     type Value: Codec + EncodeSize + Clone;
 
     /// A clone is seen and written as the value.
@@ -44,7 +45,7 @@ pub trait ValueEncoding: sealed::Sealed {
     ghost prefix_free: { IsPrefixFree Self.Value.text Self.Value.view };
 }
 
-/// Values of one size.
+/// The encoding of values that all have one size.
 #[derive(Drop)]
 #[derive_where(Clone, Copy, Debug, PartialEq, Eq)]
 pub struct FixedEncoding<V: FixedValue>(PhantomData<V>);
@@ -59,7 +60,7 @@ impl<V: FixedValue> ValueEncoding for FixedEncoding<V> {
     ghost prefix_free = { V.prefix_free };
 }
 
-/// Values of any size.
+/// The encoding of values of any size.
 #[derive(Drop)]
 #[derive_where(Clone, Copy, Debug, PartialEq, Eq)]
 pub struct VariableEncoding<V: VariableValue>(PhantomData<V>);

@@ -14,7 +14,7 @@ use storage_codec::NoMemory;
 use storage_codec::codec::{Buf, EncodeSize, Error, FixedSize, Read, Write};
 use storage_merkle::merkle::{Family, Location, MAX_LEAVES};
 
-/// Appends a value behind its presence byte, or as many zeros.
+/// Appends to `out` a byte 1 and `value`, or, where there is none, a byte 0 and `size` zeros.
 #[tactic(auto, using(storage_codec::specs::PartsLaws::starts_cons))]
 fn write_presence<V: Write>(
     value: &Option<V>,
@@ -39,7 +39,8 @@ fn write_presence<V: Write>(
     Ok(())
 }
 
-/// Appends the payload of a fixed commit whose values take `size` bytes. Any floor is written.
+/// Appends to `out` the payload of a fixed commit: `value`, or none, where a value has `size` bytes, and `floor` in
+/// eight bytes, highest first. Any floor is written.
 #[tactic(auto, using(storage_codec::specs::PartsLaws::starts_then, storage_codec::specs::PartsLaws::starts_first))]
 pub(crate) fn write_commit_fixed<F: Family, V: Write>(
     value: &Option<V>,
@@ -57,7 +58,7 @@ pub(crate) fn write_commit_fixed<F: Family, V: Write>(
     Ok(())
 }
 
-/// Reads a value behind its presence byte, or zeros in its place.
+/// Reads a value behind its presence byte, or zeros in its place, from the front of `buf`.
 #[tactic(auto, using(storage_codec::specs::PartsLaws::ends_then, storage_codec::specs::PartsLaws::ends_same))]
 pub(crate) fn read_presence<V: Read<Cfg = ()> + FixedSize, B: Buf>(
     alloc: Global,
@@ -74,7 +75,7 @@ pub(crate) fn read_presence<V: Read<Cfg = ()> + FixedSize, B: Buf>(
     Ok(None)
 }
 
-/// Reads a floor of at most 2^62.
+/// Reads a floor in eight bytes, highest first, from the front of `buf`. One past `2^62` is refused.
 pub(crate) fn read_floor<B: Buf>(alloc: Global, buf: &mut B) -> Result<u64, Error>
     ensures gives { Gives (λ n. n) result (B.unread buf.new) (floor_at (B.unread buf.old)) }
     ensures ends { IsEnding (B.unread buf.old) (B.unread buf.new) }
@@ -89,7 +90,7 @@ pub(crate) fn read_floor<B: Buf>(alloc: Global, buf: &mut B) -> Result<u64, Erro
     Ok(floor)
 }
 
-/// Appends an optional value.
+/// Appends to `out` what the option `value` is written as.
 #[tactic(auto, using(crate::specs::VariableLaws::metadata_is))]
 fn write_metadata<V: Write>(value: &Option<V>, out: &mut Vec<u8>) -> Result<(), NoMemory>
     ensures ok { OnOk result
@@ -100,7 +101,8 @@ fn write_metadata<V: Write>(value: &Option<V>, out: &mut Vec<u8>) -> Result<(), 
     value.write(out)
 }
 
-/// Appends the payload of a variable commit. Any floor is written.
+/// Appends to `out` the payload of a variable commit: the option `value`, and `floor` as a varint. Any floor is
+/// written.
 #[tactic(auto, using(storage_codec::specs::PartsLaws::starts_then, storage_codec::specs::PartsLaws::starts_first))]
 pub(crate) fn write_commit_variable<F: Family, V: Write>(
     value: &Option<V>,
@@ -117,7 +119,7 @@ pub(crate) fn write_commit_variable<F: Family, V: Write>(
     Ok(())
 }
 
-/// The size of an optional value.
+/// How many bytes the option `value` is written as; none where that is no `u64`.
 #[tactic(auto, using(crate::specs::VariableLaws::metadata_is))]
 fn metadata_size<V: EncodeSize>(value: &Option<V>) -> Option<u64>
     ensures { result ≡ size_of (length (metadata_text (option_map V.text value.now))) }
@@ -125,7 +127,7 @@ fn metadata_size<V: EncodeSize>(value: &Option<V>) -> Option<u64>
     value.encode_size()
 }
 
-/// The size of the payload of a variable commit.
+/// How many bytes the payload of a variable commit has, of `value` and `floor`; none where that is no `u64`.
 #[tactic(auto, using(std::proofs::lemmas::Grind::common_steps))]
 pub(crate) fn commit_variable_size<F: Family, V: EncodeSize>(
     value: &Option<V>,

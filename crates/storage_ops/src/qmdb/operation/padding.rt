@@ -8,7 +8,7 @@ ghost use Rattle.storage_ops.specs.Padding.{zeros_at};
 use storage_codec::NoMemory;
 use storage_codec::codec::{Buf, Error};
 
-/// Appends `n` zero bytes.
+/// Appends `n` zero bytes to `out`.
 #[tactic(auto, using(crate::proofs::Zeros::zeros_start, crate::proofs::Zeros::zeros_push))]
 pub(crate) fn put_zeros(out: &mut Vec<u8>, n: usize) -> Result<(), NoMemory>
     ensures ok { OnOk result (out.new.items ≡ out.old.items ++ replicate n 0) }
@@ -20,7 +20,7 @@ pub(crate) fn put_zeros(out: &mut Vec<u8>, n: usize) -> Result<(), NoMemory>
     Ok(())
 }
 
-/// Reads one byte.
+/// Reads one byte from the front of `buf`. Refuses `EndOfBuffer` where there is none.
 pub(crate) fn byte<B: Buf>(buf: &mut B) -> Result<u8, Error>
     ensures gives { Answers (λ b. b) result (B.unread buf.new) (byte_at (B.unread buf.old)) }
     ensures ends { IsEnding (B.unread buf.old) (B.unread buf.new) }
@@ -30,7 +30,8 @@ pub(crate) fn byte<B: Buf>(buf: &mut B) -> Result<u8, Error>
     Ok(byte[0])
 }
 
-/// Reads `n` zero bytes.
+/// Reads `n` zero bytes from the front of `buf`. Refuses the first other byte, and `EndOfBuffer` where they end
+/// first.
 #[tactic(auto, using(crate::proofs::Zeros::zeros_step, crate::proofs::Zeros::zeros_done, storage_codec::specs::PartsLaws::ends_same, storage_codec::specs::PartsLaws::ends_then))]
 pub(crate) fn ensure_zeros<B: Buf>(buf: &mut B, n: usize) -> Result<(), Error>
     ensures gives { Answers (λ _. tt) result (B.unread buf.new) (zeros_at n (B.unread buf.old)) }

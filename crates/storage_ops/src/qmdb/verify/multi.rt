@@ -16,8 +16,8 @@ use storage_codec::codec::Encode;
 use storage_codec::digest::{Digest, DigestOf, Hasher};
 use storage_merkle::merkle::{Error, Family, Location, Position, Proof, ProofStore};
 
-/// Whether operations stand at their locations of the list with that root; no where the locations do not ascend strictly. The
-/// answer for no operations takes no memory.
+/// Whether `operations` stand at their locations of the list with the root `root`; no where the locations do not ascend, each
+/// once. The answer for no operations takes no memory.
 pub fn verify_multi_proof<H: Hasher, F: Family, Op: Encode>(
     alloc: Global,
     proof: &Proof<F, DigestOf<H>>,
@@ -36,8 +36,8 @@ pub fn verify_multi_proof<H: Hasher, F: Family, Op: Encode>(
     proof.verify_multi_inclusion(alloc, &qmdb::hasher::<H>(), &elements, root)
 }
 
-/// A proof of the operations at some locations, which must ascend, from what a store keeps and, where it lacks a digest, from
-/// the first of the given peaks at its position, which are not checked.
+/// A proof of the operations at `locations`, which must ascend, each once, from the digests that `store` keeps and, for a node
+/// without one, from the first of `peaks` at its position. The digests of `peaks` are not checked.
 ///
 /// # Errors
 ///
@@ -60,7 +60,7 @@ pub fn create_multi_proof<F: Family, D: Digest>(
     store.multi_proof(alloc, locations, peaks)
 }
 
-/// The encodings of operations, each with its location. For none it takes no memory.
+/// The encodings of `operations`, each with its location. For none it takes no memory.
 fn encode_located<F: Family, Op: Encode>(
     alloc: Global,
     operations: &[(Location<F>, Op)],

@@ -14,21 +14,21 @@ use std::fmt;
 use storage_codec::codec::{Encode, EncodeSize, Write};
 use storage_merkle::merkle::{Family, Location};
 
-/// An operation with the allocator that displaying it takes memory from.
+/// An operation with the allocator from which displaying it takes memory.
 #[derive(Drop)]
 pub struct Displayed<'a, F: Family, S: Update> {
     operation: &'a Operation<F, S>,
     alloc: Global,
 }
 
-/// The hexadecimal text of some bytes.
+/// `bytes` in hexadecimal, in lower case.
 pub(crate) fn hex_of_bytes(alloc: Global, bytes: &[u8]) -> Result<String, fmt::Error>
     ensures { IfOk result (λ text. string_bytes text ≡ encode_lower bytes.now) }
 {
     Ok(hex::encode(alloc, bytes)?)
 }
 
-/// The hexadecimal text of a value's encoding.
+/// What `value` is written as, in hexadecimal, in lower case.
 pub(crate) fn hex_of_value<V: Write + EncodeSize>(
     alloc: Global,
     value: &V,
@@ -41,7 +41,7 @@ pub(crate) fn hex_of_value<V: Write + EncodeSize>(
     hex_of_bytes(alloc, &bytes)
 }
 
-/// Writes a commit with the text of its value.
+/// Writes to `f` the text of a commit with the floor `floor`, whose value has the text `value`.
 fn write_commit<F: Family, W: fmt::Write>(
     f: &mut fmt::Formatter<W>,
     value: &str,
@@ -53,7 +53,7 @@ fn write_commit<F: Family, W: fmt::Write>(
     write!(f, "[commit {value} with inactivity floor: {floor}]")
 }
 
-/// Writes a commit that has no value.
+/// Writes to `f` the text of a commit without a value, with the floor `floor`.
 fn write_empty_commit<F: Family, W: fmt::Write>(
     f: &mut fmt::Formatter<W>,
     floor: Location<F>,
@@ -65,8 +65,8 @@ fn write_empty_commit<F: Family, W: fmt::Write>(
 
 impl<F: Family, S: Update> Operation<F, S> {
     /// The operation as `Display`: `[key:KEY <deleted>]`, what its update is displayed as,
-    /// `[commit VALUE with inactivity floor: LOC]`, or `[commit with inactivity floor: LOC]`. Displaying it is
-    /// refused where memory is.
+    /// `[commit VALUE with inactivity floor: LOC]`, or `[commit with inactivity floor: LOC]`. Displaying it takes
+    /// memory; where there is none it answers an error.
     pub fn display(&self, alloc: Global) -> Displayed<'_, F, S>
         ensures { result.operation.now ≡ self.now }
     {

@@ -28,7 +28,7 @@ use storage_codec::codec::{
 };
 use storage_merkle::merkle::{Family, Location};
 
-/// The size of an operation over keys, updates and values of these sizes, in bytes.
+/// How many bytes an operation has, over keys of `key` bytes, updates of `update` bytes and values of `value` bytes.
 fn total_size(key: usize, update: usize, value: usize) -> usize
     requires key { key ≤ 2 ^ 32 }
     requires update { update ≤ 3 * 2 ^ 32 }
@@ -41,7 +41,7 @@ fn total_size(key: usize, update: usize, value: usize) -> usize
     (1 + update).max(1 + 1 + value + 8).max(1 + key)
 }
 
-/// The size of an update.
+/// How many bytes an update of type `S` has.
 fn update_size<S: FixedUpdate>() -> usize
     ensures value { result ≡ S.size }
     ensures few { S.size ≤ 3 * 2 ^ 32 }
@@ -49,7 +49,7 @@ fn update_size<S: FixedUpdate>() -> usize
     S::fixed_size()
 }
 
-/// Appends a value and `n` zeros.
+/// Appends to `out` what `value` is written as, and then `n` zeros.
 #[tactic(auto, using(storage_codec::specs::PartsLaws::starts_then, storage_codec::specs::PartsLaws::starts_first))]
 fn write_padded<T: Write>(value: &T, n: usize, out: &mut Vec<u8>) -> Result<(), NoMemory>
     ensures ok { OnOk result
@@ -62,7 +62,7 @@ fn write_padded<T: Write>(value: &T, n: usize, out: &mut Vec<u8>) -> Result<(), 
     Ok(())
 }
 
-/// Appends a commit whose values take `size` bytes, and `n` zeros.
+/// Appends to `out` the value of a commit, or none, where a value has `size` bytes, its floor, and then `n` zeros.
 #[tactic(auto, using(storage_codec::specs::PartsLaws::starts_then, storage_codec::specs::PartsLaws::starts_first))]
 fn write_commit_padded<F: Family, V: Write>(
     value: &Option<V>,
@@ -81,7 +81,7 @@ fn write_commit_padded<F: Family, V: Write>(
     Ok(())
 }
 
-/// Reads a commit's value and floor.
+/// Reads the value, or none, and the floor of a commit from the front of `buf`.
 #[tactic(auto, using(storage_codec::specs::PartsLaws::ends_then))]
 fn read_commit<F: Family, V: FixedValue, S: FixedUpdate + Update<Value = V>, B: Buf>(
     alloc: Global,
@@ -96,7 +96,7 @@ fn read_commit<F: Family, V: FixedValue, S: FixedUpdate + Update<Value = V>, B: 
     Ok(Operation::CommitFloor(value, Location::new(floor)))
 }
 
-/// Reads what follows the tag.
+/// Reads what follows the tag `tag` from the front of `buf`.
 #[tactic(auto, using(storage_codec::specs::PartsLaws::ends_then))]
 fn read_payload<F: Family, V: FixedValue, S: FixedUpdate + Update<Value = V>, B: Buf>(
     alloc: Global,
@@ -218,7 +218,7 @@ where
     ghost operation_same = { operation_same S.Key.view S.view V.view S.seen S.same_seen };
 }
 
-/// The size of any value of the type.
+/// How many bytes each value of the type `T` is written as.
 fn size_of_all<T: FixedSize>() -> Option<u64>
     ensures { (x : T) → result ≡ size_of (length (T.text x)) }
 {

@@ -24,13 +24,13 @@ mod sealed {
 
 /// An update of a key's value.
 pub trait Update: sealed::Sealed + Write + EncodeSize + Drop {
-    /// Its keys.
+    /// The keys of the updates.
     type Key: Key;
 
-    /// Its values.
+    /// The values of the updates.
     type Value: Codec + EncodeSize + Clone;
 
-    /// How its values are encoded.
+    /// How the values are encoded.
     type ValueEncoding: ValueEncoding<Value = Self::Value>;
 
     /// What is seen of an update.
@@ -39,39 +39,39 @@ pub trait Update: sealed::Sealed + Write + EncodeSize + Drop {
     /// What is seen of this update.
     ghost seen: { Self → Seen };
 
-    /// The key.
+    /// The key of an update.
     ghost key_of: { Self → Self.Key };
 
-    /// The value.
+    /// The value of an update.
     ghost value_of: { Self → Self.Value };
 
-    /// The key.
+    /// The key that gets the value.
     fn key(&self) -> &Self::Key
         ensures { result.now ≡ key_of self.now };
 
-    /// The key.
+    /// The key that gets the value; the update is given up.
     fn into_key(self) -> Self::Key
     where
         Self: Sized,
         ensures { result ≡ key_of self };
 
-    /// The value.
+    /// The value that the key gets.
     fn value(&self) -> &Self::Value
         ensures { result.now ≡ value_of self.now };
 
-    /// The value.
+    /// The value that the key gets; the update is given up.
     fn into_value(self) -> Self::Value
     where
         Self: Sized,
         ensures { result ≡ value_of self };
 
-    /// What is kept of an update beside the place of its key.
+    /// What is kept of an update beside the place of its key: the next key, where the update names one.
     type Cached;
 
     /// The payload is that of the update.
     ghost is_cached: { Self → Self.Cached → Type 0 };
 
-    /// The payload of the update that `update` answers. It is called only where the payload depends on it.
+    /// What is kept of the update that `update` answers. It is called only where that depends on it.
     fn cached<R: Deref<Target = Self> + Drop, C: FnOnce() -> R + Drop>(
         update: C,
     ) -> Result<Self::Cached, NoMemory>
@@ -84,14 +84,14 @@ pub trait Update: sealed::Sealed + Write + EncodeSize + Drop {
     /// What an update is displayed as: keys by their bytes and the value by its encoding, in hexadecimal.
     ghost shown: { Self → List ℕ };
 
-    /// Displays the update: keys by their bytes and the value by its encoding, in hexadecimal. It is refused where
-    /// memory is.
+    /// Writes the update to `f`: keys by their bytes and the value by its encoding, in hexadecimal. It takes memory;
+    /// where there is none it answers an error.
     fn fmt<W: fmt::Write>(&self, alloc: Global, f: &mut fmt::Formatter<W>) -> fmt::Result
     where
         Self: Sized,
         ensures { WritesOnOk W.write_str_gives f.old result (shown self.now) f.new };
 
-    /// A second update that is seen and written as this one.
+    /// A copy of this update, which is seen and written as it. Out of memory is an error.
     fn clone(&self) -> Result<Self, NoMemory>
     where
         Self: Sized,
@@ -111,7 +111,7 @@ pub trait FixedUpdate: CodecUpdate + FixedSize + Read<Cfg = ()> {
     ghost few: { Self.size ≤ 3 * 2 ^ 32 };
 }
 
-/// Appends two values.
+/// Appends to `out` what `first` and `second` are written as.
 #[tactic(auto, using(storage_codec::specs::PartsLaws::starts_then, storage_codec::specs::PartsLaws::starts_first))]
 fn write_pair<A: Write, B: Write>(first: &A, second: &B, out: &mut Vec<u8>) -> Result<(), NoMemory>
     ensures ok { OnOk result
@@ -124,7 +124,7 @@ fn write_pair<A: Write, B: Write>(first: &A, second: &B, out: &mut Vec<u8>) -> R
     Ok(())
 }
 
-/// The sum of two sizes, `None` past the greatest `u64`.
+/// The sum of two numbers of bytes; none where it, or one of them, is no `u64`.
 pub(crate) fn sum_of_sizes(first: Option<u64>, second: Option<u64>) -> Option<u64>
     ensures { (m n : ℕ) → first ≡ size_of m → second ≡ size_of n → result ≡ size_of (m + n) }
 {

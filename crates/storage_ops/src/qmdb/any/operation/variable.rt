@@ -1,4 +1,4 @@
-//! Operations with no padding.
+//! Operations as long as their parts.
 
 ghost use Rattle.std.specs.Prelude.{◌≡◌, ◌≤◌, ◌<◌, ◌+◌, ◌^◌, ℕ, List, ◌++◌, length, Ok, OnOk, OnErr};
 ghost use Rattle.storage_codec.specs.Codec.{Gives};
@@ -24,7 +24,7 @@ use storage_codec::NoMemory;
 use storage_codec::codec::{Buf, Canonical, EncodeSize, Error, Read, Write};
 use storage_merkle::merkle::{Family, Location};
 
-/// Reads an optional value and a floor.
+/// Reads the value, or none, and the floor of a commit from the front of `buf`; the value's reader is told `cfg`.
 #[tactic(auto, using(storage_codec::specs::PartsLaws::ends_then))]
 fn read_commit<F: Family, V: VariableValue, S: CodecUpdate + Update<Value = V>, B: Buf>(
     alloc: Global,
@@ -42,7 +42,7 @@ fn read_commit<F: Family, V: VariableValue, S: CodecUpdate + Update<Value = V>, 
     }
 }
 
-/// The size of an operation's encoding, `None` past the greatest `u64`.
+/// How many bytes `operation` is written as; none where that is no `u64`.
 #[tactic(auto, using(std::proofs::lemmas::Grind::common_steps))]
 fn variable_size<F: Family, S: Update>(operation: &Operation<F, S>) -> Option<u64>
     ensures { result ≡ size_of (length (variable_operation_text

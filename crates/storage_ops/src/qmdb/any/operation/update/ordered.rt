@@ -30,16 +30,16 @@ use storage_codec::codec::{
 #[derive_where(PartialEq; V::Value)]
 #[derive_where(Eq; V::Value)]
 pub struct Update<K: Key, V: ValueEncoding> {
-    /// The key.
+    /// The key that gets the value.
     pub key: K,
-    /// Its value.
+    /// The value that the key gets.
     pub value: V::Value,
     /// The next greater active key; that of the greatest key is the least one.
     pub next_key: K,
 }
 
 impl<K: Key, V: ValueEncoding> Update<K, V> {
-    /// A second update that is seen and written as this one, or want of memory.
+    /// A copy of this update, which is seen and written as it. Out of memory is an error.
     pub fn clone(&self) -> Result<Update<K, V>, NoMemory>
         ensures seen { IfOk result (λ u. ◌≡◌ {A = K.View × V.Value.View × K.View}
             (K.view u.key, V.Value.view u.value, K.view u.next_key)
@@ -125,7 +125,8 @@ impl<K: Key, V: ValueEncoding> Write for Update<K, V> {
     }
 }
 
-/// Reads the parts, one after the other. Refused as the first of them that is.
+/// Reads the key, the value and the next key, one after another, from the front of `buf`; the reader of a key is told
+/// `key`, that of the value `value`. Refuses as the first of them that does.
 #[tactic(auto, using(storage_codec::specs::PartsLaws::ends_then))]
 fn read<K: Key, V: ValueEncoding, B: Buf>(
     alloc: Global,

@@ -1,4 +1,4 @@
-//! Updates with no other key.
+//! Updates that name no other key.
 
 ghost use Rattle.std.specs.Prelude.{◌≡◌, ℕ, List, ◌+◌, ◌++◌, IfOk, OnOk, OnErr};
 ghost use Rattle.storage_codec.specs.Codec.{Gives};
@@ -24,7 +24,7 @@ use storage_codec::codec::{
     Buf, Canonical, Codec, EncodeSize, Error, FixedSize, Read, Small, Write, small_size,
 };
 
-/// An update of a key's value.
+/// An update of a key's value, as (key, value).
 #[derive(Drop)]
 #[derive_where(Debug; V::Value)]
 #[derive_where(PartialEq; V::Value)]
@@ -32,7 +32,7 @@ use storage_codec::codec::{
 pub struct Update<K: Key, V: ValueEncoding>(pub K, pub V::Value);
 
 impl<K: Key, V: ValueEncoding> Update<K, V> {
-    /// A second update that is seen and written as this one, or want of memory.
+    /// A copy of this update, which is seen and written as it. Out of memory is an error.
     pub fn clone(&self) -> Result<Update<K, V>, NoMemory>
         ensures seen { IfOk result (λ u. ◌≡◌ {A = K.View × V.Value.View}
             (K.view u.0, V.Value.view u.1) (K.view self.now.0, V.Value.view self.now.1)) }
@@ -109,7 +109,8 @@ impl<K: Key, V: ValueEncoding> Write for Update<K, V> {
     }
 }
 
-/// Reads the parts, one after the other. Refused as the first of them that is.
+/// Reads the key and the value, one after the other, from the front of `buf`, whose readers are told `key` and
+/// `value`. Refuses as the first of them that does.
 #[tactic(auto, using(storage_codec::specs::PartsLaws::ends_then))]
 fn read<K: Key, V: ValueEncoding, B: Buf>(
     alloc: Global,
