@@ -19,33 +19,35 @@ pub fn current_proofs_are_sound()
     range_proofs_are_sound();
 }
 
-/// An accepted operation proof is the snapshot's own, and the operation stands there and is active, or two strings cross.
+/// An operation proof that is accepted against a snapshot's canonical root is the snapshot's own, and the operation stands at
+/// its location and is active, or two different strings have one digest, one hashed by the check and one by the snapshot.
 pub fn operation_proofs_are_sound()
     ensures { OperationProofsAreSound }
 {
     current_proofs_are_sound();
 }
 
-/// An accepted witness is the snapshot's own, and the operations root is the snapshot's, or two strings cross.
+/// A witness that is accepted against a snapshot's canonical root is the snapshot's own, and the operations root is the
+/// snapshot's, or two different strings have one digest, one hashed by the check and one by the snapshot.
 pub fn witnesses_are_sound()
     ensures { WitnessesAreSound }
 {}
 
-/// A snapshot's own range proof is accepted.
+/// A snapshot's own range proof is accepted against its canonical root.
 pub fn own_current_proofs_are_accepted()
     ensures { OwnCurrentProofsAreAccepted }
 {
     own_range_proofs_are_accepted();
 }
 
-/// A snapshot's own proof of an active operation is accepted.
+/// A snapshot's own proof of an active operation is accepted against its canonical root.
 pub fn own_operation_proofs_are_accepted()
     ensures { OwnOperationProofsAreAccepted }
 {
     own_current_proofs_are_accepted();
 }
 
-/// What a snapshot's own range proof is written as is read again, by a reader of as many digests as it has.
+/// What a snapshot's own range proof is written as is read again, by a reader of at least as many digests as it has.
 pub fn own_current_proofs_are_read_again()
     ensures { OwnCurrentProofsAreReadAgain }
 {}
@@ -55,7 +57,7 @@ pub fn own_operation_proofs_are_read_again()
     ensures { OwnOperationProofsAreReadAgain }
 {}
 
-/// A snapshot's own witness gives its canonical root.
+/// A snapshot's own witness with its operations root gives its canonical root.
 pub fn own_witnesses_are_accepted()
     ensures { OwnWitnessesAreAccepted }
 {}

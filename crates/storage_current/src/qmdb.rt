@@ -1,3 +1,3 @@
-//! Authenticated databases.
+//! Authenticated databases: the layer of their snapshots.
 
 pub mod current;

@@ -1,4 +1,4 @@
-//! Trees over chunks, and such a tree and one over the operations read as one.
+//! A tree over chunks and a tree over the operations, and both read as one.
 
 ghost use Rattle.std.specs.Prelude.{◌≡◌, ℕ, ◌*◌, ◌^◌, ◌<◌, ◌≤◌, ◌⊎◌, None, Option};
 ghost use Rattle.storage_merkle.specs.Mmb.{mmb};

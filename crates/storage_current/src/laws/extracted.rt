@@ -1,4 +1,4 @@
-//! The digests that a check hands out.
+//! The digests that an accepted check of a range proof hands out.
 
 ghost use Rattle.storage_current.specs.ExtractedCurrent.{ExtractedCurrentDigestsAreTrue};
 

@@ -36,7 +36,8 @@ pub fn one_commit_is_well_formed<F: Family, K: Key, V: OperationCodec<F, Ordered
         IsSnapshot s × IsWellFormed e s }
 {}
 
-/// So is one of an active update of a key, which names the key itself as the next one, and an active commit.
+/// A snapshot of an active update of a key, which names the key itself as the next one, and then an active commit is
+/// well-formed.
 pub fn lone_key_is_well_formed<F: Family, K: Key, V: OperationCodec<F, Ordered<K, V>>>()
     ensures { let e = keyed_by K.text V.Value.text V.operation_text K.cmp in
         (key : K) (value : V.Value) (committed : Option V.Value)

@@ -1,4 +1,4 @@
-//! The chunks of a snapshot's bits that are under no node of their own.
+//! The chunks of a snapshot's bits that are grafted over no node: the pending and the partial one.
 
 ghost use Rattle.std.specs.Prelude.{◌≡◌, ℕ, ◌+◌, ◌-◌, ◌*◌, ◌/◌, ◌%◌, ◌^◌, ◌<◌, ◌≤◌, ltb, eqb, not, if◌then◌else◌, option_map};
 ghost use Rattle.storage_bitmap.specs.Chunks.{IsChunkSize, bit_count, chunk};
@@ -9,17 +9,19 @@ use storage_bitmap::bitmap::Readable;
 use storage_codec::digest::Hasher;
 use storage_merkle::merkle::Family;
 
-/// How many chunks are complete over so many operations, and how many of them are graftable.
+/// How many chunks of a snapshot are complete, and how many of these are graftable.
 #[derive(Clone, Copy, Drop)]
 pub(crate) struct ChunkCounts {
+    /// How many chunks are complete.
     pub complete: u64,
+    /// How many of these are graftable.
     pub graftable: u64,
-    /// How many bits the chunk after the complete ones has.
+    /// How many bits the chunk after the complete ones has; 0 where there is none.
     pub next_bit: u64,
 }
 
 impl ChunkCounts {
-    /// Those of chunks over nodes of a height.
+    /// The counts over `leaves` operations, where a chunk is over a node of height `height`.
     pub(crate) fn over<F: Family>(leaves: u64, height: u32) -> Self
         requires few { leaves ≤ 2 ^ 62 }
         requires low { 1 ≤ height }
@@ -36,21 +38,21 @@ impl ChunkCounts {
         }
     }
 
-    /// Whether a complete chunk is not graftable.
+    /// Whether there is a pending chunk, a complete one that is not graftable.
     pub(crate) fn has_pending(&self) -> bool
         ensures { result ≡ ltb self.now.graftable self.now.complete }
     {
         self.graftable < self.complete
     }
 
-    /// Whether there is a chunk after the complete ones.
+    /// Whether there is a partial chunk, one after the complete ones.
     pub(crate) fn has_partial(&self) -> bool
         ensures { result ≡ not (eqb self.now.next_bit 0) }
     {
         self.next_bit != 0
     }
 
-    /// The complete chunk that is not graftable, if any.
+    /// The pending chunk of the bits `status`; none where there is none.
     pub(crate) fn pending<R: Readable<N>, const N: usize>(&self, status: &R) -> Option<[u8; N]>
         requires chunks { IsChunkSize N }
         requires unpruned { (R.retained status.now).pruned ≤ self.now.graftable }
@@ -66,7 +68,7 @@ impl ChunkCounts {
         }
     }
 
-    /// The chunk after the complete ones, if any.
+    /// The partial chunk of the bits `status`, filled up with zeros; none where there is none.
     pub(crate) fn partial<R: Readable<N>, const N: usize>(&self, status: &R) -> Option<[u8; N]>
         requires unpruned { (R.retained status.now).pruned ≤ self.now.complete }
         requires within { self.now.complete * (8 * N) + self.now.next_bit
@@ -82,7 +84,7 @@ impl ChunkCounts {
     }
 }
 
-/// The digest of a chunk, where there is one.
+/// The digest of `chunk`; none for none.
 pub(crate) fn chunk_digest<H: Hasher, const N: usize>(chunk: Option<[u8; N]>) -> Option<H::Digest>
     ensures { option_map H.Digest.text result ≡ option_map H.hash_of chunk.entry }
 {

@@ -1,4 +1,4 @@
-//! Chunks of bits over the nodes of a tree of operations.
+//! Chunks of bits grafted over the nodes of a tree of operations.
 
 ghost use Rattle.std.specs.Prelude.{◌≡◌, ℕ, ◌*◌, ◌^◌, ◌<◌, ◌≤◌, ◌++◌, MatchOption, IfSome};
 ghost use Rattle.storage_merkle.specs.Calc.{grafted_digest, is_zero as all_zero};
@@ -26,7 +26,8 @@ pub fn height<const N: usize>() -> u32
     3 + N.ilog2()
 }
 
-/// The height for chunks of so many bytes; none where that is no power of two, or the height reaches 63.
+/// The height of the node over the operations of one chunk of `chunk_size` bytes: the base-2 logarithm of
+/// `8 * chunk_size`; none where `chunk_size` is no power of two up to `2^59`.
 pub fn chunk_height(chunk_size: usize) -> Option<u32>
     ensures size { MatchOption result (IsChunkSize chunk_size → ⊥) (λ _. IsChunkSize chunk_size) }
     ensures power { IfSome result (λ g. (8 * chunk_size ≡ 2 ^ g) × (3 ≤ g) × (g ≤ 62)) }
@@ -44,7 +45,7 @@ pub fn chunk_height(chunk_size: usize) -> Option<u32>
     Some(3 + exponent)
 }
 
-/// Whether all bytes are zero.
+/// Whether all `bytes` are zero.
 pub(crate) fn is_zero(bytes: &[u8]) -> bool
     ensures { result ≡ all_zero bytes.now }
 {
@@ -56,7 +57,8 @@ pub(crate) fn is_zero(bytes: &[u8]) -> bool
     true
 }
 
-/// The digest of a node once a chunk is grafted over it: an all-zero chunk is not hashed.
+/// The digest of a node with `chunk` grafted over it: that of `chunk` and `inner`, the node's own digest, joined;
+/// `inner` where `chunk` is all zero.
 pub(crate) fn graft<H: Hasher>(chunk: &[u8], inner: H::Digest) -> H::Digest
     ensures { H.Digest.text result ≡ grafted_digest H.hash_of chunk.now (H.Digest.text inner) }
 {
@@ -67,14 +69,14 @@ pub(crate) fn graft<H: Hasher>(chunk: &[u8], inner: H::Digest) -> H::Digest
     }
 }
 
-/// The digest of two parts.
+/// The digest of `left` and `right`, joined.
 fn hash_both<H: Hasher>(left: &[u8], right: &[u8]) -> H::Digest
     ensures { H.Digest.text result ≡ H.hash_of (left.now ++ right.now) }
 {
     H::hash(&[left, right])
 }
 
-/// A power of two.
+/// `2^exponent`, for `exponent` of at most 63.
 pub(crate) fn power(exponent: u32) -> u64
     requires { exponent ≤ 63 }
     ensures { result ≡ 2 ^ exponent }

@@ -1,4 +1,4 @@
-//! Logs of operations.
+//! Logs of operations, which may fail.
 
 ghost use Rattle.std.specs.Prelude.{◌≡◌, ℕ, ◌+◌, ◌<◌, ◌≤◌, ◌^◌, ◌⊎◌, ◌↔◌, List, map, IfOk, Err};
 ghost use Rattle.std.specs.List.{All};
@@ -9,17 +9,17 @@ use std::ops::Range;
 /// Why a log did not answer.
 #[derive(Clone, Copy, Debug, PartialEq, Eq, Drop, thiserror::Error)]
 pub enum LogError {
-    /// A fault, by its number.
+    /// A fault of the log, by the number that the log gave it.
     #[error("log fault {0}")]
     Fault(u32),
-    /// A growth was refused.
+    /// Out of memory.
     #[error("out of memory")]
     Memory,
 }
 
-/// Items by location, of which a range is held. Reading may fail.
+/// Items by their locations, of which a range is held, as a log of operations on a disk does. Reading may fail.
 pub trait Contiguous {
-    /// What stands at a location.
+    /// What stands at a location, as an operation.
     type Item;
 
     /// What an item is written as.
@@ -37,16 +37,16 @@ pub trait Contiguous {
     /// How often the log has failed.
     ghost failed: { Self → ℕ };
 
-    /// How often it has failed.
+    /// How often a read has failed.
     fn failures(&self) -> u64
         ensures { result ≡ failed self.now };
 
-    /// The locations that are held.
+    /// The locations that are held: from `start` to before `end`.
     fn bounds(&self) -> Range<u64>
         ensures start { result.start ≡ first self.now }
         ensures end { result.end ≡ past self.now };
 
-    /// The items at locations that are held, in their order.
+    /// The items at `locations`, which all are held, in their order.
     ///
     /// # Errors
     ///

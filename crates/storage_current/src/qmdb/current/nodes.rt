@@ -15,8 +15,8 @@ use storage_merkle::merkle::hasher::Hasher as _;
 use storage_merkle::merkle::{Family, Graftable, Position};
 use storage_ops::qmdb;
 
-/// Appends to the digests of the nodes of a tree, by position, those that come with its next operation. Nothing is changed
-/// where there is no memory.
+/// Appends to `nodes`, the digests of the tree over `leaf` operations by position, those of the nodes that are added with
+/// `operation`. Out of memory changes nothing.
 pub(crate) fn grow<F: Graftable, H: Hasher>(
     nodes: &mut Vec<H::Digest>,
     leaf: u64,
@@ -41,8 +41,8 @@ pub(crate) fn grow<F: Graftable, H: Hasher>(
     Ok(())
 }
 
-/// Turns the digests of the nodes of a tree over operations, by position, into those that the grafted view has. A node is
-/// hashed again only where the view has another digest.
+/// Turns `nodes`, the digests of the tree over `leaves` operations by position, into those of the grafted view with the
+/// bits `status`. A node is hashed again only where the view has another digest.
 pub(crate) fn graft_nodes<F: Graftable, H: Hasher, R: Readable<N>, const N: usize>(
     alloc: Global,
     nodes: &mut [H::Digest],
@@ -72,7 +72,8 @@ pub(crate) fn graft_nodes<F: Graftable, H: Hasher, R: Readable<N>, const N: usiz
     Ok(())
 }
 
-/// The plain digest of the node that stands next.
+/// The digest that the tree over the operations has of the node of height `height` over the leaf `first`, which stands at
+/// the position after those of `plain`; `operation` is the one of a leaf.
 fn plain_digest<F: Graftable, H: Hasher>(
     plain: &[H::Digest],
     operation: &[u8],
@@ -96,7 +97,8 @@ fn plain_digest<F: Graftable, H: Hasher>(
     hasher.node_digest(position, &plain[left], &plain[right])
 }
 
-/// Turns the digest of the next node into the view's, and answers whether it is another one.
+/// Turns the digest of the next node, of height `height` over the leaf `first`, into the view's, and answers whether that
+/// is another one.
 fn graft_node<F: Graftable, H: Hasher, R: Readable<N>, const N: usize>(
     nodes: &mut [H::Digest],
     changed: &[bool],
@@ -128,8 +130,8 @@ fn graft_node<F: Graftable, H: Hasher, R: Readable<N>, const N: usize>(
     }
 }
 
-/// The digest that the view has of the next node, where it is not the plain one. The digests of the nodes before it are the
-/// view's, and for each it is known whether it was changed.
+/// The digest that the view has of the next node, of height `height` over the leaf `first`; none where it is the one that
+/// it has already. The digests of the nodes before it are the view's, and `changed` tells of each whether it was changed.
 fn view_digest<F: Graftable, H: Hasher, R: Readable<N>, const N: usize>(
     nodes: &[H::Digest],
     changed: &[bool],
@@ -172,7 +174,7 @@ fn view_digest<F: Graftable, H: Hasher, R: Readable<N>, const N: usize>(
     Some(digest)
 }
 
-/// The places of the children of a node.
+/// The positions of the children of the node of height `height` over the leaf `first`.
 fn children<F: Family>(first: u64, height: u32) -> (usize, usize)
     requires inner { 1 ≤ height }
     requires aligned { first % 2 ^ height ≡ 0 }
@@ -187,7 +189,8 @@ fn children<F: Family>(first: u64, height: u32) -> (usize, usize)
     (left as usize, right as usize)
 }
 
-/// The digests of the peaks of the tree with these nodes, over so many leaves, in leaf order.
+/// The digests of the peaks of the tree over `leaves` leaves, in leaf order, from `nodes`, those of all its nodes by
+/// position.
 pub(crate) fn peak_digests<F: Family, D: Digest>(
     alloc: Global,
     nodes: &[D],

@@ -30,7 +30,7 @@ pub mod constant {
 
 /// Proofs over chunks of a size that is known at run time.
 pub mod dynamic {
-    /// A proof of the value of a key.
+    /// A proof of the value of a key, over a chunk that is shared bytes.
     pub type KeyValueProof<F, K, D> = crate::qmdb::current::ordered::KeyValueProof<
         F,
         K,
@@ -38,7 +38,7 @@ pub mod dynamic {
         bytes::Bytes,
     >;
 
-    /// A proof that a key has no value.
+    /// A proof that a key has no value, over a chunk that is shared bytes.
     pub type ExclusionProof<F, K, V, D> = crate::qmdb::current::ordered::ExclusionProof<
         F,
         K,

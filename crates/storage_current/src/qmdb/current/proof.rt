@@ -1,4 +1,4 @@
-//! Range proofs of operations and of their activity.
+//! Range proofs of operations and of their activity bits.
 
 ghost use Rattle.std.specs.Prelude.{◌≡◌, ℕ, ◌+◌, ◌-◌, ◌*◌, ◌/◌, ◌%◌, ◌^◌, ◌<◌, ◌≤◌, ◌↔◌, ◌⊎◌, OnOk, IfOk, IfErr, MatchOption, IsTrue, Ok, false, length, map, option_map};
 ghost use Rattle.std.specs.List.{All};
@@ -56,13 +56,14 @@ pub struct RangeProof<F, D> {
 }
 
 impl<F: Graftable, D: Digest> RangeProof<F, D> {
-    /// The proof of the range that is planned, from the digests that the grafted view has at the planned positions, for
-    /// which `get_node` is asked in ascending order. A floor past the leaves counts as the leaves.
+    /// The proof of the range of `plan`, from the digests that the grafted view has at the planned positions, for which
+    /// `get_node` is asked in ascending order; `status` are the snapshot's bits, `floor` its inactivity floor,
+    /// `ops_root` its operations root. A floor past the plan's leaves counts as these.
     ///
     /// # Errors
     ///
-    /// The first of: those of the plan's `build`; `DataCorrupted` where the bits are not as many as the plan's leaves,
-    /// or a chunk that is not graftable is pruned; `Memory`.
+    /// The first of: `ElementPruned` of the first planned position for which `get_node` answers none; `DataCorrupted`
+    /// where the bits are not as many as the plan's leaves, or a chunk that is not graftable is pruned; `Memory`.
     pub fn build<
         H: Hasher<Digest = D>,
         R: Readable<N>,
@@ -108,8 +109,10 @@ impl<F: Graftable, D: Digest> RangeProof<F, D> {
         })
     }
 
-    /// Whether the operations stand at the locations from `start` on of the snapshot with that root, and `chunks` are
-    /// the chunks of bits that they touch. A chunk has `N` bytes. The no of no operations or no chunks takes no memory.
+    /// Whether `operations` stand at the locations from `start` on of the snapshot with the canonical root `root`, and
+    /// `chunks`, of `N` bytes each, are the chunks of bits that they touch. The no where there are no operations, they
+    /// pass the proof's leaves, they touch another number of chunks, the leaves are more than any tree has, or `N` is no
+    /// power of two up to `2^59`, takes no memory.
     pub fn verify<H: Hasher<Digest = D>, O: Write, const N: usize>(
         &self,
         alloc: Global,
@@ -132,8 +135,7 @@ impl<F: Graftable, D: Digest> RangeProof<F, D> {
         self.verify_with_chunk_size::<H, O, [u8; N]>(alloc, start, operations, chunks, N, root)
     }
 
-    /// As `verify`, for chunks of a size in bytes that is known at run time. The no of a size that is no power of two up
-    /// to `2^59` takes no memory.
+    /// As [`verify`](Self::verify), for chunks of `chunk_size` bytes, known at run time.
     pub fn verify_with_chunk_size<H: Hasher<Digest = D>, O: Write, C: Chunk>(
         &self,
         alloc: Global,
@@ -161,7 +163,7 @@ impl<F: Graftable, D: Digest> RangeProof<F, D> {
         self.verify_in::<H, Vec<u8>, C>(alloc, &window, start, &elements, chunks, root)
     }
 
-    /// As `verify_with_chunk_size`, for operations that are bytes already.
+    /// As [`verify_with_chunk_size`](Self::verify_with_chunk_size), for operations that are bytes already.
     pub fn verify_encoded<H: Hasher<Digest = D>, E: AsSlice<u8>, C: Chunk>(
         &self,
         alloc: Global,
@@ -188,8 +190,8 @@ impl<F: Graftable, D: Digest> RangeProof<F, D> {
         self.verify_in::<H, E, C>(alloc, &window, start, operations, chunks, root)
     }
 
-    /// Where a range of so many operations stands and how many chunks there are; none where a count or a length does not
-    /// fit.
+    /// Where `count` operations from `start` on stand among the chunks of `chunk_size` bytes; none where no chunk may
+    /// have that size, one of `chunks` has another, or the counts of operations, leaves and chunks do not fit.
     fn window<C: Chunk>(
         &self,
         start: Location<F>,
@@ -212,7 +214,8 @@ impl<F: Graftable, D: Digest> RangeProof<F, D> {
         }
     }
 
-    /// The check of a claim whose counts and lengths fit.
+    /// The check of a claim whose counts and lengths fit, as [`verify`](Self::verify) answers it and with the meaning of
+    /// a yes; `window` is where the claim stands.
     fn verify_in<H: Hasher<Digest = D>, E: AsSlice<u8>, C: Chunk>(
         &self,
         alloc: Global,
@@ -242,7 +245,7 @@ impl<F: Graftable, D: Digest> RangeProof<F, D> {
         self.decide_in::<H, E, C>(alloc, window, start, operations, chunks, root)
     }
 
-    /// What the check answers of such a claim.
+    /// What the check answers of a claim whose counts and lengths fit; `window` is where the claim stands.
     fn decide_in<H: Hasher<Digest = D>, E: AsSlice<u8>, C: Chunk>(
         &self,
         alloc: Global,
@@ -280,7 +283,7 @@ impl<F: Graftable, D: Digest> RangeProof<F, D> {
         Ok(self.canonical::<H>(&grafted_root, window) == *root)
     }
 
-    /// The canonical root of the proof's parts and a grafted root.
+    /// The canonical root that the proof's parts and `grafted_root` give.
     fn canonical<H: Hasher<Digest = D>>(&self, grafted_root: &D, window: &Window) -> D
         ensures { D.text result ≡ H.hash_of (canonical_string (D.text self.now.ops_root)
             (D.text grafted_root.now) (option_map D.text self.now.pending_chunk_digest)
@@ -296,7 +299,7 @@ impl<F: Graftable, D: Digest> RangeProof<F, D> {
     }
 }
 
-/// Whether each chunk has so many bytes.
+/// Whether each of `chunks` has `size` bytes.
 fn are_sized<C: Chunk>(chunks: &[C], size: usize) -> bool
     ensures { IsTrue result ↔ AreDigests size (map C.text chunks.now) }
 {
@@ -308,7 +311,7 @@ fn are_sized<C: Chunk>(chunks: &[C], size: usize) -> bool
     true
 }
 
-/// The bytes of each chunk.
+/// The bytes of each of `chunks`, lent.
 fn lend<'a, C: Chunk>(alloc: Global, chunks: &'a [C]) -> Result<Vec<&'a [u8]>, NoMemory>
     ensures { IfOk result (λ v. map (λ c. c.now) v.items ≡ map C.text chunks.now) }
 {
@@ -319,7 +322,7 @@ fn lend<'a, C: Chunk>(alloc: Global, chunks: &'a [C]) -> Result<Vec<&'a [u8]>, N
     Ok(lent)
 }
 
-/// What each operation is written as.
+/// What each of `operations` is written as.
 fn encoded<O: Write>(alloc: Global, operations: &[O]) -> Result<Vec<Vec<u8>>, NoMemory>
     ensures bytes { IfOk result (λ v. map (λ e. e.items) v.items ≡ map O.text operations.now) }
     ensures count { IfOk result (λ v. length v.items ≡ length operations.now) }
@@ -345,7 +348,7 @@ pub mod constant {
 
 /// Proofs over chunks of a size that is known at run time.
 pub mod dynamic {
-    /// A proof that one operation is active.
+    /// A proof that one operation is active, over a chunk that is shared bytes.
     pub type OperationProof<F, D> = crate::qmdb::current::proof::operation::Proof<
         F,
         D,

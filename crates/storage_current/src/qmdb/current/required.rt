@@ -1,4 +1,4 @@
-//! Which chunks are read for a proof.
+//! Which chunks are read to make a proof.
 
 ghost use Rattle.std.specs.Prelude.{◌≡◌, ◌↔◌, ℕ, ◌+◌, ◌-◌, ◌*◌, ◌/◌, ◌%◌, ◌^◌, ◌<◌, ◌≤◌, ◌++◌, List, length, option_to_list, if◌then◌else◌, None, Some, IfOk, IfErr, OnOk, MatchOption};
 ghost use Rattle.std.specs.Iterator.{YieldsFirst, item_count};
@@ -14,7 +14,8 @@ use std::marker::Model;
 use storage_merkle::merkle::{self, Graftable, Location};
 use storage_ops::qmdb::Error;
 
-/// The indices of chunks that are read for a proof, increasing and each once: at most three. It ends, and takes no memory.
+/// The indices of the chunks that are read to make a proof, increasing and each once: at most three. It ends, and takes no
+/// memory.
 #[derive(Drop)]
 pub struct RequiredChunks {
     queried: Option<u64>,
@@ -51,14 +52,15 @@ impl Iterator for RequiredChunks {
 
 impl FusedIterator for RequiredChunks {}
 
-/// The chunks that a proof reads over so many operations and as many bits, of which so many chunks are pruned: the
-/// partial chunk, the pending chunk, and for the proof of one operation the chunk of its location. Takes no memory.
+/// The chunks of `N` bytes that are read to make a proof, in a snapshot of `ops_leaves` operations and `bitmap_len` bits
+/// of which `pruned_chunks` chunks are pruned: the partial chunk, the pending chunk, and for the proof of the operation at
+/// `location` the chunk of its bit. Takes no memory.
 ///
 /// # Errors
 ///
 /// The first of: `DataCorrupted` where more than one complete chunk is not graftable, or one that is not graftable is
-/// pruned; `RangeOutOfBounds` of the location where it is at or past the number of operations or of bits;
-/// `OperationPruned` of it where its chunk is pruned.
+/// pruned; `RangeOutOfBounds(location)` where it is at or past `ops_leaves` or `bitmap_len`; `OperationPruned(location)`
+/// where its chunk is pruned.
 pub fn required_chunks<F: Graftable, const N: usize>(
     ops_leaves: Location<F>,
     bitmap_len: u64,
@@ -107,7 +109,7 @@ pub fn required_chunks<F: Graftable, const N: usize>(
     })
 }
 
-/// The chunk, where it is there.
+/// `chunk`, where `is_there`; else none.
 fn present(is_there: bool, chunk: u64) -> Option<u64>
     ensures { result ≡ (if is_there then Some chunk else None) }
 {

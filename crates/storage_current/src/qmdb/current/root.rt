@@ -1,12 +1,13 @@
-//! The canonical root.
+//! The canonical root of a snapshot.
 
 ghost use Rattle.std.specs.Prelude.{◌≡◌, ◌++◌, ◌∷◌, List, [], Option, option_map};
 ghost use Rattle.storage_current.specs.Snapshots.{canonical_string, slot};
 
 use storage_codec::digest::{Digest, Hasher};
 
-/// The canonical root: the digest of the operations root, the grafted root, the digest of the pending chunk, where there
-/// is one, and where there is a partial chunk, the number of its bits in eight bytes and its digest. Takes no memory.
+/// The canonical root: the digest of the digests `ops_root`, `grafted_root`, `pending` where there is one, and where
+/// there is a `partial`, of `next_bit`, how many bits the partial chunk has, in eight bytes, highest first, and that
+/// digest. Takes no memory.
 #[tactic(auto, unfolding(storage_merkle::specs::Calc::be8))]
 pub(crate) fn canonical_root<H: Hasher>(
     ops_root: &H::Digest,
@@ -35,7 +36,8 @@ pub(crate) fn canonical_root<H: Hasher>(
     }
 }
 
-/// The digest of five parts.
+/// The digest of the string of a canonical root: of `ops_root`, `grafted_root`, `pending`, `count` and `partial`,
+/// joined; what is not there has no bytes.
 fn hash_parts<H: Hasher>(
     ops_root: &[u8],
     grafted_root: &[u8],
@@ -49,7 +51,7 @@ fn hash_parts<H: Hasher>(
     H::hash(&[ops_root, grafted_root, pending, count, partial])
 }
 
-/// The bytes of the digest in a slot; none for an empty one.
+/// The bytes of `digest`; no bytes for none.
 fn slot_bytes<D: Digest>(digest: &Option<D>) -> &[u8]
     ensures { result.now ≡ slot (option_map D.text digest.now) }
 {

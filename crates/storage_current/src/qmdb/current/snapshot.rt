@@ -1,4 +1,4 @@
-//! Snapshots.
+//! Snapshots in memory, with their roots and the nodes of their grafted view.
 
 ghost use Rattle.std.specs.Prelude.{◌≡◌, ℕ, ◌<◌, ◌≤◌, ◌^◌, List, length, map, option_map, None, Bool, IfOk, IfErr, MatchOption};
 ghost use Rattle.std.specs.List.{slice_get};
@@ -54,13 +54,13 @@ impl<F, H: Hasher, const N: usize> Model for Snapshot<F, H, N> {
 }
 
 impl<F: Graftable, H: Hasher, const N: usize> Snapshot<F, H, N> {
-    /// The snapshot of these operations, with a bit for each.
+    /// The snapshot of `operations`, byte strings, with a bit of `bits` for each, and the inactivity floor `floor`.
     ///
     /// # Errors
     ///
     /// The first of: `DataCorrupted` where there are not as many bits as operations, or bits are pruned;
-    /// `RangeOutOfBounds(floor)` where the floor passes the number of operations; `LocationOverflow` of that number past
-    /// `MAX_LEAVES`; `Memory`.
+    /// `RangeOutOfBounds(floor)` where `floor` is greater than the number of operations; `LocationOverflow` of that
+    /// number where it is past `MAX_LEAVES`; `Memory`.
     pub fn new<E: AsSlice<u8>>(
         alloc: Global,
         operations: &[E],
@@ -92,11 +92,12 @@ impl<F: Graftable, H: Hasher, const N: usize> Snapshot<F, H, N> {
         }
     }
 
-    /// The snapshot of the operations that a tree is over, with a bit for each.
+    /// The snapshot of the operations that `tree` is over, with a bit of `bits` for each, and the inactivity floor
+    /// `floor`.
     ///
     /// # Errors
     ///
-    /// As those of `new`.
+    /// Those of [`new`](Self::new).
     pub fn of_tree(
         alloc: Global,
         tree: OperationTree<F, H>,
@@ -125,7 +126,8 @@ impl<F: Graftable, H: Hasher, const N: usize> Snapshot<F, H, N> {
         }
     }
 
-    /// The snapshot of the operations of a tree with these nodes.
+    /// The snapshot of the operations of the tree whose digests are `nodes`, by position, with the bits `bits` and the
+    /// floor `floor`.
     fn over(
         alloc: Global,
         mut nodes: Vec<H::Digest>,
@@ -192,7 +194,7 @@ impl<F: Graftable, H: Hasher, const N: usize> Snapshot<F, H, N> {
         self.ops_root
     }
 
-    /// The witness that the operations root is that of the snapshot with this canonical root. Takes no memory.
+    /// The witness that the operations root is that of the snapshot with the canonical root. Takes no memory.
     pub fn witness(&self) -> OpsRootWitness<F, H::Digest>
         ensures value { witness_of H.Digest.text result ≡ self.now.witness }
         ensures stands { (s : SnapshotOf) → StandsFor H.hash_of (grafting_of F.shape N) self.now s
@@ -201,7 +203,7 @@ impl<F: Graftable, H: Hasher, const N: usize> Snapshot<F, H, N> {
         self.witness.copied()
     }
 
-    /// The digest that the grafted view has at a position; none past its nodes. Takes no memory.
+    /// The digest that the grafted view has at `position`; none past its nodes. Takes no memory.
     pub fn get_node(&self, position: Position<F>) -> Option<H::Digest>
         ensures value { option_map H.Digest.text result ≡ slice_get self.now.nodes position }
         ensures there { (s : SnapshotOf) → StandsFor H.hash_of (grafting_of F.shape N) self.now s
@@ -215,7 +217,7 @@ impl<F: Graftable, H: Hasher, const N: usize> Snapshot<F, H, N> {
         self.nodes.get(position.as_u64() as usize).copied()
     }
 
-    /// The bits. Takes no memory.
+    /// The activity bits. Takes no memory.
     pub fn status(&self) -> &Prunable<N>
         ensures { result.now ≡ self.now.status }
     {
@@ -223,7 +225,7 @@ impl<F: Graftable, H: Hasher, const N: usize> Snapshot<F, H, N> {
     }
 }
 
-/// Why so many operations with these bits and this floor are no snapshot, if they are none.
+/// Why `leaves` operations with the bits `bits` and the floor `floor` are no snapshot; none where they are one.
 fn refusal<F: Graftable, const N: usize>(
     leaves: u64,
     bits: &Prunable<N>,
@@ -246,7 +248,8 @@ fn refusal<F: Graftable, const N: usize>(
     None
 }
 
-/// The root of a tree from its nodes by position, of whose peaks so many leading ones are inactive.
+/// The root of the tree over `leaves` leaves with the first `inactive` peaks inactive, folded backwards, from `nodes`,
+/// the digests of its nodes by position.
 fn tree_root<F: Graftable, H: Hasher>(
     alloc: Global,
     nodes: &[H::Digest],

@@ -1,4 +1,4 @@
-//! Trees over operations, as they grow.
+//! A tree over operations, as it grows.
 
 ghost use Rattle.std.specs.Prelude.{◌≡◌, ℕ, ◌+◌, ◌^◌, ◌<◌, ◌≤◌, ◌∷◌, ◌++◌, ◌⊎◌, List, [], length, map, IfErr, OnOk, OnErr};
 ghost use Rattle.storage_merkle.specs.declared.merkle.error.Error.TheVariants.{LocationOverflow};
@@ -13,7 +13,7 @@ use storage_codec::digest::Hasher;
 use storage_merkle::merkle::{self, Graftable, Location, MAX_LEAVES};
 use storage_ops::qmdb::Error;
 
-/// A tree over operations, which it does not keep: how many there are, and the digests of its nodes by position.
+/// A tree over operations, which it does not keep: it has their number, and the digests of its nodes by position.
 #[derive(Drop)]
 pub struct OperationTree<F: Graftable, H: Hasher> {
     leaves: u64,
@@ -44,11 +44,12 @@ impl<F: Graftable, H: Hasher> OperationTree<F, H> {
         }
     }
 
-    /// Appends an operation. Only the nodes that come with it are hashed.
+    /// Appends `operation`, and the nodes that are added with it.
     ///
     /// # Errors
     ///
-    /// `LocationOverflow` of the operation where there are as many as any tree may have; `Memory`.
+    /// `LocationOverflow` of the number of operations where that is `MAX_LEAVES`; `Memory`. After either the tree is
+    /// as it was.
     pub fn add(&mut self, operation: &[u8]) -> Result<(), Error<F>>
         ensures grown { OnOk result ((operations : List (List ℕ))
             → IsTreeOver H.hash_of F.shape self.old operations

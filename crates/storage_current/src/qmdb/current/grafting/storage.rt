@@ -11,8 +11,8 @@ use std::marker::PhantomData;
 use storage_codec::digest::Digest;
 use storage_merkle::merkle::{self, Error, Graftable, Position, Readable};
 
-/// The nodes of a tree over operations and of a tree over its chunks as one tree: below the height of a chunk's node those
-/// of the operations, at and above it those over chunks.
+/// A tree over the operations and a tree over their chunks as one tree: below the height of a chunk's node it has the
+/// operations' nodes, at and above it those of the tree over chunks.
 #[derive(Drop)]
 pub struct Storage<'a, F, R, S> {
     grafted_tree: &'a R,
@@ -28,7 +28,8 @@ impl<'a, F: Graftable, S: merkle::Storage<F>, R: Readable<Family = F, Digest = S
     R,
     S,
 > {
-    /// The tree over chunks whose nodes in the tree over the operations have this height, with that tree.
+    /// `grafted_tree`, a tree over chunks whose leaves are nodes of height `height` in the tree over the operations, and
+    /// `ops_tree`, that tree, as one.
     pub fn new(grafted_tree: &'a R, height: u32, ops_tree: &'a mut S) -> Self
         requires { 1 ≤ height }
         ensures grafted { result.grafted_tree.now ≡ grafted_tree.now }
@@ -131,18 +132,18 @@ impl<
     }
 }
 
-/// What there is at a position without a look at the operations' nodes.
+/// What the combined tree has at a position, as far as it is known without a read of the operations' nodes.
 #[derive(Clone, Copy, Drop)]
 enum Look<D> {
     /// No node.
     Absent,
-    /// A node of the tree over the operations.
+    /// A node of the tree over the operations, which has to be read.
     Below,
-    /// A node of the tree over chunks, with this digest.
+    /// A node of the tree over chunks, with its digest.
     Found(D),
 }
 
-/// What there is at a position of so many.
+/// What the combined tree of `nodes` nodes has at `position`.
 fn look_up<F: Graftable, R: Readable<Family = F>>(
     grafted_tree: &R,
     height: u32,
@@ -166,8 +167,8 @@ fn look_up<F: Graftable, R: Readable<Family = F>>(
     }
 }
 
-/// What is found of a list of positions in a tree over chunks: the digests, with none in the places of the positions below,
-/// which stand apart; and the first position that has no node, where the list ends.
+/// What the tree over chunks has at some positions: the digests, with none in the places of the operations' nodes, whose
+/// positions stand in `below`; and the first position that has no node, where the list ends.
 #[derive(Drop)]
 struct Finds<F, D> {
     nodes: Vec<Option<D>>,
@@ -175,7 +176,7 @@ struct Finds<F, D> {
     missing: Option<Position<F>>,
 }
 
-/// What is found of positions of so many, up to the first one that is missing.
+/// What the combined tree of `size` nodes has at `positions`, up to the first one that has no node.
 fn find_all<F: Graftable, R: Readable<Family = F>>(
     alloc: Global,
     grafted_tree: &R,
@@ -215,11 +216,11 @@ fn find_all<F: Graftable, R: Readable<Family = F>>(
     })
 }
 
-/// The digests at positions, in their order. A store is not asked for none.
+/// The digests that `store` has at `positions`, in their order. It is not asked where there are none.
 ///
 /// # Errors
 ///
-/// Those of the store; `Memory`.
+/// Those of the store's `get_nodes`; `Memory`.
 fn read_all<F: Graftable, S: merkle::Storage<F>>(
     alloc: Global,
     store: &mut S,
@@ -243,7 +244,7 @@ fn read_all<F: Graftable, S: merkle::Storage<F>>(
     store.get_nodes(alloc, positions)
 }
 
-/// Digests with those that were read in the places of none.
+/// The digests of `nodes`, with those of `read`, in their order, in the places of none.
 fn fill<D: Digest>(alloc: Global, nodes: &[Option<D>], read: &[D]) -> Result<Vec<D>, AllocError>
     requires { gaps nodes.now ≤ length read.now }
     ensures { IfOk result (λ v. v.items ≡ filled nodes.now read.now) }

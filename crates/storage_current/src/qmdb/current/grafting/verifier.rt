@@ -29,8 +29,8 @@ pub struct Verifier<'a, F, H> {
 }
 
 impl<'a, F: Graftable, H: digest::Hasher> Verifier<'a, F, H> {
-    /// The hasher for chunks over nodes of a height, of which those from `start_chunk_index` on are supplied and the
-    /// first `graftable_chunks` are graftable.
+    /// The hasher for chunks over nodes of height `height`, of which `chunks` are those from chunk `start_chunk_index`
+    /// on, and the first `graftable_chunks` of all are graftable.
     pub fn new(
         height: u32,
         start_chunk_index: u64,
@@ -53,7 +53,7 @@ impl<'a, F: Graftable, H: digest::Hasher> Verifier<'a, F, H> {
         }
     }
 
-    /// The chunk that is grafted over the node at a position, where it is supplied.
+    /// The chunk that is grafted over the node at `position`; none where there is none, or it is not supplied.
     fn chunk_over(&self, position: Position<F>) -> Option<&'a [u8]>
         requires { position ≤ size F.shape (2 ^ 62) }
         ensures { (first height : ℕ) → IsNode F.shape position first height
@@ -82,7 +82,7 @@ impl<'a, F: Graftable, H: digest::Hasher> Verifier<'a, F, H> {
     }
 }
 
-/// A second hasher over the same chunks, or want of memory.
+/// A second hasher over the same chunks. Out of memory is an error.
 impl<F: Graftable, H: digest::Hasher> Clone for Verifier<'_, F, H> {
     ghost is_clone = { λ x y. (y.height ≡ x.height) × (y.start_chunk_index ≡ x.start_chunk_index)
         × (map (λ c. c.now) y.chunks.items ≡ map (λ c. c.now) x.chunks.items)

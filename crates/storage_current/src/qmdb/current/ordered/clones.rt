@@ -1,4 +1,4 @@
-//! Second proofs about keys that are equal to given ones.
+//! Clones of proofs about keys.
 
 ghost use Rattle.std.specs.Prelude.{◌≡◌, ℕ, List, IfOk};
 ghost use Rattle.storage_current.specs.Held.{ClonesAreEqual, operation_of};
@@ -14,7 +14,8 @@ use storage_ops::qmdb::any::value::ValueEncoding;
 use storage_ops::qmdb::operation::Key;
 
 impl<F: Graftable, K: Key, D: Digest, C: Chunk + Clone> KeyValueProof<F, K, D, C> {
-    /// An equal proof, where a clone of a chunk is equal to it.
+    /// A proof equal to this one, where a clone of a chunk is equal to it; the next key is seen and written as this
+    /// one's. `NoMemory` where there is no memory for it.
     pub fn clone(&self) -> Result<Self, NoMemory>
         ensures proof { ClonesAreEqual C.is_clone C.text
             → IfOk result (λ copy.
@@ -37,7 +38,8 @@ impl<F: Graftable, K: Key, V: ValueEncoding, D: Digest, C: Chunk + Clone> Exclus
     D,
     C,
 > {
-    /// An equal proof, where a clone of a chunk is equal to it.
+    /// A proof equal to this one, where a clone of a chunk is equal to it; keys and values by what is seen of them.
+    /// `NoMemory` where there is no memory for it.
     pub fn clone(&self) -> Result<Self, NoMemory>
         ensures { ClonesAreEqual C.is_clone C.text
             → IfOk result (λ copy.

@@ -11,7 +11,8 @@ mod key_value;
 use std::alloc::Global;
 use storage_codec::codec::{Buf, Error, Read};
 
-/// Reads one value, and then another.
+/// Reads from the front of `buf` a value of `A`, whose reader is told `first`, and then one of `B`, whose reader is
+/// told `second`.
 #[tactic(auto, using(storage_codec::specs::PartsLaws::ends_then))]
 pub(crate) fn read_pair<A: Read, B: Read, T: Buf>(
     alloc: Global,

@@ -1,4 +1,4 @@
-//! Second keys and values that are seen and written as the first ones.
+//! Copies of keys and values, which are seen and written as the first ones.
 
 ghost use Rattle.std.specs.Prelude.{◌≡◌, IfOk, option_map};
 
@@ -6,7 +6,7 @@ use storage_codec::NoMemory;
 use storage_ops::qmdb::any::value::ValueEncoding;
 use storage_ops::qmdb::operation::Key;
 
-/// A second key that is seen and written as this one.
+/// A copy of `key`, which is seen and written as it.
 pub(crate) fn key_as<K: Key>(key: &K) -> Result<K, NoMemory>
     ensures text { IfOk result (λ copy. K.text copy ≡ K.text key.now) }
     ensures seen { IfOk result (λ copy. K.view copy ≡ K.view key.now) }
@@ -14,7 +14,7 @@ pub(crate) fn key_as<K: Key>(key: &K) -> Result<K, NoMemory>
     Ok(key.clone()?)
 }
 
-/// A second value, or none, that is seen and written as this one.
+/// A copy of `value`, which is seen and written as it; none for none.
 pub(crate) fn value_as<V: ValueEncoding>(
     value: &Option<V::Value>,
 ) -> Result<Option<V::Value>, NoMemory>

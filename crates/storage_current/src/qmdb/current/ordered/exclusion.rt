@@ -20,7 +20,7 @@ use storage_ops::qmdb::any::operation::update::Ordered;
 use storage_ops::qmdb::any::value::ValueEncoding;
 use storage_ops::qmdb::operation::Key;
 
-/// A proof that a key has no value. `C` is the chunk with the operation's activity bit.
+/// A proof that a key has no value. `C` is the chunk with the activity bit of the operation that excludes the key.
 #[derive(Drop)]
 #[derive_where(Debug, PartialEq, Eq; D, C, V::Value)]
 pub enum ExclusionProof<F, K: Key, V: ValueEncoding, D, C> {
@@ -37,9 +37,10 @@ impl<F: Graftable, K: Key, V: OperationCodec<F, Ordered<K, V>>, D: Digest, C: Ch
     D,
     C,
 > {
-    /// Whether the operation is active in the snapshot with that root, and excludes the key: an update excludes the other
-    /// keys of its span, a commit at its own floor excludes each. The no of a key that the span does not hold, of a chunk
-    /// size that is no power of two up to `2^59`, and of a clear bit, takes no memory and hashes nothing.
+    /// Whether the operation of the proof is active in the snapshot with the canonical root `root`, and excludes `key`:
+    /// an update excludes the other keys of its span, a commit at its own floor excludes each. The no of a key that the
+    /// operation does not exclude, of a chunk size that is no power of two up to `2^59` bytes, and of a clear bit, takes
+    /// no memory.
     pub fn verify<H: Hasher<Digest = D>>(
         &self,
         alloc: Global,

@@ -27,13 +27,14 @@ use storage_ops::qmdb::operation::Key;
 pub struct KeyValueProof<F, K, D, C> {
     /// The proof of the update.
     pub proof: Proof<F, D, C>,
-    /// The next key, which the update names.
+    /// The next key, as the update names it.
     pub next_key: K,
 }
 
 impl<F: Graftable, K: Key, D: Digest, C: Chunk> KeyValueProof<F, K, D, C> {
-    /// Whether the update of the key to the value, which names this next key, is active in the snapshot with that root. The
-    /// no of a chunk size that is no power of two up to `2^59`, and of a clear bit, takes no memory and hashes nothing.
+    /// Whether the update of `key` to `value` that names `next_key` as the next key is active in the snapshot with the
+    /// canonical root `root`. The no of a chunk size that is no power of two up to `2^59` bytes, and of a clear bit, takes
+    /// no memory.
     pub fn verify<H: Hasher<Digest = D>, V: OperationCodec<F, Ordered<K, V>>>(
         &self,
         alloc: Global,

@@ -1,4 +1,4 @@
-//! Spans from one key to the next greater, and from the greatest around to the least.
+//! Spans: from one key to before the next greater one, and from the greatest around to before the least.
 
 ghost use Rattle.std.specs.Prelude.{◌≡◌, ◌↔◌, IsTrue};
 ghost use Rattle.storage_current.specs.Keys.{Excludes, Keyed, in_span, keyed_by};
@@ -8,7 +8,7 @@ use storage_ops::qmdb::any::operation::OperationCodec;
 use storage_ops::qmdb::any::operation::update::Ordered;
 use storage_ops::qmdb::operation::Key;
 
-/// Whether a key lies from `start` on and before `end`, around past the greatest key where `start` is not before `end`.
+/// Whether `key` lies from `start` on and before `end`, around past the greatest key where `start` is not before `end`.
 fn contains_cyclic<F: Family, K: Key, V: OperationCodec<F, Ordered<K, V>>>(
     start: &K,
     end: &K,
@@ -24,7 +24,7 @@ fn contains_cyclic<F: Family, K: Key, V: OperationCodec<F, Ordered<K, V>>>(
     }
 }
 
-/// Whether an active update of `start` that names `next` excludes a key.
+/// Whether an active update of the key `start` that names `next` as the next key excludes `key`.
 pub(crate) fn excludes<F: Family, K: Key, V: OperationCodec<F, Ordered<K, V>>>(
     start: &K,
     next: &K,

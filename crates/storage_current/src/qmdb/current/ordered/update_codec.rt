@@ -13,9 +13,9 @@ use storage_ops::qmdb::any::value::{
 };
 use storage_ops::qmdb::operation::Key;
 
-/// How the updates over one encoding of values are read, if they name the next key.
+/// How updates that name the next key are read, for one encoding of values.
 pub trait UpdateCodec<K: Key>: ValueEncoding {
-    /// What a reader is told.
+    /// What the reader of an update is told.
     type UpdateCfg;
 
     /// What the reader of the keys is told.
@@ -24,7 +24,8 @@ pub trait UpdateCodec<K: Key>: ValueEncoding {
     /// What the reader of the value is told.
     ghost value_cfg: { Self.UpdateCfg → Self.Value.Cfg };
 
-    /// Reads an update from the front.
+    /// Reads an update, its key, value and next key, from the front of `buf`. Refuses as the readers of these do, in
+    /// this order; then `buf` is at an ending of what it held.
     fn read_update<B: Buf>(
         alloc: Global,
         buf: &mut B,

@@ -1,15 +1,15 @@
-//! What may stand for a chunk of bits.
+//! What may stand for the bytes of a chunk of bits: an array, a slice, or shared bytes.
 
 ghost use Rattle.std.specs.Prelude.{◌≡◌, ℕ, List};
 
 use bytes::Bytes;
 
-/// Something that is the bytes of a chunk.
+/// A chunk of activity bits, as a claim or a proof has it.
 pub trait Chunk {
-    /// The bytes.
+    /// The bytes of the chunk.
     ghost text: { Self → List ℕ };
 
-    /// The bytes.
+    /// The bytes of the chunk. Takes no memory.
     fn bytes(&self) -> &[u8]
         ensures { result.now ≡ text self.now };
 }

@@ -1,4 +1,4 @@
-//! Second proofs that are equal to given ones.
+//! Clones of range proofs and operation proofs.
 
 ghost use Rattle.std.specs.Prelude.{◌≡◌, IfOk};
 ghost use Rattle.storage_current.specs.Held.{ClonesAreEqual, current_of, operation_of};
@@ -10,7 +10,7 @@ use storage_codec::digest::Digest;
 use storage_merkle::merkle::Graftable;
 
 impl<F: Graftable, D: Digest> RangeProof<F, D> {
-    /// An equal proof.
+    /// A proof equal to this one. `NoMemory` where there is no memory for it.
     pub fn clone(&self) -> Result<Self, NoMemory>
         ensures { IfOk result (λ copy. current_of D.text copy ≡ current_of D.text self.now) }
     {
@@ -24,7 +24,8 @@ impl<F: Graftable, D: Digest> RangeProof<F, D> {
 }
 
 impl<F: Graftable, D: Digest, C: Chunk + Clone> Proof<F, D, C> {
-    /// An equal proof, where a clone of a chunk is equal to it.
+    /// A proof equal to this one, where a clone of a chunk is equal to it. `NoMemory` where there is no memory for
+    /// it.
     pub fn clone(&self) -> Result<Self, NoMemory>
         ensures { ClonesAreEqual C.is_clone C.text
             → IfOk result (λ copy.

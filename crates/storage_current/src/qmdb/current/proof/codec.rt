@@ -1,4 +1,5 @@
-//! Range proofs as bytes.
+//! Range proofs as bytes: the proof over the grafted view, the slots of the pending and of the partial chunk's
+//! digest, the operations root.
 
 ghost use Rattle.std.specs.Prelude.{◌≡◌, ℕ, ◌+◌};
 ghost use Rattle.storage_codec.specs.Parts.{size_of};
@@ -34,7 +35,7 @@ impl<F: Graftable, D: Digest> EncodeSize for RangeProof<F, D> {
     }
 }
 
-/// The sum of two sizes; none where it, or one of them, is no u64.
+/// The sum of two numbers of bytes; none where it, or one of them, is no `u64`.
 pub(crate) fn sum(first: Option<u64>, second: Option<u64>) -> Option<u64>
     ensures { (m n : ℕ) → first ≡ size_of m → second ≡ size_of n → result ≡ size_of (m + n) }
 {
@@ -42,7 +43,7 @@ pub(crate) fn sum(first: Option<u64>, second: Option<u64>) -> Option<u64>
 }
 
 impl<F: Graftable, D: Digest> Read for RangeProof<F, D> {
-    /// The greatest number of digests.
+    /// The greatest number of digests that is read.
     type Cfg = usize;
 
     ghost View = { CurrentProof };

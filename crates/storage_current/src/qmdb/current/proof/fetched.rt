@@ -1,4 +1,4 @@
-//! The digests that a plan asks a store for.
+//! The digests of planned nodes, read from a store.
 
 ghost use Rattle.std.specs.Prelude.{◌≡◌, ℕ, ◌+◌, ◌<◌, ◌^◌, ◌⊎◌, List, map, Option, Some, IfOk, IfErr};
 ghost use Rattle.std.specs.List.{Contains};
@@ -14,7 +14,7 @@ use storage_merkle::merkle::{
 };
 use storage_ops::qmdb::Error;
 
-/// The digests of planned nodes, by their positions in ascending order.
+/// Digests of planned nodes, by their positions in ascending order.
 #[derive(Drop)]
 pub(crate) struct Fetched<F, D> {
     positions: Vec<Position<F>>,
@@ -22,12 +22,12 @@ pub(crate) struct Fetched<F, D> {
 }
 
 impl<F: Family, D: Digest> Fetched<F, D> {
-    /// Those of a plan, read from a store.
+    /// Those that `plan` needs, read from `storage`.
     ///
     /// # Errors
     ///
-    /// The first in ascending order of the positions: `Source` where the store failed; `ElementPruned` of a position where
-    /// it has none. Or `Memory`.
+    /// `Source` where the store failed, just where its count of failures grew, by one; `ElementPruned` of the first
+    /// planned position, ascending, where it has no digest; `Memory`.
     pub(crate) fn read<S: Storage<F, Digest = D>>(
         alloc: Global,
         storage: &mut S,
@@ -57,7 +57,7 @@ impl<F: Family, D: Digest> Fetched<F, D> {
         }
     }
 
-    /// The digest at one of the positions.
+    /// The digest at `position`, which is one of the planned ones.
     pub(crate) fn get(&self, position: Position<F>) -> Option<D>
         ensures { (node : ℕ → Option D) → IsStrictlyIncreasing self.now.positions.items
             → map Some self.now.digests.items ≡ map node self.now.positions.items
@@ -71,11 +71,11 @@ impl<F: Family, D: Digest> Fetched<F, D> {
     }
 }
 
-/// How many leaves the tree has whose nodes a store has.
+/// How many leaves the tree has whose nodes `storage` has.
 ///
 /// # Errors
 ///
-/// `DataCorrupted` of the tree where no tree has so many nodes.
+/// `DataCorrupted` of the tree where no tree has as many nodes as the store.
 pub(crate) fn stored_leaves<F: Countable, S: Storage<F>>(
     storage: &S,
 ) -> Result<Location<F>, Error<F>>

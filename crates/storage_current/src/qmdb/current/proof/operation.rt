@@ -25,7 +25,7 @@ use storage_codec::digest::{Digest, Hasher};
 use storage_merkle::merkle::{ElementPlan, Graftable, Location, Position};
 use storage_ops::qmdb::Error;
 
-/// A proof that the operation at a location is active. `C` is its chunk of bits.
+/// A proof that the operation at a location is active. `C` is the chunk with its activity bit.
 #[derive(Drop)]
 #[derive_where(Debug, PartialEq, Eq; D, C)]
 pub struct Proof<F, D, C> {
@@ -38,12 +38,13 @@ pub struct Proof<F, D, C> {
 }
 
 impl<F: Graftable, D: Digest, const N: usize> Proof<F, D, [u8; N]> {
-    /// The proof of the location that is planned, from the digests that the grafted view has at the planned positions.
-    /// Its bit is not looked at.
+    /// The proof of the location of `plan`, from the digests that the grafted view has at the planned positions, for
+    /// which `get_node` is asked in ascending order; `status` are the snapshot's bits, `floor` its inactivity floor,
+    /// `ops_root` its operations root. Whether the location's bit is set is not looked at.
     ///
     /// # Errors
     ///
-    /// The first of: `OperationPruned` of the location where its chunk is pruned; those of `RangeProof::build`.
+    /// The first of: `OperationPruned` of the location where its chunk is pruned; those of [`RangeProof::build`].
     pub fn build<H: Hasher<Digest = D>, R: Readable<N>, G: Fn(Position<F>) -> Option<D>>(
         alloc: Global,
         status: &R,
@@ -93,8 +94,8 @@ impl<F: Graftable, D: Digest, const N: usize> Proof<F, D, [u8; N]> {
 }
 
 impl<F: Graftable, D: Digest, C: Chunk> Proof<F, D, C> {
-    /// Whether the operation stands at the location of the snapshot with that root, and is active. The no of a chunk
-    /// size that is no power of two up to `2^59`, and of a clear bit, takes no memory and hashes nothing.
+    /// Whether `operation` stands at the proof's location of the snapshot with the canonical root `root`, and is
+    /// active. The no of a chunk size that is no power of two up to `2^59` bytes, and of a clear bit, takes no memory.
     pub fn verify<H: Hasher<Digest = D>, O: Write + Drop>(
         &self,
         alloc: Global,
@@ -121,7 +122,7 @@ impl<F: Graftable, D: Digest, C: Chunk> Proof<F, D, C> {
         self.verify_encoded::<H>(alloc, &bytes, root)
     }
 
-    /// As `verify`, for an operation that is bytes already.
+    /// As [`verify`](Self::verify), for an operation that is bytes already.
     pub fn verify_encoded<H: Hasher<Digest = D>>(
         &self,
         alloc: Global,
@@ -156,7 +157,8 @@ impl<F: Graftable, D: Digest, C: Chunk> Proof<F, D, C> {
             )
     }
 
-    /// Whether the chunk has a size that chunks may have, and the bit of the location is set.
+    /// Whether the chunk has a size that chunks may have, a power of two up to `2^59` bytes, and the bit of the
+    /// location is set in it.
     pub(crate) fn is_active(&self) -> bool
         ensures { IsTrue result ↔ (IsChunkSize (length (C.text self.now.chunk))
             × (bit_in (C.text self.now.chunk) (self.now.loc % 2 ^ height
@@ -170,7 +172,7 @@ impl<F: Graftable, D: Digest, C: Chunk> Proof<F, D, C> {
     }
 }
 
-/// Whether the bit at a place is set.
+/// Whether bit `place` of `bytes` is set: in byte `place / 8`, under the mask `1 << (place mod 8)`.
 fn is_set(bytes: &[u8], place: u64) -> bool
     requires { place / 8 < length bytes.now }
     ensures { result ≡ bit_in bytes.now place }

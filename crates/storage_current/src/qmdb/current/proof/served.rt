@@ -17,7 +17,8 @@ use storage_merkle::merkle::{self, Countable, Graftable, Location, RangePlan, St
 use storage_ops::qmdb::Error;
 
 impl<F: Graftable, D: Digest> RangeProof<F, D> {
-    /// The proof of the operations at a range of locations, from a store of the grafted view. A floor past the leaves counts
+    /// The proof of the operations at the locations of `range`, from `storage`, which has the grafted view's nodes; `status`
+    /// are the snapshot's bits, `floor` its inactivity floor, `ops_root` its operations root. A floor past the leaves counts
     /// as the leaves.
     ///
     /// # Errors
@@ -66,7 +67,8 @@ impl<F: Graftable, D: Digest> RangeProof<F, D> {
         Self::read::<H, R, S, N>(alloc, status, storage, plan, floor, ops_root)
     }
 
-    /// The proof of the range that is planned, from a store of the grafted view.
+    /// The proof of the range of `plan`, from `storage`, which has the grafted view's nodes; `status`, `floor` and
+    /// `ops_root` are the snapshot's.
     pub(crate) fn read<
         H: Hasher<Digest = D>,
         R: Readable<N>,

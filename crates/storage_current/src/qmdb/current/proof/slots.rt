@@ -1,4 +1,4 @@
-//! The digests of chunks under no node of their own.
+//! The digests that a proof has of the pending and the partial chunk.
 
 ghost use Rattle.std.specs.Prelude.{◌≡◌, ◌↔◌, ℕ, ◌+◌, ◌-◌, ◌≤◌, length, map, option_map, IsTrue, not, eqb, ltb};
 ghost use Rattle.storage_current.specs.Windows.{IsMatched};
@@ -8,8 +8,8 @@ use crate::qmdb::current::proof::{Chunk, RangeProof};
 use storage_codec::digest::Hasher;
 use storage_merkle::merkle::Graftable;
 
-/// Whether the pending and the partial chunk have a digest in the proof just where there is one, and the claimed bytes of
-/// one that the range touches have that digest.
+/// Whether `proof` has a digest of the pending and of the partial chunk just where the snapshot has one, and each of
+/// these that is among `chunks`, those that the claim touches, has that digest.
 pub(crate) fn match_chunks<H: Hasher, C: Chunk, F: Graftable>(
     proof: &RangeProof<F, H::Digest>,
     window: &Window,
@@ -40,7 +40,8 @@ pub(crate) fn match_chunks<H: Hasher, C: Chunk, F: Graftable>(
     )
 }
 
-/// Whether a slot has a digest just where its chunk is there, and a claimed chunk has it.
+/// Whether `slot` has a digest just where `is_there`, and the claimed chunk number `index`, if it is among `chunks`, has
+/// that digest.
 fn matches<H: Hasher, C: Chunk>(
     slot: &Option<H::Digest>,
     is_there: bool,
@@ -62,7 +63,7 @@ fn matches<H: Hasher, C: Chunk>(
     }
 }
 
-/// The digest of some bytes.
+/// The digest of `bytes`.
 fn hash_of<H: Hasher>(bytes: &[u8]) -> H::Digest
     ensures { H.Digest.text result ≡ H.hash_of bytes.now }
 {

@@ -1,4 +1,4 @@
-//! Where a claimed range stands among the chunks.
+//! Where a claimed range of operations stands among the chunks.
 
 ghost use Rattle.std.specs.Prelude.{◌≡◌, ℕ, ◌+◌, ◌-◌, ◌*◌, ◌/◌, ◌%◌, ◌^◌, ◌<◌, ◌≤◌, MatchOption};
 ghost use Rattle.storage_current.specs.Snapshots.{grafting_of};
@@ -8,23 +8,23 @@ use crate::qmdb::current::chunks::ChunkCounts;
 use crate::qmdb::current::grafting;
 use storage_merkle::merkle::{Family, MAX_LEAVES};
 
-/// Where a range stands among the chunks of so many operations.
+/// Where a range of operations stands among the chunks of a snapshot.
 #[derive(Clone, Copy, Drop)]
 pub(crate) struct Window {
     /// The height of the node over a chunk's operations.
     pub height: u32,
     /// The first chunk that the range touches.
     pub first_chunk: u64,
-    /// The last one.
+    /// The last chunk that the range touches.
     pub last_chunk: u64,
-    /// How many chunks there are.
+    /// How many chunks the snapshot has.
     pub counts: ChunkCounts,
 }
 
 impl Window {
-    /// That of so many operations from `start` on, among `leaves`, with so many chunks of a size; none where the size is not
-    /// one that chunks may have, there are no operations, the range does not end among the leaves, or it touches another
-    /// number of chunks.
+    /// Where `count` operations from `start` on stand among those of a snapshot of `leaves` operations, with chunks of
+    /// `chunk_size` bytes; none where `chunk_size` is no power of two up to `2^59`, `count` is 0, `leaves` is past
+    /// `MAX_LEAVES`, the range passes `leaves`, or it touches another number of chunks than `chunks`.
     pub(crate) fn of<F: Family>(
         leaves: u64,
         start: u64,
@@ -57,7 +57,7 @@ impl Window {
         })
     }
 
-    /// The place of a chunk among those that the range touches; none for another one.
+    /// The place of chunk number `chunk` among those that the range touches; none where it is not one of these.
     pub(crate) fn place(&self, chunk: u64) -> Option<usize>
         ensures { MatchOption result (self.now.first_chunk ≤ chunk → chunk ≤ self.now.last_chunk
             → ⊥) (λ place. (self.now.first_chunk ≤ chunk) × (chunk ≤ self.now.last_chunk)

@@ -1,4 +1,4 @@
-//! Range proofs with the operations of their range and the chunks of bits.
+//! Range proofs from stores, with the operations of their range from a log and the chunks of bits.
 
 ghost use Rattle.std.specs.Prelude.{◌≡◌, ℕ, ◌+◌, ◌-◌, ◌*◌, ◌/◌, ◌%◌, ◌<◌, ◌≤◌, ◌^◌, ◌⊎◌, [], map, get_or, IfOk, IfErr, OnOk};
 ghost use Rattle.std.specs.List.{range_with_len};
@@ -22,23 +22,24 @@ use storage_ops::qmdb::Error;
 pub struct RangeProofSpec<F, D> {
     /// The location of the first operation.
     pub start_loc: Location<F>,
-    /// How many operations at most, at least 1.
+    /// How many operations are to be proved at most; at least 1.
     pub max_ops: u64,
     /// The snapshot's inactivity floor.
     pub inactivity_floor: Location<F>,
-    /// Its operations root.
+    /// The snapshot's operations root.
     pub ops_root: D,
 }
 
 impl<F: Graftable, D: Digest> RangeProof<F, D> {
-    /// The proof of at most so many operations from a location on, from a store of the grafted view, with these operations
-    /// from a log and the chunks of bits that they touch. There are fewer operations where the snapshot ends.
+    /// The proof of `max_ops` operations from `start_loc` on, or of fewer where the snapshot ends, from `storage`, which has
+    /// the grafted view's nodes; with these operations, from `log`, and the chunks of bits that they touch, from `status`.
+    /// `start_loc` and `max_ops` stand in `spec`, with the snapshot's floor and operations root.
     ///
     /// # Errors
     ///
-    /// The first of: `RangeOutOfBounds` of the location at or past the number of bits; `OperationPruned` of it where its chunk
-    /// is pruned; those of `new`; `DataCorrupted` where the log does not hold the range; `Log` where the log failed, just
-    /// where its count of failures grew, by one.
+    /// The first of: `RangeOutOfBounds(start_loc)` where it is at or past the number of bits; `OperationPruned(start_loc)`
+    /// where its chunk is pruned; those of [`new`](Self::new); `DataCorrupted` where the log does not hold the range; `Log`
+    /// where the log failed, just where its count of failures grew, by one.
     pub fn new_with_ops<
         H: Hasher<Digest = D>,
         R: Readable<N>,
@@ -114,12 +115,12 @@ impl<F: Graftable, D: Digest> RangeProof<F, D> {
     }
 }
 
-/// The location past the range of at most so many operations.
+/// The location past the range of at most `max_ops` operations from `start` on, which ends with the bits `status`.
 ///
 /// # Errors
 ///
-/// The first of: `RangeOutOfBounds` of the start at or past the number of bits; `OperationPruned` of it where its chunk is
-/// pruned.
+/// The first of: `RangeOutOfBounds(start)` where it is at or past the number of bits; `OperationPruned(start)` where its chunk
+/// is pruned.
 fn range_end<F: Graftable, R: Readable<N>, const N: usize>(
     status: &R,
     start: Location<F>,
@@ -144,7 +145,7 @@ fn range_end<F: Graftable, R: Readable<N>, const N: usize>(
     Ok(Location::new(first.saturating_add(max_ops).min(len)))
 }
 
-/// The chunks of bits that a range of operations touches.
+/// The chunks of the bits `status` that the operations from `start` to before `end` touch.
 fn touched_chunks<R: Readable<N>, const N: usize>(
     alloc: Global,
     status: &R,
@@ -169,7 +170,7 @@ fn touched_chunks<R: Readable<N>, const N: usize>(
     Ok(chunks)
 }
 
-/// The items of a log at a range of locations that it holds.
+/// The items of `log` at the locations from `start` to before `end`, which it holds.
 ///
 /// # Errors
 ///

@@ -1,4 +1,4 @@
-//! Witnesses of the operations root.
+//! Witnesses that an operations root is the snapshot's.
 
 ghost use Rattle.std.specs.Prelude.{◌≡◌, ◌↔◌, ℕ, ◌<◌, ◌^◌, IsTrue, IfOk, IfSome, option_map};
 ghost use Rattle.storage_current.specs.CurrentProofs.{witness_string};
@@ -12,7 +12,8 @@ use std::marker::PhantomData;
 use storage_codec::NoMemory;
 use storage_codec::digest::{Digest, Hasher};
 
-/// What a canonical root holds beside an operations root: with these parts the operations root gives the canonical root.
+/// What a canonical root is made of beside the operations root: with these parts the operations root gives the canonical
+/// root.
 #[derive(Drop)]
 #[derive_where(Debug, PartialEq, Eq; D)]
 pub struct OpsRootWitness<F, D> {
@@ -20,7 +21,7 @@ pub struct OpsRootWitness<F, D> {
     pub grafted_root: D,
     /// The digest of the complete chunk that is not graftable, if there is one.
     pub pending_chunk_digest: Option<D>,
-    /// How many bits the chunk after the complete ones has, and its digest, if it has a bit.
+    /// How many bits the chunk after the complete ones has, and its digest; none where it has no bit.
     pub partial_chunk: Option<(u64, D)>,
     /// The family of the trees, which no part of the witness tells.
     #[derive_where(skip)]
@@ -28,7 +29,8 @@ pub struct OpsRootWitness<F, D> {
 }
 
 impl<F, D: Digest> OpsRootWitness<F, D> {
-    /// That of these parts. With the digest of the partial chunk goes how many bits it has.
+    /// The witness of these parts; `next_bit`, how many bits the partial chunk has, counts only where `partial` has its
+    /// digest.
     pub(crate) fn of(
         grafted_root: D,
         pending_chunk_digest: Option<D>,
@@ -50,14 +52,14 @@ impl<F, D: Digest> OpsRootWitness<F, D> {
         }
     }
 
-    /// The same witness. It takes no memory.
+    /// An equal witness. It takes no memory.
     pub fn clone(&self) -> Result<Self, NoMemory>
         ensures { result ≡ Ok self.now }
     {
         Ok(self.copied())
     }
 
-    /// A copy.
+    /// An equal witness.
     pub(crate) fn copied(&self) -> Self
         ensures { result ≡ self.now }
     {
@@ -69,7 +71,7 @@ impl<F, D: Digest> OpsRootWitness<F, D> {
         }
     }
 
-    /// The canonical root of an operations root with this witness. Takes no memory.
+    /// The canonical root that `ops_root` gives with this witness. Takes no memory.
     pub fn root<H: Hasher<Digest = D>>(&self, ops_root: &D) -> D
         ensures { D.text result
             ≡ H.hash_of (witness_string (witness_of D.text self.now) (D.text ops_root.now)) }
@@ -77,7 +79,7 @@ impl<F, D: Digest> OpsRootWitness<F, D> {
         self.combined::<H>(ops_root)
     }
 
-    /// The canonical root.
+    /// The canonical root that `ops_root` gives with this witness; the number of bits is a `u64`.
     fn combined<H: Hasher<Digest = D>>(&self, ops_root: &D) -> D
         ensures root { D.text result
             ≡ H.hash_of (witness_string (witness_of D.text self.now) (D.text ops_root.now)) }
@@ -101,7 +103,7 @@ impl<F, D: Digest> OpsRootWitness<F, D> {
         }
     }
 
-    /// Whether the operations root is that of the snapshot with that canonical root. Takes no memory.
+    /// Whether `ops_root` is the operations root of the snapshot with the canonical root `root`. Takes no memory.
     pub fn verify<H: Hasher<Digest = D>>(&self, ops_root: &D, root: &D) -> bool
         ensures exact { IsTrue result ↔ (H.hash_of
             (witness_string (witness_of D.text self.now) (D.text ops_root.now)) ≡ D.text root.now) }

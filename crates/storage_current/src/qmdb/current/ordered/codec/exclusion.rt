@@ -31,7 +31,7 @@ pub(crate) const KEY_VALUE_CONTEXT: u8 = 0;
 /// The tag of a commit that excludes.
 pub(crate) const COMMIT_CONTEXT: u8 = 1;
 
-/// Appends a tag and two values.
+/// Appends to `out` the byte `tag`, and then what `first` and `second` are written as.
 #[tactic(auto, using(storage_codec::specs::PartsLaws::starts_cons, storage_codec::specs::PartsLaws::starts_then, storage_codec::specs::PartsLaws::starts_first))]
 fn write_tagged<A: Write, B: Write>(
     tag: u8,
@@ -48,7 +48,7 @@ fn write_tagged<A: Write, B: Write>(
     write_both(first, second, out)
 }
 
-/// Appends two values.
+/// Appends to `out` what `first` and `second` are written as.
 #[tactic(auto, using(storage_codec::specs::PartsLaws::starts_then, storage_codec::specs::PartsLaws::starts_first))]
 fn write_both<A: Write, B: Write>(first: &A, second: &B, out: &mut Vec<u8>) -> Result<(), NoMemory>
     ensures ok { OnOk result
@@ -87,7 +87,7 @@ impl<F: Graftable, K: Key, V: ValueEncoding, D: Digest, C: Chunk> EncodeSize
     }
 }
 
-/// The number of bytes of a tag and two values, `None` past the greatest `u64`.
+/// How many bytes a tag, `first` and `second` are written as; none where that is no `u64`.
 #[tactic(auto, using(std::proofs::lemmas::Grind::common_steps))]
 fn size_of_tagged<A: EncodeSize, B: EncodeSize>(first: &A, second: &B) -> Option<u64>
     ensures { result ≡ size_of (1 + length (A.text first.now ++ B.text second.now)) }
@@ -96,7 +96,7 @@ fn size_of_tagged<A: EncodeSize, B: EncodeSize>(first: &A, second: &B) -> Option
     both.checked_add(1)
 }
 
-/// The tag.
+/// Reads the tag, one byte, from the front of `buf`. Refuses `EndOfBuffer` where there is none.
 fn read_tag<B: Buf>(buf: &mut B) -> Result<u8, Error>
     ensures gives { Gives (λ tag. tag) result (B.unread buf.new) (byte_at (B.unread buf.old)) }
     ensures ends { IsEnding (B.unread buf.old) (B.unread buf.new) }
@@ -106,7 +106,8 @@ fn read_tag<B: Buf>(buf: &mut B) -> Result<u8, Error>
     Ok(tag[0])
 }
 
-/// Reads one value, and then an update.
+/// Reads from the front of `buf` a value of `A`, whose reader is told `first`, and then an update, whose reader is told
+/// `update`.
 #[tactic(auto, using(storage_codec::specs::PartsLaws::ends_then))]
 fn read_before_update<A: Read, K: Key, V: UpdateCodec<K>, B: Buf>(
     alloc: Global,
@@ -130,7 +131,8 @@ fn read_before_update<A: Read, K: Key, V: UpdateCodec<K>, B: Buf>(
     }
 }
 
-/// The chunk is read as `N` bytes.
+/// After a tag of 0 the operation proof and the update, after one of 1 the operation proof and the option of a value. The
+/// chunk is read as `N` bytes.
 impl<F: Graftable, K: Key, V: UpdateCodec<K>, D: Digest, const N: usize> Read
     for ExclusionProof<F, K, V, D, [u8; N]> {
     /// The greatest number of digests, and what the readers of the update and of the value are told.
@@ -185,7 +187,8 @@ impl<F: Graftable, K: Key, V: UpdateCodec<K>, D: Digest, const N: usize> Read
 }
 
 impl<F: Graftable, K: Key, V: UpdateCodec<K>, D: Digest> ExclusionProof<F, K, V, D, Bytes> {
-    /// Reads as `read_cfg` does, with the configurations of the parts lent apart.
+    /// Reads as `read_cfg` does, with the configurations of the parts lent apart: `proof`, the size of the chunk in bytes
+    /// and the greatest number of digests; `update` and `value`, what the readers of the update and of the value are told.
     #[tactic(auto, using(storage_codec::specs::PartsLaws::ends_then))]
     fn read_with<B: Buf>(
         alloc: Global,
@@ -220,7 +223,9 @@ impl<F: Graftable, K: Key, V: UpdateCodec<K>, D: Digest> ExclusionProof<F, K, V,
         }
     }
 
-    /// The proof that is all of `buf`, as `decode_cfg` reads it, with the configurations of the parts lent apart.
+    /// The proof that is all of `buf`, as `decode_cfg` reads it, with the configurations of the parts lent apart: `proof`,
+    /// the size of the chunk in bytes and the greatest number of digests; `update` and `value`, what the readers of the
+    /// update and of the value are told.
     ///
     /// # Errors
     ///
@@ -249,7 +254,8 @@ impl<F: Graftable, K: Key, V: UpdateCodec<K>, D: Digest> ExclusionProof<F, K, V,
     }
 }
 
-/// The chunk is cut from the bytes. A size that chunks can't have is refused first.
+/// After a tag of 0 the operation proof and the update, after one of 1 the operation proof and the option of a value. The
+/// chunk is cut from the bytes; a size that chunks can't have is refused before the rest of the proof.
 impl<F: Graftable, K: Key, V: UpdateCodec<K>, D: Digest> Read
     for ExclusionProof<F, K, V, D, Bytes> {
     /// The size of the chunk in bytes and the greatest number of digests, and what the readers of the update and of the

@@ -42,7 +42,7 @@ impl<F: Graftable, K: Key, D: Digest, C: Chunk> EncodeSize for KeyValueProof<F, 
     }
 }
 
-/// The chunk is read as `N` bytes.
+/// The operation proof, then the next key. The chunk is read as `N` bytes.
 impl<F: Graftable, K: Key, D: Digest, const N: usize> Read for KeyValueProof<F, K, D, [u8; N]> {
     /// The greatest number of digests, and what the key's reader is told.
     type Cfg = (usize, K::Cfg);
@@ -65,7 +65,8 @@ impl<F: Graftable, K: Key, D: Digest, const N: usize> Read for KeyValueProof<F, 
 }
 
 impl<F: Graftable, K: Key, D: Digest> KeyValueProof<F, K, D, Bytes> {
-    /// Reads as `read_cfg` does, with the configurations of the operation proof and of the key lent apart.
+    /// Reads as `read_cfg` does, with the configurations of the parts lent apart: `proof`, the size of the chunk in bytes
+    /// and the greatest number of digests; `key`, what the key's reader is told.
     fn read_with<B: Buf>(
         alloc: Global,
         buf: &mut B,
@@ -83,8 +84,8 @@ impl<F: Graftable, K: Key, D: Digest> KeyValueProof<F, K, D, Bytes> {
         }
     }
 
-    /// The proof that is all of `buf`, as `decode_cfg` reads it, with the configurations of the operation proof and of the
-    /// key lent apart.
+    /// The proof that is all of `buf`, as `decode_cfg` reads it, with the configurations of the parts lent apart: `proof`,
+    /// the size of the chunk in bytes and the greatest number of digests; `key`, what the key's reader is told.
     ///
     /// # Errors
     ///
@@ -109,7 +110,8 @@ impl<F: Graftable, K: Key, D: Digest> KeyValueProof<F, K, D, Bytes> {
     }
 }
 
-/// The chunk is cut from the bytes. A size that chunks can't have is refused first.
+/// The operation proof, then the next key. The chunk is cut from the bytes; a size that chunks can't have is refused
+/// first.
 impl<F: Graftable, K: Key, D: Digest> Read for KeyValueProof<F, K, D, Bytes> {
     /// The size of the chunk in bytes and the greatest number of digests, and what the key's reader is told.
     type Cfg = ((usize, usize), K::Cfg);

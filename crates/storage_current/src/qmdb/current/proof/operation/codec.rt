@@ -1,4 +1,4 @@
-//! Operation proofs as bytes.
+//! Operation proofs as bytes: the location, the chunk with no length before it, the range proof.
 
 ghost use Rattle.std.specs.Prelude.{◌≡◌, ℕ, ◌+◌};
 ghost use Rattle.storage_current.specs.Held.{current_of};
@@ -43,7 +43,7 @@ impl<F: Graftable, D: Digest, C: Chunk> EncodeSize for Proof<F, D, C> {
 
 /// The chunk is read as `N` bytes.
 impl<F: Graftable, D: Digest, const N: usize> Read for Proof<F, D, [u8; N]> {
-    /// The greatest number of digests.
+    /// The greatest number of digests that is read.
     type Cfg = usize;
 
     ghost View = { OperationProof };
@@ -75,9 +75,9 @@ impl<F: Graftable, D: Digest, const N: usize> Read for Proof<F, D, [u8; N]> {
     }
 }
 
-/// The chunk is cut from the bytes. A size that chunks can't have is refused first.
+/// The chunk is cut from the bytes; a size that chunks can't have is refused first.
 impl<F: Graftable, D: Digest> Read for Proof<F, D, Bytes> {
-    /// The size of the chunk in bytes, and the greatest number of digests.
+    /// The size of the chunk in bytes, and the greatest number of digests that is read.
     type Cfg = (usize, usize);
 
     ghost View = { OperationProof };

@@ -1,4 +1,5 @@
-//! Witnesses as bytes.
+//! Witnesses as bytes: the grafted root, the slot of the pending chunk's digest, and an option of the partial chunk's
+//! number of bits and digest.
 
 ghost use Rattle.std.specs.Prelude.{◌≡◌, ℕ, ◌+◌, ◌<◌, ◌^◌, List, option_map};
 ghost use Rattle.storage_current.specs.Snapshots.{Witness};
@@ -16,7 +17,7 @@ use storage_codec::codec::{
 use storage_codec::digest::Digest;
 use storage_merkle::merkle::Graftable;
 
-/// A number of bits, and the digest of the chunk that they begin.
+/// How many bits the partial chunk has, and its digest.
 #[derive(Drop)]
 struct Counted<D> {
     bits: u64,
@@ -80,7 +81,7 @@ impl<F: Graftable, D: Digest> EncodeSize for OpsRootWitness<F, D> {
     }
 }
 
-/// The partial chunk as it is written.
+/// `partial`, as it is written.
 fn with_count<D: Digest>(partial: &Option<(u64, D)>) -> Option<Counted<D>>
     ensures { result ≡ option_map (λ p. record { bits = p.0; digest = p.1 }) partial.now }
 {
