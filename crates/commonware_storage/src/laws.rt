@@ -27,7 +27,7 @@ use storage_merkle::merkle::{ElementPlan, Graftable, Location, Position};
 use storage_ops::qmdb::Error;
 
 /// What a snapshot's own proof of an active operation is written as is accepted at its location: in each family, for each
-/// chunk size, and with at most 128 digests.
+/// chunk size, with at most 128 digests.
 pub fn own_proofs_are_accepted()
     ensures { OwnProofsAreAccepted }
 {
@@ -35,10 +35,11 @@ pub fn own_proofs_are_accepted()
     own_operation_proofs_are_read_again();
 }
 
-/// Builds the proof of the planned operation, writes it, and answers what [`check_operation`] says of the bytes against
-/// `root`: where these are the parts of a snapshot, of what its own proof is written as. So it says yes wherever `root` is
-/// that snapshot's canonical root and the operation is active there. With
-/// the parts that a [`Snapshot`](crate::qmdb::current::Snapshot) hands out nothing is refused but for want of memory.
+/// Builds the proof of the operation at the location of `plan`, writes it, and answers what [`check_operation`] says of
+/// these bytes, of `operation` and of `root`. Where `status`, `get_node`, `floor` and `ops_root` are the parts of a
+/// snapshot, that is what it says of the bytes of the snapshot's own proof: yes wherever `root` is that snapshot's
+/// canonical root and `operation` is active there. With the parts that a [`Snapshot`](crate::qmdb::current::Snapshot)
+/// hands out only out of memory is an error.
 ///
 /// # Errors
 ///

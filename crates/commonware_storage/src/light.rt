@@ -23,8 +23,8 @@ pub use text_error::TextError;
 /// The most digests that a proof may have. No tree needs more for one location.
 pub const MAX_DIGESTS: usize = 128;
 
-/// Whether the operation with these bytes stands at the location of the snapshot with that canonical root, and is active.
-/// `proof` is an operation proof as it is written, over a chunk of `chunk_size` bytes.
+/// Whether the operation with the bytes `operation` stands at the location `loc` of the snapshot with the canonical root
+/// `root`, and is active. `proof` is an operation proof as it is written, over a chunk of `chunk_size` bytes.
 ///
 /// The answer is no where the bytes are not one whole proof with at most [`MAX_DIGESTS`] digests, where it is the proof of
 /// another location, and where no chunk has that size: this last no takes no memory. Else it is what the proof's `verify`
@@ -59,7 +59,7 @@ pub fn check_operation<F: Graftable, H: Hasher>(
     }
 }
 
-/// What [`check_operation`] answers for the bytes that these texts spell in hexadecimal, in either case.
+/// What [`check_operation`] answers for the bytes that `proof` and `operation` spell in hexadecimal, in either case.
 ///
 /// # Errors
 ///
@@ -91,7 +91,7 @@ pub fn check_text<F: Graftable, H: Hasher>(
     Ok(yes)
 }
 
-/// The bytes that a text spells; this fault where it spells none.
+/// The bytes that `text` spells in hexadecimal; `fault` where it spells none.
 fn spelled(alloc: Global, text: &str, fault: TextError) -> Result<Vec<u8>, TextError>
     ensures bytes { IfOk result (λ bytes. decode_of text.now ≡ Ok bytes.items) }
     ensures why { IfErr result (λ error.

@@ -13,9 +13,9 @@ use reply::Reply;
 use std::alloc::Global;
 use std::io::{self, Read, Write};
 
-/// Runs the program over its words, its own name left out, and answers the exit status: 0, or 1 for a no. After a fault
-/// `output` has nothing, `errors` one line, and the status is 2. After a failed write it is 2 as well, and nothing more is
-/// written. So one of the two writers is never written to, and `errors` is not where there is an answer.
+/// Runs the program over `words`, its arguments, and answers the exit status: 0, or 1 for a no. After a fault `output` has
+/// nothing, `errors` one line, and the status is 2. After a failed write it is 2 as well, and nothing more is written. So
+/// one of the two writers is never written to, and `errors` is not where there is an answer.
 pub fn run<R: Read + Drop, O: Write, E: Write>(
     alloc: Global,
     words: &[String],
@@ -36,7 +36,7 @@ pub fn run<R: Read + Drop, O: Write, E: Write>(
     }
 }
 
-/// Writes the line of a fault, and answers its exit status.
+/// Writes the line of `fault` to `errors`, and answers the exit status, 2.
 pub fn fail<E: Write>(fault: Fault, errors: &mut E) -> u8
     ensures { result ≡ 2 }
 {
@@ -44,7 +44,7 @@ pub fn fail<E: Write>(fault: Fault, errors: &mut E) -> u8
     2
 }
 
-/// Writes the whole text.
+/// Writes all of `text` to `output`.
 fn print<O: Write>(output: &mut O, text: &str) -> io::Result<()> {
     output.write_all(text.as_bytes())?;
     output.flush()

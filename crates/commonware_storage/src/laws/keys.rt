@@ -54,8 +54,9 @@ pub fn own_exclusions_are_accepted<
     own_operation_proofs_are_read_again();
 }
 
-/// Writes the proof, and answers what [`check_value`] says of the bytes: yes wherever its operation proof is a snapshot's own
-/// one of the active update of the key to the value, the update names this next key, and `root` is the canonical root.
+/// Writes `proof`, and answers what [`check_value`] says of the bytes, of `key`, `value` and `root`: yes wherever its operation
+/// proof is a snapshot's own one of the active update of `key` to `value`, the update names the proof's next key, the reader of
+/// the next key, which is told `cfg`, admits it, and `root` is the canonical root.
 pub fn written_values_are_accepted<
     F: Graftable,
     H: Hasher,
@@ -94,8 +95,9 @@ pub fn written_values_are_accepted<
     Ok(yes)
 }
 
-/// Writes the proof, and answers what [`check_absence`] says of the bytes: yes wherever its operation proof is a snapshot's own
-/// one, its update or commit is active there and excludes the key, and `root` is the canonical root.
+/// Writes `proof`, and answers what [`check_absence`] says of the bytes, of `key` and `root`: yes wherever its operation proof
+/// is a snapshot's own one, its update or commit is active there and excludes `key`, the readers of its parts, which are told
+/// `cfgs`, admit them, and `root` is the canonical root.
 pub fn written_exclusions_are_accepted<
     F: Graftable,
     H: Hasher,

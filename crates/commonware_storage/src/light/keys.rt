@@ -1,4 +1,4 @@
-//! Answers about keys.
+//! Answers about keys for a client that trusts one digest, from bytes that anyone may have made.
 
 ghost use Rattle.std.specs.Prelude.{◌≡◌, ◌↔◌, ◌⊎◌, IfOk, IsTrue, Ok, false};
 ghost use Rattle.storage_bitmap.specs.Chunks.{IsChunkSize};
@@ -20,8 +20,8 @@ use storage_ops::qmdb::any::operation::OperationCodec;
 use storage_ops::qmdb::any::operation::update::Ordered;
 use storage_ops::qmdb::operation::Key;
 
-/// Whether the key has the value in the snapshot with that canonical root. `proof` is a key-value proof as it is written, over
-/// a chunk of `chunk_size` bytes, and `cfg` is what the reader of its next key is told.
+/// Whether `key` has the value `value` in the snapshot with the canonical root `root`. `proof` is a key-value proof as it is
+/// written, over a chunk of `chunk_size` bytes, and `cfg` is what the reader of its next key is told.
 ///
 /// The answer is no where the bytes are not one whole proof with at most [`MAX_DIGESTS`] digests, and where no chunk has that
 /// size: this last no takes no memory. Else it is what the proof's `verify` answers.
@@ -56,8 +56,8 @@ pub fn check_value<F: Graftable, H: Hasher, K: Key, V: OperationCodec<F, Ordered
     }
 }
 
-/// Whether the key has no value in the snapshot with that canonical root. `proof` is an exclusion proof as it is written, over
-/// a chunk of `chunk_size` bytes, and `cfgs` are what the readers of its update and of its value are told.
+/// Whether `key` has no value in the snapshot with the canonical root `root`. `proof` is an exclusion proof as it is written,
+/// over a chunk of `chunk_size` bytes, and `cfgs` are what the readers of its update and of its value are told.
 ///
 /// The answer is no where the bytes are not one whole proof with at most [`MAX_DIGESTS`] digests, and where no chunk has that
 /// size: this last no takes no memory. Else it is what the proof's `verify` answers.

@@ -9,13 +9,13 @@ use thiserror::Error;
 /// Why a check of texts has no answer.
 #[derive(Clone, Copy, Debug, PartialEq, Eq, Error)]
 pub enum TextError {
-    /// The operation's text is not hexadecimal.
+    /// The operation's text is not hexadecimal, or has an odd number of digits.
     #[error("operation is not hexadecimal")]
     Operation,
-    /// The proof's text is not hexadecimal.
+    /// The proof's text is not hexadecimal, or has an odd number of digits.
     #[error("proof is not hexadecimal")]
     Proof,
-    /// A growth was refused.
+    /// Out of memory.
     #[error("out of memory")]
     Memory,
 }

@@ -1,4 +1,4 @@
-//! The arguments.
+//! The arguments of the program.
 
 ghost use Rattle.std.specs.Prelude.{◌≡◌};
 ghost use Rattle.std.specs.Option.{SomeIff};
@@ -8,17 +8,21 @@ ghost use Rattle.commonware_storage.specs.Words.{IsNumber};
 use hex::FromHex;
 use storage_codec::codec::FixedBytes;
 
-/// A family of trees.
+/// A family of trees, MMR or MMB.
 #[derive(Clone, Copy, Debug, PartialEq, Eq)]
 pub enum Tree {
+    /// Merkle mountain ranges.
     Mmr,
+    /// Merkle mountain belts.
     Mmb,
 }
 
-/// How many bytes a chunk has.
+/// How many bytes a chunk of activity bits has.
 #[derive(Clone, Copy, Debug, PartialEq, Eq)]
 pub enum Chunk {
+    /// 1 byte.
     One,
+    /// 32 bytes.
     ThirtyTwo,
 }
 
@@ -33,16 +37,19 @@ pub enum Action {
     Check { root: FixedBytes<32>, location: u64 },
 }
 
-/// A command line.
+/// The arguments of a run, read.
 #[derive(Clone, Copy, Debug, PartialEq, Eq)]
 pub struct Command {
+    /// The family of the trees.
     pub tree: Tree,
+    /// The size of a chunk.
     pub chunk: Chunk,
+    /// What is asked for.
     pub action: Action,
 }
 
 impl Tree {
-    /// The family of this name.
+    /// The family that `word` names.
     fn named(word: &str) -> Option<Tree> {
         match word {
             "mmr" => Some(Tree::Mmr),
@@ -53,7 +60,7 @@ impl Tree {
 }
 
 impl Chunk {
-    /// The chunk size that this word writes.
+    /// The chunk size that `word` writes.
     fn named(word: &str) -> Option<Chunk> {
         match word {
             "1" => Some(Chunk::One),
@@ -64,7 +71,7 @@ impl Chunk {
 }
 
 impl Action {
-    /// What a first word and the words after family and chunk ask for.
+    /// What the first word `word` and `rest`, the words after family and chunk, ask for.
     fn named(word: &str, rest: &[String]) -> Option<Action> {
         match (word, rest) {
             ("root", [floor]) => Some(Action::Root {
@@ -84,7 +91,7 @@ impl Action {
 }
 
 impl Command {
-    /// Reads the words of a command line, the program's own name left out; none where the program takes no such words.
+    /// Reads the arguments `words`; none where the program takes no such words.
     pub fn parse(words: &[String]) -> Option<Command> {
         let [action, tree, chunk, rest @ ..] = words else {
             return None;
@@ -100,7 +107,7 @@ impl Command {
     }
 }
 
-/// The number that 1 to 20 decimal digits write, where it is below `2^64`.
+/// The number that `word` writes in 1 to 20 decimal digits, where it is below `2^64`.
 pub fn number(word: &str) -> Option<u64>
     ensures { SomeIff result (IsNumber word.now) (digits_value 10 word.now) }
 {
@@ -110,7 +117,7 @@ pub fn number(word: &str) -> Option<u64>
     word.parse::<u64>().ok()
 }
 
-/// The digest that 64 hexadecimal digits write, in either case.
+/// The digest that `word` writes in 64 hexadecimal digits, in either case.
 pub fn digest(word: &str) -> Option<FixedBytes<32>> {
     let bytes = <[u8; 32] as FromHex>::from_hex(word).ok()?;
     Some(FixedBytes { bytes })

@@ -10,7 +10,7 @@ use storage_merkle::merkle;
 use storage_ops::qmdb;
 use thiserror::Error;
 
-/// The first fault of a run, in the order of the variants; want of memory comes at any point.
+/// The first fault of a run, in the order of the variants; out of memory comes at any point.
 #[derive(Clone, Copy, Debug, PartialEq, Eq, Error)]
 pub enum Fault {
     /// The arguments are none that the program takes.
@@ -19,13 +19,13 @@ pub enum Fault {
     /// Standard input can't be read, or is not UTF-8.
     #[error("stateproof: input")]
     Input,
-    /// This line, counted from 1, is bad, missing, or one too many.
+    /// The number of a line, counted from 1, that is bad, missing, or one too many.
     #[error("stateproof: line {0}")]
     Line(u64),
     /// The floor is past the length, or the location is at or past it.
     #[error("stateproof: range")]
     Range,
-    /// A growth was refused.
+    /// Out of memory.
     #[error("stateproof: memory")]
     Memory,
 }
@@ -55,7 +55,7 @@ impl<T: Drop> From<AllocFailed<T>> for Fault {
 }
 
 impl Fault {
-    /// The fault of a snapshot or of a proof of it, whose operations and bits are as many.
+    /// The fault of a snapshot, or of a proof of it, that was refused; it has as many operations as bits.
     pub(crate) fn of_snapshot<F>(error: &qmdb::Error<F>) -> Fault {
         match error {
             qmdb::Error::Merkle(error) => Fault::of_plan(error),
@@ -71,7 +71,7 @@ impl Fault {
         }
     }
 
-    /// The fault of a plan or of a floor.
+    /// The fault of a plan or of a floor that was refused.
     pub(crate) fn of_plan<F>(error: &merkle::Error<F>) -> Fault {
         match error {
             merkle::Error::RangeOutOfBounds(_) | merkle::Error::LocationOverflow(_) => Fault::Range,

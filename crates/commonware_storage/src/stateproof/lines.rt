@@ -15,8 +15,8 @@ use storage_codec::digest::Sha256;
 use storage_current::qmdb::current::{OperationTree, Snapshot};
 use storage_merkle::merkle::{ElementPlan, Graftable, Location, MAX_LEAVES};
 
-/// Reads a line `0` or `1`, one blank, and hexadecimal of at least one byte: answers the bit, and puts the bytes in the place
-/// of those in `bytes`. None where the line is none such, and then `bytes` may hold anything.
+/// Reads `line`: `0` or `1`, one blank, and hexadecimal of at least one byte. Answers the bit, and puts the bytes in the
+/// place of those in `bytes`. None where the line is none such, and then `bytes` may hold anything.
 pub(crate) fn parse_operation(line: &[u8], bytes: &mut Vec<u8>) -> Result<Option<bool>, Fault>
     ensures { MatchResult result (λ found. MatchOption found ((active : Bool) (bytes : List ℕ)
         → IsOperationLine line.now active bytes → ⊥)
@@ -34,8 +34,8 @@ pub(crate) fn parse_operation(line: &[u8], bytes: &mut Vec<u8>) -> Result<Option
     }
 }
 
-/// Puts the bytes that hexadecimal digits spell in the place of those in `bytes`, and answers whether they spell any. Where
-/// they do not, `bytes` may hold anything.
+/// Puts the bytes that `digits` spell in hexadecimal in the place of those in `bytes`, and answers whether they spell any.
+/// Where they do not, `bytes` may hold anything.
 fn decode(digits: &[u8], bytes: &mut Vec<u8>) -> Result<bool, AllocError>
     ensures { IfOk result (λ whole. MatchResult (decode_of digits.now) (λ spelled. (whole ≡ true)
         × (bytes.new.items ≡ spelled)) (λ _. whole ≡ false)) }
@@ -55,7 +55,7 @@ struct Lines<R> {
 }
 
 impl<R: Read + Drop> Lines<R> {
-    /// Those of an input, before the first one.
+    /// The lines of `input`, before the first one.
     fn of(alloc: Global, input: R) -> Result<Lines<R>, Fault> {
         match BufReader::with_capacity(alloc, READ_AT_ONCE, input) {
             Ok(input) => Ok(Lines {
@@ -83,8 +83,8 @@ impl<R: Read + Drop> Lines<R> {
         }
     }
 
-    /// The fault where the line of that number is bad and those before it are not: the line, but that of the input comes
-    /// first, where this line or what follows it can't be read or is not UTF-8.
+    /// The fault where line number `number` is bad and those before it are not: that line; but the input comes first, where
+    /// this line or what follows it can't be read or is not UTF-8.
     fn fault(mut self, number: u64) -> Fault {
         for _ in 0..u64::MAX {
             if str::from_utf8(&self.line).is_err() {
@@ -109,7 +109,7 @@ pub struct Operations<const N: usize> {
 }
 
 impl<const N: usize> Operations<N> {
-    /// Reads a line for each operation.
+    /// Reads operations and their bits from `input`, a line for each.
     pub fn read<R: Read + Drop>(alloc: Global, input: R) -> Result<Operations<N>, Fault>
         requires { IsChunkSize N }
     {
@@ -131,7 +131,7 @@ impl<const N: usize> Operations<N> {
         Err(Fault::Memory)
     }
 
-    /// Adds an operation. More than `MAX_LEAVES` of them fit in no memory.
+    /// Adds the operation `bytes` with its bit `active`. More than `MAX_LEAVES` of them fit in no memory.
     fn push(&mut self, active: bool, bytes: &Vec<u8>) -> Result<(), Fault> {
         if self.bits.len() >= MAX_LEAVES {
             return Err(Fault::Memory);
@@ -141,7 +141,7 @@ impl<const N: usize> Operations<N> {
         Ok(())
     }
 
-    /// The plan of a proof of the operation at a location.
+    /// The plan of a proof of the operation at `location`.
     pub fn plan<F: Graftable>(
         &self,
         alloc: Global,
@@ -154,7 +154,7 @@ impl<const N: usize> Operations<N> {
         }
     }
 
-    /// The snapshot of the operations, with a floor. Nothing is hashed where the floor is past them.
+    /// The snapshot of the operations with the floor `floor`. Where that is past them, it is refused before a tree is hashed.
     pub fn snapshot<F: Graftable>(
         self,
         alloc: Global,
@@ -173,8 +173,8 @@ impl<const N: usize> Operations<N> {
     }
 }
 
-/// The tree over so many byte strings that are written one behind the other, each with its length in front. They are lent
-/// one by one, and not copied.
+/// The tree over `count` byte strings that stand in `written` one behind the other, each with its length in front. They are
+/// lent one by one, and not copied.
 fn tree_over<F: Graftable>(
     alloc: Global,
     written: &[u8],
@@ -194,7 +194,8 @@ fn tree_over<F: Graftable>(
     Ok(tree)
 }
 
-/// The first of such byte strings, and what follows it; none where none is whole.
+/// The first of the byte strings that stand in `written` one behind the other, each with its length in front, and what
+/// follows it; none where none is whole.
 fn first<'a>(alloc: Global, written: &'a [u8]) -> Option<(&'a [u8], &'a [u8])> {
     let mut rest = written;
     let UInt(length) = UInt::read_cfg(alloc, &mut rest, &()).ok()?;

@@ -18,13 +18,15 @@ use storage_merkle::merkle::{ElementPlan, Graftable, Location, mmb, mmr};
 /// What the program writes, and its exit status.
 #[derive(Drop)]
 pub(crate) struct Reply {
+    /// What is written on standard output.
     pub text: String,
+    /// The exit status: 0, or 1 for a no.
     pub status: u8,
     ghost answers: { status ≤ 1 },
 }
 
 impl Reply {
-    /// The reply to these words and this input. The input is read where the words are good.
+    /// The reply to the arguments `words` and the input. The input is read where the words are good.
     pub(crate) fn of<R: Read + Drop>(
         alloc: Global,
         words: &[String],
@@ -40,11 +42,12 @@ impl Reply {
     }
 }
 
-/// All of the input.
+/// All of `input` as text.
 fn text_of<R: Read + Drop>(alloc: Global, input: R) -> Result<String, Fault> {
     io::read_to_string(alloc, input).map_err(|error| Fault::of_input(&error))
 }
 
+/// The reply to `command`, which names the chunk size, over trees of the family `F`.
 fn over_tree<F: Graftable, R: Read + Drop>(
     alloc: Global,
     command: &Command,
@@ -56,6 +59,7 @@ fn over_tree<F: Graftable, R: Read + Drop>(
     }
 }
 
+/// The reply to `action`, over trees of the family `F` and chunks of `N` bytes.
 fn over_chunk<F: Graftable, R: Read + Drop, const N: usize>(
     alloc: Global,
     action: &Action,
@@ -73,7 +77,7 @@ fn over_chunk<F: Graftable, R: Read + Drop, const N: usize>(
     }
 }
 
-/// The canonical root of the operations of these lines.
+/// The canonical root of the operations on the lines of `input`, with the floor `floor`.
 fn root<F: Graftable, R: Read + Drop, const N: usize>(
     alloc: Global,
     input: R,
@@ -90,7 +94,8 @@ fn root<F: Graftable, R: Read + Drop, const N: usize>(
     })
 }
 
-/// The canonical root of the operations of these lines, and the proof of the one at a location.
+/// The canonical root of the operations on the lines of `input`, with the floor `floor`, and the proof of the one at
+/// `location`.
 fn prove<F: Graftable, R: Read + Drop, const N: usize>(
     alloc: Global,
     input: R,
@@ -111,7 +116,7 @@ fn prove<F: Graftable, R: Read + Drop, const N: usize>(
     })
 }
 
-/// The proof of the planned operation of a snapshot with that floor.
+/// The proof of the operation that `plan` is for, of `snapshot`, which has the floor `floor`.
 fn proof_of<F: Graftable, const N: usize>(
     alloc: Global,
     snapshot: &Snapshot<F, Sha256, N>,
@@ -130,7 +135,8 @@ fn proof_of<F: Graftable, const N: usize>(
     }
 }
 
-/// Whether the proof of the second line shows the operation of the first one.
+/// Whether the proof on the second line of `text` shows the operation on the first one at `location`, under the root
+/// `root`.
 fn check<F: Graftable>(
     alloc: Global,
     text: &str,
