@@ -24,7 +24,7 @@ use storage_merkle::merkle::{Bagging, MAX_LEAVES, Proof};
 #[derive(Drop)]
 #[derive_where(Clone, Copy)]
 pub(crate) struct Claim<'a, D, E> {
-    /// The sites.
+    /// The sites where the proof's digests stand.
     pub sites: &'a [Site],
     /// The digests, in the order of the sites.
     pub digests: &'a [D],
@@ -32,7 +32,7 @@ pub(crate) struct Claim<'a, D, E> {
     pub low: u64,
     /// The location past the last one.
     pub high: u64,
-    /// The elements.
+    /// The elements that are claimed.
     pub elements: &'a [E],
 }
 
@@ -43,7 +43,7 @@ fn no_bytes<H: Hasher>() -> H::Digest
     H::hash(&[])
 }
 
-/// The digest that stands for a site in a list; that of no bytes where none does.
+/// The digest of `digests` that stands for `site`, which is looked up in `sites`; that of no bytes where none does.
 pub(crate) fn look_up<H: Hasher>(sites: &[Site], digests: &[H::Digest], site: Site) -> H::Digest
     ensures { H.Digest.text result ≡ look_up (H.hash_of []) (map site_of sites.now)
         (map H.Digest.text digests.now) (site_of site) }
@@ -88,7 +88,7 @@ impl<H: Hasher, E: AsSlice<u8>> Source<H> for Claim<'_, H::Digest, E> {
     }
 }
 
-/// Appends the digest of the fold before the range for some peaks, none for none.
+/// Appends to `digests` the digest that `claim` has of the fold before the range, where `peaks`, those in it, are not empty.
 fn push_front<H: Hasher, E: AsSlice<u8>>(
     digests: &mut Vec<H::Digest>,
     claim: &Claim<'_, H::Digest, E>,
@@ -105,7 +105,7 @@ fn push_front<H: Hasher, E: AsSlice<u8>>(
     Ok(())
 }
 
-/// Appends the digest of the fold past the range for some peaks, none for none.
+/// Appends to `digests` the digest that `claim` has of the fold past the range, where `peaks`, those in it, are not empty.
 fn push_back<H: Hasher, E: AsSlice<u8>>(
     digests: &mut Vec<H::Digest>,
     claim: &Claim<'_, H::Digest, E>,
@@ -122,8 +122,8 @@ fn push_back<H: Hasher, E: AsSlice<u8>>(
     Ok(())
 }
 
-/// The root that the check of a proof of the elements from `start` on recomputes; none where its counts do not fit. Fails
-/// only where memory runs out.
+/// The root that the check of `proof`, of `elements` from the location `start` on, recomputes; none where its counts do not
+/// fit. Fails only where memory runs out.
 pub fn recomputed_root<F: Digits, H: Hasher, G: Grafts<H>, E: AsSlice<u8>>(
     alloc: Global,
     grafts: &G,
@@ -164,7 +164,7 @@ pub fn recomputed_root<F: Digits, H: Hasher, G: Grafts<H>, E: AsSlice<u8>>(
     Ok(Some(root_over::<F, H>(bagging, leaves, inactive, bag)))
 }
 
-/// What the peaks are bagged into, some of them folded from the left and others from the right, from a claim.
+/// What the peaks are bagged into, `left` folded from the left and `right` from the right, from `claim`.
 fn claimed_bag<F: Digits, H: Hasher, G: Grafts<H>, E: AsSlice<u8>>(
     alloc: Global,
     grafts: &G,
@@ -190,9 +190,9 @@ fn claimed_bag<F: Digits, H: Hasher, G: Grafts<H>, E: AsSlice<u8>>(
     Ok(bag::<H>(&front, &rest))
 }
 
-/// Whether the check of a proof of the elements from `start` on accepts it against a root: where its counts fit and the root
-/// is the one that is recomputed; with no elements, where it is the empty proof and the root that of the empty tree. Fails
-/// only where memory runs out.
+/// Whether the check of `proof`, of `elements` from the location `start` on, accepts it against `root`: where its counts fit
+/// and `root` is the one that is recomputed; with no elements, where it is the empty proof and `root` that of the empty
+/// tree. Fails only where memory runs out.
 pub fn is_accepted<F: Digits, H: Hasher, G: Grafts<H>, E: AsSlice<u8>>(
     alloc: Global,
     grafts: &G,
@@ -216,7 +216,7 @@ pub fn is_accepted<F: Digits, H: Hasher, G: Grafts<H>, E: AsSlice<u8>>(
     }
 }
 
-/// Whether a proof of the elements from `start` on is the one of the empty tree.
+/// Whether `proof`, of elements from the location `start` on, is the one of the empty tree, and `start` is 0.
 fn is_empty<F: Digits, D: Digest>(proof: &Proof<F, D>, start: u64) -> bool
     ensures { IsTrue result ↔ ((proof.now.leaves ≡ 0) × (proof.now.inactive_peaks ≡ 0) × (start ≡ 0)
         × (map D.text proof.now.digests.items ≡ [])) }

@@ -10,7 +10,7 @@ use crate::shape::power;
 use std::alloc::{AllocError, Global};
 use storage_codec::digest::{Digest, Hasher};
 
-/// The chunk of that index of some bits, of so many bytes: what is past the bits is 0. Fails only where memory runs out.
+/// Chunk number `index` of `bits`, of `size` bytes: what is past the bits is 0. Fails only where memory runs out.
 pub fn chunk(alloc: Global, size: usize, bits: &[bool], index: u64) -> Result<Vec<u8>, AllocError>
     requires each { 8 * size < 2 ^ 64 }
     requires start { index * (8 * size) < 2 ^ 64 }
@@ -22,7 +22,7 @@ pub fn chunk(alloc: Global, size: usize, bits: &[bool], index: u64) -> Result<Ve
     Ok(bytes)
 }
 
-/// Bits from a place on.
+/// Those of `bits` after the first `count`.
 fn skipped(bits: &[bool], count: u64) -> &[bool]
     ensures { result.now ≡ drop count bits.now }
 {
@@ -33,7 +33,7 @@ fn skipped(bits: &[bool], count: u64) -> &[bool]
     }
 }
 
-/// Appends the first bits as so many bytes.
+/// Appends to `bytes` the first `8 * count` of `bits`, as `count` bytes.
 fn push_bytes(bytes: &mut Vec<u8>, count: usize, bits: &[bool]) -> Result<(), AllocError>
     ensures { OnOk result (bytes.new.items ≡ bytes.old.items ++ bytes_of count bits.now) }
 {
@@ -45,7 +45,7 @@ fn push_bytes(bytes: &mut Vec<u8>, count: usize, bits: &[bool]) -> Result<(), Al
     Ok(())
 }
 
-/// The number of the first bits, low to high, where missing bits are 0.
+/// The number whose `places` lowest binary digits are the first of `bits`, low to high, where missing bits are 0.
 fn number_of(bits: &[bool], places: u32) -> u64
     requires { places ≤ 8 }
     ensures value { result ≡ number_of places bits.now }
@@ -60,7 +60,7 @@ fn number_of(bits: &[bool], places: u32) -> u64
     }
 }
 
-/// 1 for a bit that is set, else 0.
+/// 1 for a `bit` that is set, else 0.
 fn bit_value(bit: bool) -> u64
     ensures value { result ≡ digit bit }
     ensures small { result ≤ 1 }
@@ -68,7 +68,7 @@ fn bit_value(bit: bool) -> u64
     if bit { 1 } else { 0 }
 }
 
-/// Whether all bytes are zero.
+/// Whether all `bytes` are zero.
 fn is_zero(bytes: &[u8]) -> bool
     ensures { result ≡ is_zero bytes.now }
 {
@@ -78,7 +78,7 @@ fn is_zero(bytes: &[u8]) -> bool
     }
 }
 
-/// The digest of a node under a chunk: an all-zero chunk is not hashed.
+/// The digest of a node with `chunk` grafted over it, from `inner`, its own digest: an all-zero chunk is not hashed.
 fn grafted_digest<H: Hasher>(chunk: &[u8], inner: H::Digest) -> H::Digest
     ensures { H.Digest.text result ≡ grafted_digest H.hash_of chunk.now (H.Digest.text inner) }
 {
@@ -89,17 +89,17 @@ fn grafted_digest<H: Hasher>(chunk: &[u8], inner: H::Digest) -> H::Digest
     }
 }
 
-/// The digest of two parts.
+/// The digest of `first` and `second`, joined.
 fn hash_two<H: Hasher>(first: &[u8], second: &[u8]) -> H::Digest
     ensures { H.Digest.text result ≡ H.hash_of (first.now ++ second.now) }
 {
     H::hash(&[first, second])
 }
 
-/// The chunks of some bits, grafted over the nodes of the first of them.
+/// The chunks of some bits, of which the first ones are grafted over nodes.
 #[derive(Drop)]
 pub(crate) struct Chunks<'a> {
-    /// The bits.
+    /// All bits, from the first chunk on.
     pub bits: &'a [bool],
     /// How many bytes a chunk has.
     pub size: usize,
@@ -111,7 +111,7 @@ pub(crate) struct Chunks<'a> {
 }
 
 impl Chunks<'_> {
-    /// Whether a node has a chunk grafted.
+    /// Whether the node `place` has a chunk grafted.
     fn is_grafted(&self, place: Node) -> bool
         ensures { result ≡ grafted_over self.now.height self.now.count place.first place.height }
     {

@@ -8,7 +8,8 @@ ghost use Rattle.storage_current.specs.Snapshots.{aligned, exact, graftable_at, 
 use crate::shape::{Digits, highest_place, power};
 use std::alloc::{AllocError, Global};
 
-/// The height of a node over as many operations as a chunk of so many bytes has bits.
+/// The height of a node over as many operations as a chunk of `chunk_size` bytes has bits: the base-2 logarithm of
+/// `8 * chunk_size`.
 pub(crate) fn height(chunk_size: usize) -> u32
     requires { IsChunkSize chunk_size }
     ensures value { (S : Shape) → result ≡ height (grafting_of S chunk_size) }
@@ -18,7 +19,7 @@ pub(crate) fn height(chunk_size: usize) -> u32
     highest_place(63, 8 * chunk_size as u64)
 }
 
-/// How many chunks of `2^height` leaves lie inside one peak.
+/// How many chunks of `2^height` leaves lie inside one peak of the tree over `leaves` leaves.
 pub fn graftable<F: Digits>(leaves: u64, height: u32) -> u64
     requires { height ≤ 62 }
     ensures { result ≡ graftable_at F.shape height leaves }
@@ -31,7 +32,8 @@ pub fn graftable<F: Digits>(leaves: u64, height: u32) -> u64
     }
 }
 
-/// How many leading peaks over so many leaves end at or before a floor. Fails only where memory runs out.
+/// How many leading peaks of the tree over `leaves` leaves end at or before the leaf `floor`. Fails only where memory
+/// runs out.
 pub(crate) fn exact<F: Digits>(alloc: Global, leaves: u64, floor: u64) -> Result<usize, AllocError>
     requires { leaves ≤ 2 ^ 62 }
     ensures { IfOk result (λ count. count ≡ exact F.shape leaves floor) }
@@ -40,8 +42,8 @@ pub(crate) fn exact<F: Digits>(alloc: Global, leaves: u64, floor: u64) -> Result
     Ok(most_exact(&heights, floor, heights.len()))
 }
 
-/// The most leading peaks that end at or before a floor and on a multiple of `2^height`. Fails only where memory runs
-/// out.
+/// The most leading peaks of the tree over `leaves` leaves that end at or before the leaf `floor` and on a multiple
+/// of `2^height`. Fails only where memory runs out.
 pub(crate) fn aligned<F: Digits>(
     alloc: Global,
     leaves: u64,
@@ -56,7 +58,7 @@ pub(crate) fn aligned<F: Digits>(
     Ok(most_aligned(&heights, floor, height, heights.len()))
 }
 
-/// The most of at most `bound` leading peaks that end at or before a floor.
+/// The most of the first `bound` peaks, of the heights `heights`, that end at or before the leaf `floor`.
 fn most_exact(heights: &[u32], floor: u64, bound: usize) -> usize
     requires few { leaves_of heights.now ≤ 2 ^ 62 }
     requires within { bound ≤ length heights.now }
@@ -73,7 +75,8 @@ fn most_exact(heights: &[u32], floor: u64, bound: usize) -> usize
     most_exact(heights, floor, bound - 1)
 }
 
-/// The most of at most `bound` leading peaks that end at or before a floor and on a multiple of `2^height`.
+/// The most of the first `bound` peaks, of the heights `heights`, that end at or before the leaf `floor` and on a
+/// multiple of `2^height`.
 fn most_aligned(heights: &[u32], floor: u64, height: u32, bound: usize) -> usize
     requires few { leaves_of heights.now ≤ 2 ^ 62 }
     requires within { bound ≤ length heights.now }
@@ -92,7 +95,7 @@ fn most_aligned(heights: &[u32], floor: u64, height: u32, bound: usize) -> usize
     most_aligned(heights, floor, height, bound - 1)
 }
 
-/// Whether a leaf is at or before a floor and a multiple of `2^height`.
+/// Whether the leaf `end` is at or before the leaf `floor` and a multiple of `2^height`.
 fn is_aligned(end: u64, floor: u64, height: u32) -> bool
     requires { height ≤ 62 }
     ensures { result ≡ (leb end floor && eqb (end % 2 ^ height) 0) }
@@ -100,7 +103,7 @@ fn is_aligned(end: u64, floor: u64, height: u32) -> bool
     end <= floor && end % power(height) == 0
 }
 
-/// How many leaves peaks of these heights cover.
+/// How many leaves peaks of the heights `heights` are over.
 fn leaves_of(heights: &[u32]) -> u64
     requires { leaves_of heights.now ≤ 2 ^ 62 }
     ensures { result ≡ leaves_of heights.now }

@@ -8,7 +8,7 @@ ghost use Rattle.storage_merkle.specs.Trees.{root_head, ungrafted};
 use storage_codec::digest::{Digest, Hasher};
 use storage_merkle::merkle::{Bagging, Family};
 
-/// An item and others folded from the left.
+/// `first` and `others` folded from the left.
 pub fn fold_forward<H: Hasher>(first: H::Digest, others: &[H::Digest]) -> H::Digest
     ensures { H.Digest.text result
         ≡ folded_forward H.hash_of (H.Digest.text first) (map H.Digest.text others.now) }
@@ -19,7 +19,7 @@ pub fn fold_forward<H: Hasher>(first: H::Digest, others: &[H::Digest]) -> H::Dig
     }
 }
 
-/// An item and others folded from the right.
+/// `first` and `others` folded from the right.
 pub fn fold_backward<H: Hasher>(first: H::Digest, others: &[H::Digest]) -> H::Digest
     ensures { H.Digest.text result
         ≡ folded_backward H.hash_of (H.Digest.text first) (map H.Digest.text others.now) }
@@ -33,14 +33,14 @@ pub fn fold_backward<H: Hasher>(first: H::Digest, others: &[H::Digest]) -> H::Di
     }
 }
 
-/// Two items folded into one.
+/// The fold of two items: the digest of `left` and `right`, joined.
 fn fold_two<H: Hasher>(left: &H::Digest, right: &H::Digest) -> H::Digest
     ensures { H.Digest.text result ≡ H.hash_of (H.Digest.text left.now ++ H.Digest.text right.now) }
 {
     H::hash(&[left.bytes(), right.bytes()])
 }
 
-/// The first items folded from the left into one, and that and the others from the right; none for no items.
+/// `front` folded from the left into one item, and that and `rest` from the right; none where both are empty.
 pub fn bag<H: Hasher>(front: &[H::Digest], rest: &[H::Digest]) -> Option<H::Digest>
     ensures { or_nothing (option_map H.Digest.text result)
         ≡ bagged H.hash_of (map H.Digest.text front.now) (map H.Digest.text rest.now) }
@@ -57,7 +57,8 @@ pub fn bag<H: Hasher>(front: &[H::Digest], rest: &[H::Digest]) -> Option<H::Dige
     }
 }
 
-/// The digests of peaks, of which so many are inactive, bagged; none for no peaks.
+/// `peaks`, the digests of peaks of which the first `inactive` are inactive, bagged in the direction `bagging`; none for
+/// no peaks.
 pub fn bag_peaks<H: Hasher>(
     bagging: Bagging,
     inactive: usize,
@@ -76,8 +77,8 @@ pub fn bag_peaks<H: Hasher>(
     }
 }
 
-/// The root over so many leaves of which so many leading peaks are inactive: the digest of the bytes of the family and the
-/// bagging, both numbers in eight bytes, and the bag.
+/// The root of the tree over `leaves` leaves whose first `inactive` peaks are inactive: the digest of the bytes of the
+/// family and of `bagging`, both numbers in eight bytes, highest first, and `bag`, what the peaks are bagged into.
 #[tactic(auto, unfolding(storage_merkle::specs::Calc::be8))]
 pub fn root_over<F: Family, H: Hasher>(
     bagging: Bagging,
@@ -94,7 +95,7 @@ pub fn root_over<F: Family, H: Hasher>(
     hash_four::<H>(&head, &leaves, &inactive, bag_bytes(&bag))
 }
 
-/// The bytes of a digest; no bytes for none.
+/// The bytes of the digest `bag`; no bytes for none.
 fn bag_bytes<D: Digest>(bag: &Option<D>) -> &[u8]
     ensures { result.now ≡ or_nothing (option_map D.text bag.now) }
 {
@@ -104,7 +105,7 @@ fn bag_bytes<D: Digest>(bag: &Option<D>) -> &[u8]
     }
 }
 
-/// The digest of four parts.
+/// The digest of the four parts, joined.
 fn hash_four<H: Hasher>(first: &[u8], second: &[u8], third: &[u8], fourth: &[u8]) -> H::Digest
     ensures { H.Digest.text result
         ≡ H.hash_of (first.now ++ (second.now ++ (third.now ++ fourth.now))) }

@@ -1,5 +1,5 @@
 //! The definitions of trees, roots and proofs as a program: plain and slow. Each function follows the words of its
-//! definition, and computes anew what the fast calls keep.
+//! definition, which is its contract, and computes anew what the fast calls keep.
 #![tactic(auto)]
 
 pub mod check;

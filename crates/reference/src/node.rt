@@ -34,7 +34,7 @@ impl Model for Node {
 }
 
 impl Node {
-    /// The node of a first leaf and a height.
+    /// The node of height `height` over the leaves from `first` on.
     pub fn new(first: u64, height: u32) -> Self
         requires { first + 2 ^ height ≤ 2 ^ 62 }
         ensures { result ≡ record { first = first; height = height } }
@@ -42,14 +42,14 @@ impl Node {
         Node { first, height }
     }
 
-    /// Its first leaf.
+    /// The node's first leaf.
     pub fn first(&self) -> u64
         ensures { result ≡ self.now.first }
     {
         self.first
     }
 
-    /// Its height, from 0 for a leaf.
+    /// The node's height, from 0 for a leaf.
     pub fn height(&self) -> u32
         ensures value { result ≡ self.now.height }
         ensures within { self.now.first + 2 ^ self.now.height ≤ 2 ^ 62 }
@@ -57,14 +57,14 @@ impl Node {
         self.height
     }
 
-    /// The leaf after its last one.
+    /// The leaf after the node's last one.
     pub fn end(&self) -> u64
         ensures { result ≡ self.now.first + 2 ^ self.now.height }
     {
         self.first + power(self.height)
     }
 
-    /// Its left half, where its height is at least 1.
+    /// The node's left half, where its height is at least 1.
     pub fn left(&self) -> Self
         requires { 0 < self.now.height }
         ensures { result ≡ record { first = self.now.first; height = self.now.height - 1 } }
@@ -75,7 +75,7 @@ impl Node {
         }
     }
 
-    /// Its right half, where its height is at least 1.
+    /// The node's right half, where its height is at least 1.
     pub fn right(&self) -> Self
         requires { 0 < self.now.height }
         ensures { result ≡ record {
@@ -101,13 +101,13 @@ pub(crate) trait Source<H: Hasher> {
     /// The elements.
     ghost item: { Self → ℕ → List ℕ };
 
-    /// The digest of a node where it is given.
+    /// The digest of the node `place`, where it is given.
     fn given(&self, place: Node) -> Option<H::Digest>
         ensures { MatchOption result (cut self.now place.first place.height ≡ false) (λ d.
             (cut self.now place.first place.height ≡ true)
             × (H.Digest.text d ≡ digest self.now (node place.first place.height))) };
 
-    /// The element at a location; no bytes where there is none.
+    /// The element at `location`; no bytes where there is none.
     fn element(&self, location: u64) -> &[u8]
         ensures { result.now ≡ item self.now location };
 }
@@ -120,8 +120,8 @@ pub trait Grafts<H: Hasher> {
     /// The chunk from a leaf on.
     ghost chunk: { Self → ℕ → List ℕ };
 
-    /// The digest of a node from the one that it has with no chunk: as it is where none is grafted or the chunk is all
-    /// zero, else that of the chunk and it. Fails only where memory runs out.
+    /// The digest of the node `place` from `inner`, the one that it has with no chunk: `inner` where no chunk is
+    /// grafted over it or the chunk is all zero, else that of the chunk and `inner`. Fails only where memory runs out.
     fn graft(&self, alloc: Global, place: Node, inner: H::Digest) -> Result<H::Digest, AllocError>
         ensures { IfOk result (λ d. H.Digest.text d ≡ if grafted self.now place.first place.height
             then grafted_digest H.hash_of (chunk self.now place.first) (H.Digest.text inner)
@@ -151,7 +151,7 @@ impl<H: Hasher> Grafts<H> for Ungrafted {
 #[derive(Drop)]
 #[derive_where(Clone, Copy)]
 pub(crate) struct Whole<'a, E> {
-    /// The elements.
+    /// The elements, from the first leaf on.
     pub elements: &'a [E],
 }
 
@@ -174,8 +174,8 @@ impl<H: Hasher, E: AsSlice<u8>> Source<H> for Whole<'_, E> {
     }
 }
 
-/// The digest of a node: the one that is given, else of its position in eight bytes and the element, or the digests of
-/// its halves. Fails only where memory runs out.
+/// The digest of the node `place`: the one that is given, else that of its position in eight bytes, highest first, and
+/// the element, or the digests of its halves. Fails only where memory runs out.
 pub(crate) fn node_digest<F: Digits, H: Hasher, S: Source<H>, G: Grafts<H>>(
     alloc: Global,
     source: &S,
@@ -202,7 +202,7 @@ pub(crate) fn node_digest<F: Digits, H: Hasher, S: Source<H>, G: Grafts<H>>(
     Ok(digest)
 }
 
-/// The digest of a position in eight bytes and an element.
+/// The digest of `position` in eight bytes, highest first, and `element`.
 #[tactic(auto, unfolding(storage_merkle::specs::Calc::be8))]
 fn leaf_digest<H: Hasher>(position: u64, element: &[u8]) -> H::Digest
     ensures { H.Digest.text result ≡ H.hash_of (be8 position ++ element.now) }
@@ -210,7 +210,7 @@ fn leaf_digest<H: Hasher>(position: u64, element: &[u8]) -> H::Digest
     H::hash(&[&position.to_be_bytes(), element])
 }
 
-/// The digest of a position in eight bytes and two digests.
+/// The digest of `position` in eight bytes, highest first, and the digests `left` and `right`.
 #[tactic(auto, unfolding(storage_merkle::specs::Calc::be8))]
 fn pair_digest<H: Hasher>(position: u64, left: &H::Digest, right: &H::Digest) -> H::Digest
     ensures { H.Digest.text result
@@ -219,7 +219,7 @@ fn pair_digest<H: Hasher>(position: u64, left: &H::Digest, right: &H::Digest) ->
     H::hash(&[&position.to_be_bytes(), left.bytes(), right.bytes()])
 }
 
-/// Appends the digests of some nodes. Fails only where memory runs out.
+/// Appends to `digests` those of `nodes`. Fails only where memory runs out.
 pub(crate) fn push_digests<F: Digits, H: Hasher, S: Source<H>, G: Grafts<H>>(
     digests: &mut Vec<H::Digest>,
     source: &S,

@@ -18,13 +18,13 @@ use std::convert::AsSlice;
 use storage_codec::digest::Hasher;
 use storage_merkle::merkle::{Bagging, Location, Proof};
 
-/// A tree: its elements, which nodes have a chunk grafted, and how its peaks are bagged, of which so many are inactive.
+/// A tree: its elements, which nodes have a chunk grafted, and how its peaks are bagged after the inactive ones.
 #[derive(Drop)]
 #[derive_where(Clone, Copy)]
 pub struct Tree<'a, G, E> {
     /// The elements, from the first leaf on.
     pub elements: &'a [E],
-    /// The chunks.
+    /// Which nodes have a chunk grafted.
     pub grafts: &'a G,
     /// How the peaks are bagged.
     pub bagging: Bagging,
@@ -32,7 +32,7 @@ pub struct Tree<'a, G, E> {
     pub inactive: usize,
 }
 
-/// The digest of items folded from the left; that of no bytes for no items.
+/// `items` folded from the left; the digest of no bytes for no items.
 fn forward_digest<H: Hasher>(items: &[H::Digest]) -> H::Digest
     ensures { H.Digest.text result ≡ forward_digest H.hash_of (map H.Digest.text items.now) }
 {
@@ -42,7 +42,7 @@ fn forward_digest<H: Hasher>(items: &[H::Digest]) -> H::Digest
     }
 }
 
-/// The digest of items folded from the right; that of no bytes for no items.
+/// `items` folded from the right; the digest of no bytes for no items.
 fn backward_digest<H: Hasher>(items: &[H::Digest]) -> H::Digest
     ensures { H.Digest.text result ≡ backward_digest H.hash_of (map H.Digest.text items.now) }
 {
@@ -52,7 +52,8 @@ fn backward_digest<H: Hasher>(items: &[H::Digest]) -> H::Digest
     }
 }
 
-/// The digest that a tree has at a site of the range from `low` to before `high`.
+/// The digest that `tree` has at `site` of the range of leaves from `low` to before `high`. Fails only where memory
+/// runs out.
 pub fn own_digest<F: Digits, H: Hasher, G: Grafts<H>, E: AsSlice<u8>>(
     alloc: Global,
     tree: &Tree<'_, G, E>,
@@ -92,7 +93,7 @@ pub fn own_digest<F: Digits, H: Hasher, G: Grafts<H>, E: AsSlice<u8>>(
     }
 }
 
-/// Appends the digests that a tree has at some sites.
+/// Appends to `digests` those that `tree` has at `sites` of the range of leaves from `low` to before `high`.
 fn push_own<F: Digits, H: Hasher, G: Grafts<H>, E: AsSlice<u8>>(
     digests: &mut Vec<H::Digest>,
     tree: &Tree<'_, G, E>,
@@ -118,7 +119,7 @@ fn push_own<F: Digits, H: Hasher, G: Grafts<H>, E: AsSlice<u8>>(
     Ok(())
 }
 
-/// A tree's own proof of the elements from `low` to before `high`. Fails only where memory runs out.
+/// The own proof of `tree` of the elements from `low` to before `high`. Fails only where memory runs out.
 pub fn own_proof<F: Digits, H: Hasher, G: Grafts<H>, E: AsSlice<u8>>(
     alloc: Global,
     tree: &Tree<'_, G, E>,

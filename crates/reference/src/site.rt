@@ -12,25 +12,25 @@ use crate::tree::peaks;
 use std::alloc::{AllocError, Global};
 use storage_merkle::merkle::Bagging;
 
-/// Where a digest that a proof gives stands.
+/// Where a digest of a range proof stands.
 #[derive(Clone, Copy, Drop)]
 pub enum Site {
-    /// The forward fold of the inactive peaks before the range.
+    /// The fold from the left of peaks before the range.
     Front,
-    /// The backward fold of the active peaks past the range.
+    /// The fold from the right of peaks past the range.
     Back,
-    /// A node.
+    /// The node of a peak or of a sibling.
     Inner(Node),
 }
 
-/// Whether a node has no leaf from `low` to before `high`.
+/// Whether the node `place` has no leaf from `low` to before `high`.
 pub fn is_apart(low: u64, high: u64, place: Node) -> bool
     ensures { result ≡ apart low high place.first place.height }
 {
     place.end() <= low || high <= place.first()
 }
 
-/// Whether two sites are one.
+/// Whether `left` and `right` are one site.
 pub fn is_same(left: Site, right: Site) -> bool
     ensures { result ≡ same_site (site_of left) (site_of right) }
 {
@@ -44,7 +44,8 @@ pub fn is_same(left: Site, right: Site) -> bool
     }
 }
 
-/// The peaks that are folded from the left, and those that are folded from the right.
+/// Those of `peaks`, of which the first `inactive` are inactive, that are folded from the left under `bagging`, and those
+/// that are folded from the right.
 pub fn split_folded(bagging: Bagging, inactive: usize, peaks: &[Node]) -> (&[Node], &[Node])
     requires { inactive ≤ length peaks.now }
     ensures left { result.0.now ≡ folded bagging inactive peaks.now }
@@ -56,7 +57,7 @@ pub fn split_folded(bagging: Bagging, inactive: usize, peaks: &[Node]) -> (&[Nod
     }
 }
 
-/// The peaks in front that end at or before `low`, and the others.
+/// Those of `peaks` in front that end at or before `low`, and the others.
 pub fn split_leading(low: u64, peaks: &[Node]) -> (&[Node], &[Node])
     ensures front { result.0.now ≡ leading low peaks.now }
     ensures others { result.1.now ≡ not_leading low peaks.now }
@@ -64,7 +65,7 @@ pub fn split_leading(low: u64, peaks: &[Node]) -> (&[Node], &[Node])
     peaks.split_at(leading_count(low, peaks))
 }
 
-/// How many peaks in front end at or before `low`.
+/// How many of `peaks` in front end at or before `low`.
 fn leading_count(low: u64, peaks: &[Node]) -> usize
     ensures within { result ≤ length peaks.now }
     ensures front { take result peaks.now ≡ leading low peaks.now }
@@ -76,7 +77,7 @@ fn leading_count(low: u64, peaks: &[Node]) -> usize
     }
 }
 
-/// The peaks up to the first one that begins at `high` or past it, and the others.
+/// Those of `peaks` up to the first one that begins at `high` or past it, and the others.
 pub fn split_up_to(high: u64, peaks: &[Node]) -> (&[Node], &[Node])
     ensures front { result.0.now ≡ up_to high peaks.now }
     ensures others { result.1.now ≡ trailing high peaks.now }
@@ -84,7 +85,7 @@ pub fn split_up_to(high: u64, peaks: &[Node]) -> (&[Node], &[Node])
     peaks.split_at(up_to_count(high, peaks))
 }
 
-/// How many peaks in front begin before `high`.
+/// How many of `peaks` in front begin before `high`.
 fn up_to_count(high: u64, peaks: &[Node]) -> usize
     ensures within { result ≤ length peaks.now }
     ensures front { take result peaks.now ≡ up_to high peaks.now }
@@ -96,7 +97,8 @@ fn up_to_count(high: u64, peaks: &[Node]) -> usize
     }
 }
 
-/// Appends the greatest nodes inside a node with no leaf of the range, by their leaves.
+/// Appends to `sites` the greatest nodes at or inside the node `place` with no leaf from `low` to before `high`, by their
+/// leaves.
 fn push_sites(sites: &mut Vec<Site>, low: u64, high: u64, place: Node) -> Result<(), AllocError>
     ensures { OnOk result ((T : Layout) → map site_of sites.new.items
         ≡ map site_of sites.old.items ++ sites_of (part T (apart low high) place)) }
@@ -113,7 +115,7 @@ fn push_sites(sites: &mut Vec<Site>, low: u64, high: u64, place: Node) -> Result
     Ok(())
 }
 
-/// Appends the greatest nodes inside some peaks with no leaf of the range, by their leaves.
+/// Appends to `sites` the greatest nodes at or inside `peaks` with no leaf from `low` to before `high`, by their leaves.
 fn push_sites_in(
     sites: &mut Vec<Site>,
     low: u64,
@@ -131,7 +133,7 @@ fn push_sites_in(
     Ok(())
 }
 
-/// The position of a node; 0 for a fold.
+/// The position of the node at `site`; 0 for a fold.
 fn position_of<F: Digits>(alloc: Global, site: Site) -> Result<u64, AllocError>
     ensures { IfOk result (λ position. (grafted : ℕ → ℕ → Bool)
         → position ≡ position_of (laid_out F.shape grafted) (site_of site)) }
@@ -142,7 +144,7 @@ fn position_of<F: Digits>(alloc: Global, site: Site) -> Result<u64, AllocError>
     }
 }
 
-/// Appends sites that ascend by position, with one more in its place.
+/// Appends to `sites` those of `sorted`, which ascend by position, with `site` in its place among them.
 fn push_placed<F: Digits>(
     sites: &mut Vec<Site>,
     site: Site,
@@ -167,7 +169,7 @@ fn push_placed<F: Digits>(
     Ok(())
 }
 
-/// Sites in ascending order of their positions.
+/// The `sites` in ascending order of their positions.
 fn by_position<F: Digits>(alloc: Global, sites: &[Site]) -> Result<Vec<Site>, AllocError>
     ensures { IfOk result (λ sorted. (grafted : ℕ → ℕ → Bool) → map site_of sorted.items
         ≡ by_position (laid_out F.shape grafted) (map site_of sites.now)) }
@@ -181,7 +183,7 @@ fn by_position<F: Digits>(alloc: Global, sites: &[Site]) -> Result<Vec<Site>, Al
     Ok(placed)
 }
 
-/// Appends one fold before the range for some peaks, none for none.
+/// Appends to `sites` the fold before the range, where `peaks`, those in it, are not empty.
 fn push_front(sites: &mut Vec<Site>, peaks: &[Node]) -> Result<(), AllocError>
     ensures { OnOk result
         (map site_of sites.new.items ≡ map site_of sites.old.items ++ front_sites peaks.now) }
@@ -192,7 +194,7 @@ fn push_front(sites: &mut Vec<Site>, peaks: &[Node]) -> Result<(), AllocError>
     Ok(())
 }
 
-/// Appends one fold past the range for some peaks, none for none.
+/// Appends to `sites` the fold past the range, where `peaks`, those in it, are not empty.
 fn push_back(sites: &mut Vec<Site>, peaks: &[Node]) -> Result<(), AllocError>
     ensures { OnOk result
         (map site_of sites.new.items ≡ map site_of sites.old.items ++ back_sites peaks.now) }
@@ -203,9 +205,10 @@ fn push_back(sites: &mut Vec<Site>, peaks: &[Node]) -> Result<(), AllocError>
     Ok(())
 }
 
-/// The sites of the digests of a proof of the leaves from `low` to before `high`, in order: before the range, one fold of
-/// the peaks that are folded from the left and each of the others; past it, each of the first and one fold of the others;
-/// then the siblings inside the peaks that share a leaf with the range, by position.
+/// The sites of the digests of a proof of the leaves from `low` to before `high`, in the tree over `leaves` leaves whose
+/// first `inactive` peaks are inactive, in order: before the range, one fold of the peaks that are folded from the left
+/// and each of the others; past it, each of the first and one fold of the others; then the siblings inside the peaks that
+/// share a leaf with the range, by position.
 pub fn sites<F: Digits>(
     alloc: Global,
     low: u64,
@@ -224,7 +227,8 @@ pub fn sites<F: Digits>(
     sites_over::<F>(alloc, low, high, left, right)
 }
 
-/// The sites where some peaks are folded from the left and others from the right.
+/// The sites of a proof of the leaves from `low` to before `high`, where the peaks `left` are folded from the left and
+/// `right` from the right.
 fn sites_over<F: Digits>(
     alloc: Global,
     low: u64,
@@ -250,7 +254,8 @@ fn sites_over<F: Digits>(
     Ok(sites)
 }
 
-/// The sites inside peaks that share a leaf with the range, by position.
+/// The siblings of the leaves from `low` to before `high` inside those of the peaks `left` and `right` that have one, by
+/// position.
 fn siblings<F: Digits>(
     alloc: Global,
     low: u64,

@@ -1,4 +1,4 @@
-//! Roots of snapshots.
+//! Snapshots: their roots and their own proofs.
 
 ghost use Rattle.std.specs.Prelude.{◌≡◌, ℕ, ◌+◌, ◌*◌, ◌/◌, ◌%◌, ◌^◌, ◌≤◌, ◌<◌, ◌++◌, List, [], length, map, option_map, Option, Some, None, ltb, eqb, if◌then◌else◌, IfOk};
 ghost use Rattle.storage_bitmap.specs.Chunks.{IsChunkSize, chunk};
@@ -19,11 +19,11 @@ use storage_codec::digest::{Digest, Hasher};
 use storage_current::qmdb::current::proof::RangeProof;
 use storage_merkle::merkle::{Bagging, Proof};
 
-/// Operations, a bit for each that says whether it is active, and an inactivity floor, with chunks of so many bytes.
+/// Operations, a bit for each that says whether it is active, an inactivity floor, and the size of a chunk.
 #[derive(Drop)]
 #[derive_where(Clone, Copy)]
 pub struct Snapshot<'a, E> {
-    /// The operations.
+    /// The operations, from the first location on.
     pub operations: &'a [E],
     /// A bit for each operation.
     pub bits: &'a [bool],
@@ -33,7 +33,7 @@ pub struct Snapshot<'a, E> {
     pub chunk_size: usize,
 }
 
-/// The root of the tree over the operations of a snapshot. Fails only where memory runs out.
+/// The root of the tree over the operations of the snapshot `of`. Fails only where memory runs out.
 fn ops_root<F: Digits, H: Hasher, E: AsSlice<u8>>(
     alloc: Global,
     of: &Snapshot<'_, E>,
@@ -54,7 +54,7 @@ fn ops_root<F: Digits, H: Hasher, E: AsSlice<u8>>(
     Ok(root)
 }
 
-/// The root of the grafted view of a snapshot. Fails only where memory runs out.
+/// The root of the grafted view of the snapshot `of`. Fails only where memory runs out.
 fn grafted_root<F: Digits, H: Hasher, E: AsSlice<u8>>(
     alloc: Global,
     of: &Snapshot<'_, E>,
@@ -85,8 +85,8 @@ fn grafted_root<F: Digits, H: Hasher, E: AsSlice<u8>>(
     Ok(root)
 }
 
-/// The range proof, of the operations from `low` to before `high`, of the grafted view of a snapshot. Fails only where memory
-/// runs out.
+/// The range proof of the operations from `low` to before `high` of the grafted view of the snapshot `of`. Fails only where
+/// memory runs out.
 fn own_range<F: Digits, H: Hasher, E: AsSlice<u8>>(
     alloc: Global,
     of: &Snapshot<'_, E>,
@@ -118,8 +118,8 @@ fn own_range<F: Digits, H: Hasher, E: AsSlice<u8>>(
     Ok(proof)
 }
 
-/// A snapshot's own proof of the operations from `low` to before `high`, and of their activity. Fails only where memory runs
-/// out.
+/// The own proof of the snapshot `of` of the operations from `low` to before `high`, and of their activity. Fails only where
+/// memory runs out.
 pub fn own_current<F: Digits, H: Hasher, E: AsSlice<u8>>(
     alloc: Global,
     of: &Snapshot<'_, E>,
@@ -148,7 +148,8 @@ pub fn own_current<F: Digits, H: Hasher, E: AsSlice<u8>>(
     })
 }
 
-/// The digest of the complete chunk that is not graftable; none where all are. Fails only where memory runs out.
+/// The digest of the pending chunk, number `graftable`, of `bits` in chunks of `size` bytes; none where all `complete` chunks
+/// are graftable. Fails only where memory runs out.
 fn pending<H: Hasher>(
     alloc: Global,
     size: usize,
@@ -168,7 +169,8 @@ fn pending<H: Hasher>(
     Ok(None)
 }
 
-/// The digest of the chunk after the complete ones; none where it has no bits. Fails only where memory runs out.
+/// The digest of the chunk after the `complete` ones, of `bits` in chunks of `size` bytes; none where `next_bit`, how many
+/// bits it has, is 0. Fails only where memory runs out.
 fn partial<H: Hasher>(
     alloc: Global,
     size: usize,
@@ -188,14 +190,14 @@ fn partial<H: Hasher>(
     Ok(Some(chunk_digest::<H>(&bytes)))
 }
 
-/// The digest of a chunk.
+/// The digest of a chunk of the bytes `bytes`.
 fn chunk_digest<H: Hasher>(bytes: &[u8]) -> H::Digest
     ensures { H.Digest.text result ≡ H.hash_of bytes.now }
 {
     H::hash(&[bytes])
 }
 
-/// The canonical root of a snapshot. Fails only where memory runs out.
+/// The canonical root of the snapshot `of`. Fails only where memory runs out.
 pub fn canonical_root<F: Digits, H: Hasher, E: AsSlice<u8>>(
     alloc: Global,
     of: &Snapshot<'_, E>,
@@ -218,8 +220,8 @@ pub fn canonical_root<F: Digits, H: Hasher, E: AsSlice<u8>>(
     Ok(joined_root::<H>(&ops_root, &grafted_root, &pending, next_bit, &partial))
 }
 
-/// The digest of the operations root, the grafted root, the digest of the pending chunk, where there is one, and where there
-/// is a partial chunk, the number of its bits in eight bytes and its digest.
+/// The digest of the digests `ops_root`, `grafted_root`, `pending`, where there is one, and where there is a `partial`, of
+/// `next_bit`, how many bits the partial chunk has, in eight bytes, highest first, and that digest.
 #[tactic(auto, unfolding(storage_merkle::specs::Calc::be8))]
 fn joined_root<H: Hasher>(
     ops_root: &H::Digest,
@@ -248,7 +250,7 @@ fn joined_root<H: Hasher>(
     }
 }
 
-/// The digest of five parts.
+/// The digest of the five parts, joined: the string of a canonical root.
 fn hash_five<H: Hasher>(
     first: &[u8],
     second: &[u8],
@@ -262,7 +264,7 @@ fn hash_five<H: Hasher>(
     H::hash(&[first, second, third, fourth, fifth])
 }
 
-/// The bytes of a digest; no bytes for none.
+/// The bytes of `digest`; no bytes for none.
 fn slot_bytes<D: Digest>(digest: &Option<D>) -> &[u8]
     ensures { result.now ≡ slot (option_map D.text digest.now) }
 {

@@ -13,7 +13,7 @@ use std::convert::AsSlice;
 use storage_codec::digest::Hasher;
 use storage_merkle::merkle::Bagging;
 
-/// The peaks over at most `2^62` leaves, from the first leaf on. Fails only where memory runs out.
+/// The peaks of the tree over `leaves` leaves, at most `2^62`, from the first leaf on. Fails only where memory runs out.
 pub fn peaks<F: Digits>(alloc: Global, leaves: u64) -> Result<Vec<Node>, AllocError>
     requires { leaves ≤ 2 ^ 62 }
     ensures { IfOk result (λ peaks. peaks.items ≡ places 0 (F.shape.peaks leaves)) }
@@ -24,7 +24,7 @@ pub fn peaks<F: Digits>(alloc: Global, leaves: u64) -> Result<Vec<Node>, AllocEr
     Ok(peaks)
 }
 
-/// Appends nodes of these heights side by side, from a leaf on.
+/// Appends to `nodes` nodes of the heights `heights` side by side, from the leaf `first` on.
 fn push_places(nodes: &mut Vec<Node>, first: u64, heights: &[u32]) -> Result<(), AllocError>
     requires { first + leaves_of heights.now ≤ 2 ^ 62 }
     ensures { OnOk result (nodes.new.items ≡ nodes.old.items ++ places first heights.now) }
@@ -36,8 +36,8 @@ fn push_places(nodes: &mut Vec<Node>, first: u64, heights: &[u32]) -> Result<(),
     push_places(nodes, first + power(*height), rest)
 }
 
-/// The root of the tree over some elements, of whose peaks so many leading ones are inactive, by its definition. Fails only
-/// where memory runs out.
+/// The root of the tree over `elements`, whose first `inactive` peaks are inactive, by its definition. Fails only where
+/// memory runs out.
 pub(crate) fn tree_root<F: Digits, H: Hasher, G: Grafts<H>, E: AsSlice<u8>>(
     alloc: Global,
     grafts: &G,
