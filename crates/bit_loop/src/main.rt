@@ -1,5 +1,6 @@
-//! A bitmap of many bits, and what its root takes. The arguments are the size of a chunk (1, 4, 16 or 32), how many bits are pushed,
-//! of which each fourth one is set, and how many of them, spread evenly, are turned one after another, with a new root each time.
+//! A bitmap of many bits, and what its root takes. The arguments are the size of a chunk in bytes (1, 4, 16 or 32), the number of
+//! bits that are pushed, of which each fourth one is set, and the number of them, spread evenly, that are turned one after
+//! another, with a new root each time.
 //!
 //! It prints the last root, how many strings were hashed for the root of the pushed bits, and how many at most for the root after
 //! one of them was turned.
@@ -40,7 +41,7 @@ fn empty<const N: usize>(alloc: Global, hasher: &Hasher) -> Result<UnmerkleizedB
     }
 }
 
-/// Appends four bits, of which the first one is set; none where there is no memory for one.
+/// Appends four bits to `bitmap`, of which the first one is set; none where there is no memory for one.
 fn push_four<const N: usize>(bitmap: &mut UnmerkleizedBitMap<Digest, N>) -> Option<()>
     requires { bit_count N bitmap.old.retained + 4 ≤ 2 ^ 62 }
     ensures { IfSome result (λ _.
@@ -56,8 +57,8 @@ fn push_four<const N: usize>(bitmap: &mut UnmerkleizedBitMap<Digest, N>) -> Opti
     Some(())
 }
 
-/// Appends so many bits, of which each fourth one is set; none where there is no memory for one. Its code stands apart, so that
-/// what it takes does not depend on its caller.
+/// Appends `count` bits to `bitmap`, of which each fourth one is set; none where there is no memory for one. Its code stands
+/// apart, so that what it takes does not depend on its caller.
 #[inline(never)]
 fn push_all<const N: usize>(bitmap: &mut UnmerkleizedBitMap<Digest, N>, count: u64) -> Option<()>
     requires { bit_count N bitmap.old.retained + count ≤ 2 ^ 62 }
@@ -75,7 +76,7 @@ fn push_all<const N: usize>(bitmap: &mut UnmerkleizedBitMap<Digest, N>, count: u
     Some(())
 }
 
-/// The bitmap with its root.
+/// The bitmap with its root under `hasher`.
 fn merkleized<const N: usize>(
     bitmap: UnmerkleizedBitMap<Digest, N>,
     hasher: &Hasher,
@@ -86,7 +87,7 @@ fn merkleized<const N: usize>(
     }
 }
 
-/// The bitmap of so many bits.
+/// The bitmap of `count` bits, of which each fourth one is set, with its root.
 fn pushed<const N: usize>(
     alloc: Global,
     hasher: &Hasher,
@@ -105,7 +106,7 @@ fn pushed<const N: usize>(
     merkleized(bitmap, hasher)
 }
 
-/// The bitmap with one bit turned.
+/// The bitmap with the bit number `bit` turned, with its new root.
 fn turned<const N: usize>(
     bitmap: MerkleizedBitMap<Digest, N>,
     hasher: &Hasher,
@@ -122,7 +123,7 @@ fn turned<const N: usize>(
     merkleized(bitmap, hasher)
 }
 
-/// The lines to print for chunks of `N` bytes.
+/// The lines to print for chunks of `N` bytes, `count` bits and `turns` turned ones.
 fn report<const N: usize>(alloc: Global, count: u64, turns: u64) -> Result<String>
     requires { IsChunkSize N }
 {
@@ -138,6 +139,7 @@ fn report<const N: usize>(alloc: Global, count: u64, turns: u64) -> Result<Strin
     Ok(format!(in alloc; "{root}\nhashed for all: {whole}\nhashed for one bit: {most}")?)
 }
 
+/// Reads the arguments and prints the report.
 fn main(rt: HostRuntime) -> Result<()> {
     let words: Vec<String> = env::args(&rt)?.skip(1).collect(rt.alloc())?;
     let [size, count, turns] = words.as_slice() else {
