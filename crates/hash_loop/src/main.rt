@@ -1,6 +1,6 @@
 //! A plain loop of hashes, against which other times are measured. Its arguments are pairs of a count and a length: for each
-//! pair it hashes so many strings of so many bytes, each of which begins with the digest before it, cut to that length or
-//! filled up with zeros. It prints the last digest.
+//! pair it hashes `count` strings of `length` bytes each, of which each begins with the digest of the one before it, cut to
+//! that length or filled up with zeros. It prints the last digest.
 #![tactic(auto)]
 
 use anyhow::{Result, bail};
@@ -9,14 +9,14 @@ use std::env;
 use storage_codec::codec::FixedBytes;
 use storage_codec::digest::{Hasher, Sha256};
 
-/// Puts a digest at the start of a string, as much of it as there is room for, and hashes the string.
+/// Puts `digest` at the start of `string`, as much of it as there is room for, and answers the digest of `string`.
 fn step(string: &mut [u8], digest: FixedBytes<32>) -> FixedBytes<32> {
     let kept = string.len().min(32);
     string[..kept].copy_from_slice(&digest.bytes[..kept]);
     Sha256::hash(&[string])
 }
 
-/// The digest after so many strings of so many bytes.
+/// The last digest of `count` strings of `length` bytes, of which the first begins with `first`.
 fn hashed(
     alloc: Global,
     first: FixedBytes<32>,
