@@ -13,7 +13,7 @@ use storage_codec::digest::{Digest, DigestOf, Hasher, Sha256};
 use storage_ops::qmdb::any::operation::{Update, update};
 use storage_ops::qmdb::any::value::VariableEncoding;
 
-/// Reads two digests of any hasher, and a number: seen by their bytes.
+/// Reads two digests of any type and a varint from the front of `buf`; the digests are seen by their bytes.
 fn two_and_number<D: Digest, B: Buf>(alloc: Global, buf: &mut B) -> Result<(D, D, u64), Error>
     ensures { Gives {V = List ℕ × List ℕ × ℕ} (λ x. (D.text x.0, D.text x.1, x.2)) result
         (B.unread buf.new) (front_at D.size (B.unread buf.old) and_then λ a.

@@ -1,5 +1,5 @@
-//! Tests of single libraries: calls made again after want of memory, and what a call through a bound gives. The other cases of
-//! single libraries are lines of `replay`.
+//! Tests of single libraries: calls made again after they were out of memory, and what a call through a bound gives. The other
+//! cases of single libraries are lines of `replay`.
 #![tactic(auto)]
 
 #[cfg(test)]

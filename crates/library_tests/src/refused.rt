@@ -22,7 +22,7 @@ fn told<E: Debug>(refusal: &E) -> Fail {
     Fail::new(format_args!("error: {refusal:?}"))
 }
 
-/// Appends a bit.
+/// Appends `bit` to `bits`.
 fn push(bits: &mut Prunable<1>, bit: bool) -> Result<(), Fail> {
     let len = bits.len();
     if len >= MAX_LEAVES {
@@ -52,7 +52,7 @@ fn push_made_again(rt: HostRuntime) -> Result<(), Fail> {
     Ok(())
 }
 
-/// The authenticated bitmap that is restored.
+/// The authenticated bitmap that is restored from `state`.
 fn restored(
     alloc: Global,
     hasher: &Standard<Sha256>,
@@ -64,7 +64,7 @@ fn restored(
     }
 }
 
-/// Appends a bit for each digit.
+/// Appends a bit to `bitmap` for each of `digits`.
 fn push_all(bitmap: &mut UnmerkleizedBitMap<Digest, 1>, digits: &[u8]) -> Result<(), Fail> {
     for digit in digits {
         let bit = *digit == b'1';
@@ -81,7 +81,7 @@ fn push_all(bitmap: &mut UnmerkleizedBitMap<Digest, 1>, digits: &[u8]) -> Result
     Ok(())
 }
 
-/// Changes a bit.
+/// Sets the bit number `bit` of `bitmap` to `value`.
 fn set(bitmap: &mut UnmerkleizedBitMap<Digest, 1>, bit: u64, value: bool) -> Result<(), Fail> {
     if bit < bitmap.pruned_bits() || bit >= bitmap.len() {
         return Err(Fail::new("no such bit"));
@@ -99,7 +99,7 @@ fn set(bitmap: &mut UnmerkleizedBitMap<Digest, 1>, bit: u64, value: bool) -> Res
     }
 }
 
-/// The bitmap with its root, of which none is left where memory is refused.
+/// The bitmap with its root, of which nothing is left where memory is refused.
 fn merkleized(
     bitmap: UnmerkleizedBitMap<Digest, 1>,
     hasher: &Standard<Sha256>,
@@ -110,7 +110,7 @@ fn merkleized(
     }
 }
 
-/// Forgets the chunks below that of a bit.
+/// Forgets the chunks of `bitmap` below that of the bit number `bit`.
 fn prune(bitmap: &mut MerkleizedBitMap<Digest, 1>, bit: u64) -> Result<(), Fail> {
     if bit > bitmap.len() {
         return Err(Fail::new("no such bit"));
@@ -192,7 +192,7 @@ fn bitmap_calls_made_again(rt: HostRuntime) -> Result<(), Fail> {
     Ok(())
 }
 
-/// Appends a leaf.
+/// Appends to `tree` the leaf of `element`.
 fn add(
     tree: &mut Mem<mmb::Family, Digest>,
     hasher: &Standard<Sha256>,
@@ -211,7 +211,7 @@ fn add(
     }
 }
 
-/// Writes the digests of leaves anew, once.
+/// Gives the leaves of `updates` their new digests, once.
 fn write_once(
     tree: &mut Mem<mmb::Family, Digest>,
     hasher: &Standard<Sha256>,
@@ -220,7 +220,7 @@ fn write_once(
     tree.update_leaves(hasher, updates)
 }
 
-/// Writes the digests of leaves anew.
+/// Gives the leaves of `updates` their new digests.
 fn update(
     tree: &mut Mem<mmb::Family, Digest>,
     hasher: &Standard<Sha256>,
@@ -239,7 +239,7 @@ fn update(
     }
 }
 
-/// Forgets the leaves below a location.
+/// Forgets the leaves of `tree` below `location`.
 fn forget(tree: &mut Mem<mmb::Family, Digest>, location: u64) -> Result<(), Fail> {
     let first = tree.get_node(Position::new(0));
     if tree.prune(Location::new(location)).is_ok() {
