@@ -5,7 +5,7 @@ use anyhow::Result;
 use commonware_storage::merkle::Graftable;
 use std::alloc::Global;
 
-/// How many proofs were tried, and how many of them a client accepts. A count stops at the greatest number.
+/// How many proofs were tried, and how many of them a client accepts. A count stops at the greatest `u64`.
 #[derive(Clone, Copy, Drop)]
 struct Tally {
     tried: u64,
@@ -20,14 +20,14 @@ impl Tally {
         }
     }
 
-    /// Counts an answer.
+    /// Counts an answer, `yes` or no.
     fn add(&mut self, yes: bool) {
         self.tried = self.tried.saturating_add(1);
         self.accepted = self.accepted.saturating_add(yes as u64);
     }
 }
 
-/// The proofs with one byte set to another value.
+/// Counts the proofs of `case` with one byte set to another value.
 fn altered<F: Graftable>(alloc: Global, case: &Case) -> Result<Tally> {
     let mut tally = Tally::new();
     let mut bytes = case.proof.clone()?;
@@ -45,7 +45,7 @@ fn altered<F: Graftable>(alloc: Global, case: &Case) -> Result<Tally> {
     Ok(tally)
 }
 
-/// The proper beginnings of the proof.
+/// Counts the proper beginnings of the proof of `case`.
 fn cut<F: Graftable>(alloc: Global, case: &Case) -> Result<Tally> {
     let mut tally = Tally::new();
     for length in 0..case.proof.len() {
@@ -54,7 +54,7 @@ fn cut<F: Graftable>(alloc: Global, case: &Case) -> Result<Tally> {
     Ok(tally)
 }
 
-/// The proof with one byte more.
+/// Counts the proofs of `case` with one byte more.
 fn longer<F: Graftable>(alloc: Global, case: &Case) -> Result<Tally> {
     let mut tally = Tally::new();
     let mut bytes = case.proof.clone()?;
@@ -66,7 +66,7 @@ fn longer<F: Graftable>(alloc: Global, case: &Case) -> Result<Tally> {
     Ok(tally)
 }
 
-/// The line to print for a case.
+/// The line to print for `case`, with its name `name`.
 pub fn report<F: Graftable>(alloc: Global, name: &str, case: &Case) -> Result<String> {
     let answer = if case.accepts::<F>(alloc, &case.proof)? {
         "yes"

@@ -11,15 +11,20 @@ use std::alloc::Global;
 /// A claim, and the bytes that are said to prove it.
 #[derive(Drop)]
 pub struct Case {
+    /// How many bytes the proof's chunk has.
     pub chunk_size: usize,
+    /// The location that is claimed.
     pub location: u64,
+    /// The operation that is claimed to stand there.
     pub operation: Vec<u8>,
+    /// The bytes of the operation proof.
     pub proof: Vec<u8>,
+    /// The canonical root that is trusted.
     pub root: FixedBytes<32>,
 }
 
 impl Case {
-    /// Reads the columns after the family.
+    /// Reads `columns`, those of a line after the family.
     pub fn parse(alloc: Global, columns: &[&str]) -> Result<Case> {
         let [chunk_size, location, operation, proof, root] = columns else {
             bail!("not the columns of a proof");
@@ -35,7 +40,7 @@ impl Case {
         })
     }
 
-    /// What a client answers that is given these bytes.
+    /// What a client answers that is given `bytes` as the proof.
     pub fn accepts<F: Graftable>(&self, alloc: Global, bytes: &[u8]) -> Result<bool> {
         let loc = Location::<F>::new(self.location);
         let (size, operation, root) = (self.chunk_size, &self.operation, &self.root);

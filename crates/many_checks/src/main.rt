@@ -24,7 +24,7 @@ enum Work {
 }
 
 impl Work {
-    /// Reads the arguments.
+    /// Reads the arguments `words`.
     fn parse(words: &[String]) -> Result<Work> {
         let mut words = words.iter();
         let work = match words.next().map(String::as_str) {
@@ -40,7 +40,7 @@ impl Work {
         Ok(work)
     }
 
-    /// The line to print for a case.
+    /// The line to print for `case`, with its name `name`.
     fn report<F: Graftable>(self, alloc: Global, name: &str, case: &Case) -> Result<String> {
         match self {
             Work::Altered => altered::report::<F>(alloc, name, case),
@@ -49,7 +49,7 @@ impl Work {
     }
 }
 
-/// The proof as it is, checked so many times: how many answers are yes.
+/// The proof of `case` as it is, checked `count` times: how many answers are yes.
 fn repeated<F: Graftable>(alloc: Global, name: &str, case: &Case, count: u64) -> Result<String> {
     let mut accepted = 0u64;
     for _ in 0..count {
@@ -60,7 +60,7 @@ fn repeated<F: Graftable>(alloc: Global, name: &str, case: &Case, count: u64) ->
     Ok(format!(in alloc; "{name}: accepted {accepted} times of {count}")?)
 }
 
-/// The line to print for a line of the input.
+/// The line to print for `line`, a line of the input.
 fn reply(alloc: Global, work: Work, line: &str) -> Result<String> {
     let columns: Vec<&str> = line.split(' ').collect(alloc)?;
     let [name, family, rest @ ..] = columns.as_slice() else {
