@@ -16,7 +16,7 @@ fn words(rt: &HostRuntime) -> Result<Vec<String>, Fault> {
     Ok(words)
 }
 
-/// Why there are no arguments.
+/// The fault where the arguments can't be read.
 fn fault(error: io::Error) -> Fault {
     match error.kind() {
         ErrorKind::OutOfMemory => Fault::Memory,
