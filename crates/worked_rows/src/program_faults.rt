@@ -15,8 +15,8 @@ fn words(alloc: Global) -> Result<Vec<String>, Fail> {
     Ok(words)
 }
 
-/// Refuses where a run that ended with status 2 wanted memory, by the line that it wrote, or the vector did that it was written to:
-/// then the line is cut short.
+/// Refuses where a run that ended with status 2 was out of memory, by `errors`, the line that it wrote, or where the vector was
+/// that it was written to: then the line is cut short.
 fn run_had_memory(errors: &[u8]) -> Result<(), NoMemory> {
     if errors.ends_with(b"\n") && errors != b"stateproof: memory\n".as_slice() {
         Ok(())
