@@ -121,8 +121,8 @@ impl<F: Family> RangePlan<F> {
         self.end
     }
 
-    /// The proof under `hasher` with the first `inactive` peaks inactive, from the digests of the planned nodes, for
-    /// which `get_node` is asked in ascending order of positions.
+    /// The proof under `hasher` with the first `inactive` peaks inactive, from the digests that `get_node` answers for the
+    /// planned positions.
     ///
     /// # Errors
     ///

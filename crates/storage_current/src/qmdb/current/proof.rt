@@ -56,9 +56,9 @@ pub struct RangeProof<F, D> {
 }
 
 impl<F: Graftable, D: Digest> RangeProof<F, D> {
-    /// The proof of the range of `plan`, from the digests that the grafted view has at the planned positions, for which
-    /// `get_node` is asked in ascending order; `status` are the snapshot's bits, `floor` its inactivity floor,
-    /// `ops_root` its operations root. A floor past the plan's leaves counts as these.
+    /// The proof of the range of `plan`, from the digests that `get_node` answers for the planned positions: those of the
+    /// grafted view; `status` are the snapshot's bits, `floor` its inactivity floor, `ops_root` its operations root. A
+    /// floor past the plan's leaves counts as these.
     ///
     /// # Errors
     ///

@@ -38,9 +38,9 @@ pub struct Proof<F, D, C> {
 }
 
 impl<F: Graftable, D: Digest, const N: usize> Proof<F, D, [u8; N]> {
-    /// The proof of the location of `plan`, from the digests that the grafted view has at the planned positions, for
-    /// which `get_node` is asked in ascending order; `status` are the snapshot's bits, `floor` its inactivity floor,
-    /// `ops_root` its operations root. Whether the location's bit is set is not looked at.
+    /// The proof of the location of `plan`, from the digests that `get_node` answers for the planned positions: those of
+    /// the grafted view; `status` are the snapshot's bits, `floor` its inactivity floor, `ops_root` its operations root.
+    /// Whether the location's bit is set is not looked at.
     ///
     /// # Errors
     ///

@@ -24,8 +24,8 @@ impl<F: Graftable, D: Digest> RangeProof<F, D> {
     /// # Errors
     ///
     /// The first of: `DataCorrupted` of the tree where no tree has as many nodes as the store; those of `RangePlan::new`;
-    /// `Source` where the store failed, just where its count of failures grew, by one; `ElementPruned` of the first planned
-    /// position, ascending, where it has no digest; those of `build`.
+    /// `ElementPruned` of the first planned position, ascending, where it has no digest; those of `build`. `Source` where
+    /// the store failed, just where its count of failures grew, by one.
     pub fn new<H: Hasher<Digest = D>, R: Readable<N>, S: Storage<F, Digest = D>, const N: usize>(
         alloc: Global,
         status: &R,
