@@ -253,7 +253,7 @@ impl<F: Family, D: Digest> Mem<F, D> {
     {
         if let Some(away) = first_away(self.leaves, self.boundary, updates) {
             if away >= self.leaves {
-                return Err(Error::RangeOutOfBounds(Location::new(away)));
+                return Err(past_the_leaves(away));
             }
             return Err(Error::ElementPruned(Position::new(F::nodes_over(away))));
         }
@@ -288,7 +288,7 @@ impl<F: Family, D: Digest> Mem<F, D> {
     {
         let to = location.as_u64();
         if to > self.leaves {
-            return Err(Error::RangeOutOfBounds(Location::new(to)));
+            return Err(past_the_leaves(to));
         }
         if to <= self.boundary {
             return Ok(());
@@ -306,6 +306,13 @@ impl<F: Family, D: Digest> Mem<F, D> {
         self.boundary = to;
         Ok(())
     }
+}
+
+/// The refusal of the leaf at `place`, which is past the tree.
+fn past_the_leaves<F: Family>(place: u64) -> Error<F>
+    ensures { result ≡ Error.RangeOutOfBounds place }
+{
+    Error::RangeOutOfBounds(Location::new(place))
 }
 
 /// The first leaf of `updates` that is below `boundary` or not below `leaves`; none where there is no such leaf.
