@@ -128,16 +128,21 @@ def list_of(line):
     return (first, second) if first.endswith(":") else (None, first)
 
 
-def lines():
-    """Lines of each list that `replay` answers, and of each list in each row, evenly spread, and the longest one."""
+def sampled():
+    """Lines of each list that `replay` answers, and of each list in each row, evenly spread, and the longest one, with their answers."""
     folder = ROOT / "crates/replay"
     lists = collections.defaultdict(list)
     for given, answer in zip((folder / "stdin").open(), (folder / "stdout").open()):
         lists[list_of(given)].append((given, answer))
     for cases in lists.values():
         step = -(-len(cases) // (LINES - 1))
-        for given, answer in dict.fromkeys([*cases[::step], max(cases, key=lambda it: len(it[0]))]):
-            yield Case(given.strip(), [built("replay")], given, (0, answer, ""), is_want_of_line)
+        yield from dict.fromkeys([*cases[::step], max(cases, key=lambda it: len(it[0]))])
+
+
+def lines():
+    """A case for each of these lines."""
+    for given, answer in sampled():
+        yield Case(given.strip(), [built("replay")], given, (0, answer, ""), is_want_of_line)
 
 
 def refused(requests):
@@ -226,4 +231,5 @@ def main():
     return 1 if total[2] else 0
 
 
-sys.exit(main())
+if __name__ == "__main__":
+    sys.exit(main())
