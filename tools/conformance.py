@@ -10,7 +10,7 @@ error, so is a line with another number of columns, or with a text that is not o
 
 The second makes no file. It compares each file with what would be made now and with conformance/schema.json, and, where PROGRAM
 is there (crates/replay/out/replay if none is named), its answers to the lines that the cases stand for with `out`. The last line
-is 'N cases, M wrong'; the status is 1 where M is not 0, and 77 where all else is right and PROGRAM is not there.
+is 'N cases, M of them wrong'; the status is 1 where M is not 0, and 77 where all else is right and PROGRAM is not there.
 """
 import itertools
 import json
@@ -228,7 +228,7 @@ def check(program):
     else:
         print(f"{program.relative_to(ROOT) if program.is_relative_to(ROOT) else program} is not there: no answers were compared")
     print("".join(f"{it}\n" for it in wrong), end="")
-    print(f"{len(pairs)} cases, {len(wrong)} wrong")
+    print(f"{len(pairs)} cases, {len(wrong)} of them wrong")
     return 1 if wrong else 0 if program.is_file() else 77
 
 
