@@ -1,3 +1,5 @@
+pub mod Failing
+pub mod ReadingCommits
 pub mod Starts
 pub mod Zeros
 pub mod Verify

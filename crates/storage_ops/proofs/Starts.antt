@@ -1,7 +1,17 @@
--- Nothing appended is a beginning of any text.
-use Rattle.std.proofs.Common.{◌≡◌, ℕ, List, [], refl, sym, ◌∙◌}
+-- Beginnings of what is appended.
+use Rattle.std.proofs.Common.{◌≡◌, ℕ, List, [], ◌++◌, Result, Ok, Err, OnErr, refl, sym, ap, ◌∙◌, append_assoc}
 use Rattle.std.proofs.lemmas.List.{append-nil}
 use Rattle.storage_codec.specs.Parts.{AppendsStart}
 
+-- Nothing appended is a beginning of any text.
 pub starts_none : {old new : List ℕ} (text : List ℕ) → new ≡ old → AppendsStart old new text
 starts_none {old} {new} text e = record { done = []; left = text; text_is = refl; new_is = e ∙ sym (append-nil old) }
+
+-- two parts, one after the other
+pub appended : (old first second : List ℕ) {mid new : List ℕ} → mid ≡ old ++ first → new ≡ mid ++ second
+    → new ≡ old ++ (first ++ second)
+appended old first second p q = q ∙ (ap (λ (t : List ℕ). t ++ second) p ∙ append_assoc old first second)
+
+pub on_err : {A E : Type 0} {P : Type 0} (r : Result A E) → P → OnErr r P
+on_err (Ok x) p = tt
+on_err (Err e) p = p

@@ -1,6 +1,6 @@
 //! Operations: updates, deletions and commits.
 
-ghost use Rattle.std.specs.Prelude.{◌≡◌, ◌<◌, ◌^◌, ℕ, List, Ok, ◌++◌, IfOk, IfSome, OnOk, OnErr};
+ghost use Rattle.std.specs.Prelude.{◌≡◌, ◌<◌, ◌^◌, ℕ, List, Ok, ◌∷◌, ◌++◌, IfOk, IfSome, OnOk, OnErr};
 ghost use Rattle.storage_codec.specs.Codec.{Answer, Gives};
 ghost use Rattle.storage_codec.specs.Parts.{AppendsStart, IsEnding};
 ghost use Rattle.storage_ops.specs.Operations.{OperationView, operation_map, parts, operation_key, operation_floor, is_update, is_delete, is_commit};
@@ -105,6 +105,17 @@ pub trait OperationCodec<F: Family, S: Update>: ValueEncoding {
 
     /// Operations that are seen as equal have parts that are seen as equal.
     ghost operation_same: { (x y : OperationView S.Key S S.Value) → Self.operation_view x ≡ Self.operation_view y → operation_map S.Key.view S.seen S.Value.view x ≡ operation_map S.Key.view S.seen S.Value.view y };
+}
+
+/// Appends to `out` the byte `tag`, and then what `value` is written as.
+#[tactic(auto, using(storage_codec::specs::PartsLaws::starts_cons, crate::proofs::Starts::starts_none))]
+fn write_tagged<T: Write>(tag: u8, value: &T, out: &mut Vec<u8>) -> Result<(), NoMemory>
+    ensures ok { OnOk result (out.new.items ≡ out.old.items ++ tag ∷ T.text value.now) }
+    ensures err { OnErr result (AppendsStart out.old.items out.new.items
+        (tag ∷ T.text value.now)) }
+{
+    out.push(tag)?;
+    value.write(out)
 }
 
 impl<F: Family, S: Update> Write for Operation<F, S>

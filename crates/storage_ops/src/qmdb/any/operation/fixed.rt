@@ -1,6 +1,6 @@
 //! Operations that are filled up with zeros to one size.
 
-ghost use Rattle.std.specs.Prelude.{◌≡◌, ◌≤◌, ◌+◌, ◌-◌, ◌*◌, ◌^◌, ◌<◌, ℕ, List, ◌++◌, length, replicate, option_map, max, Ok, OnOk, OnErr};
+ghost use Rattle.std.specs.Prelude.{◌≡◌, ◌≤◌, ◌+◌, ◌-◌, ◌*◌, ◌^◌, ◌<◌, ℕ, List, ◌∷◌, ◌++◌, length, replicate, option_map, max, Ok, OnOk, OnErr};
 ghost use Rattle.std.specs.Int.{w64, to_be_bytes};
 ghost use Rattle.storage_codec.specs.Codec.{Gives};
 ghost use Rattle.storage_codec.specs.Parts.{AppendsStart, IsEnding, size_of};
@@ -15,7 +15,7 @@ ghost use Rattle.storage_ops.specs.Fixed.{fixed_size, presence_text, fixed_opera
 
 use crate::qmdb::any::operation::update::{FixedUpdate, Ordered, Unordered, Update};
 use crate::qmdb::any::operation::{
-    COMMIT_CONTEXT, DELETE_CONTEXT, Operation, OperationCodec, UPDATE_CONTEXT,
+    COMMIT_CONTEXT, DELETE_CONTEXT, Operation, OperationCodec, UPDATE_CONTEXT, write_tagged,
 };
 use crate::qmdb::any::value::{FixedEncoding, FixedValue};
 use crate::qmdb::operation::Key;
@@ -49,15 +49,20 @@ fn update_size<S: FixedUpdate>() -> usize
     S::fixed_size()
 }
 
-/// Appends to `out` what `value` is written as, and then `n` zeros.
+/// Appends to `out` the byte `tag`, what `value` is written as, and then `n` zeros.
 #[tactic(auto, using(storage_codec::specs::PartsLaws::starts_then, storage_codec::specs::PartsLaws::starts_first))]
-fn write_padded<T: Write>(value: &T, n: usize, out: &mut Vec<u8>) -> Result<(), NoMemory>
+fn write_padded<T: Write>(
+    tag: u8,
+    value: &T,
+    n: usize,
+    out: &mut Vec<u8>,
+) -> Result<(), NoMemory>
     ensures ok { OnOk result
-        (out.new.items ≡ out.old.items ++ (T.text value.now ++ replicate n 0)) }
-    ensures err { OnErr result
-        (AppendsStart out.old.items out.new.items (T.text value.now ++ replicate n 0)) }
+        (out.new.items ≡ out.old.items ++ ((tag ∷ T.text value.now) ++ replicate n 0)) }
+    ensures err { OnErr result (AppendsStart out.old.items out.new.items
+        ((tag ∷ T.text value.now) ++ replicate n 0)) }
 {
-    value.write(out)?;
+    write_tagged(tag, value, out)?;
     put_zeros(out, n)?;
     Ok(())
 }
@@ -166,20 +171,15 @@ where
         let value = small_size::<V>();
         let total = total_size(key, update, value);
         match operation {
-            Operation::Delete(k) => {
-                out.push(DELETE_CONTEXT)?;
-                write_padded(k, total - (1 + key), out)?;
-            }
+            Operation::Delete(k) => write_padded(DELETE_CONTEXT, k, total - (1 + key), out),
             Operation::Update(payload) => {
-                out.push(UPDATE_CONTEXT)?;
-                write_padded(payload, total - (1 + update), out)?;
+                write_padded(UPDATE_CONTEXT, payload, total - (1 + update), out)
             }
             Operation::CommitFloor(metadata, floor) => {
                 out.push(COMMIT_CONTEXT)?;
-                write_commit_padded(metadata, *floor, value, total - (10 + value), out)?;
+                write_commit_padded(metadata, *floor, value, total - (10 + value), out)
             }
         }
-        Ok(())
     }
 
     #[tactic(auto, using(storage_codec::specs::PartsLaws::ends_then, storage_codec::specs::PartsLaws::ends_same))]

@@ -13,7 +13,7 @@ ghost use Rattle.storage_ops.specs.VariableLaws.{variable_again, variable_back, 
 
 use crate::qmdb::any::operation::update::{CodecUpdate, Ordered, Unordered, Update};
 use crate::qmdb::any::operation::{
-    COMMIT_CONTEXT, DELETE_CONTEXT, Operation, OperationCodec, UPDATE_CONTEXT,
+    COMMIT_CONTEXT, DELETE_CONTEXT, Operation, OperationCodec, UPDATE_CONTEXT, write_tagged,
 };
 use crate::qmdb::any::value::{VariableEncoding, VariableValue};
 use crate::qmdb::operation::Key;
@@ -83,20 +83,13 @@ impl<
     #[tactic(auto, using(storage_codec::specs::PartsLaws::starts_cons, crate::proofs::Starts::starts_none))]
     fn write_operation(operation: &Operation<F, S>, out: &mut Vec<u8>) -> Result<(), NoMemory> {
         match operation {
-            Operation::Delete(key) => {
-                out.push(DELETE_CONTEXT)?;
-                key.write(out)?;
-            }
-            Operation::Update(payload) => {
-                out.push(UPDATE_CONTEXT)?;
-                payload.write(out)?;
-            }
+            Operation::Delete(key) => write_tagged(DELETE_CONTEXT, key, out),
+            Operation::Update(payload) => write_tagged(UPDATE_CONTEXT, payload, out),
             Operation::CommitFloor(metadata, floor) => {
                 out.push(COMMIT_CONTEXT)?;
-                write_commit_variable(metadata, *floor, out)?;
+                write_commit_variable(metadata, *floor, out)
             }
         }
-        Ok(())
     }
 
     #[tactic(auto, using(storage_codec::specs::PartsLaws::ends_then, storage_codec::specs::PartsLaws::ends_same))]
