@@ -14,6 +14,9 @@ pub returns-in-Err-clause-why : goal.returns-in-Err-clause-why
 returns-in-Err-clause-why g c = refused g.row.N c.args.state.pruned_chunks c.new.result _ c.in-Err.error c.new.ensures
     c.if-chunks.false (rw c.deref.ensures.value at c.in-Err.ensures.why)
 
+pub returns-clause-kept : goal.returns-clause-kept
+returns-clause-kept g c = (c.pruned-bits.ensures, rw (c.new.ensures, c.deref.ensures.value) at c.in-Ok.ensures.kept)
+
 pub returns-clause-stands : goal.returns-clause-stands
 returns-clause-stands g c plain bits s =
     rw c.pruned-bits.ensures (restored g.D.Write.text g.H.Hasher.hash_of

@@ -1,4 +1,4 @@
-use Rattle.std.proofs.Common.{arith, ◌*◌, ◌/◌, ◌≤◌, ◌∙◌, ap, max, inl, inr}
+use Rattle.std.proofs.Common.{arith, ◌*◌, ◌/◌, ◌≤◌, ◌∙◌, refl, ap, max, inl, inr}
 use Rattle.std.proofs.lemmas.Nat.{le-div}
 use Rattle.std.proofs.Math.Nat.{div-mul-le_self}
 use Rattle.storage_bitmap.specs.Chunks.{bit_count}
@@ -25,6 +25,9 @@ returns-clause-stands g c h bagging bits s =
     rw c.prune_to_bit.ensures (pruned_stands g.D.Write.text h bagging g.row.N c.self.inside.bits c.self.inside.tree
     c.prune.new.self c.self.inside.state c.self.inside.state.root
     (c.args.bit / (8 * g.row.N)) bits most m.stands m.place.1 (rw (← c.self.view_is) at s))
+
+pub returns-clause-root : goal.returns-clause-root
+returns-clause-root g c = rw (← c.self.view_is) refl
 
 pub returns-in-Err-clause-why : goal.returns-in-Err-clause-why
 returns-in-Err-clause-why g c =
