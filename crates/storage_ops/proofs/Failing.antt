@@ -1,10 +1,10 @@
 -- Readings, one after the other.
-use Rattle.std.proofs.Common.{◌≡◌, ℕ, List, Bool, true, false, Option, Some, None, Result, Ok, Err, refl, sym, subst}
+use Rattle.std.proofs.Common.{◌≡◌, ℕ, List, Result, Ok, Err, refl, sym, subst}
 use Rattle.std.specs.Result.{IsErrAnd}
 use Rattle.storage_codec.specs.declared.codec.error.Error.{Error}
 use Rattle.storage_codec.specs.declared.codec.error.Error.TheVariants as code
 use Rattle.storage_codec.specs.Faults.{◌>>=◌, Fault}
-use Rattle.storage_codec.specs.Codec.{Answer, Gives, IsFault, MayFail, mapped, bool_at}
+use Rattle.storage_codec.specs.Codec.{Answer, Gives, IsFault, MayFail, mapped}
 
 -- what the first fails with, both fail with
 pub fails_then : {A B : Type 0} (e : Error) (a : Result A Fault) (f : A → Result B Fault) → MayFail e a

@@ -51,12 +51,7 @@ fn update_size<S: FixedUpdate>() -> usize
 
 /// Appends to `out` the byte `tag`, what `value` is written as, and then `n` zeros.
 #[tactic(auto, using(storage_codec::specs::PartsLaws::starts_then, storage_codec::specs::PartsLaws::starts_first))]
-fn write_padded<T: Write>(
-    tag: u8,
-    value: &T,
-    n: usize,
-    out: &mut Vec<u8>,
-) -> Result<(), NoMemory>
+fn write_padded<T: Write>(tag: u8, value: &T, n: usize, out: &mut Vec<u8>) -> Result<(), NoMemory>
     ensures ok { OnOk result
         (out.new.items ≡ out.old.items ++ ((tag ∷ T.text value.now) ++ replicate n 0)) }
     ensures err { OnErr result (AppendsStart out.old.items out.new.items
