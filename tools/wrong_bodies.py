@@ -16,6 +16,7 @@ what they do not refuse on the whole crate. An edit is refused where the check n
 proved. That the function calls, or waits for, one that is not proved does not count, nor that a proof file misses a name. A goal may
 also fail since it needs an `impl` block that is not proved for another edit: such an edit is tried again without those that are
 settled. What is still in doubt is tried alone. A function that fails by goals of its own without an edit in it is a fault.
+That a proof file misses a name is read from the first line of what the check says; where it breaks that line, it is not seen.
 
 The libraries below a crate are taken from the tree FOLDER, where `rt ci` or `rt lib` left them; without --built they are proved here
 first. With --gate the gate `rt ci` is at work in FOLDER and writes LOG, and makes a file of LOG's name with the ending .status when it
