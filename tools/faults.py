@@ -30,7 +30,7 @@ class Cases:
         self.lines = by_list((folder / "stdin").open())
         self.sampled = by_list(it for it, _ in refused_memory.sampled())
         self.lists = sorted(self.lines)
-        first = next(it for it in sources.functions if it.crate == "replay" and it.file == "lists.rt" and it.name == "answer")
+        first = next(it for it in sources.functions if it.crate == "replay" and it.file == "lists.rt" and it.name == "over")
         self.reached = {it: self.reach(first, it) for it in self.lists}
         for it in sources.functions:
             if it.is_test:

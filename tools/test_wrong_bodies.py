@@ -1,9 +1,10 @@
 #!/usr/bin/env python3
 """Tests tools/wrong_bodies.py on small crates: what it must name, and what it must count as refused.
 
-Of the edits of a crate a harmless one must be named, also where the function that it is in calls one with a wrong body, and where
-it needs a trait's block that is not proved for another edit. An edit that cannot be applied must be named too, and a crate that is
-not proved without an edit. A crate that a gate keeps from an earlier run is tried all the same. The last line is 'N passed, M failed'.
+Of the edits of a crate a harmless one must be named, also where the function that it is in calls one with a wrong body, where it
+needs a trait's block that is not proved for another edit, where it takes away a goal that a proof file answers, and where such a goal
+of another function of that name fails. An edit that cannot be applied must be named too, and a crate that is not proved without an
+edit. A crate that a gate keeps from an earlier run is tried all the same. The last line is 'N passed, M failed'.
 """
 import pathlib
 import shutil
@@ -43,6 +44,15 @@ pub fn three_more(n: u64) -> u64
     n + 3
 }
 
+/// Four more than a number, of a name that is longer than a line of what the check says.
+pub fn four_more_than_a_number_below_fifty_by_way_of_three_more(n: u64) -> u64
+    requires { n < 50 }
+    ensures { result ≡ n + 4 }
+{
+    let third = three_more(n);
+    third + 1
+}
+
 /// What is written as so many bytes, whatever its value.
 pub trait Measured {
     /// That number of bytes.
@@ -64,6 +74,17 @@ impl Measured for Word {
     }
 }
 
+/// A word of four bytes, whose name ends with that of another type.
+pub struct DoubleWord {}
+
+impl Measured for DoubleWord {
+    ghost length = { 4 };
+
+    fn measure(&self) -> u64 {
+        4
+    }
+}
+
 /// The length of a word.
 pub fn length_of_word(word: &Word) -> u64
     ensures { result ≡ 2 }
@@ -72,15 +93,35 @@ pub fn length_of_word(word: &Word) -> u64
 }
 """
 
+# Answers of goals: of one that a harmless edit takes away, and of one that fails where another function of that name has one.
+ANSWERED = "four_more_than_a_number_below_fifty_by_way_of_three_more"
+ANSWERS = {
+    ANSWERED: f"""use Rattle.std.proofs.Common.{{arith}}
+use Rattle.sums.proofs.{ANSWERED}.Goals as goal
+
+pub three_more-third-requires : goal.three_more-third-requires
+three_more-third-requires c = omega (arith, c.requires)
+""",
+    "DoubleWordMeasured/measure": """use Rattle.std.proofs.Common.{refl}
+use Rattle.sums.proofs.DoubleWordMeasured.measure.Goals as goal
+
+pub returns : goal.returns
+returns c = refl
+""",
+}
+
 EDITS = {
     "callee_wrong": ("    n + 1", "    n + 2"),
     "harmless_caller": ("let more = one_more(n);", "let more = one_more(n + 0);"),
     "harmless": ("    n + 3", "    3 + n"),
+    "harmless_beside_another_word": ("        2", "        1 + 1"),
+    "other_word_wrong": ("        4", "        5"),
     "block_wrong": ("        2", "        1"),
     "harmless_beside_block": ("word.measure()", "word.measure() + 0"),
-    "no_such_text": ("four_more", "five_more"),
+    "harmless_where_a_goal_is_answered": ("let third = three_more(n);", "let third = n + 3;"),
+    "no_such_text": ("five_more", "six_more"),
 }
-REFUSED = {"callee_wrong", "block_wrong"}
+REFUSED = {"callee_wrong", "other_word_wrong", "block_wrong"}
 
 
 def said(text, edits, gate=None):
@@ -89,11 +130,14 @@ def said(text, edits, gate=None):
     with tempfile.TemporaryDirectory() as name:
         root = pathlib.Path(name)
         crate = root / "crates/sums"
-        for folder in ("tools", "crates/sums/src", "crates/sums/must-fail"):
+        for folder in ("tools", "crates/sums/src", "crates/sums/must-fail", *(f"crates/sums/proofs/{it}" for it in ANSWERS)):
             (root / folder).mkdir(parents=True)
         shutil.copy(TOOL, root / "tools")
         (root / "crates.txt").write_text("sums:\n")
         (crate / "src/lib.rt").write_text(text)
+        (crate / "proofs/Lib.antt").write_text("")
+        for folder, answers in ANSWERS.items():
+            (crate / "proofs" / folder / "Answers.antt").write_text(answers)
         group = "".join(f"\nname: {it}\nold: {old}\nnew: {new}\n" for it, (old, new) in edits.items())
         (crate / "must-fail/src.lib.edit").write_text(f"file: src/lib.rt\n{group}")
         words = [root / "tools/wrong_bodies.py"]

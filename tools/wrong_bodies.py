@@ -15,8 +15,8 @@ constant on the first function that names it, then on all of them; any other on 
 what they do not refuse on the whole crate. An edit is refused where the check names a goal inside the edited function that is not
 proved. That the function calls, or waits for, one that is not proved does not count, nor that a proof file misses a name. A goal may
 also fail since it needs an `impl` block that is not proved for another edit: such an edit is tried again without those that are
-settled. What is still in doubt is tried alone. A function that fails by goals of its own without an edit in it is a fault.
-That a proof file misses a name is read from the first line of what the check says; where it breaks that line, it is not seen.
+settled. What is still in doubt is tried alone, as is an edit whose goal stands in a proof file where more than one function may have
+it. A function that fails by goals of its own without an edit in it is a fault.
 
 The libraries below a crate are taken from the tree FOLDER, where `rt ci` or `rt lib` left them; without --built they are proved here
 first. With --gate the gate `rt ci` is at work in FOLDER and writes LOG, and makes a file of LOG's name with the ending .status when it
@@ -28,6 +28,7 @@ goal that refused it or why it was not refused. The last line is 'N refused, M n
 import argparse
 import collections
 import concurrent.futures
+import contextlib
 import os
 import pathlib
 import re
@@ -47,8 +48,8 @@ WAITS = re.compile(r"no proof: it |not proved; it waits")
 BLOCK = re.compile(r"impl (\S+): not proved")
 # What a function's line says of others that are not proved: those that it calls, and the blocks that it passes on.
 NEEDS = re.compile(r"it (?:calls|passes the blocks?) (.*?), which (?:is|are) not proved")
-# What the check says of an answer in a proof file that does not meet its goal, and of one that only misses a name.
-ANSWER = re.compile(r"(?:\./)?proofs/(\S+)/(?:Answers|Invariants|Proof)\.antt:\d+:\d+: error: `([^`]+)`: (.*)")
+# What the check says of an answer in a proof file that does not meet its goal, on one line or more, and of one that only misses a name.
+ANSWER = re.compile(r"(?:\./)?proofs/(\S+)/(?:Answers|Invariants|Proof)\.antt:\d+:\d+: error: `([^`]+)`: (.*(?:\n +\S.*)*)")
 MISSES_NAME = re.compile(r"has no field|is not in scope|has no `|was not admitted")
 # A line that declares a constant.
 CONSTANT = re.compile(r"(?:pub(?:\([\w:]+\))? )?const (\w+)")
@@ -147,7 +148,10 @@ def is_of(function, place):
     if not place.owner:
         return path == module
     *above, owner = path or [""]
-    return above == module[: len(above)] and all(it in owner for it in place.owner)
+    kind, *trait = place.owner
+    named = re.match(rf"(?:Array|Slice|Ref)*{kind}", owner)
+    is_owner = named and trait[0] in owner[named.end() :] if trait else owner.partition("+")[0] == kind
+    return above == module[: len(above)] and bool(is_owner)
 
 
 def module_of(file):
@@ -224,6 +228,7 @@ class Verdict:
         blocks, open_goals = set(BLOCK.findall(said)), []
         answers = collections.defaultdict(list)
         for folder, name, why in ANSWER.findall(said):
+            why = " ".join(why.split())
             if not MISSES_NAME.search(why):
                 answers[folder.replace("/+", "/")].append(f"`{name}`: {why}")
         for line in said.split("\n"):
@@ -286,6 +291,15 @@ class Crate:
 
     def is_text(self, path):
         return path.suffix in (".rt", ".antt") and path.relative_to(self.folder).parts[0] in ("src", "specs", "proofs")
+
+    def count_rounds(self):
+        """How many rounds its edits take, without those that cannot be applied."""
+        sound = []
+        for edit in edits_of(self.folder):
+            with contextlib.suppress(BadEdit):
+                edit.locate(self.texts)
+                sound.append(edit)
+        return len(rounds_of(sound))
 
     def check(self, edits, kept, functions=()):
         """Checks a copy of the crate with the edits, over what earlier checks kept: all of it, or these functions and what they call."""
@@ -390,10 +404,16 @@ class Trial:
         goal = verdict.refusal_of(edit)
         if goal is None and not edit.is_of_bodies and verdict.goals:
             goal = verdict.goals[0]
-        if goal is None or not verdict.is_refused or goal.function in verdict.doubtful and not is_alone:
+        if goal is None or not verdict.is_refused:
+            return False
+        if not is_alone and (goal.function in verdict.doubtful or self.may_be_of_another(edit, goal)):
             return False
         self.say(f"{edit.name}: refused, {told(goal)}", True)
         return True
+
+    def may_be_of_another(self, edit, goal):
+        """Whether a goal that a proof file has, and so no line tells where it is, may be one of another function of that name."""
+        return goal.file is None and sum(is_of(it, place) for place in edit.places for it in self.functions) > 1
 
     def run(self):
         """Tries all edits of the crate; the work that is kept goes from one check to the next."""
@@ -500,7 +520,9 @@ def main():
     if not asked.built:
         for it in dict.fromkeys(below for name in names for below in libraries_below(name, uses)):
             subprocess.run(["rt", "lib"], cwd=ROOT / "crates" / it, check=True, stdout=subprocess.DEVNULL)
-    crates = sorted((Crate(it, uses, built, kit) for it in names), key=lambda it: -sum(map(len, it.texts.values())))
+    # those that take longest first, so that none is left alone at the end
+    length = lambda it: (it.count_rounds(), sum(map(len, it.texts.values())))
+    crates = sorted((Crate(it, uses, built, kit) for it in names), key=length, reverse=True)
     printing = threading.Lock()
     only = set(filter(None, asked.only.split(",")))
     trials = tried_in_turn(crates, lambda it: Trial(it, printing, only, asked.kept, asked.gate).run(), asked.jobs, asked.gate)

@@ -54,7 +54,7 @@ pub fn bytes(alloc: Global, column: &str) -> Result<Vec<u8>, Fault> {
     })
 }
 
-/// So many bytes in hexadecimal.
+/// `N` bytes in hexadecimal.
 pub fn array<const N: usize>(column: &str) -> Result<[u8; N], Fault> {
     match <[u8; N] as FromHex>::from_hex(column) {
         Ok(bytes) => Ok(bytes),
@@ -108,6 +108,15 @@ pub fn strings(alloc: Global, column: &str) -> Result<Vec<Vec<u8>>, Fault> {
         }
     }
     Ok(strings)
+}
+
+/// Each of some byte strings, as a slice of it.
+pub fn lent(alloc: Global, strings: &[Vec<u8>]) -> Result<Vec<&[u8]>, Fault> {
+    let mut lent = Vec::new(alloc);
+    for string in strings {
+        lent.push(string.as_slice())?;
+    }
+    Ok(lent)
 }
 
 /// The text of a value.
@@ -167,6 +176,14 @@ pub fn numbers_between(alloc: Global, separator: &str, numbers: &[u64]) -> Resul
         write!(text, "{number}")?;
     }
     Ok(text)
+}
+
+/// A digest in hexadecimal; `-` is none.
+pub fn digest_or_dash(alloc: Global, digest: Option<FixedBytes<32>>) -> Result<String, Fault> {
+    match digest {
+        Some(digest) => Ok(hex::encode(alloc, digest.bytes)?),
+        None => owned(alloc, "-"),
+    }
 }
 
 /// Texts with blanks between them.
@@ -236,13 +253,8 @@ impl Series {
         place: u64,
         digest: Option<FixedBytes<32>>,
     ) -> Result<(), Fault> {
-        let digest = match digest {
-            Some(digest) => hex::encode(alloc, digest.bytes)?,
-            None => String::from_str(alloc, "-")?,
-        };
-        self.separate()?;
-        write!(self.text, "{place}:{digest}")?;
-        Ok(())
+        let digest = digest_or_dash(alloc, digest)?;
+        Ok(self.push_at(place, digest.as_str())?)
     }
 
     /// Adds a place and the text there at the end.

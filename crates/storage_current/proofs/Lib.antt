@@ -25,6 +25,7 @@ mod NodeLists
 mod Turning
 mod Roots
 mod Written
+mod Failing
 pub mod OwnSites
 pub mod OwnWritten
 mod Built

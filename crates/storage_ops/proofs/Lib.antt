@@ -3,3 +3,4 @@ pub mod ReadingCommits
 pub mod Starts
 pub mod Zeros
 pub mod Verify
+pub mod Padded

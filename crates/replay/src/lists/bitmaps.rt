@@ -17,10 +17,7 @@ use storage_merkle::merkle::mmr;
 
 /// The answer of a list of that name.
 pub fn answer(alloc: Global, list: &str, columns: &[&str]) -> Result<String, Fault> {
-    let Some((direction, columns)) = columns.split_first() else {
-        return Err(Fault::Malformed);
-    };
-    let Some((chunk_size, columns)) = columns.split_first() else {
+    let [direction, chunk_size, columns @ ..] = columns else {
         return Err(Fault::Malformed);
     };
     let hasher = Standard::new(bagging(*direction)?);
@@ -61,10 +58,10 @@ fn bitmaps_checks<const N: usize>(
     let [leaves, inactive, nodes, chunk, bit, root, _] = columns else {
         return Err(Fault::Malformed);
     };
-    let proof = proof_of::<mmr::Family>(alloc, *leaves, *inactive, *nodes)?;
-    let chunk = chunk_of::<N>(alloc, *chunk)?;
     let bit = number(*bit)?;
     let root = digest(*root)?;
+    let chunk = chunk_of::<N>(alloc, *chunk)?;
+    let proof = proof_of::<mmr::Family>(alloc, *leaves, *inactive, *nodes)?;
     let yes = MerkleizedBitMap::verify_bit_inclusion(alloc, hasher, &proof, &chunk, bit, &root)?;
     verdict(alloc, yes)
 }
@@ -97,15 +94,18 @@ fn bitmaps_init<const N: usize>(
         pruned_chunks: number(*count)?,
         pinned: digests(alloc, *pinned)?,
     };
-    let restored: Result<MerkleizedBitMap<FixedBytes<32>, N>, _> = BitMap::init(
-        alloc, hasher, state,
-    );
-    match restored {
-        Ok(bitmap) => {
-            let length = bitmap.len();
-            let root = hex::encode(alloc, bitmap.root().bytes)?;
-            Ok(format!(in alloc; "{length}:{root}")?)
-        }
+    match BitMap::init(alloc, hasher, state) {
+        Ok(bitmap) => length_and_root::<N>(alloc, &bitmap),
         Err(error) => merkle_refusal(alloc, &error),
     }
+}
+
+/// How many bits a bitmap has, and its root.
+fn length_and_root<const N: usize>(
+    alloc: Global,
+    bitmap: &MerkleizedBitMap<FixedBytes<32>, N>,
+) -> Result<String, Fault> {
+    let length = bitmap.len();
+    let root = hex::encode(alloc, bitmap.root().bytes)?;
+    Ok(format!(in alloc; "{length}:{root}")?)
 }

@@ -32,6 +32,14 @@ impl<H> Counting<H> {
             folds: Cell::new(0),
         }
     }
+
+    /// An answer, and how many node digests and folds were asked for.
+    fn told(&self, alloc: Global, yes: bool) -> Result<String, Fault> {
+        let accepted = verdict(alloc, yes)?;
+        let nodes = self.nodes.get();
+        let folds = self.folds.get();
+        spaced_three(alloc, &accepted, &nodes, &folds)
+    }
 }
 
 impl<F: Family, H: digest::Hasher> Hasher<F> for Counting<H> {
@@ -87,16 +95,14 @@ pub fn element_checks<F: Family>(alloc: Global, columns: &[&str]) -> Result<Stri
     else {
         return Err(Fault::Malformed);
     };
-    let hasher = Counting::<Sha256>::new(bagging(*direction)?);
-    let proof = proof_of::<F>(alloc, *leaves, *inactive, *nodes)?;
+    let bagging = bagging(*direction)?;
     let location = Location::new(number(*location)?);
-    let element = bytes(alloc, *element)?;
     let root = digest(*root)?;
+    let proof = proof_of::<F>(alloc, *leaves, *inactive, *nodes)?;
+    let element = bytes(alloc, *element)?;
+    let hasher = Counting::<Sha256>::new(bagging);
     let yes = proof.verify_element_inclusion(alloc, &hasher, &element, location, &root)?;
-    let accepted = verdict(alloc, yes)?;
-    let nodes = hasher.nodes.get();
-    let folds = hasher.folds.get();
-    spaced_three(alloc, &accepted, &nodes, &folds)
+    hasher.told(alloc, yes)
 }
 
 /// `leaves inactive digests start operations root label`: whether the proof of operations is accepted. The label says how the case was
@@ -105,10 +111,10 @@ pub fn plain_operations<F: Family>(alloc: Global, columns: &[&str]) -> Result<St
     let [leaves, inactive, nodes, start, items, root, _] = columns else {
         return Err(Fault::Malformed);
     };
-    let proof = proof_of::<F>(alloc, *leaves, *inactive, *nodes)?;
     let start = Location::new(number(*start)?);
-    let operations = operations(alloc, *items)?;
     let root = digest(*root)?;
+    let proof = proof_of::<F>(alloc, *leaves, *inactive, *nodes)?;
+    let operations = operations(alloc, *items)?;
     let yes = verify_proof::<Sha256, F, _>(alloc, &proof, start, &operations, &root)?;
     verdict(alloc, yes)
 }

@@ -3,7 +3,7 @@
 ghost use Rattle.std.specs.Prelude.{◌≡◌, ◌*◌, IfOk};
 ghost use Rattle.storage_bitmap.specs.Chunks.{IsChunkSize};
 
-use crate::columns::{Fault, Series, number, spaced_five};
+use crate::columns::{Fault, Series, number, owned, spaced_five};
 use crate::lists::snapshots::bits_of;
 use commonware_storage::bitmap::{Prunable, Readable};
 use std::alloc::Global;
@@ -31,25 +31,47 @@ fn over<const N: usize>(
 ) -> Result<String, Fault>
     requires { IsChunkSize N }
 {
+    let mut bits = changed::<N>(alloc, digits, changes)?;
+    if place > bits.len() {
+        return Err(Fault::Malformed);
+    }
+    bits.prune_to_bit(place);
+    told(alloc, &bits)
+}
+
+/// The bits of digits after some are changed.
+fn changed<const N: usize>(alloc: Global, digits: &str, changes: &str) -> Result<Prunable<N>, Fault>
+    requires { IsChunkSize N }
+{
     let mut bits = bits_of::<N>(alloc, digits)?;
     if changes != "-" {
         for change in changes.split('/') {
             set(&mut bits, change)?;
         }
     }
-    if place > bits.len() {
-        return Err(Fault::Malformed);
-    }
-    bits.prune_to_bit(place);
+    Ok(bits)
+}
+
+/// What is left of the bits.
+fn told<const N: usize>(alloc: Global, bits: &Prunable<N>) -> Result<String, Fault>
+    requires { IsChunkSize N }
+{
     let length = bits.len();
     let pruned = bits.pruned_chunks();
-    let kept = kept(alloc, &bits)?;
-    let chunks = chunks(alloc, &bits)?;
-    let last = match bits.last_chunk() {
-        Some(chunk) => hex::encode(alloc, *chunk)?,
-        None => String::from_str(alloc, "-")?,
-    };
+    let kept = kept(alloc, bits)?;
+    let chunks = chunks(alloc, bits)?;
+    let last = last(alloc, bits)?;
     spaced_five(alloc, &length, &pruned, &kept, &chunks, &last)
+}
+
+/// The last chunk; `-` is none.
+fn last<const N: usize>(alloc: Global, bits: &Prunable<N>) -> Result<String, Fault>
+    requires { IsChunkSize N }
+{
+    match bits.last_chunk() {
+        Some(chunk) => Ok(hex::encode(alloc, *chunk)?),
+        None => owned(alloc, "-"),
+    }
 }
 
 /// The place of the first bit that is left.

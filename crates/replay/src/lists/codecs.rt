@@ -1,6 +1,6 @@
 //! Lists on codecs and digests.
 
-use crate::columns::{Fault, bytes, spaced_three, spelled, strings};
+use crate::columns::{Fault, bytes, lent, spaced_three, spelled, strings};
 use crate::lists::refusals::codec_refusal;
 use std::alloc::Global;
 use storage_codec::codec::{Read, UInt};
@@ -43,10 +43,7 @@ pub fn golden_hash(alloc: Global, columns: &[&str]) -> Result<String, Fault> {
         return Err(Fault::Malformed);
     };
     let parts = strings(alloc, *parts)?;
-    let mut lent = Vec::new(alloc);
-    for part in &parts {
-        lent.push(part.as_slice())?;
-    }
+    let lent = lent(alloc, &parts)?;
     let digest = Sha256::hash(&lent);
     Ok(hex::encode(alloc, digest.bytes())?)
 }

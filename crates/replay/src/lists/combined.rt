@@ -54,7 +54,7 @@ struct Asked {
 }
 
 /// `family chunk_size bits floor operations location pruned grafted absent`: the proof of the operation at the location, or the
-/// refusal. So many chunks of the status are pruned, the tree over chunks is whole or `empty`, and the one over the operations
+/// refusal. `pruned` chunks of the status are pruned, the tree over chunks is whole or `empty`, and the one over the operations
 /// lacks a position or `none`.
 pub fn combined(alloc: Global, columns: &[&str]) -> Result<String, Fault> {
     Ok(asked_of(alloc, columns, ALWAYS)?.answer)
@@ -150,7 +150,7 @@ fn proved<F: Graftable + Countable, const N: usize>(
     })
 }
 
-/// A bit for each digit, of which so many chunks are pruned; zeros fill up the last of these.
+/// A bit for each digit, with the first `pruned` chunks pruned; zeros fill up the last of these.
 pub fn status_of<const N: usize>(
     alloc: Global,
     digits: &str,

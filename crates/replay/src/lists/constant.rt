@@ -47,8 +47,9 @@ fn tree_roots<F: Graftable, const N: usize>(
     let [floor, bits, operations] = columns else {
         return Err(Fault::Malformed);
     };
+    let floor = number(*floor)?;
     let operations = strings(alloc, *operations)?;
-    let snapshot = snapshot_of_tree::<F, N>(alloc, &operations, *bits, number(*floor)?)?;
+    let snapshot = snapshot_of_tree::<F, N>(alloc, &operations, *bits, floor)?;
     Ok(hex::encode(alloc, snapshot.root().bytes)?)
 }
 
@@ -83,8 +84,8 @@ fn tree_over<F: Graftable>(
     Ok(tree)
 }
 
-/// `most operation proof root`: whether the bytes are a proof with at most so many digests that shows the operation, and whether the proof
-/// is written as these bytes; or the refusal.
+/// `most operation proof root`: whether the bytes are a proof with at most `most` digests that shows the operation, and whether the
+/// proof is written as these bytes; or the refusal.
 fn constant_checks<F: Graftable, const N: usize>(
     alloc: Global,
     columns: &[&str],
@@ -95,15 +96,26 @@ fn constant_checks<F: Graftable, const N: usize>(
         return Err(Fault::Malformed);
     };
     let most = number(*most)? as usize;
+    let root = digest(*root)?;
     let operation = bytes(alloc, *operation)?;
     let given = bytes(alloc, *proof)?;
-    let root = digest(*root)?;
-    let read = OperationProof::<F, FixedBytes<32>, N>::decode_cfg(alloc, given.as_slice(), &most);
-    let proof = match read {
-        Ok(proof) => proof,
-        Err(error) => return codec_refusal(alloc, error),
-    };
-    let yes = proof.verify_encoded::<Sha256>(alloc, &operation, &root)?;
-    let same = proof.encode(alloc)?.as_slice() == given.as_slice();
+    match OperationProof::<F, FixedBytes<32>, N>::decode_cfg(alloc, given.as_slice(), &most) {
+        Ok(proof) => checked(alloc, &proof, &operation, &given, &root),
+        Err(error) => codec_refusal(alloc, error),
+    }
+}
+
+/// Whether a proof shows an operation, and whether it is written as the bytes that were given.
+fn checked<F: Graftable, const N: usize>(
+    alloc: Global,
+    proof: &OperationProof<F, FixedBytes<32>, N>,
+    operation: &[u8],
+    given: &[u8],
+    root: &FixedBytes<32>,
+) -> Result<String, Fault>
+    requires { IsChunkSize N }
+{
+    let yes = proof.verify_encoded::<Sha256>(alloc, operation, root)?;
+    let same = proof.encode(alloc)?.as_slice() == given;
     spaced_two(alloc, &yes, &same)
 }

@@ -1,4 +1,4 @@
-//! A store and a log that fail after so many answers.
+//! A store and a log that fail after a number of answers.
 
 ghost use Rattle.std.specs.Prelude.{◌≡◌, ℕ, ◌+◌, ◌<◌, ◌^◌, ◌⊎◌, ◌↔◌, ◌∷◌, [], Option, Some, None, Err, eqb, if◌then◌else◌, map, IfOk, IfErr, MatchResult};
 ghost use Rattle.std.specs.List.{slice_get};
@@ -22,7 +22,7 @@ pub const NONE: u64 = u64::MAX;
 /// More answers than anyone asks for.
 pub const ALWAYS: u64 = u64::MAX;
 
-/// Digests at positions, but for the one at a position. Once it has answered so many it fails.
+/// Digests at positions, but for the one that is lacking. Once all answers that it has left are given it fails.
 #[derive(Drop)]
 pub struct Faulty {
     nodes: Vec<FixedBytes<32>>,
@@ -34,7 +34,7 @@ pub struct Faulty {
 }
 
 impl Faulty {
-    /// The store of these digests, said to have so many, of which so many are answered.
+    /// The store of `nodes`, which says to have `size` of them, lacks the one at `lacks`, and answers `left` of them.
     pub fn new(nodes: Vec<FixedBytes<32>>, size: u64, lacks: u64, left: u64) -> Self
         ensures { result.failures ≡ 0 }
     {
@@ -58,7 +58,7 @@ impl Faulty {
         self.calls
     }
 
-    /// Whether so many more are answered. Counts a call.
+    /// Whether `count` more digests are answered. Counts a call.
     fn takes(&mut self, count: u64) -> bool
         ensures nodes { self.new.nodes ≡ self.old.nodes }
         ensures size { self.new.size ≡ self.old.size }
@@ -181,7 +181,7 @@ impl<F: Family> Storage<F> for Faulty {
     }
 }
 
-/// A log whose item at each location is the location. Once it has answered so many it fails.
+/// A log whose item at each location is the location. Once all answers that it has left are given it fails.
 #[derive(Drop)]
 pub struct Log {
     first: u64,
@@ -191,7 +191,7 @@ pub struct Log {
 }
 
 impl Log {
-    /// The log that holds these locations, of which so many are answered.
+    /// The log of the locations from `first` to before `past`, which answers `left` of them.
     pub fn new(first: u64, past: u64, left: u64) -> Self
         ensures { result.failures ≡ 0 }
     {

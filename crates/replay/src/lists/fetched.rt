@@ -53,40 +53,52 @@ struct Call<'a> {
     ghost some: { 1 ≤ max_ops },
 }
 
-/// `bits operations pruned nodes first start most`: what is answered where so many chunks of the status are pruned, the store says
-/// to have so many nodes, or as many as it has where that is `-`, the log begins at `first`, and at most so many operations
+/// `bits operations pruned nodes first start most`: what is answered where `pruned` chunks of the status are pruned, the store
+/// says to have `nodes` nodes, or as many as it has where that is `-`, the log begins at `first`, and at most `most` operations
 /// from `start` on are asked for: the proof, the operations and their chunks, or the refusal. Then, for each number of answers of
 /// the store from 0 to 7, and in it of the log, what is told: the fault of the store, `s`, that of the log, `l`, or the same, `=`.
 pub fn fetched_ranges(alloc: Global, columns: &[&str]) -> Result<String, Fault> {
     let [bits, operations, pruned, size, first, start, most] = columns else {
         return Err(Fault::Malformed);
     };
-    let operations = strings(alloc, *operations)?;
-    let snapshot = served::snapshot(alloc, &operations, *bits, 0)?;
-    let status = status_of::<1>(alloc, *bits, number(*pruned)?)?;
+    let size = match *size {
+        "-" => None,
+        size => Some(number(size)?),
+    };
+    let first = number(*first)?;
+    let start = number(*start)?;
     let max_ops = number(*most)?;
     if max_ops < 1 {
         return Err(Fault::Malformed);
     }
+    let snapshot = snapshot_of(alloc, *bits, *operations)?;
+    let status = status_of::<1>(alloc, *bits, number(*pruned)?)?;
     let call = Call {
         snapshot: &snapshot,
         status: &status,
-        size: if *size == "-" {
-            None
-        } else {
-            Some(number(*size)?)
-        },
-        first: number(*first)?,
-        start: number(*start)?,
+        size,
+        first,
+        start,
         max_ops,
     };
+    told_with_marks(alloc, call)
+}
+
+/// The snapshot of operations and their bits.
+fn snapshot_of(alloc: Global, bits: &str, operations: &str) -> Result<Rows, Fault> {
+    let operations = strings(alloc, operations)?;
+    served::snapshot(alloc, &operations, bits, 0)
+}
+
+/// What is answered where nothing fails, and the marks.
+fn told_with_marks(alloc: Global, call: Call<'_>) -> Result<String, Fault> {
     let (own, _) = answered(alloc, call, u64::MAX, u64::MAX)?;
     let told = told(alloc, &own)?;
     let marks = marks(alloc, call, &own)?;
     spaced_two(alloc, &told, &marks)
 }
 
-/// What is answered, and how often the store and the log failed, where the store has so many answers and the log so many.
+/// What is answered, and how often the store and the log failed, where the store has `nodes` answers and the log `items`.
 fn answered(
     alloc: Global,
     call: Call<'_>,
@@ -135,13 +147,18 @@ pub fn parts(alloc: Global, items: &[u64], chunks: &[[u8; 1]]) -> Result<String,
     for item in items {
         locations.push(*item)?;
     }
-    let mut touched = Series::new(alloc);
-    for chunk in chunks {
-        touched.push_text(hex::encode(alloc, *chunk)?.as_str())?;
-    }
     let locations = locations.finish()?;
-    let touched = touched.finish()?;
-    spaced_two(alloc, &locations, &touched)
+    let chunks = chunks_told(alloc, chunks)?;
+    spaced_two(alloc, &locations, &chunks)
+}
+
+/// Chunks with commas between them.
+fn chunks_told(alloc: Global, chunks: &[[u8; 1]]) -> Result<String, Fault> {
+    let mut series = Series::new(alloc);
+    for chunk in chunks {
+        series.push_text(hex::encode(alloc, *chunk)?.as_str())?;
+    }
+    Ok(series.finish()?)
 }
 
 /// What is told, for each number of answers of the store, and in it of the log.
@@ -170,22 +187,33 @@ fn mark(answer: &Answer, own: &Answer, failures: (u64, u64)) -> Result<char, Fau
     }
 }
 
-/// `bits operations location`: how many digests and bytes the proof of the operation there has, and what is told for each number of answers of the store.
+/// `bits operations location`: how many digests and bytes the proof of the operation there has, and what is told for each number
+/// of answers of the store.
 pub fn fetched_operations(alloc: Global, columns: &[&str]) -> Result<String, Fault> {
     let [bits, operations, location] = columns else {
         return Err(Fault::Malformed);
     };
-    let operations = strings(alloc, *operations)?;
-    let snapshot = served::snapshot(alloc, &operations, *bits, 0)?;
     let location = number(*location)?;
+    let snapshot = snapshot_of(alloc, *bits, *operations)?;
     let own = served::operation_proof(alloc, &snapshot, 0, location)?;
-    let mut marks = String::new(alloc);
-    for nodes in 0..ENOUGH {
-        marks.push(mark_of_operation(alloc, &snapshot, location, nodes, &own)?)?;
-    }
     let digests = own.range_proof.proof.digests.len();
     let size = own.encode(alloc)?.len();
+    let marks = marks_of_operation(alloc, &snapshot, location, &own)?;
     spaced_three(alloc, &digests, &size, &marks)
+}
+
+/// What is told of the operation at a location, for each number of answers of the store.
+fn marks_of_operation(
+    alloc: Global,
+    snapshot: &Rows,
+    location: u64,
+    own: &OperationProof<mmr::Family, FixedBytes<32>, 1>,
+) -> Result<String, Fault> {
+    let mut marks = String::new(alloc);
+    for nodes in 0..ENOUGH {
+        marks.push(mark_of_operation(alloc, snapshot, location, nodes, own)?)?;
+    }
+    Ok(marks)
 }
 
 fn mark_of_operation(

@@ -35,21 +35,48 @@ pub fn keyed(alloc: Global, columns: &[&str]) -> Result<String, Fault> {
     let [bits, operations, location, key, value] = columns else {
         return Err(Fault::Malformed);
     };
-    let operations = strings(alloc, *operations)?;
     let location = number(*location)?;
-    let operation = operations.get(location as usize).ok_or(Fault::Malformed)?;
-    let operation = decoded::<Operation>(alloc, operation, &())?;
     let key = Key {
         bytes: array(*key)?,
     };
-    let snapshot = snapshot::<mmr::Family, 1>(alloc, &operations, *bits, 0)?;
-    let proof = operation_proof(alloc, &snapshot, 0, location)?;
-    let root = snapshot.root();
+    let proved = served(alloc, *bits, *operations, location)?;
     if *value == "absent" {
-        return excluded(alloc, &exclusion_of(proof, operation)?, &key, &root);
+        return excluded(alloc, proved, &key);
     }
-    let key_value = key_value_of(proof, operation)?;
-    shown(alloc, &key_value, key, number(*value)?, &root)
+    shown(alloc, proved, key, number(*value)?)
+}
+
+/// An operation of a snapshot, its proof, and the snapshot's root.
+#[derive(Drop)]
+struct Proved {
+    operation: Operation,
+    proof: Proof,
+    root: Digest,
+}
+
+/// The operation at a location of a snapshot with floor 0.
+fn served(alloc: Global, bits: &str, operations: &str, location: u64) -> Result<Proved, Fault> {
+    let operations = strings(alloc, operations)?;
+    let operation = operations.get(location as usize).ok_or(Fault::Malformed)?;
+    let operation = decoded::<Operation>(alloc, operation, &())?;
+    let (proof, root) = proof_in(alloc, bits, &operations, location)?;
+    Ok(Proved {
+        operation,
+        proof,
+        root,
+    })
+}
+
+/// The proof of the operation at a location of a snapshot with floor 0, and the snapshot's root.
+fn proof_in(
+    alloc: Global,
+    bits: &str,
+    operations: &[Vec<u8>],
+    location: u64,
+) -> Result<(Proof, Digest), Fault> {
+    let snapshot = snapshot::<mmr::Family, 1>(alloc, operations, bits, 0)?;
+    let proof = operation_proof(alloc, &snapshot, 0, location)?;
+    Ok((proof, snapshot.root()))
 }
 
 fn exclusion_of(proof: Proof, operation: Operation) -> Result<Exclusion, Fault> {
@@ -71,37 +98,57 @@ fn key_value_of(proof: Proof, operation: Operation) -> Result<KeyValue, Fault> {
 }
 
 /// Whether a copy excludes the key, its bytes do, and the proof does that is written and checked at once.
-fn excluded(
+fn excluded(alloc: Global, proved: Proved, key: &Key) -> Result<String, Fault> {
+    let root = proved.root;
+    let exclusion = exclusion_of(proved.proof, proved.operation)?;
+    let yes = copy_excludes(alloc, &exclusion, key, &root)?;
+    let at_once = written_exclusions_are_accepted::<_, Sha256, _, FixedEncoding<u64>, 1>(
+        alloc,
+        &exclusion,
+        &((), ()),
+        key,
+        &root,
+    )?;
+    let mut bytes = Vec::new(alloc);
+    exclusion.write(&mut bytes)?;
+    let checked = check_absence::<mmr::Family, Sha256, Key, FixedEncoding<u64>>(
+        alloc,
+        &bytes,
+        1,
+        &((), ()),
+        key,
+        &root,
+    )?;
+    sized(alloc, [yes, at_once, checked], bytes.len())
+}
+
+/// Whether a copy, which is equal, excludes the key.
+fn copy_excludes(
     alloc: Global,
     exclusion: &Exclusion,
     key: &Key,
     root: &Digest,
-) -> Result<String, Fault> {
+) -> Result<bool, Fault> {
     let copy = exclusion.clone()?;
-    let yes = copy.verify::<Sha256>(alloc, key, root)?;
-    let mut bytes = Vec::new(alloc);
-    exclusion.write(&mut bytes)?;
-    let cfgs = ((), ());
-    let checked = check_absence::<mmr::Family, Sha256, Key, FixedEncoding<u64>>(
-        alloc, &bytes, 1, &cfgs, key, root,
-    )?;
-    let at_once = written_exclusions_are_accepted::<_, Sha256, _, FixedEncoding<u64>, 1>(
-        alloc, exclusion, &cfgs, key, root,
-    )?;
-    let same = copy == *exclusion && checked == yes && at_once == yes;
-    sized(alloc, same, yes, bytes.len())
+    if copy != *exclusion {
+        return Err(Fault::Differs);
+    }
+    Ok(copy.verify::<Sha256>(alloc, key, root)?)
 }
 
 /// The same of the value of the key.
-fn shown(
-    alloc: Global,
-    key_value: &KeyValue,
-    key: Key,
-    value: u64,
-    root: &Digest,
-) -> Result<String, Fault> {
-    let copy = key_value.clone()?;
-    let yes = copy.verify::<Sha256, FixedEncoding<u64>>(alloc, key, value, root)?;
+fn shown(alloc: Global, proved: Proved, key: Key, value: u64) -> Result<String, Fault> {
+    let root = proved.root;
+    let key_value = key_value_of(proved.proof, proved.operation)?;
+    let yes = copy_shows(alloc, &key_value, key, value, &root)?;
+    let at_once = written_values_are_accepted::<_, Sha256, _, FixedEncoding<u64>, 1>(
+        alloc,
+        &key_value,
+        &(),
+        key,
+        value,
+        &root,
+    )?;
     let mut bytes = Vec::new(alloc);
     key_value.write(&mut bytes)?;
     let checked = check_value::<mmr::Family, Sha256, Key, FixedEncoding<u64>>(
@@ -111,25 +158,32 @@ fn shown(
         &(),
         key,
         value,
-        root,
+        &root,
     )?;
-    let at_once = written_values_are_accepted::<_, Sha256, _, FixedEncoding<u64>, 1>(
-        alloc,
-        key_value,
-        &(),
-        key,
-        value,
-        root,
-    )?;
-    let same = copy == *key_value && checked == yes && at_once == yes;
-    sized(alloc, same, yes, bytes.len())
+    sized(alloc, [yes, at_once, checked], bytes.len())
+}
+
+/// Whether a copy, which is equal, shows the value of the key.
+fn copy_shows(
+    alloc: Global,
+    key_value: &KeyValue,
+    key: Key,
+    value: u64,
+    root: &Digest,
+) -> Result<bool, Fault> {
+    let copy = key_value.clone()?;
+    if copy != *key_value {
+        return Err(Fault::Differs);
+    }
+    Ok(copy.verify::<Sha256, FixedEncoding<u64>>(alloc, key, value, root)?)
 }
 
 /// An answer and a number of bytes, where all answers are the same.
-fn sized(alloc: Global, same: bool, yes: bool, size: usize) -> Result<String, Fault> {
-    if !same {
-        return Err(Fault::Differs);
-    }
-    let yes = if yes { "yes" } else { "no" };
+fn sized(alloc: Global, answers: [bool; 3], size: usize) -> Result<String, Fault> {
+    let yes = match answers {
+        [true, true, true] => "yes",
+        [false, false, false] => "no",
+        _ => return Err(Fault::Differs),
+    };
     spaced_two(alloc, &yes, &size)
 }

@@ -1,7 +1,7 @@
 //! Lists on trees in memory.
 
 use crate::columns::{
-    Fault, Series, bytes, coloned, digest, digests, inner_digests, number, spaced_five, spelled,
+    Fault, Series, bytes, digest, digests, inner_digests, number, owned, spaced_four, spaced_two,
 };
 use crate::lists::proofs::bagging;
 use crate::lists::refusals::merkle_refusal;
@@ -21,20 +21,39 @@ pub fn mem_init<F: Family>(alloc: Global, columns: &[&str]) -> Result<String, Fa
     let hasher = Standard::<Sha256>::new(bagging(*direction)?);
     let boundary = Location::<F>::new(number(*boundary)?);
     let pinned: Vec<FixedBytes<32>> = digests(alloc, *pinned)?;
-    let mut tree = match Mem::init(alloc, boundary, &pinned) {
-        Ok(tree) => tree,
-        Err(error) => return merkle_refusal(alloc, &error),
-    };
-    let nodes = spelled(alloc, &tree.size())?;
-    let root = match tree.root(&hasher, 0) {
-        Ok(root) => hex::encode(alloc, root.bytes)?,
-        Err(error) => return merkle_refusal(alloc, &error),
-    };
-    let added = match tree.add(&hasher, &[]) {
-        Ok(()) => String::from_str(alloc, "ok")?,
-        Err(error) => merkle_refusal(alloc, &error)?,
-    };
-    coloned(alloc, &[nodes.as_str(), root.as_str(), added.as_str()])
+    match Mem::init(alloc, boundary, &pinned) {
+        Ok(tree) => begun(alloc, &hasher, tree),
+        Err(error) => merkle_refusal(alloc, &error),
+    }
+}
+
+/// How many nodes a tree has, its root, and what adding a leaf of no bytes answers; or the root's refusal.
+fn begun<F: Family>(
+    alloc: Global,
+    hasher: &Standard<Sha256>,
+    mut tree: Mem<F, FixedBytes<32>>,
+) -> Result<String, Fault> {
+    let size = tree.size().as_u64();
+    match tree.root(hasher, 0) {
+        Ok(root) => {
+            let root = hex::encode(alloc, root.bytes)?;
+            let added = added(alloc, hasher, &mut tree)?;
+            Ok(format!(in alloc; "{size}:{root}:{added}")?)
+        }
+        Err(error) => merkle_refusal(alloc, &error),
+    }
+}
+
+/// What adding a leaf of no bytes answers.
+fn added<F: Family>(
+    alloc: Global,
+    hasher: &Standard<Sha256>,
+    tree: &mut Mem<F, FixedBytes<32>>,
+) -> Result<String, Fault> {
+    match tree.add(hasher, &[]) {
+        Ok(()) => owned(alloc, "ok"),
+        Err(error) => merkle_refusal(alloc, &error),
+    }
 }
 
 /// `bagging calls`: the places of the refused calls on a tree in memory and their refusals, and what stands after the last call:
@@ -46,22 +65,47 @@ pub fn mems<F: Family>(alloc: Global, columns: &[&str]) -> Result<String, Fault>
     };
     let hasher = Standard::<Sha256>::new(bagging(*direction)?);
     let mut tree = Mem::<F, _>::new(alloc);
+    let refusals = refusals(alloc, &hasher, &mut tree, *calls)?;
+    let grown = grown(alloc, &hasher, &tree)?;
+    spaced_two(alloc, &refusals, &grown)
+}
+
+/// Makes calls with commas between them: the places of the refused ones and their refusals.
+fn refusals<F: Family>(
+    alloc: Global,
+    hasher: &Standard<Sha256>,
+    tree: &mut Mem<F, FixedBytes<32>>,
+    calls: &str,
+) -> Result<String, Fault> {
     let mut refusals = Series::new(alloc);
     for (place, call) in calls.split(',').enumerate() {
-        if let Some(refusal) = called(alloc, &hasher, &mut tree, call)? {
+        if let Some(refusal) = called(alloc, hasher, tree, call)? {
             refusals.push_at(place as u64, refusal.as_str())?;
         }
     }
-    let refusals = refusals.finish()?;
+    Ok(refusals.finish()?)
+}
+
+/// How many leaves and nodes a tree has, its roots and its nodes.
+fn grown<F: Family>(
+    alloc: Global,
+    hasher: &Standard<Sha256>,
+    tree: &Mem<F, FixedBytes<32>>,
+) -> Result<String, Fault> {
     let leaves = tree.leaves();
     let size = tree.size();
-    let roots = roots(alloc, &hasher, &tree)?;
+    let roots = roots(alloc, hasher, tree)?;
+    let nodes = nodes(alloc, tree)?;
+    spaced_four(alloc, &leaves, &size, &roots, &nodes)
+}
+
+/// The digests at all positions and at the next two.
+fn nodes<F: Family>(alloc: Global, tree: &Mem<F, FixedBytes<32>>) -> Result<String, Fault> {
     let mut nodes = Series::new(alloc);
-    for place in 0..size.as_u64().saturating_add(2) {
+    for place in 0..tree.size().as_u64().saturating_add(2) {
         nodes.push_digest(alloc, place, tree.get_node(Position::new(place)))?;
     }
-    let nodes = nodes.finish()?;
-    spaced_five(alloc, &refusals, &leaves, &size, &roots, &nodes)
+    Ok(nodes.finish()?)
 }
 
 /// Makes a call: `a:ELEMENT` adds a leaf, `u:LOCATION=DIGEST/..` changes leaves, `x:LOCATION` forgets those before it, and

@@ -10,52 +10,76 @@ use commonware_storage::merkle::{Graftable, Location};
 use commonware_storage::qmdb::current::proof::{constant, dynamic};
 use std::alloc::Global;
 
-/// `chunk leaves operation proof root label`: whether the bytes, read as the proof of an operation and said to be over so many
-/// leaves, or as many as they say where that is `-`, are accepted; or why they are none. Chunks of one byte are read in both
-/// ways. The label says how the case was made.
+/// `chunk leaves operation proof root label`: whether the bytes, read as the proof of an operation and said to be over that number
+/// of leaves, or over as many as they say where that is `-`, are accepted; or why they are none. Chunks of one byte are read in
+/// both ways. The label says how the case was made.
 pub fn operation_checks<F: Graftable>(alloc: Global, columns: &[&str]) -> Result<String, Fault> {
     let [chunk_size, leaves, operation, proof, root, _] = columns else {
         return Err(Fault::Malformed);
     };
     let chunk_size = number(*chunk_size)? as usize;
+    let leaves = match *leaves {
+        "-" => None,
+        leaves => Some(number(leaves)?),
+    };
+    let root = digest(*root)?;
     let operation = bytes(alloc, *operation)?;
     let input = bytes(alloc, *proof)?;
-    let root = digest(*root)?;
-    let cfg = (chunk_size, 128);
-    let mut proof = match dynamic::OperationProof::<F, FixedBytes<32>>::decode_cfg(
-        alloc,
-        input.as_slice(),
-        &cfg,
-    ) {
-        Ok(proof) => proof,
-        Err(error) => return codec_refusal(alloc, error),
+    let case = Case {
+        leaves,
+        operation: operation.as_slice(),
+        input: input.as_slice(),
+        root,
     };
-    if proof.encode(alloc)?.as_slice() != input.as_slice() {
-        return Err(Fault::Differs);
+    match Proof::<F>::decode_cfg(alloc, case.input, &(chunk_size, 128)) {
+        Ok(proof) => verdict(alloc, case.checked(alloc, proof, chunk_size)?),
+        Err(error) => codec_refusal(alloc, error),
     }
-    if *leaves != "-" {
-        proof.range_proof.proof.leaves = Location::new(number(*leaves)?);
-    }
-    let yes = proof.verify_encoded::<Sha256>(alloc, &operation, &root)?;
-    if chunk_size == 1 && over_one_byte::<F>(alloc, &input, *leaves, &operation, &root)? != yes {
-        return Err(Fault::Differs);
-    }
-    verdict(alloc, yes)
 }
 
-/// The same over a chunk of one byte, known beforehand.
-fn over_one_byte<F: Graftable>(
-    alloc: Global,
-    input: &[u8],
-    leaves: &str,
-    operation: &[u8],
-    root: &FixedBytes<32>,
-) -> Result<bool, Fault> {
-    let mut proof = decoded::<constant::OperationProof<F, FixedBytes<32>, 1>>(alloc, input, &128)?;
-    if leaves != "-" {
-        proof.range_proof.proof.leaves = Location::new(number(leaves)?);
+type Proof<F> = dynamic::OperationProof<F, FixedBytes<32>>;
+
+/// The bytes of a proof, and what it is checked against.
+#[derive(Clone, Copy)]
+struct Case<'a> {
+    /// The number of leaves that the proof is said to be over, where that is not its own.
+    leaves: Option<u64>,
+    operation: &'a [u8],
+    input: &'a [u8],
+    root: FixedBytes<32>,
+}
+
+impl Case<'_> {
+    /// Whether the proof that was read is accepted. It is written as the same bytes.
+    fn checked<F: Graftable>(
+        &self,
+        alloc: Global,
+        mut proof: Proof<F>,
+        chunk_size: usize,
+    ) -> Result<bool, Fault> {
+        if proof.encode(alloc)?.as_slice() != self.input {
+            return Err(Fault::Differs);
+        }
+        if let Some(leaves) = self.leaves {
+            proof.range_proof.proof.leaves = Location::new(leaves);
+        }
+        let yes = proof.verify_encoded::<Sha256>(alloc, self.operation, &self.root)?;
+        if chunk_size == 1 && self.over_one_byte::<F>(alloc)? != yes {
+            return Err(Fault::Differs);
+        }
+        Ok(yes)
     }
-    Ok(proof.verify_encoded::<Sha256>(alloc, operation, root)?)
+
+    /// The same over a chunk of one byte, known beforehand.
+    fn over_one_byte<F: Graftable>(&self, alloc: Global) -> Result<bool, Fault> {
+        let mut proof = decoded::<constant::OperationProof<F, FixedBytes<32>, 1>>(
+            alloc, self.input, &128,
+        )?;
+        if let Some(leaves) = self.leaves {
+            proof.range_proof.proof.leaves = Location::new(leaves);
+        }
+        Ok(proof.verify_encoded::<Sha256>(alloc, self.operation, &self.root)?)
+    }
 }
 
 /// `chunk location operation proof root`: what a client answers for texts, or which of them is no hexadecimal; `-` is no text.

@@ -127,17 +127,28 @@ fn done<O: Codec + EncodeSize + Spell + Show>(
 ) -> Result<String, Fault> {
     match job {
         Job::Read(input) => read::<O>(alloc, input, cfg),
-        Job::Write(spelling) => {
-            let operation = O::parse(alloc, spelling)?;
-            let bytes = operation.encode(alloc)?;
-            if operation.encode_size() != Some(bytes.len() as u64) {
-                return Err(Fault::Malformed);
-            }
-            let bytes = hex::encode(alloc, bytes.as_slice())?;
-            let text = unblanked(alloc, operation.show(alloc)?.as_str())?;
-            spaced_three(alloc, &bytes, &size, &text)
-        }
+        Job::Write(spelling) => told(alloc, &O::parse(alloc, spelling)?, size),
     }
+}
+
+/// The bytes of an operation, its size as it is spelled, and its text.
+fn told<O: Codec + EncodeSize + Show>(
+    alloc: Global,
+    operation: &O,
+    size: &str,
+) -> Result<String, Fault> {
+    let bytes = encoded(alloc, operation)?;
+    let text = unblanked(alloc, operation.show(alloc)?.as_str())?;
+    spaced_three(alloc, &bytes, &size, &text)
+}
+
+/// The bytes of an operation in hexadecimal.
+fn encoded<O: Codec + EncodeSize>(alloc: Global, operation: &O) -> Result<String, Fault> {
+    let bytes = operation.encode(alloc)?;
+    if operation.encode_size() != Some(bytes.len() as u64) {
+        return Err(Fault::Malformed);
+    }
+    Ok(hex::encode(alloc, bytes.as_slice())?)
 }
 
 fn read<O: Read + Spell>(alloc: Global, input: &[u8], cfg: &O::Cfg) -> Result<String, Fault> {

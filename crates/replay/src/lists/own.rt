@@ -3,6 +3,7 @@
 use crate::columns::{Fault, number, spaced_two, strings};
 use crate::lists::proofs::bagging;
 use crate::lists::refusals::{merkle_fault, merkle_refusal};
+use crate::lists::snapshots::places;
 use crate::lists::stores::{peaks, series};
 use std::alloc::Global;
 use storage_codec::codec::FixedBytes;
@@ -62,17 +63,19 @@ impl<F: Family> Grown<F> {
         start: u64,
         end: u64,
     ) -> Result<ProofStore<F, FixedBytes<32>>, Fault> {
+        let claimed = places(elements, start, end)?;
+        let root = self.root()?;
         let proof = self.proof(alloc, start, end)?;
-        let root = match self.mem.root(&self.hasher, self.inactive) {
-            Ok(root) => root,
-            Err(error) => return Err(merkle_fault(&error)),
-        };
-        let claimed = elements
-            .get(start as usize..end as usize)
-            .ok_or(Fault::Malformed)?;
         let first = Location::new(start);
         match ProofStore::new(alloc, &self.hasher, &proof, claimed, first, &root) {
             Ok(store) => Ok(store),
+            Err(error) => Err(merkle_fault(&error)),
+        }
+    }
+
+    fn root(&self) -> Result<FixedBytes<32>, Fault> {
+        match self.mem.root(&self.hasher, self.inactive) {
+            Ok(root) => Ok(root),
             Err(error) => Err(merkle_fault(&error)),
         }
     }
@@ -91,6 +94,27 @@ impl<F: Family> Grown<F> {
             Err(error) => Err(merkle_fault(&error)),
         }
     }
+
+    /// How many ranges there are from `start` to before `end`, and of how many of them a store gives the tree's own proof.
+    fn given(
+        &self,
+        alloc: Global,
+        store: &ProofStore<F, FixedBytes<32>>,
+        start: u64,
+        end: u64,
+    ) -> Result<(u64, u64), Fault> {
+        let mut ranges: u64 = 0;
+        let mut own: u64 = 0;
+        for first in start..end {
+            for last in first..end {
+                ranges = ranges.saturating_add(1);
+                if self.is_given(alloc, store, first, last.saturating_add(1))? {
+                    own = own.saturating_add(1);
+                }
+            }
+        }
+        Ok((ranges, own))
+    }
 }
 
 /// `bagging inactive elements start end`: how many ranges there are among these locations, and of how many of them the store of the
@@ -99,22 +123,14 @@ pub fn parts<F: Family>(alloc: Global, columns: &[&str]) -> Result<String, Fault
     let [direction, inactive, elements, start, end] = columns else {
         return Err(Fault::Malformed);
     };
-    let elements = strings(alloc, *elements)?;
-    let mut tree = Grown::<F>::new(alloc, *direction, &elements)?;
-    tree.inactive = number(*inactive)? as usize;
+    let inactive = number(*inactive)? as usize;
     let start = number(*start)?;
     let end = number(*end)?;
+    let elements = strings(alloc, *elements)?;
+    let mut tree = Grown::<F>::new(alloc, *direction, &elements)?;
+    tree.inactive = inactive;
     let store = tree.store(alloc, &elements, start, end)?;
-    let mut ranges: u64 = 0;
-    let mut own: u64 = 0;
-    for first in start..end {
-        for last in first..end {
-            ranges = ranges.saturating_add(1);
-            if tree.is_given(alloc, &store, first, last.saturating_add(1))? {
-                own = own.saturating_add(1);
-            }
-        }
-    }
+    let (ranges, own) = tree.given(alloc, &store, start, end)?;
     spaced_two(alloc, &ranges, &own)
 }
 
@@ -132,16 +148,22 @@ pub fn served<F: Family>(alloc: Global, columns: &[&str]) -> Result<String, Faul
     let [direction, elements, places] = columns else {
         return Err(Fault::Malformed);
     };
+    let positions = positions(alloc, *places)?;
     let elements = strings(alloc, *elements)?;
     let mut tree = Grown::<F>::new(alloc, *direction, &elements)?;
-    let mut positions = Vec::new(alloc);
-    for place in places.split(',') {
-        positions.push(Position::new(number(place)?))?;
-    }
     match digests_at(alloc, &mut tree.mem, &positions) {
         Ok(digests) => series(alloc, &digests),
         Err(error) => merkle_refusal(alloc, &error),
     }
+}
+
+/// Positions with commas between them.
+fn positions<F>(alloc: Global, column: &str) -> Result<Vec<Position<F>>, Fault> {
+    let mut positions = Vec::new(alloc);
+    for part in column.split(',') {
+        positions.push(Position::new(number(part)?))?;
+    }
+    Ok(positions)
 }
 
 /// The digest at a position among some.

@@ -1,9 +1,10 @@
 //! Lists on single places of trees, and on what is written of them.
 
 use crate::columns::{
-    Fault, bytes, digest, number, spaced_five, spaced_four, spaced_two, unblanked,
+    Fault, bytes, digest, digest_or_dash, number, spaced_five, spaced_four, spaced_two, unblanked,
 };
 use crate::lists::refusals::codec_refusal;
+use crate::lists::spelling::spell_bytes;
 use std::alloc::Global;
 use storage_codec::codec::{Encode, EncodeSize, FixedBytes};
 use storage_merkle::merkle::family::{aligned_inactive, exact_inactive, node_at};
@@ -65,12 +66,16 @@ fn places<F: Graftable>(alloc: Global, columns: &[&str]) -> Result<String, Fault
     };
     let number = number(*number_of)?;
     let location = Location::<F>::new(number);
-    let position = Position::<F>::new(number);
-    let position = format!(in alloc; "{position:>4}")?;
-    let position = unblanked(alloc, position.as_str())?;
-    let written = hex::encode(alloc, location.encode(alloc)?)?;
     let size = location.encode_size().ok_or(Fault::Malformed)?;
+    let position = aligned(alloc, Position::<F>::new(number))?;
+    let written = hex::encode(alloc, location.encode(alloc)?)?;
     spaced_four(alloc, &location, &position, &written, &size)
+}
+
+/// The text of a position in four columns.
+fn aligned<F>(alloc: Global, position: Position<F>) -> Result<String, Fault> {
+    let text = format!(in alloc; "{position:>4}")?;
+    unblanked(alloc, text.as_str())
 }
 
 /// `digest`: what the slot of a pending chunk is written as that has this digest, or none for `-`, and how many bytes these are.
@@ -83,10 +88,7 @@ fn slots<F: Graftable>(alloc: Global, columns: &[&str]) -> Result<String, Fault>
     let mut written = Vec::new(alloc);
     F::write_pending(&slot, &mut written)?;
     let size = F::pending_size(&slot);
-    if written.is_empty() {
-        return Ok(format!(in alloc; "- {size}")?);
-    }
-    let written = hex::encode(alloc, &written)?;
+    let written = spell_bytes(alloc, &written)?;
     spaced_two(alloc, &written, &size)
 }
 
@@ -102,9 +104,6 @@ fn slots_read<F: Graftable>(alloc: Global, columns: &[&str]) -> Result<String, F
         Err(error) => return codec_refusal(alloc, error),
     };
     let left = left.len();
-    let Some(digest) = slot else {
-        return Ok(format!(in alloc; "- {left}")?);
-    };
-    let digest = hex::encode(alloc, digest.bytes)?;
+    let digest = digest_or_dash(alloc, slot)?;
     spaced_two(alloc, &digest, &left)
 }

@@ -5,6 +5,7 @@ ghost use Rattle.std.specs.Prelude.{◌+◌, ◌^◌, ◌≤◌};
 ghost use Rattle.storage_bitmap.specs.Chunks.{IsChunkSize};
 
 use crate::columns::{Fault, Series, spaced_four, spaced_two, spelled, verdict};
+use crate::lists::proofs::Claim;
 use crate::lists::refusals::merkle_refusal;
 use commonware_storage::qmdb::current::proof::RangeProof;
 use reference::check::{is_accepted, recomputed_root};
@@ -17,7 +18,7 @@ use reference::tree::peaks;
 use std::alloc::{AllocError, Global};
 use storage_codec::codec::FixedBytes;
 use storage_codec::digest::Sha256;
-use storage_merkle::merkle::{Bagging, Error, MAX_LEAVES, Proof};
+use storage_merkle::merkle::{Error, MAX_LEAVES};
 
 /// An answer where both programs give it.
 pub fn agreed(fast: String, plain: &str) -> Result<String, Fault> {
@@ -28,7 +29,7 @@ pub fn agreed(fast: String, plain: &str) -> Result<String, Fault> {
     }
 }
 
-/// The number of nodes over so many leaves, the peaks' heights and positions, and the positions to pin, which are those of
+/// The number of nodes over `leaves` leaves, the peaks' heights and positions, and the positions to pin, which are those of
 /// the peaks.
 pub fn families<F: Digits>(alloc: Global, leaves: u64) -> Result<String, Fault>
     requires { leaves ≤ 2 ^ 62 }
@@ -89,24 +90,28 @@ pub fn graftable_chunks<F: Digits>(alloc: Global, leaves: u64, height: u32) -> R
 /// fit.
 pub fn plain_check<F: Digits>(
     alloc: Global,
-    bagging: Bagging,
-    proof: &Proof<F, FixedBytes<32>>,
-    start: u64,
+    claim: &Claim<F>,
     elements: &[Vec<u8>],
-    root: &FixedBytes<32>,
 ) -> Result<String, Fault> {
-    let yes = is_accepted::<F, Sha256, _, _>(
-        alloc, &Ungrafted, bagging, proof, start, elements, root,
-    )?;
-    let accepted = verdict(alloc, yes)?;
+    let (bagging, proof, start) = (claim.bagging, &claim.proof, claim.start.as_u64());
     let root = recomputed_root::<F, Sha256, _, _>(
         alloc, &Ungrafted, bagging, proof, start, elements,
     )?;
-    let answer = match root {
+    let yes = is_accepted::<F, Sha256, _, _>(
+        alloc,
+        &Ungrafted,
+        bagging,
+        proof,
+        start,
+        elements,
+        &claim.root,
+    )?;
+    let accepted = verdict(alloc, yes)?;
+    let root = match root {
         Some(root) => hex::encode(alloc, root.bytes)?,
         None => merkle_refusal(alloc, &Error::<F>::InvalidProof)?,
     };
-    spaced_two(alloc, &accepted, &answer)
+    spaced_two(alloc, &accepted, &root)
 }
 
 /// What the definitions say of a snapshot and a range of its operations.

@@ -172,9 +172,9 @@ fn checked<F: Graftable>(alloc: Global, columns: &[&str]) -> Result<String, Faul
     };
     let chunk = number(*chunk)? as usize;
     let loc = Location::<F>::new(number(*location)?);
+    let root = digest(*root)?;
     let operation = bytes(alloc, *operation)?;
     let proof = bytes(alloc, *proof)?;
-    let root = digest(*root)?;
     let yes = check_operation::<F, Sha256>(alloc, &proof, chunk, loc, &operation, &root)?;
     verdict(alloc, yes)
 }

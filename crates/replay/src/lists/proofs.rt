@@ -101,36 +101,28 @@ pub fn plain_checks<F: Digits>(alloc: Global, columns: &[&str]) -> Result<String
     let [direction, leaves, inactive, nodes, start, items, root, _] = columns else {
         return Err(Fault::Malformed);
     };
-    let bagging = bagging(*direction)?;
-    let proof = proof_of::<F>(alloc, *leaves, *inactive, *nodes)?;
-    let start = number(*start)?;
+    let claim = Claim::<F>::new(
+        alloc,
+        [*direction, *leaves, *inactive, *nodes, *start, *root],
+    )?;
     let items = strings(alloc, *items)?;
-    let root = digest(*root)?;
-    let fast = plain_check(alloc, bagging, &proof, start, &items, &root)?;
-    let plain = plain::plain_check(alloc, bagging, &proof, start, &items, &root)?;
+    let fast = plain_check(alloc, &claim, &items)?;
+    let plain = plain::plain_check(alloc, &claim, &items)?;
     plain::agreed(fast, plain.as_str())
 }
 
 fn plain_check<F: Family>(
     alloc: Global,
-    bagging: Bagging,
-    proof: &Proof<F, FixedBytes<32>>,
-    start: u64,
+    claim: &Claim<F>,
     items: &[Vec<u8>],
-    root: &FixedBytes<32>,
 ) -> Result<String, Fault> {
-    let hasher = Standard::<Sha256>::new(bagging);
-    let start = Location::new(start);
-    let yes = proof.verify_range_inclusion(alloc, &hasher, items, start, root)?;
+    let (proof, start) = (&claim.proof, claim.start);
+    let hasher = Standard::<Sha256>::new(claim.bagging);
+    let yes = proof.verify_range_inclusion(alloc, &hasher, items, start, &claim.root)?;
     let accepted = verdict(alloc, yes)?;
-    match proof.reconstruct_root(alloc, &hasher, items, start) {
-        Ok(root) => {
-            let root = hex::encode(alloc, root.bytes())?;
-            spaced_two(alloc, &accepted, &root)
-        }
-        Err(error) => {
-            let refusal = merkle_refusal(alloc, &error)?;
-            spaced_two(alloc, &accepted, &refusal)
-        }
-    }
+    let root = match proof.reconstruct_root(alloc, &hasher, items, start) {
+        Ok(root) => hex::encode(alloc, root.bytes())?,
+        Err(error) => merkle_refusal(alloc, &error)?,
+    };
+    spaced_two(alloc, &accepted, &root)
 }

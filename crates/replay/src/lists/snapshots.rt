@@ -4,11 +4,11 @@ ghost use Rattle.std.specs.Prelude.{◌^◌, ◌<◌};
 ghost use Rattle.storage_bitmap.specs.Chunks.{IsChunkSize};
 
 use crate::columns::{
-    Fault, bytes, digest, number, owned, spaced_four, spaced_three, spaced_two, strings, verdict,
+    Fault, bytes, digest, lent, number, owned, spaced_four, spaced_three, spaced_two, strings,
+    verdict,
 };
 use crate::lists::plain::{self, Own};
-use crate::lists::served;
-use crate::lists::unframed::{self, Unframed};
+use crate::lists::{served, unframed};
 use commonware_storage::bitmap::{Prunable, Readable};
 use commonware_storage::codec::{Decode, Encode, Error, FixedBytes};
 use commonware_storage::digest::Sha256;
@@ -59,33 +59,42 @@ fn over_snapshot<F: Graftable + Digits, const N: usize>(
 ) -> Result<String, Fault>
     requires { IsChunkSize N }
 {
-    let [floor, bits, operations, start, count] = columns else {
-        return Err(Fault::Malformed);
-    };
-    let claimed = unframed::operations(alloc, *operations)?;
-    let operations = strings(alloc, *operations)?;
-    let floor = number(*floor)?;
-    let start = number(*start)?;
-    let count = number(*count)?;
-    let end = start.checked_add(count).ok_or(Fault::Malformed)?;
-    let own = plain::own_answers::<F, N>(alloc, &operations, *bits, floor, start, end)?;
-    let served = Served::<F, N>::new(alloc, &operations, *bits, floor, own)?;
-    if list == "golden" {
-        return served.golden(alloc, start, count);
+    let case = Case::of(columns)?;
+    let served = Served::<F, N>::of(alloc, &case)?;
+    match list {
+        "golden" => served.golden(alloc, &case),
+        _ => served.ranges(alloc, &case),
     }
-    let chunks = chunks_of::<N>(alloc, *bits)?;
-    let claim = Claim {
-        operations: places(&claimed, start, end)?,
-        chunks: places(&chunks, start / (8 * N as u64), end.div_ceil(8 * N as u64))?,
-    };
-    served.ranges(alloc, start, count, &claim)
 }
 
-/// Operations, and the chunks with their bits.
-#[derive(Drop)]
-struct Claim<'a, const N: usize> {
-    operations: &'a [Unframed],
-    chunks: &'a [[u8; N]],
+/// The columns of a snapshot, and a range of its locations.
+#[derive(Clone, Copy)]
+struct Case<'a> {
+    floor: u64,
+    bits: &'a str,
+    operations: &'a str,
+    start: u64,
+    end: u64,
+    count: u64,
+}
+
+impl<'a> Case<'a> {
+    /// The case of `floor bits operations start count`.
+    fn of(columns: &[&'a str]) -> Result<Self, Fault> {
+        let [floor, bits, operations, start, count] = columns else {
+            return Err(Fault::Malformed);
+        };
+        let start = number(*start)?;
+        let count = number(*count)?;
+        Ok(Case {
+            floor: number(*floor)?,
+            bits: *bits,
+            operations: *operations,
+            start,
+            end: start.checked_add(count).ok_or(Fault::Malformed)?,
+            count,
+        })
+    }
 }
 
 /// What stands from one place to before another.
@@ -136,34 +145,34 @@ fn set(chunk: &mut [u8], place: usize) {
     }
 }
 
-/// A snapshot with its floor, and what the definitions say of it.
+/// A snapshot, and what the definitions say of it.
 #[derive(Drop)]
 struct Served<F: Graftable, const N: usize> {
     snapshot: Snapshot<F, Sha256, N>,
-    floor: u64,
     own: Own<F>,
 }
 
 impl<F: Graftable, const N: usize> Served<F, N> {
-    /// A snapshot whose roots are its own.
-    fn new(
-        alloc: Global,
-        operations: &[Vec<u8>],
-        bits: &str,
-        floor: u64,
-        own: Own<F>,
-    ) -> Result<Self, Fault>
+    /// The snapshot of a case, whose roots are its own.
+    fn of(alloc: Global, case: &Case<'_>) -> Result<Self, Fault>
+    where
+        F: Digits,
         requires { IsChunkSize N }
     {
-        let snapshot = served::snapshot(alloc, operations, bits, floor)?;
+        let operations = strings(alloc, case.operations)?;
+        let own = plain::own_answers::<F, N>(
+            alloc,
+            &operations,
+            case.bits,
+            case.floor,
+            case.start,
+            case.end,
+        )?;
+        let snapshot = served::snapshot(alloc, &operations, case.bits, case.floor)?;
         if snapshot.root() != own.root || snapshot.ops_root() != own.range.ops_root {
             return Err(Fault::Differs);
         }
-        Ok(Served {
-            snapshot,
-            floor,
-            own,
-        })
+        Ok(Served { snapshot, own })
     }
 
     /// Whether a proof is the own one.
@@ -175,13 +184,13 @@ impl<F: Graftable, const N: usize> Served<F, N> {
         }
     }
 
-    fn golden(&self, alloc: Global, start: u64, count: u64) -> Result<String, Fault>
+    fn golden(&self, alloc: Global, case: &Case<'_>) -> Result<String, Fault>
         requires { IsChunkSize N }
     {
         let roots = self.roots_told(alloc)?;
         let witness = self.witness_told(alloc)?;
-        let range = self.range_told(alloc, start, count)?;
-        let operation = self.operation_told(alloc, start, count)?;
+        let range = self.range_told(alloc, case)?;
+        let operation = self.operation_told(alloc, case)?;
         spaced_four(alloc, &roots, &witness, &range, &operation)
     }
 
@@ -200,72 +209,83 @@ impl<F: Graftable, const N: usize> Served<F, N> {
         spaced_two(alloc, &grafted_root, &witness)
     }
 
-    /// The bytes of the proof of a range; `-` where it has no location.
-    fn range_told(&self, alloc: Global, start: u64, count: u64) -> Result<String, Fault> {
-        if count == 0 {
+    /// The bytes of the proof of the range; `-` where it has no location.
+    fn range_told(&self, alloc: Global, case: &Case<'_>) -> Result<String, Fault> {
+        if case.count == 0 {
             return owned(alloc, "-");
         }
-        Ok(hex::encode(alloc, self.range(alloc, start, count)?.encode(alloc)?)?)
+        Ok(hex::encode(alloc, self.range_proof(alloc, case)?.encode(alloc)?)?)
     }
 
     /// The bytes of the proof of an operation where the range has this one location, else `-`.
-    fn operation_told(&self, alloc: Global, start: u64, count: u64) -> Result<String, Fault>
+    fn operation_told(&self, alloc: Global, case: &Case<'_>) -> Result<String, Fault>
         requires { IsChunkSize N }
     {
-        if count != 1 {
+        if case.count != 1 {
             return owned(alloc, "-");
         }
-        Ok(hex::encode(alloc, self.operation(alloc, start)?.encode(alloc)?)?)
+        Ok(hex::encode(alloc, self.operation_proof(alloc, case)?.encode(alloc)?)?)
     }
 
-    fn ranges(
-        &self,
-        alloc: Global,
-        start: u64,
-        count: u64,
-        claim: &Claim<'_, N>,
-    ) -> Result<String, Fault>
+    fn ranges(&self, alloc: Global, case: &Case<'_>) -> Result<String, Fault>
         requires { IsChunkSize N }
     {
-        let proof = self.range(alloc, start, count)?;
-        let root = self.snapshot.root();
-        let loc = Location::new(start);
-        let yes = proof.verify::<Sha256, _, N>(alloc, loc, claim.operations, claim.chunks, &root)?;
-        let yes = verdict(alloc, yes)?;
+        let proof = self.range_proof(alloc, case)?;
+        let yes = self.shown(alloc, case, &proof)?;
         let proof = hex::encode(alloc, proof.encode(alloc)?)?;
-        let root = hex::encode(alloc, root.bytes)?;
+        let root = hex::encode(alloc, self.snapshot.root().bytes)?;
         spaced_three(alloc, &proof, &root, &yes)
     }
 
-    fn range(
+    /// Whether a proof shows the operations of the range and their chunks.
+    fn shown(
         &self,
         alloc: Global,
-        start: u64,
-        count: u64,
+        case: &Case<'_>,
+        proof: &RangeProof<F, FixedBytes<32>>,
+    ) -> Result<String, Fault>
+        requires { IsChunkSize N }
+    {
+        let root = self.snapshot.root();
+        let start = Location::new(case.start);
+        let operations = unframed::operations(alloc, case.operations)?;
+        let operations = places(&operations, case.start, case.end)?;
+        let chunks = chunks_of::<N>(alloc, case.bits)?;
+        let size = 8 * N as u64;
+        let chunks = places(&chunks, case.start / size, case.end.div_ceil(size))?;
+        let yes = proof.verify::<Sha256, _, N>(alloc, start, operations, chunks, &root)?;
+        verdict(alloc, yes)
+    }
+
+    /// The proof of the range.
+    fn range_proof(
+        &self,
+        alloc: Global,
+        case: &Case<'_>,
     ) -> Result<RangeProof<F, FixedBytes<32>>, Fault> {
-        let end = start.checked_add(count).ok_or(Fault::Malformed)?;
-        let proof = served::range_proof(alloc, &self.snapshot, self.floor, start, end)?;
+        let proof = served::range_proof(alloc, &self.snapshot, case.floor, case.start, case.end)?;
         self.compare(&proof)?;
         Ok(proof)
     }
 
-    fn operation(
+    /// The proof of the operation at the start of the range.
+    fn operation_proof(
         &self,
         alloc: Global,
-        location: u64,
+        case: &Case<'_>,
     ) -> Result<OperationProof<F, FixedBytes<32>, N>, Fault>
         requires { IsChunkSize N }
     {
-        let proof = served::operation_proof(alloc, &self.snapshot, self.floor, location)?;
+        let proof = served::operation_proof(alloc, &self.snapshot, case.floor, case.start)?;
         self.compare(&proof.range_proof)?;
-        if proof.loc.as_u64() != location || proof.chunk.as_slice() != self.own.chunk.as_slice() {
+        if proof.loc.as_u64() != case.start || proof.chunk.as_slice() != self.own.chunk.as_slice() {
             return Err(Fault::Differs);
         }
         Ok(proof)
     }
 }
 
-/// `most start operations chunks proof root label`: whether the bytes are a range proof of at most so many digests that shows
+/// `most start operations chunks proof root label`: whether the bytes are a range proof of at most `most` digests that shows
 /// the operations and chunks, by the check of bytes and by that of operations alike. The label says how the case was made.
 fn ranges_checks<F: Graftable>(
     alloc: Global,
@@ -275,36 +295,93 @@ fn ranges_checks<F: Graftable>(
     let [most, start, operations, chunks, proof, root, _] = columns else {
         return Err(Fault::Malformed);
     };
-    let claimed = unframed::operations(alloc, *operations)?;
-    let operations = strings(alloc, *operations)?;
-    let chunks = strings(alloc, *chunks)?;
-    let mut lent = Vec::new(alloc);
-    for chunk in &chunks {
-        lent.push(chunk.as_slice())?;
-    }
-    let proof = bytes(alloc, *proof)?;
-    let root = digest(*root)?;
     let start = Location::new(number(*start)?);
     let most = number(*most)? as usize;
-    let proof = match RangeProof::<F, FixedBytes<32>>::decode_cfg(alloc, proof.as_slice(), &most) {
-        Ok(proof) => proof,
-        Err(Error::Memory) => return Err(Fault::Memory),
-        Err(_) => return verdict(alloc, false),
-    };
-    let yes = proof.verify_encoded::<Sha256, _, &[u8]>(
-        alloc,
-        start,
-        &operations,
-        &lent,
+    let claim = Claim {
         chunk_size,
-        &root,
-    )?;
-    let written = proof.verify_with_chunk_size::<Sha256, _, &[u8]>(
-        alloc, start, &claimed, &lent, chunk_size, &root,
-    )?;
-    if yes == written {
+        start,
+        operations: *operations,
+        root: digest(*root)?,
+    };
+    let chunks = strings(alloc, *chunks)?;
+    match range_proof::<F>(alloc, *proof, most)? {
+        Some(proof) => claim.shown(alloc, &proof, &chunks),
+        None => verdict(alloc, false),
+    }
+}
+
+/// The range proof of at most `most` digests that bytes in hexadecimal are, if they are one.
+fn range_proof<F: Graftable>(
+    alloc: Global,
+    column: &str,
+    most: usize,
+) -> Result<Option<RangeProof<F, FixedBytes<32>>>, Fault> {
+    let bytes = bytes(alloc, column)?;
+    match RangeProof::decode_cfg(alloc, bytes.as_slice(), &most) {
+        Ok(proof) => Ok(Some(proof)),
+        Err(Error::Memory) => Err(Fault::Memory),
+        Err(_) => Ok(None),
+    }
+}
+
+/// What a range proof is said to show.
+#[derive(Clone, Copy)]
+struct Claim<'a, F> {
+    chunk_size: usize,
+    start: Location<F>,
+    operations: &'a str,
+    root: FixedBytes<32>,
+}
+
+impl<F: Graftable> Claim<'_, F> {
+    /// Whether a proof shows the operations and chunks, by both checks.
+    fn shown(
+        &self,
+        alloc: Global,
+        proof: &RangeProof<F, FixedBytes<32>>,
+        chunks: &[Vec<u8>],
+    ) -> Result<String, Fault> {
+        let chunks = lent(alloc, chunks)?;
+        let yes = self.shows_bytes(alloc, proof, &chunks)?;
+        if self.shows_operations(alloc, proof, &chunks)? != yes {
+            return Err(Fault::Differs);
+        }
         verdict(alloc, yes)
-    } else {
-        Err(Fault::Differs)
+    }
+
+    /// The check of bytes.
+    fn shows_bytes(
+        &self,
+        alloc: Global,
+        proof: &RangeProof<F, FixedBytes<32>>,
+        chunks: &[&[u8]],
+    ) -> Result<bool, Fault> {
+        let operations = strings(alloc, self.operations)?;
+        Ok(proof.verify_encoded::<Sha256, _, &[u8]>(
+            alloc,
+            self.start,
+            &operations,
+            chunks,
+            self.chunk_size,
+            &self.root,
+        )?)
+    }
+
+    /// The check of operations.
+    fn shows_operations(
+        &self,
+        alloc: Global,
+        proof: &RangeProof<F, FixedBytes<32>>,
+        chunks: &[&[u8]],
+    ) -> Result<bool, Fault> {
+        let operations = unframed::operations(alloc, self.operations)?;
+        Ok(proof.verify_with_chunk_size::<Sha256, _, &[u8]>(
+            alloc,
+            self.start,
+            &operations,
+            chunks,
+            self.chunk_size,
+            &self.root,
+        )?)
     }
 }

@@ -1,6 +1,8 @@
 //! How keys, values and operations are spelled in the lists.
 
-use crate::columns::{Fault, array, bytes, coloned, number, owned, spaced, spelled};
+use crate::columns::{
+    Fault, array, bytes, coloned, number, owned, spaced_three, spaced_two, spelled,
+};
 use std::alloc::Global;
 use storage_codec::codec::{FixedBytes, U64};
 use storage_merkle::merkle::{Location, mmr};
@@ -18,7 +20,7 @@ pub trait Spell: Sized {
 }
 
 /// Bytes in hexadecimal; `-` for none.
-fn spell_bytes(alloc: Global, bytes: &[u8]) -> Result<String, Fault> {
+pub fn spell_bytes(alloc: Global, bytes: &[u8]) -> Result<String, Fault> {
     if bytes.is_empty() {
         return Ok(String::from_str(alloc, "-")?);
     }
@@ -121,6 +123,16 @@ fn spell_commit<V: Spell>(alloc: Global, value: Option<&V>, floor: u64) -> Resul
     Ok(format!(in alloc; "commit:{value}:{floor}")?)
 }
 
+/// The value of a commit and its floor.
+fn parse_commit<V: Spell>(alloc: Global, text: &str) -> Result<(Option<V>, u64), Fault> {
+    let (value, floor) = text.split_once(':').ok_or(Fault::Malformed)?;
+    let floor = number(floor)?;
+    match value {
+        "none" => Ok((None, floor)),
+        value => Ok((Some(V::parse(alloc, value)?), floor)),
+    }
+}
+
 impl<S: Update + Spell> Spell for Operation<mmr::Family, S>
 where
     S::Key: Spell,
@@ -142,13 +154,8 @@ where
             "delete" => Ok(Operation::Delete(S::Key::parse(alloc, rest)?)),
             "update" => Ok(Operation::Update(S::parse(alloc, rest)?)),
             "commit" => {
-                let (value, floor) = rest.split_once(':').ok_or(Fault::Malformed)?;
-                let floor = Location::new(number(floor)?);
-                if value == "none" {
-                    return Ok(Operation::CommitFloor(None, floor));
-                }
-                let value = S::Value::parse(alloc, value)?;
-                Ok(Operation::CommitFloor(Some(value), floor))
+                let (value, floor) = parse_commit(alloc, rest)?;
+                Ok(Operation::CommitFloor(value, Location::new(floor)))
             }
             _ => Err(Fault::Malformed),
         }
@@ -185,18 +192,26 @@ where
     }
 
     fn asked(self, alloc: Global) -> Result<String, Fault> {
-        let kinds = digits(
-            alloc,
-            [self.is_update(), self.is_delete(), self.is_commit()],
-        )?;
-        let key = spell_key(alloc, self.key())?;
-        let floor = spell_floor(alloc, self.has_floor())?;
+        let told = told(alloc, &self)?;
         let given = spell_key(alloc, self.into_key().as_ref())?;
-        spaced(
-            alloc,
-            &[kinds.as_str(), key.as_str(), floor.as_str(), given.as_str()],
-        )
+        spaced_two(alloc, &told, &given)
     }
+}
+
+/// What an operation is, its key and its floor; `-` for none.
+fn told<S: Update>(alloc: Global, operation: &Operation<mmr::Family, S>) -> Result<String, Fault>
+where
+    S::Key: Spell,
+{
+    let kinds = [
+        operation.is_update(),
+        operation.is_delete(),
+        operation.is_commit(),
+    ];
+    let kinds = digits(alloc, kinds)?;
+    let key = spell_key(alloc, operation.key())?;
+    let floor = spell_floor(alloc, operation.has_floor())?;
+    spaced_three(alloc, &kinds, &key, &floor)
 }
 
 /// A digit for each answer.

@@ -28,8 +28,8 @@ fn swept_of<F: Graftable>(alloc: Global, columns: &[&str]) -> Result<Swept<F>, F
     let [floor, bits, operations] = columns else {
         return Err(Fault::Malformed);
     };
-    let operations = strings(alloc, *operations)?;
     let floor = number(*floor)?;
+    let operations = strings(alloc, *operations)?;
     let snapshot = snapshot(alloc, &operations, *bits, floor)?;
     Ok(Swept {
         snapshot,
@@ -57,16 +57,26 @@ fn is_shown<F: Graftable>(
     location: u64,
     operation: &[u8],
 ) -> Result<bool, Fault> {
-    let root = swept.snapshot.root();
     let proof = operation_proof(alloc, &swept.snapshot, swept.floor, location)?;
-    let bytes = proof.encode(alloc)?;
-    let read = decoded::<OperationProof<F, FixedBytes<32>, 1>>(alloc, &bytes, &128)?;
-    let yes = proof.verify_encoded::<Sha256>(alloc, operation, &root)?;
-    let at_once = is_shown_at_once(alloc, swept, location, operation)?;
-    if read != proof || proof.clone()? != proof || at_once != yes {
+    compare_copies(alloc, &proof)?;
+    let yes = proof.verify_encoded::<Sha256>(alloc, operation, &swept.snapshot.root())?;
+    if is_shown_at_once(alloc, swept, location, operation)? != yes {
         return Err(Fault::Differs);
     }
     Ok(yes)
+}
+
+/// Whether a proof is the one that its bytes are read as, and equal to a copy.
+fn compare_copies<F: Graftable>(
+    alloc: Global,
+    proof: &OperationProof<F, FixedBytes<32>, 1>,
+) -> Result<(), Fault> {
+    let bytes = proof.encode(alloc)?;
+    let read = decoded::<OperationProof<F, FixedBytes<32>, 1>>(alloc, &bytes, &128)?;
+    if read != *proof || proof.clone()? != *proof {
+        return Err(Fault::Differs);
+    }
+    Ok(())
 }
 
 /// What a client answers that is given the bytes of the proof.
@@ -125,14 +135,23 @@ fn is_range_shown<F: Graftable>(
     end: u64,
 ) -> Result<bool, Fault> {
     let root = swept.snapshot.root();
-    let proof = range_proof(alloc, &swept.snapshot, swept.floor, start, end)?;
-    let bytes = proof.encode(alloc)?;
-    let read = decoded::<RangeProof<F, FixedBytes<32>>>(alloc, &bytes, &128)?;
-    if read != proof || proof.clone()? != proof {
-        return Err(Fault::Differs);
-    }
     let operations = places(&swept.operations, start, end)?;
     let chunks = places(chunks, start / 8, end.div_ceil(8))?;
+    let proof = range_proof(alloc, &swept.snapshot, swept.floor, start, end)?;
+    compare_range_copies(alloc, &proof)?;
     let start = Location::new(start);
     Ok(proof.verify_encoded::<Sha256, _, [u8; 1]>(alloc, start, operations, chunks, 1, &root)?)
+}
+
+/// The same of the proof of a range.
+fn compare_range_copies<F: Graftable>(
+    alloc: Global,
+    proof: &RangeProof<F, FixedBytes<32>>,
+) -> Result<(), Fault> {
+    let bytes = proof.encode(alloc)?;
+    let read = decoded::<RangeProof<F, FixedBytes<32>>>(alloc, &bytes, &128)?;
+    if read != *proof || proof.clone()? != *proof {
+        return Err(Fault::Differs);
+    }
+    Ok(())
 }

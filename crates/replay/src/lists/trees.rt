@@ -4,7 +4,7 @@ ghost use Rattle.std.specs.Prelude.{◌≡◌, ℕ, ◌+◌, ◌*◌, ◌%◌, �
 ghost use Rattle.storage_merkle.specs.Nodes.{IsNode, CoversSame};
 ghost use Rattle.storage_merkle.specs.Shape.{size};
 
-use crate::columns::{Fault, Series, number, spaced_four, spaced_two, spelled};
+use crate::columns::{Fault, Series, number, spaced_four, spaced_three, spaced_two, spelled};
 use crate::lists::combined::whole;
 use crate::lists::{
     checks, extracted, mems, multi, operation_checks, own, pinned, places, plain, proofs, required,
@@ -101,22 +101,44 @@ fn families<F: Graftable + Digits>(alloc: Global, columns: &[&str]) -> Result<St
     if leaves > MAX_LEAVES {
         return Err(Fault::Malformed);
     }
+    let fast = told::<F>(alloc, leaves)?;
+    plain::agreed(fast, plain::families::<F>(alloc, leaves)?.as_str())
+}
+
+/// The number of nodes, the peaks' heights and positions, and the positions to pin.
+fn told<F: Graftable>(alloc: Global, leaves: u64) -> Result<String, Fault>
+    requires { leaves ≤ 2 ^ 62 }
+{
     let nodes = F::nodes_over(leaves);
+    let peaks = peaks_told::<F>(alloc, leaves)?;
+    let pins = pins_told::<F>(alloc, leaves)?;
+    spaced_three(alloc, &nodes, &peaks, &pins)
+}
+
+/// The peaks' heights and positions.
+fn peaks_told<F: Graftable>(alloc: Global, leaves: u64) -> Result<String, Fault>
+    requires { leaves ≤ 2 ^ 62 }
+{
     let mut heights = Series::new(alloc);
     let mut positions = Series::new(alloc);
-    for (position, height) in F::peaks(Position::new(nodes)) {
+    for (position, height) in F::peaks(Position::new(F::nodes_over(leaves))) {
         heights.push(height as u64)?;
         positions.push(position.as_u64())?;
     }
+    let heights = heights.finish()?;
+    let positions = positions.finish()?;
+    spaced_two(alloc, &heights, &positions)
+}
+
+/// The positions to pin.
+fn pins_told<F: Graftable>(alloc: Global, leaves: u64) -> Result<String, Fault>
+    requires { leaves ≤ 2 ^ 62 }
+{
     let mut pins = Series::new(alloc);
     for position in F::nodes_to_pin(Location::new(leaves)) {
         pins.push(position.as_u64())?;
     }
-    let heights = heights.finish()?;
-    let positions = positions.finish()?;
-    let pins = pins.finish()?;
-    let fast = spaced_four(alloc, &nodes, &heights, &positions, &pins)?;
-    plain::agreed(fast, plain::families::<F>(alloc, leaves)?.as_str())
+    Ok(pins.finish()?)
 }
 
 /// `nodes`: of how many leaves this is the number of nodes.

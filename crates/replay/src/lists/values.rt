@@ -46,8 +46,8 @@ fn through<T: Codec + EncodeSize + PartialEq + Drop>(
     cfg: &T::Cfg,
 ) -> Result<String, Fault> {
     let bytes = value.encode(alloc)?;
-    let shared = Bytes::copy_from_slice(alloc, &bytes)?;
     let from_slice = is_read(alloc, bytes.as_slice(), cfg, value)?;
+    let shared = Bytes::copy_from_slice(alloc, &bytes)?;
     let from_shared = is_read(alloc, shared, cfg, value)?;
     let bytes = hex::encode(alloc, bytes.as_slice())?;
     spaced_three(alloc, &bytes, &from_slice, &from_shared)
@@ -67,15 +67,16 @@ fn is_read<T: Read + PartialEq + Drop, B: Buf>(
     }
 }
 
-/// `bytes count`: so many of five bytes, cut from the front of them as a slice and as shared bytes, each with how many are left.
+/// `bytes count`: the first `count` of five bytes, cut from the front of them as a slice and as shared bytes, each with how many are
+/// left.
 pub fn cuts(alloc: Global, columns: &[&str]) -> Result<String, Fault> {
     let [text, count] = columns else {
         return Err(Fault::Malformed);
     };
     let text: [u8; 5] = array(*text)?;
     let count = number(*count)? as usize;
-    let shared = Bytes::copy_from_slice(alloc, &text)?;
     let from_slice = cut(alloc, text.as_slice(), count)?;
+    let shared = Bytes::copy_from_slice(alloc, &text)?;
     let from_shared = cut(alloc, shared, count)?;
     spaced_two(alloc, &from_slice, &from_shared)
 }

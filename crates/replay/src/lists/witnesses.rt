@@ -14,17 +14,24 @@ pub fn witnesses<F: Graftable>(alloc: Global, columns: &[&str]) -> Result<String
     let [witness, ops_root, root, _] = columns else {
         return Err(Fault::Malformed);
     };
-    let witness = bytes(alloc, *witness)?;
     let ops_root = digest(*ops_root)?;
     let root = digest(*root)?;
+    let witness = bytes(alloc, *witness)?;
     match OpsRootWitness::<F, FixedBytes<32>>::decode_cfg(alloc, witness.as_slice(), &()) {
-        Ok(witness) => {
-            let copy = witness.clone()?;
-            if copy != witness {
-                return Err(Fault::Differs);
-            }
-            verdict(alloc, copy.verify::<Sha256>(&ops_root, &root))
-        }
+        Ok(witness) => verdict(alloc, copy_shows(&witness, &ops_root, &root)?),
         Err(error) => codec_refusal(alloc, error),
     }
+}
+
+/// Whether a copy, which is equal, shows that the operations root is that of the snapshot.
+fn copy_shows<F: Graftable>(
+    witness: &OpsRootWitness<F, FixedBytes<32>>,
+    ops_root: &FixedBytes<32>,
+    root: &FixedBytes<32>,
+) -> Result<bool, Fault> {
+    let copy = witness.clone()?;
+    if copy != *witness {
+        return Err(Fault::Differs);
+    }
+    Ok(copy.verify::<Sha256>(ops_root, root))
 }

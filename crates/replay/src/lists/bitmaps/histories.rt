@@ -2,7 +2,10 @@
 
 ghost use Rattle.storage_bitmap.specs.Chunks.{IsChunkSize};
 
-use crate::columns::{Fault, Series, coloned, inner_digests, number, numbers_between, spaced_four};
+use crate::columns::{
+    Fault, Series, coloned, inner_digests, number, numbers_between, spaced_four, spaced_three,
+    spaced_two,
+};
 use crate::lists::refusals::merkle_refusal;
 use std::alloc::Global;
 use storage_bitmap::bitmap::authenticated::{
@@ -11,7 +14,7 @@ use storage_bitmap::bitmap::authenticated::{
 use storage_codec::codec::FixedBytes;
 use storage_codec::digest::Sha256;
 use storage_merkle::merkle::hasher::Standard;
-use storage_merkle::merkle::{Error, MAX_LEAVES, Position};
+use storage_merkle::merkle::{Error, MAX_LEAVES, Position, Proof, mmr};
 
 /// A bitmap between two calls.
 #[derive(Drop)]
@@ -34,11 +37,20 @@ pub fn bitmaps<const N: usize>(
         return Err(Fault::Malformed);
     };
     let bitmap = after::<N>(alloc, hasher, *calls)?;
-    let counts = counts(alloc, &bitmap)?;
-    let kept = kept(alloc, &bitmap)?;
+    let counts = counts_and_kept(alloc, &bitmap)?;
     let proofs = proofs(alloc, hasher, &bitmap, *bits)?;
     let nodes = nodes(alloc, &bitmap)?;
-    spaced_four(alloc, &counts, &kept, &proofs, &nodes)
+    spaced_three(alloc, &counts, &proofs, &nodes)
+}
+
+/// What is counted of a bitmap, and what is kept of its pruned chunks.
+fn counts_and_kept<const N: usize>(
+    alloc: Global,
+    bitmap: &MerkleizedBitMap<FixedBytes<32>, N>,
+) -> Result<String, Fault> {
+    let counts = counts(alloc, bitmap)?;
+    let kept = kept(alloc, bitmap)?;
+    spaced_two(alloc, &counts, &kept)
 }
 
 /// The bitmap after calls, which begins without bits.
@@ -49,7 +61,7 @@ pub fn after<const N: usize>(
 ) -> Result<MerkleizedBitMap<FixedBytes<32>, N>, Fault>
     requires { IsChunkSize N }
 {
-    let mut stage = Stage::Merkleized(restored::<N>(alloc, hasher, 0, "-")?);
+    let mut stage = begun(alloc, hasher)?;
     for call in calls.split(',') {
         stage = called(alloc, hasher, stage, call)?;
     }
@@ -59,6 +71,14 @@ pub fn after<const N: usize>(
     }
 }
 
+/// The bitmap without bits.
+fn begun<const N: usize>(alloc: Global, hasher: &Standard<Sha256>) -> Result<Stage<N>, Fault>
+    requires { IsChunkSize N }
+{
+    Ok(Stage::Merkleized(restored(alloc, hasher, 0, "-")?))
+}
+
+/// What a bitmap is after a call.
 fn called<const N: usize>(
     alloc: Global,
     hasher: &Standard<Sha256>,
@@ -87,30 +107,59 @@ pub fn bitmaps_stages<const N: usize>(
     let [calls] = columns else {
         return Err(Fault::Malformed);
     };
-    let mut stage = Stage::Merkleized(restored::<N>(alloc, hasher, 0, "-")?);
-    let mut roots = Vec::new(alloc);
-    let mut stages = Series::new(alloc);
+    let mut history = History::new(alloc);
+    let mut stage = begun::<N>(alloc, hasher)?;
     for call in calls.split(',') {
         stage = called(alloc, hasher, stage, call)?;
-        if let Stage::Merkleized(bitmap) = &stage {
-            stages.push_text(told(alloc, bitmap, &mut roots)?.as_str())?;
-        }
+        history.note(alloc, &stage)?;
     }
-    Ok(stages.finish()?)
+    Ok(history.stages.finish()?)
 }
 
-fn told<const N: usize>(
-    alloc: Global,
+/// The roots that a bitmap had, and what stood after each call that left it with its root.
+#[derive(Drop)]
+struct History {
+    roots: Vec<FixedBytes<32>>,
+    stages: Series,
+}
+
+impl History {
+    fn new(alloc: Global) -> Self {
+        History {
+            roots: Vec::new(alloc),
+            stages: Series::new(alloc),
+        }
+    }
+
+    /// Adds what stands after a call, where the bitmap has its root.
+    fn note<const N: usize>(&mut self, alloc: Global, stage: &Stage<N>) -> Result<(), Fault> {
+        if let Stage::Merkleized(bitmap) = stage {
+            let told = self.told(alloc, bitmap)?;
+            self.stages.push_text(told.as_str())?;
+        }
+        Ok(())
+    }
+
+    fn told<const N: usize>(
+        &mut self,
+        alloc: Global,
+        bitmap: &MerkleizedBitMap<FixedBytes<32>, N>,
+    ) -> Result<String, Fault> {
+        let (chunk, count) = bitmap.last_chunk();
+        let kept = kept_digests(bitmap)?;
+        let place = place_of(&mut self.roots, bitmap.root())?;
+        let lengths = lengths(alloc, ":", bitmap)?;
+        let chunk = hex::encode(alloc, *chunk)?;
+        let rest = numbers_between(alloc, ":", &[count, kept, place])?;
+        coloned(alloc, &[lengths.as_str(), chunk.as_str(), rest.as_str()])
+    }
+}
+
+/// How many digests are kept of the pruned chunks.
+fn kept_digests<const N: usize>(
     bitmap: &MerkleizedBitMap<FixedBytes<32>, N>,
-    roots: &mut Vec<FixedBytes<32>>,
-) -> Result<String, Fault> {
-    let lengths = lengths(alloc, ":", bitmap)?;
-    let (chunk, count) = bitmap.last_chunk();
-    let chunk = hex::encode(alloc, *chunk)?;
-    let kept = state(bitmap)?.pinned.len() as u64;
-    let place = place_of(roots, bitmap.root())?;
-    let rest = numbers_between(alloc, ":", &[count, kept, place])?;
-    coloned(alloc, &[lengths.as_str(), chunk.as_str(), rest.as_str()])
+) -> Result<u64, Fault> {
+    Ok(state(bitmap)?.pinned.len() as u64)
 }
 
 /// How many bits there are and how many of them are pruned, and how many nodes, with a text between them.
@@ -147,7 +196,7 @@ fn state<const N: usize>(
     }
 }
 
-/// The bitmap of so many chunks, all pruned, and these digests.
+/// The bitmap whose chunks, `pruned_chunks` of them, are all pruned, and of which these digests are kept.
 fn restored<const N: usize>(
     alloc: Global,
     hasher: &Standard<Sha256>,
@@ -193,28 +242,41 @@ fn merkleized<const N: usize>(
     requires { IsChunkSize N }
 {
     match verb {
-        "d" => Ok(Stage::Unmerkleized(bitmap.into_dirty())),
-        "r" => {
-            let state = state(&bitmap)?;
-            Ok(Stage::Merkleized(from_state::<N>(alloc, hasher, state)?))
-        }
-        "x" => {
-            let bit = number(rest)?;
-            if bit > bitmap.len() {
-                return Err(Fault::Malformed);
-            }
-            match bitmap.prune_to_bit(bit) {
-                Ok(()) => Ok(Stage::Merkleized(bitmap)),
-                Err(_) => Err(Fault::Memory),
-            }
-        }
-        "init" => {
-            let (count, pinned) = rest.split_once(':').ok_or(Fault::Malformed)?;
-            let other = restored::<N>(alloc, hasher, number(count)?, pinned)?;
-            Ok(Stage::Merkleized(other))
-        }
-        _ => Err(Fault::Malformed),
+        "d" => return Ok(Stage::Unmerkleized(bitmap.into_dirty())),
+        "r" => bitmap = from_state(alloc, hasher, state(&bitmap)?)?,
+        "x" => prune(&mut bitmap, number(rest)?)?,
+        "init" => bitmap = of_parts(alloc, hasher, rest)?,
+        _ => return Err(Fault::Malformed),
     }
+    Ok(Stage::Merkleized(bitmap))
+}
+
+/// Prunes up to a bit.
+fn prune<const N: usize>(
+    bitmap: &mut MerkleizedBitMap<FixedBytes<32>, N>,
+    bit: u64,
+) -> Result<(), Fault>
+    requires { IsChunkSize N }
+{
+    if bit > bitmap.len() {
+        return Err(Fault::Malformed);
+    }
+    match bitmap.prune_to_bit(bit) {
+        Ok(()) => Ok(()),
+        Err(_) => Err(Fault::Memory),
+    }
+}
+
+/// The bitmap of `COUNT:DIGESTS`.
+fn of_parts<const N: usize>(
+    alloc: Global,
+    hasher: &Standard<Sha256>,
+    parts: &str,
+) -> Result<MerkleizedBitMap<FixedBytes<32>, N>, Fault>
+    requires { IsChunkSize N }
+{
+    let (count, pinned) = parts.split_once(':').ok_or(Fault::Malformed)?;
+    restored(alloc, hasher, number(count)?, pinned)
 }
 
 /// The bitmap after a call: `p:BITS` appends bits, `s:BIT:VALUE` changes a bit, and `m` hashes what changed.
@@ -229,15 +291,23 @@ fn unmerkleized<const N: usize>(
     match verb {
         "p" => push(&mut bitmap, rest)?,
         "s" => set(&mut bitmap, rest)?,
-        "m" => {
-            return match bitmap.merkleize(hasher) {
-                Ok(bitmap) => Ok(Stage::Merkleized(bitmap)),
-                Err(_) => Err(Fault::Memory),
-            };
-        }
+        "m" => return hashed(hasher, bitmap),
         _ => return Err(Fault::Malformed),
     }
     Ok(Stage::Unmerkleized(bitmap))
+}
+
+/// The bitmap with what changed hashed.
+fn hashed<const N: usize>(
+    hasher: &Standard<Sha256>,
+    bitmap: UnmerkleizedBitMap<FixedBytes<32>, N>,
+) -> Result<Stage<N>, Fault>
+    requires { IsChunkSize N }
+{
+    match bitmap.merkleize(hasher) {
+        Ok(bitmap) => Ok(Stage::Merkleized(bitmap)),
+        Err(_) => Err(Fault::Memory),
+    }
 }
 
 /// Appends a bit for each digit.
@@ -325,13 +395,22 @@ fn proofs<const N: usize>(
             Ok(pair) => pair,
             Err(error) => return merkle_refusal(alloc, &error),
         };
-        let leaves = proof.leaves;
-        let digests = joined(alloc, &proof.digests)?;
-        let chunk = hex::encode(alloc, chunk)?;
-        let text = format!(in alloc; "{bit}:{leaves}:{digests}:{chunk}")?;
-        series.push_text(text.as_str())?;
+        series.push_text(proof_told(alloc, bit, &proof, &chunk)?.as_str())?;
     }
     Ok(series.finish_or("-")?)
+}
+
+/// A bit with the number of leaves and the digests of its proof, and its chunk.
+fn proof_told<const N: usize>(
+    alloc: Global,
+    bit: u64,
+    proof: &Proof<mmr::Family, FixedBytes<32>>,
+    chunk: &[u8; N],
+) -> Result<String, Fault> {
+    let leaves = proof.leaves;
+    let digests = joined(alloc, &proof.digests)?;
+    let chunk = hex::encode(alloc, *chunk)?;
+    Ok(format!(in alloc; "{bit}:{leaves}:{digests}:{chunk}")?)
 }
 
 /// The digests at all positions.

@@ -13,8 +13,8 @@ use storage_merkle::merkle::Location;
 use storage_merkle::merkle::hasher::Standard;
 
 /// `calls claims`: of each claim on the bitmap after the calls the numbers of leaves with which it is accepted. A claim
-/// `BIT:CLAIMED:INACTIVE:FIRST:LAST` is the proof of one bit, said to be one of another bit with so many inactive peaks and, in
-/// turn, each number of leaves from the first to the last.
+/// `BIT:CLAIMED:INACTIVE:FIRST:LAST` is the proof of one bit, said to be one of another bit with that number of inactive peaks and,
+/// in turn, each number of leaves from the first to the last.
 pub fn bitmaps_verified<const N: usize>(
     alloc: Global,
     hasher: &Standard<Sha256>,
@@ -33,6 +33,22 @@ pub fn bitmaps_verified<const N: usize>(
     Ok(answers.finish()?)
 }
 
+/// The five numbers of a claim.
+fn five_numbers(alloc: Global, claim: &str) -> Result<[u64; 5], Fault> {
+    let parts: Vec<&str> = claim.split(':').collect(alloc)?;
+    match parts.as_slice() {
+        [first, second, third, fourth, fifth] => Ok([
+            number(*first)?,
+            number(*second)?,
+            number(*third)?,
+            number(*fourth)?,
+            number(*fifth)?,
+        ]),
+        _ => Err(Fault::Malformed),
+    }
+}
+
+/// The numbers of leaves with which a claim is accepted.
 fn accepted<const N: usize>(
     alloc: Global,
     hasher: &Standard<Sha256>,
@@ -41,11 +57,7 @@ fn accepted<const N: usize>(
 ) -> Result<String, Fault>
     requires { IsChunkSize N }
 {
-    let parts: Vec<&str> = claim.split(':').collect(alloc)?;
-    let [bit, claimed, inactive, first, last] = parts.as_slice() else {
-        return Err(Fault::Malformed);
-    };
-    let (bit, claimed) = (number(*bit)?, number(*claimed)?);
+    let [bit, claimed, inactive, first, last] = five_numbers(alloc, claim)?;
     if bit < bitmap.pruned_bits() {
         return Err(Fault::Malformed);
     }
@@ -53,10 +65,10 @@ fn accepted<const N: usize>(
         Ok(proof) => proof,
         Err(error) => return merkle_refusal(alloc, &error),
     };
-    proof.inactive_peaks = number(*inactive)? as usize;
+    proof.inactive_peaks = inactive as usize;
     let root = bitmap.root();
     let mut numbers = Series::inner(alloc);
-    for leaves in number(*first)?..=number(*last)? {
+    for leaves in first..=last {
         proof.leaves = Location::new(leaves);
         if MerkleizedBitMap::verify_bit_inclusion(alloc, hasher, &proof, &chunk, claimed, &root)? {
             numbers.push(leaves)?;

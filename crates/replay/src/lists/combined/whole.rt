@@ -86,7 +86,7 @@ pub fn combined_ranges<F: Graftable + Countable>(
     )
 }
 
-/// At most so many operations from `start` on, their chunks, and whether the proof is accepted.
+/// At most `most` operations from `start` on, their chunks, and whether the proof is accepted.
 fn range_told<F: Graftable + Countable>(
     alloc: Global,
     snapshot: &Snapshot<F, Sha256, 1>,
@@ -167,7 +167,7 @@ fn without_operations<F: Graftable + Countable>(
 /// A proof of operations, the operations and their chunks.
 type Served<F> = (RangeProof<F, FixedBytes<32>>, Vec<u64>, Vec<[u8; 1]>);
 
-/// The proof of at most so many operations from `start` on from both trees and a log.
+/// The proof of at most `most` operations from `start` on from both trees and a log.
 fn with_operations<F: Graftable + Countable>(
     alloc: Global,
     snapshot: &Snapshot<F, Sha256, 1>,

@@ -5,8 +5,8 @@ ghost use Rattle.storage_bitmap.specs.Chunks.{IsChunkSize};
 use crate::columns::{Fault, array, bytes, digest, number};
 use crate::lists::extracted::series;
 use crate::lists::refusals::{codec_refusal, merkle_refusal};
-use crate::lists::unframed::operations;
-use commonware_storage::codec::{Decode, FixedBytes};
+use crate::lists::unframed::{Unframed, operations};
+use commonware_storage::codec::{self, Decode, FixedBytes};
 use commonware_storage::digest::Sha256;
 use commonware_storage::merkle::{Graftable, Location};
 use commonware_storage::qmdb::current::proof::{RangeProof, verify_proof_and_extract_digests};
@@ -33,23 +33,39 @@ fn over<F: Graftable, const N: usize>(alloc: Global, columns: &[&str]) -> Result
         return Err(Fault::Malformed);
     };
     let start = Location::new(number(*start)?);
+    let root = digest(*root)?;
     let operations = operations(alloc, *items)?;
     let chunks = arrays::<N>(alloc, *chunks)?;
-    let proof = bytes(alloc, *proof)?;
-    let root = digest(*root)?;
+    match range_proof::<F>(alloc, *proof)? {
+        Ok(proof) => handed_out(alloc, &proof, start, &operations, &chunks, &root),
+        Err(error) => codec_refusal(alloc, error),
+    }
+}
+
+/// The range proof of bytes in hexadecimal, or why they are none.
+fn range_proof<F: Graftable>(
+    alloc: Global,
+    column: &str,
+) -> Result<Result<RangeProof<F, FixedBytes<32>>, codec::Error>, Fault> {
+    let bytes = bytes(alloc, column)?;
     // no digest takes less than a byte
-    let most = proof.len();
-    let proof = match RangeProof::<F, FixedBytes<32>>::decode_cfg(alloc, proof.as_slice(), &most) {
-        Ok(proof) => proof,
-        Err(error) => return codec_refusal(alloc, error),
-    };
+    let most = bytes.len();
+    Ok(RangeProof::decode_cfg(alloc, bytes.as_slice(), &most))
+}
+
+/// The digests that the check of a range proof hands out, or the refusal.
+fn handed_out<F: Graftable, const N: usize>(
+    alloc: Global,
+    proof: &RangeProof<F, FixedBytes<32>>,
+    start: Location<F>,
+    operations: &[Unframed],
+    chunks: &[[u8; N]],
+    root: &FixedBytes<32>,
+) -> Result<String, Fault>
+    requires { IsChunkSize N }
+{
     match verify_proof_and_extract_digests::<F, _, Sha256, N>(
-        alloc,
-        &proof,
-        start,
-        &operations,
-        &chunks,
-        &root,
+        alloc, proof, start, operations, chunks, root,
     ) {
         Ok(digests) => series(alloc, &digests),
         Err(error) => merkle_refusal(alloc, &error),

@@ -1,10 +1,14 @@
-use Rattle.std.proofs.Common.{◌*◌, map, sym, arith, subst}
+use Rattle.std.proofs.Common.{◌*◌, ◌<◌, map, sym, arith, subst}
 use Rattle.std.proofs.lemmas.Nat.{le-div}
 use Rattle.storage_bitmap.specs.BitProofs.{IsBitAccepted}
 use Rattle.storage_bitmap.proofs.Bits.{chunk_positive}
 use Rattle.storage_bitmap.proofs.BitProving.{own_bit}
 use Rattle.storage_bitmap.proofs.Standing.{count_of}
 use Rattle.storage_bitmap.proofs.bitmap.authenticated.proof.BitMap+D+N+Merkleized+D.proof.Goals as goal
+
+pub returns-clause-within : goal.returns-clause-within
+returns-clause-within g c =
+    rw (← c.self.view_is) (subst (λ n. c.args.bit < n) c.len-length.ensures.value (omega (arith, c.if-bit-length.false)))
 
 pub returns-clause-own : goal.returns-clause-own
 returns-clause-own g c plain bits s =

@@ -1,4 +1,4 @@
-use Rattle.std.proofs.Common.{arith, ◌-◌, ◌*◌, ◌/◌, ◌≤◌, ap}
+use Rattle.std.proofs.Common.{arith, ◌-◌, ◌*◌, ◌/◌, ◌≤◌, ap, refl}
 use Rattle.std.proofs.lemmas.Nat.{le-div}
 use Rattle.storage_bitmap.proofs.Bits.{chunk_positive}
 use Rattle.storage_bitmap.proofs.Dirty.{marked, marked_within}
@@ -25,6 +25,9 @@ invariant_of-self-2 g c =
     (c.args.bit / (8 * g.row.N)) c.self.inside.bits.pruned c.self.inside.tree.leaves
     (λ l. m.marked (omega (arith, l, c.as_u64-leaves.ensures, c.leaves.ensures)))
     (λ l. ap (λ d. d.keys) (m.others (omega (arith, l, c.as_u64-leaves.ensures, c.leaves.ensures)))) first i.state))
+
+pub returns-clause-value : goal.returns-clause-value
+returns-clause-value g c = rw (← c.self.view_is) (c.set_bit.ensures, refl)
 
 pub returns-clause-stands : goal.returns-clause-stands
 returns-clause-stands g c h bits s =

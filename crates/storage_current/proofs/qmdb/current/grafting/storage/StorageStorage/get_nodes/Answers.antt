@@ -40,3 +40,6 @@ returns-clause-answers g c =
     let s = rw (c.size-size.ensures, ← c.deref.ensures.value, ← c.deref-2.ensures.value, c.in_default.is) at
     (c.in_ok-found.ensures later) in
     rw (c.in_ok-fill.ensures, c.deref-3.ensures.value) (filled_are _ later s.0 _ _ _ _ s.1 c.in-Ok.ensures.answers s.2)
+
+pub returns-in-Err-clause-failure : goal.returns-in-Err-clause-failure
+returns-in-Err-clause-failure g c = c.in-Err.ensures.failure
