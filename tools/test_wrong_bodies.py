@@ -4,7 +4,8 @@
 Of the edits of a crate a harmless one must be named, also where the function that it is in calls one with a wrong body, where it
 needs a trait's block that is not proved for another edit, where it takes away a goal that a proof file answers, and where such a goal
 of another function of that name fails. An edit that cannot be applied must be named too, and a crate that is not proved without an
-edit. A crate that a gate keeps from an earlier run is tried all the same. The last line is 'N passed, M failed'.
+edit. An edit that names the goal that it breaks is refused by it, and one that names another goal by a search. A crate that a gate
+keeps from an earlier run is tried all the same. The last line is 'N passed, M failed'.
 """
 import pathlib
 import shutil
@@ -120,8 +121,17 @@ EDITS = {
     "harmless_beside_block": ("word.measure()", "word.measure() + 0"),
     "harmless_where_a_goal_is_answered": ("let third = three_more(n);", "let third = n + 3;"),
     "no_such_text": ("five_more", "six_more"),
+    # an edit that names the answered goal that it breaks, a harmless one that names a goal, and one that breaks another goal
+    "wrong_by_its_answer": ("        4", "        6", "returns"),
+    "harmless_that_names_a_goal": ("        4", "        2 + 2", "returns"),
+    "wrong_by_another_goal": ("third + 1", "third + 2", "three_more-third-requires"),
 }
-REFUSED = {"callee_wrong", "other_word_wrong", "block_wrong"}
+REFUSED = {"callee_wrong", "other_word_wrong", "block_wrong", "wrong_by_its_answer", "wrong_by_another_goal"}
+
+
+def goals_of(edit):
+    """The line of an edit that names a goal, where it does."""
+    return "".join(f"goal: {it}\n" for it in edit[2:])
 
 
 def said(text, edits, gate=None):
@@ -138,7 +148,7 @@ def said(text, edits, gate=None):
         (crate / "proofs/Lib.antt").write_text("")
         for folder, answers in ANSWERS.items():
             (crate / "proofs" / folder / "Answers.antt").write_text(answers)
-        group = "".join(f"\nname: {it}\nold: {old}\nnew: {new}\n" for it, (old, new) in edits.items())
+        group = "".join(f"\nname: {it}\n{goals_of(edits[it])}old: {edits[it][0]}\nnew: {edits[it][1]}\n" for it in edits)
         (crate / "must-fail/src.lib.edit").write_text(f"file: src/lib.rt\n{group}")
         words = [root / "tools/wrong_bodies.py"]
         if gate:
@@ -157,12 +167,11 @@ def main():
     results["the status is 1"] = status == 1
     wrong, status, _ = said(CRATE.replace("    n + 3", "    n + 4"), {"callee_wrong": EDITS["callee_wrong"]})
     results["a crate that is not proved is named"] = status == 1 and any("without an edit" in it for it in wrong)
-    only, status, _ = said(CRATE, {"callee_wrong": EDITS["callee_wrong"]})
-    results["one refused edit is well"] = status == 0 and only.keys() == {"callee_wrong"}
     kept = "rt: sums is kept: an earlier run on this machine proved the same files over the same libraries\n"
     over, status, _ = said(CRATE, {"callee_wrong": EDITS["callee_wrong"]}, kept)
-    results["a crate that the gate keeps is tried"] = status == 0 and over.keys() == {"callee_wrong"}
+    results["a crate that the gate keeps is tried, and one refused edit is well"] = status == 0 and over.keys() == {"callee_wrong"}
     lost, status, _ = said(CRATE, {"callee_wrong": EDITS["callee_wrong"]}, "rt: sums NOT PROVED\n")
+    results["a named goal is what refuses"] = "`returns`" in tried.get("wrong_by_its_answer", "")
     results["a crate that the gate does not prove is named"] = status == 1 and any("without an edit" in it for it in lost)
     for name, is_well in results.items():
         print(f"{name}: {'passed' if is_well else 'FAILED'}")

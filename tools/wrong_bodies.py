@@ -4,7 +4,9 @@
     tools/wrong_bodies.py [--built FOLDER [--gate LOG]] [--jobs N] [--kept] [--only NAME,..] [CRATE..]
 
 A file crates/CRATE/must-fail/NAME.edit has one edit: a line 'file: src/FILE.rt', then pairs of lines 'old: TEXT' and 'new: TEXT'.
-A file with lines 'name: NAME' has a group: an edit of its own under each of them, all of the file named above them.
+A file with lines 'name: NAME' has a group: an edit of its own under each of them, all of the file named above them. A line
+'goal: GOAL' names a goal of the edited function which a proof file answers, and whose answer the edit breaks: of that function nothing
+is searched then, since one goal is enough. An edit that breaks no such answer is tried once more, with all searches.
 
 A crate is checked without an edit first, and must be proved. What that check kept is where the others begin. Where a gate has proved
 the crate from nothing, that is the check without an edit, and the others begin with nothing kept; where it says that an earlier run
@@ -51,6 +53,8 @@ NEEDS = re.compile(r"it (?:calls|passes the blocks?) (.*?), which (?:is|are) not
 # What the check says of an answer in a proof file that does not meet its goal, on one line or more, and of one that only misses a name.
 ANSWER = re.compile(r"(?:\./)?proofs/(\S+)/(?:Answers|Invariants|Proof)\.antt:\d+:\d+: error: `([^`]+)`: (.*(?:\n +\S.*)*)")
 MISSES_NAME = re.compile(r"has no field|is not in scope|has no `|was not admitted")
+# What keeps the check from searching a function's goals.
+UNSEARCHED = "#[tactic(none)]"
 # A line that declares a constant.
 CONSTANT = re.compile(r"(?:pub(?:\([\w:]+\))? )?const (\w+)")
 # A line on which a function begins, with its indentation.
@@ -66,10 +70,11 @@ class BadEdit(Exception):
 
 
 class Edit:
-    """A named edit of a crate: the lines that it changes, and the functions whose bodies it changes, if it changes nothing else."""
+    """A named edit of a crate: the lines that it changes, and the functions whose bodies it changes, if it changes nothing else; and the
+    answered goal that it breaks, where it names one."""
 
     def __init__(self, name, changes):
-        self.name, self.changes = name, changes
+        self.name, self.changes, self.goal = name, changes, None
         self.lines, self.places, self.is_of_bodies = {}, set(), True
 
     def locate(self, texts):
@@ -122,6 +127,17 @@ def function_at(file, lines, number):
             whole = [with_attributes(lines, first) + 1, span[0] + 1, span[1] + 1]
             found = Place(file, *whole, head[2], owner_of(lines, first))
     return found if found and number + 1 >= found.body else None
+
+
+def leave_unsearched(lines, place):
+    """Marks a function so that only what its proof files answer is tried. No line moves."""
+    head = next(it for it in range(place.first - 1, place.body) if (found := HEAD.match(lines[it])) and found[2] == place.name)
+    above = next((it for it in range(place.first - 1, head) if lines[it].lstrip().startswith("#[tactic(")), None)
+    indent = HEAD.match(lines[head])[1]
+    if above is not None:
+        lines[above] = indent + UNSEARCHED
+    elif UNSEARCHED not in lines[head]:
+        lines[head] = f"{indent}{UNSEARCHED} {lines[head].lstrip()}"
 
 
 def owner_of(lines, first):
@@ -195,6 +211,8 @@ def edits_of(folder):
             if line.startswith("name: "):
                 changes = []
                 edits.append(Edit(line[len("name: ") :].strip(), changes))
+            elif line.startswith("goal: "):
+                edits[-1].goal = line[len("goal: ") :].strip()
             elif line.startswith("file: "):
                 file = line[len("file: ") :].strip()
             elif line.startswith("old: "):
@@ -254,9 +272,10 @@ class Verdict:
         if needed & blocks or {it.rpartition("::")[0] for it in needed} & blocks:
             self.doubtful.add(name)
 
-    def refusal_of(self, edit):
-        """The first goal in a function that the edit changes."""
-        return next((it for it in self.goals if is_inside(it, edit.places)), None)
+    def refusal_of(self, edit, by_answer):
+        """The first goal in a function that the edit changes; or, by the answer alone, the goal that the edit names."""
+        is_its = lambda it: not by_answer or it.file is None and it.text.startswith(f"`{edit.goal}`:")
+        return next((it for it in self.goals if is_inside(it, edit.places) and is_its(it)), None)
 
     def strays(self, edits):
         """The goals in functions that none of the edits changes, and that need no block which is not proved."""
@@ -301,13 +320,16 @@ class Crate:
                 sound.append(edit)
         return len(rounds_of(sound))
 
-    def check(self, edits, kept, functions=()):
-        """Checks a copy of the crate with the edits, over what earlier checks kept: all of it, or these functions and what they call."""
+    def check(self, edits, kept, functions=(), by_answers=False):
+        """Checks a copy of the crate with the edits, over what earlier checks kept: all of it, or these functions and what they call. By
+        answers, nothing is searched of the functions of edits that name a goal."""
         only = [word for it in functions for word in ("--only", it.partition("::")[2])]
         texts = {file: text.split("\n") for file, text in self.texts.items()}
         for edit in edits:
             for (file, number), line in edit.lines.items():
                 texts[file][number] = line
+            for place in edit.places if by_answers and edit.goal else ():
+                leave_unsearched(texts[place.file], place)
         with tempfile.TemporaryDirectory(prefix="wrong-bodies-") as room:
             for file, text in texts.items():
                 path = pathlib.Path(room, file)
@@ -401,7 +423,7 @@ class Trial:
 
     def judge(self, edit, verdict, is_alone):
         """Says that an edit is refused, and by which goal; returns whether it is."""
-        goal = verdict.refusal_of(edit)
+        goal = verdict.refusal_of(edit, bool(edit.goal) and not is_alone)
         if goal is None and not edit.is_of_bodies and verdict.goals:
             goal = verdict.goals[0]
         if goal is None or not verdict.is_refused:
@@ -446,10 +468,10 @@ class Trial:
         clean = self.crate.check([], kept)
         return clean.functions if clean.is_proved else None
 
-    def check(self, edits, kept):
+    def check(self, edits, kept, by_answers=False):
         """Checks the functions that the edits of bodies are in."""
         functions = {it for edit in edits for place in edit.places for it in self.named_at(place)}
-        return self.crate.check(edits, kept, sorted(functions))
+        return self.crate.check(edits, kept, sorted(functions), by_answers)
 
     def likely(self, edit):
         """Lists of functions that an edit of anything but a body is likely to be seen in, those that are checked soonest first."""
@@ -481,8 +503,8 @@ class Trial:
     def run_round(self, edits, kept):
         """Tries edits together, then again those that are in doubt as long as that settles some, and the rest alone."""
         left, tried = edits, None
-        while left and left != tried and len(left) > 1:
-            verdict, tried = self.check(left, kept), left
+        while left and left != tried and (len(left) > 1 or left[0].goal):
+            verdict, tried = self.check(left, kept, True), left
             for goal in verdict.strays(left):
                 self.say(f"no edit: a function without one fails, {told(goal)}", False)
             left = [it for it in left if not self.judge(it, verdict, False)]

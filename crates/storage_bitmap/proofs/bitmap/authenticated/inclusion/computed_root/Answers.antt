@@ -1,6 +1,7 @@
-use Rattle.std.proofs.Common.{◌*◌, ◌/◌, ◌%◌, ◌∷◌, [], ap, map, option_map, refl, sym, ◌∙◌}
+use Rattle.std.proofs.Common.{◌*◌, ◌/◌, ◌%◌, ◌∷◌, [], ap, map, option_map, refl, sym, ◌∙◌, arith}
 use Rattle.std.proofs.lemmas.List.{map-append}
 use Rattle.storage_bitmap.proofs.BitChecks.{aligned_answer, between_answer, not_both}
+use Rattle.std.proofs.lemmas.Grind.{common_steps}
 use Rattle.storage_bitmap.proofs.bitmap.authenticated.inclusion.computed_root.Goals as goal
 
 pub returns-then-is_multiple_of-clause-root : goal.returns-then-is_multiple_of-clause-root
@@ -34,3 +35,6 @@ returns-then-place-complete-clause-root g c = λ same.
     c.in_ok-root.field-0) (g.H.Digest.Write.text c.in-Some-2.root) (g.H.Digest.Write.text c.partial_root.result)
     c.as_u64-length.result c.if-place-complete.true c.as_u64-length.ensures refl refl
     (ap (option_map g.H.Digest.Write.text) c.in-Some-2.is) (c.in_ok-root.ensures same) c.partial_root.ensures
+
+pub returns-clause-root : goal.returns-clause-root
+returns-clause-root g c = grind (arith, common_steps)

@@ -1,0 +1,7 @@
+use Rattle.std.proofs.Common.{rules}
+use Rattle.storage_codec.specs.Parts.{varint_text}
+use Rattle.storage_codec.proofs.codec.varint.UIntWrite.write.Goals as goal
+
+pub returns-clause-ok : goal.returns-clause-ok
+unfolding varint_text
+returns-clause-ok c = search rules

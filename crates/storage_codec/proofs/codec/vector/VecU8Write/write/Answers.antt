@@ -1,0 +1,6 @@
+use Rattle.std.proofs.Common.{arith}
+use Rattle.storage_codec.specs.PartsLaws.{starts_first, starts_then}
+use Rattle.storage_codec.proofs.codec.vector.VecU8Write.write.Goals as goal
+
+pub returns-in_err-write-clause-err : goal.returns-in_err-write-clause-err
+returns-in_err-write-clause-err c = grind (arith, starts_first, starts_then)
