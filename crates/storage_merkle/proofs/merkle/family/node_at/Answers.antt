@@ -1,4 +1,4 @@
-use Rattle.std.proofs.Common.{arith}
+use Rattle.std.proofs.Common.{arith, rules}
 use Rattle.storage_merkle.specs.ShapeLaws.{node_small, node_birth}
 use Rattle.storage_merkle.proofs.merkle.family.node_at.Goals as goal
 
@@ -10,3 +10,6 @@ returns-clause-few g c = (node_small g.F.Family.shape g.met.F.Family.laws _ _ _ 
 
 pub returns-clause-birth : goal.returns-clause-birth
 returns-clause-birth g c = node_birth g.F.Family.shape g.met.F.Family.laws _ _ _ c.node_after.ensures (omega arith)
+
+pub returns-clause-node : goal.returns-clause-node
+returns-clause-node g c = search rules

@@ -1,4 +1,4 @@
-use Rattle.std.proofs.Common.{◌≡◌, [], arith, sym, ◌∙◌}
+use Rattle.std.proofs.Common.{◌≡◌, [], arith, sym, ◌∙◌, rules}
 use Rattle.storage_merkle.specs.Nodes.{placed}
 use Rattle.storage_merkle.specs.ShapeLaws.{no_peaks, step}
 use Rattle.storage_merkle.proofs.merkle.peaks.PeaksIterator.next.Goals as goal
@@ -27,3 +27,6 @@ invariant_of-self g c =
     let s = step g.F.Family.shape g.met.F.Family.laws c.self.inside.first c.self.inside.left c.first_peak-height.result
     c.self.invariant.0 c.self.invariant.1 c.first_peak-height.ensures.first in
     (omega (arith, s.within, c.power-leaves.ensures, c.self.invariant.0), rw c.power-leaves.ensures s.rest)
+
+pub returns-clause-steps : goal.returns-clause-steps
+returns-clause-steps g c = search rules

@@ -1,5 +1,7 @@
 use Rattle.storage_ops.proofs.Failing.{fails_then, hands_on, may_fail}
 use Rattle.storage_ops.proofs.ReadingCommits.{value_read, value_fails, none_read, none_fails}
+use Rattle.std.proofs.Common.{arith}
+use Rattle.storage_codec.specs.PartsLaws.{ends_same, ends_then}
 use Rattle.storage_ops.proofs.qmdb.operation.commit.read_presence.Goals as goal
 
 pub returns-in_err-read_cfg-clause-gives : goal.returns-in_err-read_cfg-clause-gives
@@ -27,3 +29,15 @@ returns-in_err-ensure_zeros-clause-gives g c =
 pub returns-clause-gives : goal.returns-clause-gives
 returns-clause-gives g c = none_read _ _ _ _ _ _ c.in_ok-read_cfg.ensures.gives c.if-branch.false
     (rw c.fixed_size.ensures at c.in_ok-ensure_zeros.ensures.gives)
+
+pub returns-in_err-read_cfg-2-clause-ends : goal.returns-in_err-read_cfg-2-clause-ends
+returns-in_err-read_cfg-2-clause-ends g c = grind (arith, ends_then, ends_same)
+
+pub returns-then-branch-clause-ends : goal.returns-then-branch-clause-ends
+returns-then-branch-clause-ends g c = grind (arith, ends_then, ends_same)
+
+pub returns-in_err-ensure_zeros-clause-ends : goal.returns-in_err-ensure_zeros-clause-ends
+returns-in_err-ensure_zeros-clause-ends g c = grind (arith, ends_then, ends_same)
+
+pub returns-clause-ends : goal.returns-clause-ends
+returns-clause-ends g c = grind (arith, ends_then, ends_same)

@@ -1,4 +1,4 @@
-use Rattle.std.proofs.Common.{map, length, ap, refl, inl, inr, ◌≤◌, ◌⊎◌, ◌∙◌, option_map}
+use Rattle.std.proofs.Common.{map, length, ap, refl, inl, inr, ◌≤◌, ◌⊎◌, ◌∙◌, option_map, arith}
 use Rattle.storage_merkle.specs.Calc.{back, eval}
 use Rattle.storage_merkle.specs.CheckSteps.{given_values}
 use Rattle.storage_merkle.specs.RangeProofs.{apart}
@@ -6,8 +6,9 @@ use Rattle.storage_merkle.specs.Trees.{part}
 use Rattle.storage_merkle.proofs.Walks.{peak_in_tree, peaks_next}
 use Rattle.storage_merkle.proofs.CheckTops.{first_and_others, tops, present_first, present_others, some_top, tops_left, top_here, tops_after, bag_step, bag_none, bag_some, tops_unfolded}
 use Rattle.storage_merkle.proofs.Found.{keeps_on, found_first}
-use Rattle.storage_merkle.proofs.merkle.proof.check.Given.bag.Goals as goal
 use Rattle.storage_merkle.proofs.merkle.proof.check.Given.bag.Goals.{then-loop-rest-test+else-rest-gt0-2, else-loop-rest-test}
+use Rattle.std.proofs.lemmas.Grind.{common_steps}
+use Rattle.storage_merkle.proofs.merkle.proof.check.Given.bag.Goals as goal
 
 pub item-requires-clause-within : goal.item-requires-clause-within
 item-requires-clause-within g c = peak_in_tree g.F.Family.shape g.met.F.Family.laws c.args.self.now.leaves
@@ -121,3 +122,6 @@ returns-in-Some g c = λ digest same serves is.
           c.loop-rest.folded _ _ onto.0 invariant.1 c.in-Some.folded _ c.in-Some.is c.join.ensures,
       onto.1 ∙ invariant.2,
     )
+
+pub loop-rest-init : goal.loop-rest-init
+loop-rest-init g c = grind (arith, common_steps)

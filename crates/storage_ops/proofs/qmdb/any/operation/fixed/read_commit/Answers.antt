@@ -1,6 +1,8 @@
 use Rattle.storage_ops.specs.Reading.{commit_steps}
 use Rattle.storage_ops.specs.Fixed.{floor_at}
 use Rattle.storage_ops.proofs.Failing.{fails_then, hands_on}
+use Rattle.std.proofs.Common.{arith}
+use Rattle.storage_codec.specs.PartsLaws.{ends_then}
 use Rattle.storage_ops.proofs.qmdb.any.operation.fixed.read_commit.Goals as goal
 
 pub returns-in_err-value-clause-gives : goal.returns-in_err-value-clause-gives
@@ -11,3 +13,9 @@ returns-in_err-value-clause-gives g c =
 pub returns-clause-gives : goal.returns-clause-gives
 returns-clause-gives g c = rw c.new.ensures (commit_steps g.S.Key.Read.View g.S.Read.View _ floor_at _ _ _ _
     c.in_ok-value.ensures.gives c.in_ok-floor.ensures.gives)
+
+pub returns-in_err-floor-clause-ends : goal.returns-in_err-floor-clause-ends
+returns-in_err-floor-clause-ends g c = grind (arith, ends_then)
+
+pub returns-clause-ends : goal.returns-clause-ends
+returns-clause-ends g c = grind (arith, ends_then)

@@ -1,0 +1,12 @@
+use Rattle.std.proofs.Common.{arith}
+use Rattle.storage_codec.specs.PartsLaws.{ends_then}
+use Rattle.storage_ops.proofs.qmdb.any.operation.update.ordered.read.Goals as goal
+
+pub returns-in_err-read_value-clause-ends : goal.returns-in_err-read_value-clause-ends
+returns-in_err-read_value-clause-ends g c = grind (arith, ends_then)
+
+pub returns-in_err-next_key-clause-ends : goal.returns-in_err-next_key-clause-ends
+returns-in_err-next_key-clause-ends g c = grind (arith, ends_then)
+
+pub returns-clause-ends : goal.returns-clause-ends
+returns-clause-ends g c = grind (arith, ends_then)

@@ -1,0 +1,16 @@
+use Rattle.std.proofs.Common.{arith}
+use Rattle.std.proofs.lemmas.Grind.{common_steps}
+use Rattle.storage_codec.specs.PartsLaws.{starts_cons}
+use Rattle.storage_ops.proofs.qmdb.operation.commit.write_presence.Goals as goal
+
+pub returns-in_err-put_zeros-in-None-clause-err : goal.returns-in_err-put_zeros-in-None-clause-err
+returns-in_err-put_zeros-in-None-clause-err g c = grind (arith, starts_cons)
+
+pub returns-in_err-write-in-Some-clause-err : goal.returns-in_err-write-in-Some-clause-err
+returns-in_err-write-in-Some-clause-err g c = grind (arith, starts_cons)
+
+pub returns-in_ok-put_zeros-in-None-clause-ok : goal.returns-in_ok-put_zeros-in-None-clause-ok
+returns-in_ok-put_zeros-in-None-clause-ok g c = grind (arith, common_steps)
+
+pub returns-in_ok-write-in-Some-clause-ok : goal.returns-in_ok-write-in-Some-clause-ok
+returns-in_ok-write-in-Some-clause-ok g c = grind (arith, common_steps)
