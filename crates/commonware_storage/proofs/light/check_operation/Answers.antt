@@ -1,9 +1,10 @@
-use Rattle.std.proofs.Common.{ℕ, List, sym}
+use Rattle.std.proofs.Common.{ℕ, List, sym, arith, rules}
 use Rattle.std.proofs.Math.Facts.{Fits-lt-pow}
 use Rattle.std.proofs.lemmas.Bool.{eqb-true}
 use Rattle.storage_codec.specs.Parts.{IsBytes}
 use Rattle.storage_current.specs.Held.{operation_of}
 use Rattle.commonware_storage.proofs.Answers.{accepted_exactly, true_of}
+use Rattle.std.proofs.lemmas.Grind.{common_steps}
 use Rattle.commonware_storage.proofs.light.check_operation.Goals as goal
 
 pub returns-in-Ok-clause-exact : goal.returns-in-Ok-clause-exact
@@ -21,3 +22,9 @@ returns-in-Ok-clause-meaning g c = λ wide.
     c.args.loc c.args.proof.now c.args.operation.now (g.H.Digest.Write.text c.args.root.now)
     (operation_of g.H.Digest.Write.text (λ (b : List ℕ). b) c.in-Ok.proof) c.in-Ok.ensures
     (eqb-true _ _ (sym c.if-eq.ensures)) fits c.verify_encoded.result (c.verify_encoded.ensures.meaning wide)
+
+pub returns-in-Err-Memory-clause-refused : goal.returns-in-Err-Memory-clause-refused
+returns-in-Err-Memory-clause-refused g c = search rules
+
+pub returns-in-Ok-2-clause-exact : goal.returns-in-Ok-2-clause-exact
+returns-in-Ok-2-clause-exact g c = grind (arith, common_steps)

@@ -1,3 +1,4 @@
+use Rattle.std.proofs.Common.{rules}
 use Rattle.commonware_storage.proofs.light.check_text.Goals as goal
 
 pub returns-clause-meaning : goal.returns-clause-meaning
@@ -8,3 +9,6 @@ returns-clause-meaning g c = λ wide accepted. record {
   operation_spelled = c.in_ok-operation.ensures.bytes;
   means = rw (← c.deref.ensures.value, ← c.deref-2.ensures.value) (c.in_ok-yes.ensures.meaning wide accepted);
 }
+
+pub returns-in_err-operation-clause-why : goal.returns-in_err-operation-clause-why
+returns-in_err-operation-clause-why g c = search rules
