@@ -61,7 +61,7 @@ CONSTANT = re.compile(r"(?:pub(?:\([\w:]+\))? )?const (\w+)")
 HEAD = re.compile(r"( *)(?:pub(?:\([\w:]+\))? |default |const |final |unsafe |extern \"C\" )*fn (\w+)")
 
 Change = collections.namedtuple("Change", "file old new")
-Place = collections.namedtuple("Place", "file first body last name owner")
+Place = collections.namedtuple("Place", "file first body last name owner words")
 Goal = collections.namedtuple("Goal", "function file line text")
 
 
@@ -104,7 +104,8 @@ class Edit:
             self.places.add(place)
         elif HEAD.match(before[number]) and "{" in line:
             # a body is written behind the head, and the old one is given to another function
-            self.places.add(Place(file, number + 1, number + 1, number + 1, HEAD.match(line)[2], owner_of(before, number)))
+            block = block_of(before, number)
+            self.places.add(Place(file, number + 1, number + 1, number + 1, HEAD.match(line)[2], owner_of(block), words_of(block)))
         elif not re.match(r"(pub |ghost )?use ", before[number]):
             self.is_of_bodies = False
 
@@ -125,7 +126,8 @@ def function_at(file, lines, number):
         span = span_of(lines, first, head[1]) if head else None
         if span and number <= span[1]:
             whole = [with_attributes(lines, first) + 1, span[0] + 1, span[1] + 1]
-            found = Place(file, *whole, head[2], owner_of(lines, first))
+            block = block_of(lines, first)
+            found = Place(file, *whole, head[2], owner_of(block), words_of(block))
     return found if found and number + 1 >= found.body else None
 
 
@@ -140,8 +142,8 @@ def leave_unsearched(lines, place):
         lines[head] = f"{indent}{UNSEARCHED} {lines[head].lstrip()}"
 
 
-def owner_of(lines, first):
-    """The names in the head of the `impl` or `trait` around a line, the type's before the trait's; none outside of one."""
+def block_of(lines, first):
+    """The type and the trait in the head of the `impl` or `trait` around a line; nothing outside of one."""
     for number in range(first - 1, -1, -1):
         if lines[number] == "}" or re.match(r"\S.*\{\}$", lines[number]):
             return ()
@@ -150,9 +152,25 @@ def owner_of(lines, first):
             head = " ".join(lines[number : end + 1]).partition(" where ")[0]
             parameters = re.match(r"impl\s*<((?:[^<>]|<(?:[^<>]|<[^<>]*>)*>)*)>", head)
             trait, _, kind = head[parameters.end() if parameters else 0 :].removeprefix("impl").rpartition(" for ")
-            first_name = lambda text: (re.findall(r"(?:\w+::)*(\w+)", text.replace("trait ", "").replace("pub ", "")) or [""])[0]
-            return tuple(it[:1].upper() + it[1:] for it in (first_name(kind), first_name(trait)) if it)
+            return kind, trait
     return ()
+
+
+def owner_of(block):
+    """The names of the type and of the trait of a block, as the check writes them."""
+    first_name = lambda text: (re.findall(r"(?:\w+::)*(\w+)", text.replace("trait ", "").replace("pub ", "")) or [""])[0]
+    return tuple(it[:1].upper() + it[1:] for it in map(first_name, block) if it)
+
+
+def words_of(block):
+    """The words in the names of the type and of the trait of a block, and of their arguments, as the check writes them."""
+    text = " ".join(block)
+    return frozenset(words_in(text) + ["array", "slice"] * ("[" in text) + ["ref"] * ("&" in text))
+
+
+def words_in(text):
+    """The words in names, in lower case."""
+    return [it.lower() for it in re.findall(r"[A-Z]?[a-z]+\d*|[A-Z]\d*|\d+", text)]
 
 
 def is_of(function, place):
@@ -166,7 +184,9 @@ def is_of(function, place):
     *above, owner = path or [""]
     kind, *trait = place.owner
     named = re.match(rf"(?:Array|Slice|Ref)*{kind}", owner)
-    is_owner = named and trait[0] in owner[named.end() :] if trait else owner.partition("+")[0] == kind
+    # behind the type's name and the trait's stand those arguments that tell this block from others
+    of_type, its_trait, of_trait = owner[named.end() :].partition(trait[0]) if named and trait else ("", "", "")
+    is_owner = its_trait and place.words.issuperset(words_in(f"{of_type} {of_trait}")) if trait else owner.partition("+")[0] == kind
     return above == module[: len(above)] and bool(is_owner)
 
 

@@ -1,4 +1,4 @@
-use Rattle.std.proofs.Common.{◌≡◌, ◌≤◌, ◌<◌, ◌∙◌, ◌/◌, ◌^◌, length, map, arith, sym, subst, inl, inr}
+use Rattle.std.proofs.Common.{◌≡◌, ◌≤◌, ◌<◌, ◌∙◌, ◌/◌, ◌^◌, length, map, arith, sym, subst, inl, inr, rules}
 use Rattle.storage_bitmap.specs.Chunks.{bit_count}
 use Rattle.storage_current.specs.GraftingLaws.{height_of_power}
 use Rattle.storage_current.specs.Held.{current_of}
@@ -103,3 +103,6 @@ pub returns-in-Err-read_range-clause-log_failures :
     goal.returns-in-Err-read_range-clause-log_failures
 returns-in-Err-read_range-clause-log_failures g c =
     log_counts_moved c.in-Err-read_range.error _ _ c.in-Err-read_range.ensures.failures
+
+pub returns-then-as_u64-held-clause-why : goal.returns-then-as_u64-held-clause-why
+returns-then-as_u64-held-clause-why g c = search rules

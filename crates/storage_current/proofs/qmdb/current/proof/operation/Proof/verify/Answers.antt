@@ -1,6 +1,6 @@
 use Rattle.std.specs.Bool.{IsTrue}
 use Rattle.std.specs.Result.{IfOk}
-use Rattle.std.proofs.Common.{◌∙◌, ◌++◌, ℕ, List, length, ap, subst}
+use Rattle.std.proofs.Common.{◌∙◌, ◌++◌, ℕ, List, length, ap, subst, rules}
 use Rattle.storage_current.specs.CurrentSoundness.{MeansActive}
 use Rattle.storage_current.specs.Held.{operation_of}
 use Rattle.storage_current.proofs.qmdb.current.proof.operation.Proof.verify.Goals as goal
@@ -12,3 +12,6 @@ returns-clause-meaning g c = λ wide.
     (operation_of g.D.Write.text g.C.Chunk.text c.args.self.now) operation (g.D.Write.text c.args.root.now)))
     (c.deref.ensures.value ∙ (c.in_ok-write.ensures.ok ∙ ap (λ (t : List ℕ). t
     ++ g.O.Write.text c.args.operation) c.new-bytes.ensures.items)) (c.verify_encoded.ensures.meaning wide)
+
+pub returns-clause-exact : goal.returns-clause-exact
+returns-clause-exact g c = search rules
