@@ -523,7 +523,7 @@ class Trial:
     def run_round(self, edits, kept):
         """Tries edits together, then again those that are in doubt as long as that settles some, and the rest alone."""
         left, tried = edits, None
-        while left and left != tried and (len(left) > 1 or left[0].goal):
+        while left and left != tried and (len(left) > 1 or left[0].goal and left[0].is_of_bodies):
             verdict, tried = self.check(left, kept, True), left
             for goal in verdict.strays(left):
                 self.say(f"no edit: a function without one fails, {told(goal)}", False)

@@ -1,4 +1,5 @@
 use Rattle.storage_codec.specs.PartsLaws.{ends_then}
+use Rattle.std.proofs.Common.{rules}
 use Rattle.storage_current.proofs.qmdb.current.proof.operation.codec.ProofBytesRead.read_cfg.Goals as goal
 
 pub returns-in-Ok-read_cfg-clause-ends : goal.returns-in-Ok-read_cfg-clause-ends
@@ -8,3 +9,6 @@ returns-in-Ok-read_cfg-clause-ends g c =
 pub returns-in-Err-read_cfg-clause-ends : goal.returns-in-Err-read_cfg-clause-ends
 returns-in-Err-read_cfg-clause-ends g c =
     ends_then c.read_cfg.ensures.ends (ends_then c.cut.ensures.ends c.read_cfg-2.ensures.ends)
+
+pub returns-then-is_none-clause-gives : goal.returns-then-is_none-clause-gives
+returns-then-is_none-clause-gives g c = search rules

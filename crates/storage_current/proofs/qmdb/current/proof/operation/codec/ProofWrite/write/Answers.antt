@@ -1,9 +1,10 @@
-use Rattle.std.proofs.Common.{◌++◌, ◌∙◌, ap}
+use Rattle.std.proofs.Common.{◌++◌, ◌∙◌, ap, arith}
 use Rattle.storage_codec.specs.Parts.{varint_text}
 use Rattle.storage_codec.specs.PartsLaws.{starts_then, starts_first}
 use Rattle.storage_current.specs.Held.{current_of}
 use Rattle.storage_current.specs.CurrentWire.{current_text}
 use Rattle.storage_current.proofs.Written.{on_err, on_err_to}
+use Rattle.std.proofs.lemmas.Grind.{common_steps}
 use Rattle.storage_current.proofs.qmdb.current.proof.operation.codec.ProofWrite.write.Goals as goal
 
 pub returns-in_err-write-clause-err : goal.returns-in_err-write-clause-err
@@ -21,3 +22,6 @@ returns-clause-err g c =
     (starts_then chunk range (c.in_ok-extend_from_slice.ensures.items
     ∙ ap (λ t. c.write.new.out.items ++ t) c.bytes.ensures) a))
     c.write-2.ensures.err
+
+pub returns-clause-ok : goal.returns-clause-ok
+returns-clause-ok g c = grind (arith, common_steps)
