@@ -1,5 +1,12 @@
-use Rattle.std.proofs.Common.{rules}
+use Rattle.std.proofs.Common.{rules, arith}
+use Rattle.storage_codec.specs.PartsLaws.{ends_then}
 use Rattle.storage_current.proofs.qmdb.current.proof.operation.codec.ProofArrayU8Read.read_cfg.Goals as goal
 
 pub returns-in-Ok-read_cfg-clause-gives : goal.returns-in-Ok-read_cfg-clause-gives
 returns-in-Ok-read_cfg-clause-gives g c = search rules
+
+pub returns-in-Ok-read_cfg-clause-ends : goal.returns-in-Ok-read_cfg-clause-ends
+returns-in-Ok-read_cfg-clause-ends g c = grind (arith, ends_then)
+
+pub returns-in-Err-read_cfg-clause-ends : goal.returns-in-Err-read_cfg-clause-ends
+returns-in-Err-read_cfg-clause-ends g c = grind (arith, ends_then)

@@ -1,5 +1,18 @@
-use Rattle.std.proofs.Common.{rules}
+use Rattle.std.proofs.Common.{rules, arith}
+use Rattle.storage_codec.specs.PartsLaws.{ends_then}
 use Rattle.storage_current.proofs.qmdb.current.proof.witness.codec.OpsRootWitnessRead.read_cfg.Goals as goal
 
 pub returns-in-Ok-Some-clause-gives : goal.returns-in-Ok-Some-clause-gives
 returns-in-Ok-Some-clause-gives g c = search rules
+
+pub returns-in-Err-read_pending-clause-ends : goal.returns-in-Err-read_pending-clause-ends
+returns-in-Err-read_pending-clause-ends g c = grind (arith, ends_then)
+
+pub returns-in-Ok-None-clause-ends : goal.returns-in-Ok-None-clause-ends
+returns-in-Ok-None-clause-ends g c = grind (arith, ends_then)
+
+pub returns-in-Ok-Some-clause-ends : goal.returns-in-Ok-Some-clause-ends
+returns-in-Ok-Some-clause-ends g c = grind (arith, ends_then)
+
+pub returns-in-Err-read_cfg-clause-ends : goal.returns-in-Err-read_cfg-clause-ends
+returns-in-Err-read_cfg-clause-ends g c = grind (arith, ends_then)
