@@ -1,6 +1,7 @@
 use Rattle.std.proofs.Common.{rules, ◌≡◌, ℕ, List, [], map, length, get_or, ap, sym, ◌∙◌, arith}
 use Rattle.std.proofs.lemmas.List.{get_or-map, length-map}
 use Rattle.storage_merkle.specs.Shape.{size}
+use Rattle.std.proofs.lemmas.Grind.{elements}
 use Rattle.storage_current.proofs.qmdb.current.snapshot.Snapshot.new.Goals as goal
 
 pub loop-leaf-preserved : goal.loop-leaf-preserved
@@ -36,3 +37,6 @@ pub returns-in-Ok-clause-stands : goal.returns-in-Ok-clause-stands
 returns-in-Ok-clause-stands g c =
     c.in-Ok.ensures.stands (map g.E.AsSlice.items c.args.operations.now) (length-map c.args.operations.now
     g.E.AsSlice.items ∙ sym c.in_default.ensures.why.0.all) c.loop-leaf.invariant.are
+
+pub loop-leaf-init : goal.loop-leaf-init
+loop-leaf-init g c = grind (arith, elements)
