@@ -7,7 +7,7 @@ import collections
 import pathlib
 import re
 
-from wrong_bodies import HEAD, module_of, owner_of, span_of
+from wrong_bodies import HEAD, block_of, module_of, owner_of, span_of
 
 ROOT = pathlib.Path(__file__).resolve().parent.parent
 LIBRARIES = ["storage_codec", "storage_merkle", "storage_ops", "storage_bitmap", "storage_current", "commonware_storage"]
@@ -35,7 +35,7 @@ class Function:
         self.body = plain("\n".join(lines[end : span[1] + 1])) if span else ""
         self.raw = "\n".join(lines[first : span[1] + 1]) if span else ""
         self.whole = self.head + self.body
-        self.owner = owner_of(lines, first)
+        self.owner = owner_of(block_of(lines, first))
         self.is_test = any("#[test]" in it for it in lines[max(first - 2, 0) : first])
         self.block = ""
         if self.owner:
