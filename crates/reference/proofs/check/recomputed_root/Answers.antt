@@ -6,6 +6,7 @@ use Rattle.reference.specs.Layouts.{laid_out}
 use Rattle.reference.specs.Sites.{site_of}
 use Rattle.reference.proofs.Nodes.{length-places}
 use Rattle.reference.proofs.Claims.{recomputed_from, some_elements}
+use Rattle.std.proofs.lemmas.Grind.{common_steps}
 use Rattle.reference.proofs.check.recomputed_root.Goals as goal
 
 pub returns-then-proof-len : goal.returns-then-proof-len
@@ -69,3 +70,12 @@ returns g c =
           (ap (map site_of) c.deref.ensures.value ∙ at)
           (ap (map text) c.deref-2.ensures.value) c.in_ok-bag.ensures c.root_over.ensures,
     )
+
+pub returns-in_default : goal.returns-in_default
+returns-in_default g c = grind (arith, common_steps)
+
+pub returns-then-is_empty : goal.returns-then-is_empty
+returns-then-is_empty g c = grind (arith, common_steps)
+
+pub returns-then-len : goal.returns-then-len
+returns-then-len g c = grind (arith, common_steps)

@@ -1,4 +1,4 @@
-use Rattle.std.proofs.Common.{arith, ◌≡◌, suc, ◌+◌, ◌-◌, ◌^◌, ap, ap₂, refl, ◌∙◌}
+use Rattle.std.proofs.Common.{arith, ◌≡◌, suc, ◌+◌, ◌-◌, ◌^◌, ap, ap₂, refl, ◌∙◌, rules}
 use Rattle.storage_merkle.specs.Calc.{eval}
 use Rattle.storage_merkle.specs.Trees.{Peak, part}
 use Rattle.reference.specs.Layouts.{laid_out, valued}
@@ -18,3 +18,6 @@ returns g t c =
     refl (c.in_ok-position.ensures ∙ ap₂ g.F.Family.shape.position c.first-first.ensures c.height-height.ensures.value)
     (c.in_ok-left.ensures ∙ ap part_of c.left.ensures) (c.in_ok-right.ensures
     ∙ ap part_of c.right.ensures) c.pair_digest-inner.ensures c.in_ok-digest.ensures
+
+pub returns-then-height-eq0 : goal.returns-then-height-eq0
+returns-then-height-eq0 g t c = search rules

@@ -1,4 +1,4 @@
-use Rattle.std.proofs.Common.{arith, ◌≡◌, length, ap, ◌∙◌}
+use Rattle.std.proofs.Common.{arith, ◌≡◌, length, ap, ◌∙◌, rules}
 use Rattle.reference.proofs.Nodes.{length-places}
 use Rattle.reference.proofs.site.sites.Goals as goal
 
@@ -8,3 +8,6 @@ split_folded-requires g c =
     ap length (c.deref.ensures.value ∙ c.in_ok-peaks.ensures)
     ∙ length-places 0 (g.F.Family.shape.peaks c.args.leaves) in
     omega (arith, c.requires.inactive)
+
+pub returns : goal.returns
+returns g c = search rules

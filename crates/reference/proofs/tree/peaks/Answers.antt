@@ -1,4 +1,4 @@
-use Rattle.std.proofs.Common.{arith, ◌≡◌, ap, ◌∙◌}
+use Rattle.std.proofs.Common.{arith, ◌≡◌, ap, ◌∙◌, rules}
 use Rattle.storage_merkle.specs.Shape.{leaves_of}
 use Rattle.reference.proofs.tree.peaks.Goals as goal
 
@@ -7,3 +7,6 @@ push_places-requires g c =
     let l : leaves_of c.deref.result.now ≡ c.args.leaves =
     ap leaves_of (c.deref.ensures.value ∙ c.in_ok-heights.ensures) ∙ g.met.F.Family.laws.sum c.args.leaves in
     omega arith
+
+pub returns : goal.returns
+returns g c = search rules

@@ -4,3 +4,6 @@ use Rattle.commonware_storage.proofs.stateproof.lines.parse_operation.Goals as g
 
 pub returns-then-not-is_empty : goal.returns-then-not-is_empty
 returns-then-not-is_empty c = grind (arith, common_steps)
+
+pub returns-else-branch : goal.returns-else-branch
+returns-else-branch c = grind (arith, common_steps)

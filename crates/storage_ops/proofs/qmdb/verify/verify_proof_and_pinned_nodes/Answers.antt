@@ -1,8 +1,9 @@
-use Rattle.std.proofs.Common.{refl, map, ap, subst, ◌∙◌, IfOk, IsTrue}
+use Rattle.std.proofs.Common.{refl, map, ap, subst, ◌∙◌, IfOk, IsTrue, arith}
 use Rattle.storage_merkle.specs.declared.merkle.bagging.Bagging.{Bagging}
 use Rattle.storage_merkle.specs.declared.merkle.bagging.Bagging.TheVariants.{BackwardFold}
 use Rattle.storage_merkle.specs.Pinned.{IsPinnedProved}
 use Rattle.storage_merkle.specs.RangeProofs.{RangeProof}
+use Rattle.std.proofs.lemmas.Grind.{common_steps}
 use Rattle.storage_ops.proofs.qmdb.verify.verify_proof_and_pinned_nodes.Goals as goal
 
 pub returns-clause-exact : goal.returns-clause-exact
@@ -25,3 +26,6 @@ returns-clause-means g c =
     → IsPinnedProved g.H.Hasher.hash_of g.F.Family.shape b proof c.args.start
     (map (λ bytes. bytes.items) c.deref.result.now) (map text c.args.pinned.now) (text c.args.root.now)))
     c.hasher-hasher.ensures (c.verify_proof_and_pinned_nodes.ensures.means refl refl))
+
+pub returns-clause-none : goal.returns-clause-none
+returns-clause-none g c = grind (arith, common_steps)

@@ -9,3 +9,6 @@ returns-in_default-clause-chunk g c = rw (← c.self.view_is) (clear_chunk g.row
 
 pub returns-clause-count : goal.returns-clause-count
 returns-clause-count g c = grind (arith, common_steps)
+
+pub overflow_sub-result : goal.overflow_sub-result
+overflow_sub-result g c = grind (arith, common_steps)

@@ -38,3 +38,12 @@ returns-then-place-complete-clause-root g c = λ same.
 
 pub returns-clause-root : goal.returns-clause-root
 returns-clause-root g c = grind (arith, common_steps)
+
+pub returns-in_default-clause-root : goal.returns-in_default-clause-root
+returns-in_default-clause-root g c = grind (arith, common_steps)
+
+pub returns-in_default-2-clause-root : goal.returns-in_default-2-clause-root
+returns-in_default-2-clause-root g c = grind (arith, common_steps)
+
+pub returns-then-not-is_empty-clause-root : goal.returns-then-not-is_empty-clause-root
+returns-then-not-is_empty-clause-root g c = grind (arith, common_steps)

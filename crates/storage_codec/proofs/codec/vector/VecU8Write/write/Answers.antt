@@ -1,6 +1,10 @@
 use Rattle.std.proofs.Common.{arith}
 use Rattle.storage_codec.specs.PartsLaws.{starts_first, starts_then}
+use Rattle.std.proofs.lemmas.Grind.{common_steps}
 use Rattle.storage_codec.proofs.codec.vector.VecU8Write.write.Goals as goal
 
 pub returns-in_err-write-clause-err : goal.returns-in_err-write-clause-err
 returns-in_err-write-clause-err c = grind (arith, starts_first, starts_then)
+
+pub returns-clause-ok : goal.returns-clause-ok
+returns-clause-ok c = grind (arith, common_steps)

@@ -26,3 +26,6 @@ returns-then-self-eq0-clause-root g c list s =
     c.root.ensures ∙ ap (λ i. root_of h T b c.leaves.result i []) z
     ∙ rooted h S T (g.met.H.Hasher.over c.args.hasher.now)
     (g.H.Hasher.chunk c.args.hasher.now) b list c.args.inactive c.leaves.result [] (c.leaves.ensures ∙ s.count) none
+
+pub returns-clause-root : goal.returns-clause-root
+returns-clause-root g c = grind arith

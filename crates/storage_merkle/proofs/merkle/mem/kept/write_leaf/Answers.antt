@@ -6,6 +6,7 @@ use Rattle.storage_merkle.specs.Hashing.{node_over}
 use Rattle.storage_merkle.specs.Rewriting.{over}
 use Rattle.storage_merkle.proofs.Rewriting.{over_is, room, written_first, written_more, written_all, written_until, place_late, place_early, birth_small}
 use Rattle.storage_merkle.proofs.merkle.mem.kept.write_leaf.Goals.{then-birth-leaves-via-then-birth-leaves, then-birth-leaves-via-else-birth-leaves+then-is_below}
+use Rattle.std.proofs.lemmas.Grind.{common_steps}
 use Rattle.storage_merkle.proofs.merkle.mem.kept.write_leaf.Goals as goal
 
 pub offset_bounds-nodes-nodes_over : goal.offset_bounds-nodes-nodes_over
@@ -173,3 +174,9 @@ returns g c list rest is h e =
     (let l = g.met.F.Family.laws.late (over c.args.place c.loop-height.height) c.loop-height.height in
     let p : 2 ^ c.loop-height.height ≡ 2 ^ 63 = ap (λ m. 2 ^ m) z in omega (arith, l, p, c.requires.few))
     (c.loop-height.invariant list rest h e)
+
+pub overflow_sub-digest : goal.overflow_sub-digest
+overflow_sub-digest g c = grind arith
+
+pub overflow_mul-first : goal.overflow_mul-first
+overflow_mul-first g c = grind (arith, common_steps)

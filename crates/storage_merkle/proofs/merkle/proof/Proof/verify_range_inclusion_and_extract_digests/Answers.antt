@@ -1,10 +1,11 @@
-use Rattle.std.proofs.Common.{◌≡◌, inl, inr, refl, map, option_map, sym, subst, ap, MatchOption}
+use Rattle.std.proofs.Common.{◌≡◌, inl, inr, refl, map, option_map, sym, subst, ap, MatchOption, arith}
 use Rattle.storage_merkle.specs.ProofWireLaws.{all_digests}
 use Rattle.storage_merkle.specs.Shape.{Laws}
 use Rattle.storage_merkle.specs.Checks.{IsRecomputed}
 use Rattle.storage_merkle.specs.Extracted.{extracted, texts}
 use Rattle.storage_merkle.proofs.Meaning.{no_elements, some_elements}
 use Rattle.storage_merkle.proofs.HandedOut.{handed_none, handed_some, misfit_none, other_root, other_root_none, differ, alike}
+use Rattle.std.proofs.lemmas.Grind.{common_steps}
 use Rattle.storage_merkle.proofs.merkle.proof.Proof.verify_range_inclusion_and_extract_digests.Goals as goal
 
 pub returns-in-Ok-clause-handed : goal.returns-in-Ok-clause-handed
@@ -113,3 +114,6 @@ returns-clause-handed g c = λ same.
     (subst Laws (sym same) g.met.F.Family.laws)
     (all_digests g.D.Write.text g.D.FixedSize.size g.met.D.FixedSize.sized c.args.self.now.digests.items) _ r
     (alike g.D.PartialEq.eq g.D.Write.text g.met.D.Digest.same _ c.args.root.now c.if-ne.ensures) _ all
+
+pub returns-in_default-clause-why : goal.returns-in_default-clause-why
+returns-in_default-clause-why g c = grind (arith, common_steps)

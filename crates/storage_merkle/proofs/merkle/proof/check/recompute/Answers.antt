@@ -9,6 +9,7 @@ use Rattle.storage_merkle.proofs.CheckSiblings.{siblings_rise, siblings_present,
 use Rattle.storage_merkle.proofs.Checks.{too_few, not_as_many, fit, tops_read, siblings_read, root_is, apart_count, after_all, claim_on}
 use Rattle.storage_merkle.specs.Extracted.{checked, checked_sites, digest_at, entries, texts}
 use Rattle.storage_merkle.proofs.Found.{adds_same, found_rest}
+use Rattle.std.proofs.lemmas.Grind.{common_steps}
 use Rattle.storage_merkle.proofs.merkle.proof.check.recompute.Goals as goal
 
 pub returns-then-proof-apart-clause-root : goal.returns-then-proof-apart-clause-root
@@ -309,3 +310,9 @@ returns-clause-fits g c =
     c.after_leading-rest.result.folded range c.all-all.ensures.folded after (c.from.result + c.count_apart.result)
     c.len.result tops siblings enough as_many c.if-start-end.false c.if-leaves-gt-MAX_LEAVES.false
     (omega (arith, c.peak_count-peaks.ensures)) c.if-end-leaves.false)
+
+pub returns-in_default-clause-root : goal.returns-in_default-clause-root
+returns-in_default-clause-root g c = grind (arith, common_steps)
+
+pub returns-then-start-end-clause-root : goal.returns-then-start-end-clause-root
+returns-then-start-end-clause-root g c = grind (arith, common_steps)

@@ -1,6 +1,7 @@
-use Rattle.std.proofs.Common.{map, ap}
+use Rattle.std.proofs.Common.{map, ap, arith}
 use Rattle.storage_merkle.specs.ProofWire.{joined_text}
 use Rattle.storage_merkle.proofs.Written.{on_err, writing_stops}
+use Rattle.std.proofs.lemmas.Grind.{common_steps}
 use Rattle.storage_merkle.proofs.merkle.proof.codec.write_digests.Goals as goal
 
 pub returns-in_err-write-clause-err : goal.returns-in_err-write-clause-err
@@ -9,3 +10,9 @@ returns-in_err-write-clause-err g c =
     on_err c.from_residual.result _ (writing_stops _ _ _ _ _ (T c.in-Some.digest.now)
     (joined_text (map T c.in-Some.rest.now)) c.loop-digest.invariant
     (ap (λ ds. joined_text (map T ds)) c.in-Some.ensures.cases.0) c.in_err-write.ensures.err)
+
+pub loop-digest-preserved : goal.loop-digest-preserved
+loop-digest-preserved g c = grind (arith, common_steps)
+
+pub returns-clause-ok : goal.returns-clause-ok
+returns-clause-ok g c = grind (arith, common_steps)

@@ -1,7 +1,8 @@
-use Rattle.std.proofs.Common.{Some, inl, inr, sym, ap, ◌∙◌}
+use Rattle.std.proofs.Common.{Some, inl, inr, sym, ap, ◌∙◌, arith}
 use Rattle.storage_merkle.specs.Extracted.{texts}
 use Rattle.storage_merkle.specs.Stores.{suffix_positions}
 use Rattle.storage_merkle.proofs.StoreSteps.{needed_missing}
+use Rattle.std.proofs.lemmas.Grind.{common_steps}
 use Rattle.storage_merkle.proofs.merkle.proof_store.ProofStore.digests_at.Goals as goal
 
 pub returns-in_default-clause-why : goal.returns-in_default-clause-why
@@ -13,3 +14,9 @@ returns-in_default-clause-why g c =
           c.loop-position-test.true c.position-item.is (sym c.in_default.ensures) ∙ ap (λ x. Some x) (sym e))
       | inr e ↦ inr e
     ]
+
+pub loop-position-preserved : goal.loop-position-preserved
+loop-position-preserved g c = grind (arith, common_steps)
+
+pub returns-clause-all : goal.returns-clause-all
+returns-clause-all g c = grind (arith, common_steps)

@@ -10,8 +10,9 @@ use Rattle.storage_merkle.proofs.Meaning.{no_elements, some_elements}
 use Rattle.storage_merkle.proofs.Handed.{taken, on_proof}
 use Rattle.storage_merkle.proofs.HandedOut.{misfit, misfit_none, other_root, other_root_none, differ, alike}
 use Rattle.storage_merkle.proofs.StoreAnswers.{made_some, made_nothing, not_lost}
-use Rattle.storage_merkle.proofs.merkle.proof_store.ProofStore.new.Goals as goal
 use Rattle.storage_merkle.proofs.merkle.proof_store.ProofStore.new.Goals.{in_default-via-in-Some+in_default, in_default-via-in_default}
+use Rattle.std.proofs.lemmas.Grind.{common_steps}
+use Rattle.storage_merkle.proofs.merkle.proof_store.ProofStore.new.Goals as goal
 
 pub returns-in-Ok-clause-made : goal.returns-in-Ok-clause-made
 returns-in-Ok-clause-made g c = λ same.
@@ -154,3 +155,9 @@ returns-clause-made g c = λ same.
     (alike g.D.PartialEq.eq text g.met.D.Digest.same c.in-Some-Some.computed c.args.root.now c.if-ne.ensures)
     (c.in_ok-of_checked.ensures T claim same
     (omega (arith, c.new-past.ensures, c.as_u64.ensures, length-map c.args.elements.now g.E.AsSlice.items)) found)
+
+pub overflow_add-as_u64 : goal.overflow_add-as_u64
+overflow_add-as_u64 g c = grind (arith, common_steps)
+
+pub of_checked-requires : goal.of_checked-requires
+of_checked-requires g c = grind (arith, common_steps)

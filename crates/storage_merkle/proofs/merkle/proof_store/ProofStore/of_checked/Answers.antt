@@ -12,8 +12,9 @@ use Rattle.storage_merkle.proofs.StoreReads.{all_but_first, enough_some, enough_
 use Rattle.storage_merkle.proofs.StoreSteps.{positions_rise}
 use Rattle.storage_merkle.proofs.StoreKept.{kept_sorted}
 use Rattle.storage_merkle.proofs.StoreAnswers.{store_is, unwrapped}
-use Rattle.storage_merkle.proofs.merkle.proof_store.ProofStore.of_checked.Goals as goal
 use Rattle.storage_merkle.proofs.merkle.proof_store.ProofStore.of_checked.Goals.{then-rest-gt0, else-rest-gt0}
+use Rattle.std.proofs.lemmas.Grind.{common_steps}
+use Rattle.storage_merkle.proofs.merkle.proof_store.ProofStore.of_checked.Goals as goal
 
 pub keep_peaks-requires-clause-enough : goal.keep_peaks-requires-clause-enough
 keep_peaks-requires-clause-enough g c =
@@ -116,3 +117,15 @@ returns g c = λ T claim same range found.
     store_is h T b proof start claim c.root_bagging.result c.args.past (text c.if-rest-gt0.front_fold.0)
     (text c.unwrap_or.result)
     (texts text c.sort_unstable_by_key.new.self.items) c.root_bagging.ensures range front_is back_fold all
+
+pub index-requires : goal.index-requires
+index-requires g c = grind (arith, common_steps)
+
+pub scale_in_slice-front_fold : goal.scale_in_slice-front_fold
+scale_in_slice-front_fold g c = grind (arith, common_steps)
+
+pub slice_bounds-front_fold-count : goal.slice_bounds-front_fold-count
+slice_bounds-front_fold-count g c = grind (arith, common_steps)
+
+pub slice_bounds-front_fold-start : goal.slice_bounds-front_fold-start
+slice_bounds-front_fold-start g c = grind (arith, common_steps)

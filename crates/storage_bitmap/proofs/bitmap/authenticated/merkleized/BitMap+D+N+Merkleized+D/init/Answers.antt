@@ -1,6 +1,7 @@
-use Rattle.std.proofs.Common.{ap, inl}
+use Rattle.std.proofs.Common.{ap, inl, arith}
 use Rattle.storage_bitmap.proofs.Bits.{chunk_positive}
 use Rattle.storage_bitmap.proofs.Standing.{restored, refused, past_limit, whole_restored}
+use Rattle.std.proofs.lemmas.Grind.{common_steps}
 use Rattle.storage_bitmap.proofs.bitmap.authenticated.merkleized.BitMap+D+N+Merkleized+D.init.Goals as goal
 
 pub returns-then-chunks-clause-why : goal.returns-then-chunks-clause-why
@@ -29,3 +30,12 @@ pub invariant_of-result : goal.invariant_of-result
 invariant_of-result g c =
     whole_restored g.row.N c.args.state.pruned_chunks c.new.result _ c.pruned-bits.result c.in-Ok.tree c.requires
     (chunk_positive g.row.N c.requires) c.if-chunks.false c.new.ensures c.pruned-bits.ensures c.in-Ok.ensures.kept
+
+pub pruned-bits-requires : goal.pruned-bits-requires
+pruned-bits-requires g c = grind (arith, common_steps)
+
+pub root_of_bits-root-requires : goal.root_of_bits-root-requires
+root_of_bits-root-requires g c = grind arith
+
+pub returns-clause-fits : goal.returns-clause-fits
+returns-clause-fits g c = grind (arith, common_steps)

@@ -1,4 +1,6 @@
 use Rattle.storage_bitmap.proofs.Standing.{merkleized}
+use Rattle.std.proofs.Common.{arith}
+use Rattle.std.proofs.lemmas.Grind.{common_steps}
 use Rattle.storage_bitmap.proofs.bitmap.authenticated.unmerkleized.BitMap+D+N+Unmerkleized.merkleize.Goals as goal
 
 pub returns-clause-stands : goal.returns-clause-stands
@@ -9,3 +11,9 @@ returns-clause-stands g c plain bits s =
     (c.in_default.ensures.stands plain bits) c.in_default.ensures.place.0
     (c.in_default-add_chunks.ensures.stands plain bits) c.in_default-add_chunks.ensures.place.0
     (c.root_of_bits-root.ensures plain bits) (rw (← c.self.view_is) at s)
+
+pub rehash-requires : goal.rehash-requires
+rehash-requires g c = grind (arith, common_steps)
+
+pub add_chunks-requires : goal.add_chunks-requires
+add_chunks-requires g c = grind (arith, common_steps)

@@ -1,10 +1,11 @@
-use Rattle.std.proofs.Common.{◌∙◌, ap, map}
+use Rattle.std.proofs.Common.{◌∙◌, ap, map, arith}
 use Rattle.std.proofs.lemmas.List.{map-id}
 use Rattle.storage_merkle.specs.Extracted.{texts}
 use Rattle.storage_current.specs.CurrentWireLaws.{held_digests}
 use Rattle.storage_current.specs.Held.{current_of}
 use Rattle.storage_current.specs.Snapshots.{Grafting}
 use Rattle.storage_current.proofs.Extracting.{handed, means, told}
+use Rattle.std.proofs.lemmas.Grind.{common_steps}
 use Rattle.storage_current.proofs.qmdb.current.proof.extract.verify_proof_and_extract_digests.Goals as goal
 
 pub returns-clause-handed : goal.returns-clause-handed
@@ -34,3 +35,9 @@ returns-clause-meaning g c = λ wide.
     (λ v. texts text v.items) c.extract_in.result (ap (map (λ e. e.items)) c.deref.ensures.value
     ∙ all.bytes) (map-id c.args.chunks.now)
     (c.extract_in.ensures g.row.N (rw (c.deref.ensures.value, all.count) c.in-Some.ensures.0) c.in-Some.ensures.1))
+
+pub returns-in_default-clause-why : goal.returns-in_default-clause-why
+returns-in_default-clause-why g c = grind (arith, common_steps)
+
+pub returns-clause-why : goal.returns-clause-why
+returns-clause-why g c = grind (arith, common_steps)

@@ -4,6 +4,7 @@ use Rattle.storage_merkle.specs.CheckSteps.{given_values}
 use Rattle.storage_merkle.proofs.CheckNodes.{node_sibling, first_of}
 use Rattle.storage_merkle.proofs.Walks.{in_tree_leaves}
 use Rattle.storage_merkle.proofs.Found.{adds_nothing, adds_then, found_apart, found_not_apart}
+use Rattle.std.proofs.lemmas.Grind.{common_steps}
 use Rattle.storage_merkle.proofs.merkle.proof.check.Given.item.Goals as goal
 
 pub is_apart-requires-clause-within : goal.is_apart-requires-clause-within
@@ -37,3 +38,6 @@ returns-in_ok-node-clause-exact g c = λ digest later same serves tops.
           c.args.self.now.start (map g.E.AsSlice.items c.args.self.now.elements.now) (g.H.Hasher.chunk c.args.hasher.now))
           c.args.height c.args.first c.if-is_apart.ensures) (adds_nothing _ c.args.found.now [] refl) is.1,
     )
+
+pub returns-then-is_apart-clause-left : goal.returns-then-is_apart-clause-left
+returns-then-is_apart-clause-left g c = grind (arith, common_steps)

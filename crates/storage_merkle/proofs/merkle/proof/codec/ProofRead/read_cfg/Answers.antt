@@ -1,5 +1,5 @@
 use Rattle.storage_codec.specs.PartsLaws.{ends_then}
-use Rattle.std.proofs.Common.{rules}
+use Rattle.std.proofs.Common.{rules, arith}
 use Rattle.storage_merkle.proofs.merkle.proof.codec.ProofRead.read_cfg.Goals as goal
 
 pub returns-in-Ok-read_digests-clause-ends : goal.returns-in-Ok-read_digests-clause-ends
@@ -12,3 +12,12 @@ returns-in-Err-read_digests-clause-ends g c = ends_then c.read_cfg.ensures.ends
 
 pub returns-in-Ok-read_digests-clause-gives : goal.returns-in-Ok-read_digests-clause-gives
 returns-in-Ok-read_digests-clause-gives g c = search rules
+
+pub returns-in_err-inactive-clause-ends : goal.returns-in_err-inactive-clause-ends
+returns-in_err-inactive-clause-ends g c = grind (arith, ends_then)
+
+pub returns-in_err-count-clause-ends : goal.returns-in_err-count-clause-ends
+returns-in_err-count-clause-ends g c = grind (arith, ends_then)
+
+pub returns-then-count-most-clause-ends : goal.returns-then-count-most-clause-ends
+returns-then-count-most-clause-ends g c = grind (arith, ends_then)

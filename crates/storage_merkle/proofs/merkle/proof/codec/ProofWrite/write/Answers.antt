@@ -4,6 +4,7 @@ use Rattle.storage_codec.specs.Parts.{AppendsStart, varint_text}
 use Rattle.storage_codec.specs.PartsLaws.{starts_then, starts_first}
 use Rattle.storage_merkle.specs.ProofWire.{joined_text}
 use Rattle.storage_merkle.proofs.Written.{on_err, on_err_to}
+use Rattle.std.proofs.lemmas.Grind.{common_steps}
 use Rattle.storage_merkle.proofs.merkle.proof.codec.ProofWrite.write.Goals as goal
 
 pub returns-in_err-write-3-clause-err : goal.returns-in_err-write-3-clause-err
@@ -37,3 +38,12 @@ returns-clause-err g c =
     (subst (λ xs. AppendsStart c.write-3.new.out.items c.write_digests.new.out.items
     (joined_text (map g.D.Write.text xs))) c.deref.ensures.value a))))
     c.write_digests.ensures.err
+
+pub returns-in_err-write-clause-err : goal.returns-in_err-write-clause-err
+returns-in_err-write-clause-err g c = grind (arith, common_steps)
+
+pub returns-in_err-write-2-clause-err : goal.returns-in_err-write-2-clause-err
+returns-in_err-write-2-clause-err g c = grind (arith, starts_then, starts_first)
+
+pub returns-clause-ok : goal.returns-clause-ok
+returns-clause-ok g c = grind (arith, common_steps)

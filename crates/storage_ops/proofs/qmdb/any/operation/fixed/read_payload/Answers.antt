@@ -1,5 +1,7 @@
 use Rattle.storage_ops.proofs.Failing.{hands_on, may_fail}
 use Rattle.storage_ops.proofs.Padded.{padded_read, padded_fails}
+use Rattle.std.proofs.Common.{arith}
+use Rattle.storage_codec.specs.PartsLaws.{ends_then}
 use Rattle.storage_ops.proofs.qmdb.any.operation.fixed.read_payload.Goals as goal
 
 pub returns-in_err-ensure_zeros-in-210-clause-gives : goal.returns-in_err-ensure_zeros-in-210-clause-gives
@@ -24,3 +26,21 @@ returns-in_ok-ensure_zeros-in-210-clause-gives g c =
       c.small_size-value.ensures.value,
     ) at c.in_ok-ensure_zeros-in-210.ensures.gives in
     rw c.in-210.is (padded_read _ _ _ _ _ _ c.in_ok-payload-in-210.ensures.gives zeros)
+
+pub returns-in_err-ensure_zeros-in-209-clause-ends : goal.returns-in_err-ensure_zeros-in-209-clause-ends
+returns-in_err-ensure_zeros-in-209-clause-ends g c = grind (arith, ends_then)
+
+pub returns-in_err-ensure_zeros-in-210-clause-ends : goal.returns-in_err-ensure_zeros-in-210-clause-ends
+returns-in_err-ensure_zeros-in-210-clause-ends g c = grind (arith, ends_then)
+
+pub returns-in_err-ensure_zeros-in-211-clause-ends : goal.returns-in_err-ensure_zeros-in-211-clause-ends
+returns-in_err-ensure_zeros-in-211-clause-ends g c = grind (arith, ends_then)
+
+pub returns-in_ok-ensure_zeros-in-209-clause-ends : goal.returns-in_ok-ensure_zeros-in-209-clause-ends
+returns-in_ok-ensure_zeros-in-209-clause-ends g c = grind (arith, ends_then)
+
+pub returns-in_ok-ensure_zeros-in-210-clause-ends : goal.returns-in_ok-ensure_zeros-in-210-clause-ends
+returns-in_ok-ensure_zeros-in-210-clause-ends g c = grind (arith, ends_then)
+
+pub returns-in_ok-ensure_zeros-in-211-clause-ends : goal.returns-in_ok-ensure_zeros-in-211-clause-ends
+returns-in_ok-ensure_zeros-in-211-clause-ends g c = grind (arith, ends_then)

@@ -2,6 +2,7 @@ use Rattle.std.proofs.Common.{arith, ◌≡◌, length, ap, refl, inl, inr}
 use Rattle.storage_current.specs.Combined.{joined}
 use Rattle.storage_current.specs.Splits.{gaps}
 use Rattle.storage_current.proofs.Splitting.{absent_below, absent_missing, gaps_are, served_length, filled_are}
+use Rattle.std.proofs.lemmas.Grind.{common_steps}
 use Rattle.storage_current.proofs.qmdb.current.grafting.storage.StorageStorage.get_nodes.Goals as goal
 
 pub returns-in-Err-clause-answers : goal.returns-in-Err-clause-answers
@@ -43,3 +44,12 @@ returns-clause-answers g c =
 
 pub returns-in-Err-clause-failure : goal.returns-in-Err-clause-failure
 returns-in-Err-clause-failure g c = c.in-Err.ensures.failure
+
+pub returns-in-Some-clause-same : goal.returns-in-Some-clause-same
+returns-in-Some-clause-same g c = grind (arith, common_steps)
+
+pub returns-in_err-fill-clause-same : goal.returns-in_err-fill-clause-same
+returns-in_err-fill-clause-same g c = grind (arith, common_steps)
+
+pub returns-clause-same : goal.returns-clause-same
+returns-clause-same g c = grind (arith, common_steps)

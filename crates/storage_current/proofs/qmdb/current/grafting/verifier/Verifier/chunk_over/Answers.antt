@@ -1,6 +1,7 @@
 use Rattle.std.proofs.Common.{arith, rules, List, ℕ, Bor}
 use Rattle.storage_merkle.specs.ShapeLaws.{same_node}
 use Rattle.storage_current.proofs.Grafts.{grafted_some}
+use Rattle.std.proofs.lemmas.Grind.{common_steps}
 use Rattle.storage_current.proofs.qmdb.current.grafting.verifier.Verifier.chunk_over.Goals as goal
 
 pub returns : goal.returns
@@ -12,3 +13,6 @@ returns g c = λ a k node.
     c.node_at-first.result.0 c.node_at-first.result.1 c.args.self.now.chunks.items c.index.result.now
     c.if-height-self.false c.node_at-first.ensures.node.aligned (omega arith) (omega arith)
     (search rules) c.index.ensures)
+
+pub returns-then-place-len : goal.returns-then-place-len
+returns-then-place-len g c = grind (arith, common_steps)

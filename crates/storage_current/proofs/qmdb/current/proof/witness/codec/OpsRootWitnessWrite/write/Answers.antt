@@ -1,4 +1,4 @@
-use Rattle.std.proofs.Common.{◌++◌, ◌∙◌, ap, subst}
+use Rattle.std.proofs.Common.{◌++◌, ◌∙◌, ap, subst, arith}
 use Rattle.storage_codec.specs.Parts.{AppendsStart, option_text}
 use Rattle.storage_codec.specs.PartsLaws.{starts_then, starts_first}
 use Rattle.storage_merkle.specs.Wire.{slot_text}
@@ -7,6 +7,7 @@ use Rattle.storage_current.specs.CurrentWireLaws.{slot_bytes}
 use Rattle.storage_current.specs.WitnessWire.{counted_text, witness_of}
 use Rattle.storage_current.proofs.WitnessWritten.{held_same}
 use Rattle.storage_current.proofs.Written.{on_err, on_err_to}
+use Rattle.std.proofs.lemmas.Grind.{common_steps}
 use Rattle.storage_current.proofs.qmdb.current.proof.witness.codec.OpsRootWitnessWrite.write.Goals as goal
 
 pub returns-in_err-write-clause-err : goal.returns-in_err-write-clause-err
@@ -39,3 +40,6 @@ returns-clause-err g c =
     (c.in_ok-write_pending.ensures.ok ∙ ap (λ t. c.write.new.out.items ++ t) slot)
     (subst (λ t. AppendsStart c.write_pending.new.out.items c.write-2.new.out.items t) partial a)))
     c.write-2.ensures.err
+
+pub returns-clause-ok : goal.returns-clause-ok
+returns-clause-ok g c = grind (arith, common_steps)

@@ -1,0 +1,15 @@
+use Rattle.std.proofs.Common.{arith}
+use Rattle.storage_codec.specs.PartsLaws.{ends_then}
+use Rattle.storage_current.proofs.qmdb.current.ordered.codec.exclusion.ExclusionProof+F+K+V+D+Bytes.read_with.Goals as goal
+
+pub returns-in-Ok-clause-ends : goal.returns-in-Ok-clause-ends
+returns-in-Ok-clause-ends g c = grind (arith, ends_then)
+
+pub returns-in-Err-clause-ends : goal.returns-in-Err-clause-ends
+returns-in-Err-clause-ends g c = grind (arith, ends_then)
+
+pub returns-in-Ok-read_pair-clause-ends : goal.returns-in-Ok-read_pair-clause-ends
+returns-in-Ok-read_pair-clause-ends g c = grind (arith, ends_then)
+
+pub returns-in-Err-read_pair-clause-ends : goal.returns-in-Err-read_pair-clause-ends
+returns-in-Err-read_pair-clause-ends g c = grind (arith, ends_then)

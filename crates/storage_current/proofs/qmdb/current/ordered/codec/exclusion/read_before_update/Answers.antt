@@ -1,0 +1,9 @@
+use Rattle.std.proofs.Common.{arith}
+use Rattle.storage_codec.specs.PartsLaws.{ends_then}
+use Rattle.storage_current.proofs.qmdb.current.ordered.codec.exclusion.read_before_update.Goals as goal
+
+pub returns-in-Ok-read_update-clause-ends : goal.returns-in-Ok-read_update-clause-ends
+returns-in-Ok-read_update-clause-ends g c = grind (arith, ends_then)
+
+pub returns-in-Err-read_update-clause-ends : goal.returns-in-Err-read_update-clause-ends
+returns-in-Err-read_update-clause-ends g c = grind (arith, ends_then)
