@@ -107,9 +107,21 @@ fn prove<F: Graftable, R: Read + Drop, const N: usize>(
     let operations = Operations::<N>::read(alloc, input)?;
     let plan = operations.plan::<F>(alloc, location)?;
     let snapshot = operations.snapshot::<F>(alloc, floor)?;
-    let proof = proof_of(alloc, &snapshot, plan, floor)?.encode(alloc)?;
-    let root = hex::encode(alloc, snapshot.root().bytes)?;
+    root_and_proof(alloc, &snapshot, plan, floor)
+}
+
+/// The canonical root of `snapshot`, which has the floor `floor`, and the proof of the operation that `plan` is for.
+fn root_and_proof<F: Graftable, const N: usize>(
+    alloc: Global,
+    snapshot: &Snapshot<F, Sha256, N>,
+    plan: ElementPlan<F>,
+    floor: u64,
+) -> Result<Reply, Fault>
+    requires { IsChunkSize N }
+{
+    let proof = proof_of(alloc, snapshot, plan, floor)?.encode(alloc)?;
     let proof = hex::encode(alloc, proof)?;
+    let root = hex::encode(alloc, snapshot.root().bytes)?;
     Ok(Reply {
         text: format!(in alloc; "{root}\n{proof}\n")?,
         status: 0,
