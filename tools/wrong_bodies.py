@@ -120,15 +120,19 @@ class Edit:
 
 def function_at(file, lines, number):
     """The function in whose body a line of a file is, or None where it is in no body."""
-    found = None
-    for first in range(number + 1 if file.endswith(".rt") else 0):
-        head = HEAD.match(lines[first])
-        span = span_of(lines, first, head[1]) if head else None
-        if span and number <= span[1]:
-            whole = [with_attributes(lines, first) + 1, span[0] + 1, span[1] + 1]
-            block = block_of(lines, first)
-            found = Place(file, *whole, head[2], owner_of(block), words_of(block))
-    return found if found and number + 1 >= found.body else None
+    places = (place_of(file, lines, first) for first in range(number + 1 if file.endswith(".rt") else 0))
+    found = [it for it in places if it and number < it.last]
+    return found[-1] if found and number + 1 >= found[-1].body else None
+
+
+def place_of(file, lines, first):
+    """The place of the function that begins at a line of a file, or None where none with a body does."""
+    head = HEAD.match(lines[first])
+    span = span_of(lines, first, head[1]) if head else None
+    if not span:
+        return None
+    block = block_of(lines, first)
+    return Place(file, with_attributes(lines, first) + 1, span[0] + 1, span[1] + 1, head[2], owner_of(block), words_of(block))
 
 
 def leave_unsearched(lines, place):
@@ -546,6 +550,11 @@ def uses_of_crates():
     return uses
 
 
+def kit_folder():
+    """Where the kit of `rt` is."""
+    return pathlib.Path(subprocess.run(["rt", "doc"], capture_output=True, text=True, check=True).stdout.strip()).parent
+
+
 def main():
     asked = argparse.ArgumentParser(usage="wrong_bodies.py [--built FOLDER [--gate LOG]] [--jobs N] [--kept] [--only NAME,..] [CRATE..]")
     asked.add_argument("--built", type=pathlib.Path)
@@ -557,14 +566,13 @@ def main():
     asked = asked.parse_args()
     uses = uses_of_crates()
     names = asked.crates or [it for it in uses if (ROOT / "crates" / it / "must-fail").is_dir()]
-    kit = pathlib.Path(subprocess.run(["rt", "doc"], capture_output=True, text=True, check=True).stdout.strip()).parent
     built = asked.built.resolve() if asked.built else ROOT
     if not asked.built:
         for it in dict.fromkeys(below for name in names for below in libraries_below(name, uses)):
             subprocess.run(["rt", "lib"], cwd=ROOT / "crates" / it, check=True, stdout=subprocess.DEVNULL)
     # those that take longest first, so that none is left alone at the end
     length = lambda it: (it.count_rounds(), sum(map(len, it.texts.values())))
-    crates = sorted((Crate(it, uses, built, kit) for it in names), key=length, reverse=True)
+    crates = sorted((Crate(it, uses, built, kit_folder()) for it in names), key=length, reverse=True)
     printing = threading.Lock()
     only = set(filter(None, asked.only.split(",")))
     trials = tried_in_turn(crates, lambda it: Trial(it, printing, only, asked.kept, asked.gate).run(), asked.jobs, asked.gate)
