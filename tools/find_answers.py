@@ -146,8 +146,10 @@ class Finder:
                 files.append(Answers(folder, before, re.sub(r"^    ", "", offered, flags=re.M), self.lemmas_of(function)))
         for number, tactic in enumerate(TACTICS):
             asked = [it for it in files if it.left() and it.tactic(number)]
+            if not asked:
+                continue
             tried = {it.file: it.text(dict.fromkeys(it.left(), number)) for it in asked}
-            lost = trial.ANSWER.findall(self.check({**texts, **tried}, functions).said) if asked else []
+            lost = trial.ANSWER.findall(self.check({**texts, **tried}, functions).said)
             for it in asked:
                 open_goals = {goal for folder, goal, _ in lost if it.file.startswith(f"proofs/{folder}/")}
                 it.found.update({goal: number for goal in it.left() if goal not in open_goals})
