@@ -5,3 +5,6 @@ mod OwnKeyYes
 mod OwnProofs
 mod OwnParts
 mod OwnYes
+mod RangeAnswers
+mod OwnRanges
+mod OwnRangeYes

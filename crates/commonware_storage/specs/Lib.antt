@@ -1,4 +1,5 @@
 pub mod Words
 pub mod Light
 pub mod LightKeys
+pub mod LightRanges
 pub mod Handed

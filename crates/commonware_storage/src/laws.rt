@@ -12,6 +12,7 @@ ghost use Rattle.commonware_storage.specs.Handed.{AreHandedOut};
 ghost use Rattle.commonware_storage.specs.Light.{IsAcceptedAt, OwnProofsAreAccepted};
 
 pub mod keys;
+pub mod ranges;
 
 use crate::light::check_operation;
 use std::alloc::Global;

@@ -8,9 +8,11 @@ ghost use Rattle.commonware_storage.specs.declared.light.text_error.TextError.Th
 ghost use Rattle.storage_current.specs.Snapshots.{grafting_of};
 
 mod keys;
+mod ranges;
 mod text_error;
 
 pub use keys::{check_absence, check_value};
+pub use ranges::check_range;
 use std::alloc::Global;
 use storage_codec::NoMemory;
 use storage_codec::codec::{Decode, Error};

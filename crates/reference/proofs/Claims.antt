@@ -51,7 +51,7 @@ recomputed_from h T b proof start claim n end ss ds ps xs ys bag root en ee ep e
     e ∙ rw (eb, ex, ey, ep, es, ed, en, ee) refl
 
 -- whether there are elements
-pub some_elements : {E : Type 0} (items : E → List ℕ) (es : List E) → false ≡ (length es == 0)
+pub some_elements : {E A : Type 0} (items : E → A) (es : List E) → false ≡ (length es == 0)
     → 0 < length (map items es)
 some_elements items [] e = cc
 some_elements items (x ∷ es) e = omega arith

@@ -5,3 +5,5 @@ pub mod Counts
 pub mod Chunks
 pub mod Snapshots
 pub mod Claims
+pub mod MultiParts
+pub mod BitParts

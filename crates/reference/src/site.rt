@@ -30,6 +30,31 @@ pub fn is_apart(low: u64, high: u64, place: Node) -> bool
     place.end() <= low || high <= place.first()
 }
 
+/// Which nodes a calculation is given.
+pub(crate) trait Cut {
+    /// The nodes that are given.
+    ghost cut: { Self → ℕ → ℕ → Bool };
+
+    /// Whether the node `place` is given.
+    fn is_given(&self, place: Node) -> bool
+        ensures { result ≡ cut self.now place.first place.height };
+}
+
+/// Those with no leaf from `low` to before `high` are given.
+#[derive(Clone, Copy, Drop)]
+struct Apart {
+    low: u64,
+    high: u64,
+}
+
+impl Cut for Apart {
+    ghost cut = { λ s. apart s.low s.high };
+
+    fn is_given(&self, place: Node) -> bool {
+        is_apart(self.low, self.high, place)
+    }
+}
+
 /// Whether `left` and `right` are one site.
 pub fn is_same(left: Site, right: Site) -> bool
     ensures { result ≡ same_site (site_of left) (site_of right) }
@@ -97,39 +122,37 @@ fn up_to_count(high: u64, peaks: &[Node]) -> usize
     }
 }
 
-/// Appends to `sites` the greatest nodes at or inside the node `place` with no leaf from `low` to before `high`, by their
-/// leaves.
-fn push_sites(sites: &mut Vec<Site>, low: u64, high: u64, place: Node) -> Result<(), AllocError>
+/// Appends to `sites` the greatest nodes at or inside the node `place` that are given, by their leaves.
+fn push_sites<C: Cut>(sites: &mut Vec<Site>, cut: &C, place: Node) -> Result<(), AllocError>
     ensures { OnOk result ((T : Layout) → map site_of sites.new.items
-        ≡ map site_of sites.old.items ++ sites_of (part T (apart low high) place)) }
+        ≡ map site_of sites.old.items ++ sites_of (part T (C.cut cut.now) place)) }
 {
-    if is_apart(low, high, place) {
+    if cut.is_given(place) {
         sites.push(Site::Inner(place))?;
         return Ok(());
     }
     if place.height() == 0 {
         return Ok(());
     }
-    push_sites(sites, low, high, place.left())?;
-    push_sites(sites, low, high, place.right())?;
+    push_sites(sites, cut, place.left())?;
+    push_sites(sites, cut, place.right())?;
     Ok(())
 }
 
-/// Appends to `sites` the greatest nodes at or inside `peaks` with no leaf from `low` to before `high`, by their leaves.
-fn push_sites_in(
+/// Appends to `sites` the greatest nodes at or inside `peaks` that are given, by their leaves.
+pub(crate) fn push_sites_in<C: Cut>(
     sites: &mut Vec<Site>,
-    low: u64,
-    high: u64,
+    cut: &C,
     peaks: &[Node],
 ) -> Result<(), AllocError>
     ensures { OnOk result ((T : Layout) → map site_of sites.new.items
-        ≡ map site_of sites.old.items ++ sites_in T (apart low high) peaks.now) }
+        ≡ map site_of sites.old.items ++ sites_in T (C.cut cut.now) peaks.now) }
 {
     let Some((peak, rest)) = peaks.split_first() else {
         return Ok(());
     };
-    push_sites(sites, low, high, *peak)?;
-    push_sites_in(sites, low, high, rest)?;
+    push_sites(sites, cut, *peak)?;
+    push_sites_in(sites, cut, rest)?;
     Ok(())
 }
 
@@ -170,7 +193,7 @@ fn push_placed<F: Digits>(
 }
 
 /// The `sites` in ascending order of their positions.
-fn by_position<F: Digits>(alloc: Global, sites: &[Site]) -> Result<Vec<Site>, AllocError>
+pub(crate) fn by_position<F: Digits>(alloc: Global, sites: &[Site]) -> Result<Vec<Site>, AllocError>
     ensures { IfOk result (λ sorted. (grafted : ℕ → ℕ → Bool) → map site_of sorted.items
         ≡ by_position (laid_out F.shape grafted) (map site_of sites.now)) }
 {
@@ -244,10 +267,11 @@ fn sites_over<F: Digits>(
     let (left_reached, left_past) = split_up_to(high, left_others);
     let (right_reached, _) = split_up_to(high, right_others);
     let (_, right_past) = split_up_to(high, right);
+    let cut = Apart { low, high };
     let mut sites = Vec::new(alloc);
     push_front(&mut sites, left_front)?;
-    push_sites_in(&mut sites, low, high, right_front)?;
-    push_sites_in(&mut sites, low, high, left_past)?;
+    push_sites_in(&mut sites, &cut, right_front)?;
+    push_sites_in(&mut sites, &cut, left_past)?;
     push_back(&mut sites, right_past)?;
     let siblings = siblings::<F>(alloc, low, high, left_reached, right_reached)?;
     sites.extend_from_slice(&siblings)?;
@@ -267,9 +291,10 @@ fn siblings<F: Digits>(
         (laid_out F.shape grafted) (sites_in (laid_out F.shape grafted) (apart low high) left.now
         ++ sites_in (laid_out F.shape grafted) (apart low high) right.now)) }
 {
+    let cut = Apart { low, high };
     let mut siblings = Vec::new(alloc);
-    push_sites_in(&mut siblings, low, high, left)?;
-    push_sites_in(&mut siblings, low, high, right)?;
+    push_sites_in(&mut siblings, &cut, left)?;
+    push_sites_in(&mut siblings, &cut, right)?;
     let sorted = by_position::<F>(alloc, &siblings)?;
     Ok(sorted)
 }

@@ -3,7 +3,7 @@
 ghost use Rattle.std.specs.Prelude.{◌≡◌, ℕ, ◌+◌, ◌*◌, ◌/◌, ◌%◌, ◌^◌, ◌≤◌, ◌<◌, ◌++◌, List, [], length, map, option_map, Option, Some, None, ltb, eqb, if◌then◌else◌, IfOk};
 ghost use Rattle.storage_bitmap.specs.Chunks.{IsChunkSize, chunk};
 ghost use Rattle.storage_current.specs.Held.{current_of};
-ghost use Rattle.storage_current.specs.Snapshots.{canonical_root, canonical_string, grafted_root_of, ops_root_of, own_current_proof, slot, grafting_of};
+ghost use Rattle.storage_current.specs.Snapshots.{canonical_root, grafted_root_of, ops_root_of, own_current_proof, grafting_of};
 ghost use Rattle.reference.specs.Layouts.{snapshot};
 ghost use Rattle.storage_merkle.specs.Held.{range_of};
 
@@ -12,10 +12,11 @@ use crate::count::{aligned, exact, graftable, height};
 use crate::node::Ungrafted;
 use crate::range_proof::{Tree, own_proof};
 use crate::shape::{Digits, power};
+use crate::string::{canonical_string, string_digest};
 use crate::tree::tree_root;
 use std::alloc::{AllocError, Global};
 use std::convert::AsSlice;
-use storage_codec::digest::{Digest, Hasher};
+use storage_codec::digest::Hasher;
 use storage_current::qmdb::current::proof::RangeProof;
 use storage_merkle::merkle::{Bagging, Proof};
 
@@ -164,7 +165,7 @@ fn pending<H: Hasher>(
 {
     if graftable < complete {
         let bytes = chunk(alloc, size, bits, graftable)?;
-        return Ok(Some(chunk_digest::<H>(&bytes)));
+        return Ok(Some(string_digest::<H>(&bytes)));
     }
     Ok(None)
 }
@@ -187,14 +188,7 @@ fn partial<H: Hasher>(
         return Ok(None);
     }
     let bytes = chunk(alloc, size, bits, complete)?;
-    Ok(Some(chunk_digest::<H>(&bytes)))
-}
-
-/// The digest of a chunk of the bytes `bytes`.
-fn chunk_digest<H: Hasher>(bytes: &[u8]) -> H::Digest
-    ensures { H.Digest.text result ≡ H.hash_of bytes.now }
-{
-    H::hash(&[bytes])
+    Ok(Some(string_digest::<H>(&bytes)))
 }
 
 /// The canonical root of the snapshot `of`. Fails only where memory runs out.
@@ -217,59 +211,13 @@ pub fn canonical_root<F: Digits, H: Hasher, E: AsSlice<u8>>(
     let grafted_root = grafted_root::<F, H, E>(alloc, of)?;
     let pending = pending::<H>(alloc, of.chunk_size, of.bits, graftable, complete)?;
     let partial = partial::<H>(alloc, of.chunk_size, of.bits, complete, next_bit)?;
-    Ok(joined_root::<H>(&ops_root, &grafted_root, &pending, next_bit, &partial))
-}
-
-/// The digest of the digests `ops_root`, `grafted_root`, `pending`, where there is one, and where there is a `partial`, of
-/// `next_bit`, how many bits the partial chunk has, in eight bytes, highest first, and that digest.
-#[tactic(auto, unfolding(storage_merkle::specs::Calc::be8))]
-fn joined_root<H: Hasher>(
-    ops_root: &H::Digest,
-    grafted_root: &H::Digest,
-    pending: &Option<H::Digest>,
-    next_bit: u64,
-    partial: &Option<H::Digest>,
-) -> H::Digest
-    ensures { H.Digest.text result
-        ≡ H.hash_of (canonical_string (H.Digest.text ops_root.now) (H.Digest.text grafted_root.now)
-        (option_map H.Digest.text pending.now) next_bit (option_map H.Digest.text partial.now)) }
-{
-    let pending = slot_bytes(pending);
-    match partial {
-        None => hash_five::<H>(ops_root.bytes(), grafted_root.bytes(), pending, &[], &[]),
-        Some(partial) => {
-            let count = next_bit.to_be_bytes();
-            hash_five::<H>(
-                ops_root.bytes(),
-                grafted_root.bytes(),
-                pending,
-                &count,
-                partial.bytes(),
-            )
-        }
-    }
-}
-
-/// The digest of the five parts, joined: the string of a canonical root.
-fn hash_five<H: Hasher>(
-    first: &[u8],
-    second: &[u8],
-    third: &[u8],
-    fourth: &[u8],
-    fifth: &[u8],
-) -> H::Digest
-    ensures { H.Digest.text result
-        ≡ H.hash_of (first.now ++ (second.now ++ (third.now ++ (fourth.now ++ fifth.now)))) }
-{
-    H::hash(&[first, second, third, fourth, fifth])
-}
-
-/// The bytes of `digest`; no bytes for none.
-fn slot_bytes<D: Digest>(digest: &Option<D>) -> &[u8]
-    ensures { result.now ≡ slot (option_map D.text digest.now) }
-{
-    match digest {
-        None => &[],
-        Some(digest) => digest.bytes(),
-    }
+    let string = canonical_string(
+        alloc,
+        &ops_root,
+        &grafted_root,
+        &pending,
+        next_bit,
+        &partial,
+    )?;
+    Ok(string_digest::<H>(&string))
 }

@@ -1,67 +1,23 @@
 -- Two trees that are read as one are a snapshot's grafted view.
-use Rattle.std.proofs.Common.{◌≡◌, ℕ, zero, suc, ◌+◌, ◌-◌, ◌*◌, ◌/◌, ◌^◌, ◌<◌, ◌≤◌, ◌++◌, List, [], length, Some, option_map, le-ltb, refl, sym, ap, ap₂, ◌∙◌, arith, ⊎_elim, pow_pos}
+use Rattle.std.proofs.Common.{◌≡◌, ℕ, zero, suc, ◌+◌, ◌-◌, ◌*◌, ◌/◌, ◌^◌, ◌<◌, ◌≤◌, ◌++◌, List, [], length, Option, Some, option_map, refl, sym, ap, ap₂, ◌∙◌, arith, ◌⊎◌, inl, inr, pow_pos}
 use Rattle.std.proofs.lemmas.Bool.{cases_lt}
-use Rattle.std.proofs.lemmas.Nat.{pow-add, le-div}
+use Rattle.std.proofs.lemmas.Nat.{pow-add}
 use Rattle.std.proofs.Math.Nat.{add-mul}
 use Rattle.storage_codec.specs.Digests.{HashFunction}
-use Rattle.storage_merkle.specs.Shape.{Shape, size}
-use Rattle.storage_merkle.specs.Mmr.{mmr}
-use Rattle.storage_merkle.specs.Mmb.{mmb}
-use Rattle.storage_merkle.specs.Nodes.{CoversSame}
+use Rattle.storage_merkle.specs.Shape.{size}
+use Rattle.storage_merkle.specs.Nodes.{IsNode, CoversSame}
 use Rattle.storage_merkle.specs.Multiples.{pow_two, in_units}
+use Rattle.storage_merkle.specs.Pace.{ChunksKeepPace}
 use Rattle.storage_merkle.specs.ShapeLaws.{grows_at_most}
 use Rattle.storage_merkle.specs.Calc.{be8}
 use Rattle.storage_merkle.specs.Trees.{ungrafted}
 use Rattle.storage_merkle.specs.Hashing.{node_over}
 use Rattle.storage_current.specs.Combined.{over_chunks}
-use Rattle.storage_current.specs.CombinedViews.{AreGraftedLeaves, ChunksKeepPace, JoinedTreesAreTheView}
-use Rattle.storage_current.specs.Snapshots.{Grafting, IsGrafting, height, graftable_at, Snapshot, view_node}
+use Rattle.storage_current.specs.CombinedViews.{AnswersAreTrue, AreAnswersOf, AreGraftedLeaves, both, chunk_node, operations_node}
+use Rattle.storage_current.specs.GraftingLaws.{graftable_by_birth}
+use Rattle.storage_current.specs.Snapshots.{Grafting, IsGrafting, height, graftable_at, Snapshot, IsSnapshot, view_node}
 use Rattle.storage_current.proofs.Joined.{joined_below, joined_above}
 use Rattle.storage_current.proofs.NodeSteps.{view_low, view_above}
-
--- ---- both families keep pace
-
-least : (P n b q : ℕ) → 0 < P → b ≤ n → q * P ≤ n - b → suc q ≤ (n - b) / P + 1
-least P n b q positive l m = let d : q ≤ (n - b) / P = le-div q (n - b) P positive m in omega arith
-
-graftable_at_least : (S : Shape) (g n q : ℕ) → S.birth 0 g ≤ n → q * 2 ^ g ≤ n - S.birth 0 g
-    → suc q ≤ graftable_at S g n
-graftable_at_least S g n q l m = rw (le-ltb n (S.birth 0 g) l) (least (2 ^ g) n (S.birth 0 g) q (pow_pos g) l m)
-
-pub mmr_keeps_pace : (g : ℕ) → ChunksKeepPace mmr g
-mmr_keeps_pace g n a k h =
-    let power : 2 ^ (k + g) ≡ 2 ^ k * 2 ^ g = pow-add 2 k g in
-    let one : 0 < 2 ^ k = pow_pos k in
-    let q : ℕ = a + 2 ^ k - 1 in
-    let e : suc q ≡ a + 2 ^ k = omega arith in
-    let m : suc q * 2 ^ g ≤ n = rw e (rw (add-mul a (2 ^ k) (2 ^ g)) (omega arith)) in
-    rw (← e) (graftable_at_least mmr g n q (omega arith) (omega arith))
-
-pub mmb_keeps_pace : (g : ℕ) → 1 ≤ g → ChunksKeepPace mmb g
-mmb_keeps_pace zero low n a k h = absurd (omega arith)
-mmb_keeps_pace (suc g) low n a zero h =
-    let zeroth : zero + suc g ≡ suc g = omega arith in
-    let h' : a * 2 ^ suc g + 3 * 2 ^ g - 1 ≤ n = rw zeroth at h in
-    let first : 0 + 3 * 2 ^ g - 1 ≤ n = omega arith in
-    let room : a * 2 ^ suc g ≤ n - (0 + 3 * 2 ^ g - 1) = omega (arith, pow_pos g) in
-    let e : suc a ≡ a + 1 = omega arith in
-    rw (← e) (graftable_at_least mmb (suc g) n a first room)
-mmb_keeps_pace (suc g) low n a (suc k) h =
-    let up : suc k + suc g ≡ suc (k + suc g) = omega arith in
-    let h' : a * 2 ^ suc g + 3 * 2 ^ (k + suc g) - 1 ≤ n = rw up at h in
-    let power : 2 ^ (k + suc g) ≡ 2 ^ k * 2 ^ suc g = pow-add 2 k (suc g) in
-    let two : 2 ^ suc g ≡ 2 ^ g + 2 ^ g = pow_two g in
-    let one : 0 < 2 ^ k = pow_pos k in
-    let positive : 0 < 2 ^ g = pow_pos g in
-    let q : ℕ = a + 3 * 2 ^ k - 2 in
-    let e : suc q ≡ a + 3 * 2 ^ k - 1 = omega arith in
-    let e2 : q + 2 ≡ a + 3 * 2 ^ k = omega arith in
-    let m : (q + 2) * 2 ^ suc g ≤ n + 1 = rw e2 (rw (add-mul a (3 * 2 ^ k) (2 ^ suc g)) (omega arith)) in
-    let first : 0 + 3 * 2 ^ g - 1 ≤ n = omega arith in
-    let room : q * 2 ^ suc g ≤ n - (0 + 3 * 2 ^ g - 1) = omega arith in
-    rw (← e) (graftable_at_least mmb (suc g) n q first room)
-
--- ---- both trees as one
 
 module _ (h : HashFunction) (g : Grafting) (grafting : IsGrafting g) (s : Snapshot) (leaves : List (List ℕ))
     (grafted : AreGraftedLeaves h g s leaves) where
@@ -81,37 +37,90 @@ module _ (h : HashFunction) (g : Grafting) (grafting : IsGrafting g) (s : Snapsh
       ap₂ (λ x y. h (be8 (g.shape.position (a * 2 ^ height g) (suc k + height g)) ++ (x ++ y))) low high
       ∙ sym (rw less at (view_above h g s (a * 2 ^ height g) (suc k + height g) (omega arith)))
 
-pub joined_view : {D : Type 0} (text : D → List ℕ) (h : HashFunction) (g : Grafting) → JoinedTreesAreTheView text h g
-joined_view text h g grafting pace s snapshot leaves grafted chunks operations over below p a k within node =
-    let S = g.shape in
-    let L = grafting.laws in
-    let G = height g in
-    let n = length s.operations in
-    let few : n ≤ 2 ^ 62 = snapshot.few in
-    let most : size S n ≤ size S (2 ^ 62) = grows_at_most (size S) L.grows n (2 ^ 62) few in
-    let valid : p ≤ size S (2 ^ 62) = omega arith in
-    ⊎_elim
-    (λ (l : k < G). ap (option_map text) (joined_below S L G (size S n) chunks operations p a k within valid node l)
-    ∙ below p a k within node ∙ ap Some (sym (view_low h g s k a l)))
-    (λ (m : G ≤ k).
-    let u = in_units a k G m node.aligned in
-    let e : k - G + G ≡ k = omega arith in
-    let c : CoversSame S G (S.position (a / 2 ^ G) (k - G)) p = record {
-      first = a / 2 ^ G;
-      height = k - G;
-      grafted = record { aligned = u.1; at = refl };
-      node = rw (u.0, e) node;
-    } in
-    let here : S.position a k < size S n = omega (arith, node.at) in
-    let born : S.birth a k ≤ n = (L.born n a k node.aligned).0 here in
-    let early : S.birth (a / 2 ^ G) (k - G) ≤ graftable_at S G n = pace n (a / 2 ^ G) (k - G) (rw (u.0, e) born) in
-    let count : length leaves ≡ graftable_at S G n = grafted.count in
-    let early' : S.birth (a / 2 ^ G) (k - G) ≤ length leaves = omega arith in
-    let there : S.position (a / 2 ^ G) (k - G) < size S (length leaves) =
-    (L.born (length leaves) (a / 2 ^ G) (k - G) u.1).1 early' in
-    let late : a / 2 ^ G + 2 ^ (k - G) ≤ length leaves = omega (arith, L.late (a / 2 ^ G) (k - G)) in
-    ap (option_map text)
-    (joined_above S L G (size S n) chunks operations p (S.position (a / 2 ^ G) (k - G)) within valid c)
-    ∙ over (S.position (a / 2 ^ G) (k - G)) (a / 2 ^ G) (k - G) there (record { aligned = u.1; at = refl })
-    ∙ ap Some (over_view h g grafting s leaves grafted (k - G) (a / 2 ^ G) late ∙ ap₂ (view_node h g s) u.0 e))
-    (cases_lt k G)
+-- what both trees as one have at a node of the view: below the chunks' height the operations' node, else the node over chunks
+pub record IsBelow {D : Type 0} (h : HashFunction) (g : Grafting) (s : Snapshot) (chunks operations : ℕ → Option D)
+    (p a k : ℕ) : Type 0 where
+  pub low : k < height g
+  pub read : both g s chunks operations p ≡ operations p
+  pub same : operations_node h g s a k ≡ view_node h g s a k
+
+pub record IsAbove {D : Type 0} (h : HashFunction) (g : Grafting) (s : Snapshot) (leaves : List (List ℕ))
+    (chunks operations : ℕ → Option D) (p a k : ℕ) : Type 0 where
+  pub position : ℕ
+  pub first : ℕ
+  pub over : ℕ
+  pub node : IsNode g.shape position first over
+  pub covers : CoversSame g.shape (height g) position p
+  pub within : position < size g.shape (length leaves)
+  pub read : both g s chunks operations p ≡ chunks position
+  pub same : chunk_node h g leaves first over ≡ view_node h g s a k
+
+module _ (h : HashFunction) (g : Grafting) (pace : ChunksKeepPace g.shape (height g)) (grafting : IsGrafting g)
+    (s : Snapshot) (snapshot : IsSnapshot s) (leaves : List (List ℕ)) (grafted : AreGraftedLeaves h g s leaves)
+    {D : Type 0} (chunks operations : ℕ → Option D) where
+  above : (p a k : ℕ) → p < size g.shape (length s.operations) → p ≤ size g.shape (2 ^ 62) → IsNode g.shape p a k
+      → height g ≤ k → IsAbove h g s leaves chunks operations p a k
+  above p a k within valid node m =
+      let S = g.shape in
+      let L = grafting.laws in
+      let G = height g in
+      let n = length s.operations in
+      let u = in_units a k G m node.aligned in
+      let e : k - G + G ≡ k = omega arith in
+      let covers : CoversSame S G (S.position (a / 2 ^ G) (k - G)) p = record {
+        first = a / 2 ^ G;
+        height = k - G;
+        grafted = record { aligned = u.1; at = refl };
+        node = rw (u.0, e) node;
+      } in
+      let here : S.position a k < size S n = omega (arith, node.at) in
+      let born : S.birth a k ≤ n = (L.born n a k node.aligned).0 here in
+      let early : S.birth (a / 2 ^ G) (k - G) ≤ graftable_at S G n =
+      pace n (graftable_at S G n) (a / 2 ^ G) (k - G) (graftable_by_birth S L G n) (rw (u.0, e) born) in
+      let count : length leaves ≡ graftable_at S G n = grafted.count in
+      let early' : S.birth (a / 2 ^ G) (k - G) ≤ length leaves = omega arith in
+      let late : a / 2 ^ G + 2 ^ (k - G) ≤ length leaves = omega (arith, L.late (a / 2 ^ G) (k - G)) in
+      record {
+        position = S.position (a / 2 ^ G) (k - G);
+        first = a / 2 ^ G;
+        over = k - G;
+        node = record { aligned = u.1; at = refl };
+        covers = covers;
+        within = (L.born (length leaves) (a / 2 ^ G) (k - G) u.1).1 early';
+        read = joined_above S L G (size S n) chunks operations p (S.position (a / 2 ^ G) (k - G)) within valid covers;
+        same = over_view h g grafting s leaves grafted (k - G) (a / 2 ^ G) late ∙ ap₂ (view_node h g s) u.0 e;
+      }
+
+  pub joined_at : (p a k : ℕ) → p < size g.shape (length s.operations) → IsNode g.shape p a k
+      → IsBelow h g s chunks operations p a k ⊎ IsAbove h g s leaves chunks operations p a k
+  joined_at p a k within node =
+      let S = g.shape in
+      let L = grafting.laws in
+      let n = length s.operations in
+      let most : size S n ≤ size S (2 ^ 62) = grows_at_most (size S) L.grows n (2 ^ 62) snapshot.few in
+      let valid : p ≤ size S (2 ^ 62) = omega arith in
+      elim (cases_lt k (height g)) [
+        | inl low ↦ inl (record {
+          low = low;
+          read = joined_below S L (height g) (size S n) chunks operations p a k within valid node low;
+          same = sym (view_low h g s k a low);
+        })
+        | inr high ↦ inr (above p a k within valid node high)
+      ]
+
+  module _ (text : D → List ℕ) where
+    pub joined_view : AreAnswersOf text g.shape (length leaves) (chunk_node h g leaves) chunks
+        → AreAnswersOf text g.shape (length s.operations) (operations_node h g s) operations
+        → AreAnswersOf text g.shape (length s.operations) (view_node h g s) (both g s chunks operations)
+    joined_view over below p a k within node = elim (joined_at p a k within node) [
+      | inl it ↦ ap (option_map text) it.read ∙ below p a k within node ∙ ap Some it.same
+      | inr it ↦ ap (option_map text) it.read ∙ over it.position it.first it.over it.within it.node ∙ ap Some it.same
+    ]
+
+    pub joined_true : AnswersAreTrue text g.shape (length leaves) (chunk_node h g leaves) chunks
+        → AnswersAreTrue text g.shape (length s.operations) (operations_node h g s) operations
+        → AnswersAreTrue text g.shape (length s.operations) (view_node h g s) (both g s chunks operations)
+    joined_true over below p a k digest within node is = elim (joined_at p a k within node) [
+      | inl it ↦ below p a k digest within node (sym it.read ∙ is) ∙ it.same
+      | inr it ↦ over it.position it.first it.over digest it.within it.node (sym it.read ∙ is) ∙ it.same
+    ]

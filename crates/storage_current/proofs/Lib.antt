@@ -16,6 +16,7 @@ mod Raised
 mod Joined
 mod CombinedViews
 mod StoresOfViews
+mod Exclusions
 mod Splitting
 pub mod Windows
 mod Checks

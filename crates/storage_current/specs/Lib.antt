@@ -2,6 +2,7 @@ pub mod Snapshots
 pub mod Keys
 pub mod KeyProofs
 pub mod HeldKeys
+pub mod Equality
 pub mod KeyWire
 pub mod KeyWireLaws
 pub mod CurrentProofs

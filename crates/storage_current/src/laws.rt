@@ -5,6 +5,7 @@ ghost use Rattle.storage_current.specs.CurrentSoundness.{CurrentProofsAreSound, 
 ghost use Rattle.storage_current.specs.OwnWire.{OwnCurrentProofsAreReadAgain, OwnOperationProofsAreReadAgain};
 
 pub mod combined;
+pub mod equality;
 pub mod extracted;
 pub mod keys;
 

@@ -53,6 +53,8 @@ pub mod StoreEntries
 pub mod StoreOwn
 pub mod StoreMulti
 pub mod StoreMade
+pub mod StoreGiven
+mod Births
 mod Countable
 pub mod StoreSteps
 pub mod StoreTops

@@ -256,7 +256,7 @@ module _ (h : HashFunction) (T : Layout) (L : Laws T.shape) (b : Bagging) (start
   abbrev own : RangeProof
   own = own_proof h T b content inactive start (start + length claim.elements)
 
-  own_agrees : 0 < length claim.elements → (proof : RangeProof) → IsOwn h T b proof start claim content inactive
+  pub own_agrees : 0 < length claim.elements → (proof : RangeProof) → IsOwn h T b proof start claim content inactive
       → AgreeBag (check_values h T b own start claim)
       (own_values h T b content (length content.elements) inactive start (start + length claim.elements))
       (check_bag T start (start + length claim.elements) b (length content.elements) inactive)

@@ -242,7 +242,7 @@ module _ (S : Shape) (L : Laws S) where
   pub place_early : (n place h : ℕ) → S.birth (over place h) h ≤ n → S.position (over place h) h < size S n
   place_early n place h l = let o = over_is place h in (L.born n (over place h) h o.aligned).1 l
 
-  pub birth_small : (place h : ℕ) → place < 2 ^ 62 → h ≤ 62 → S.birth (over place h) h ≤ 2 ^ 63
+  pub birth_small : (place h : ℕ) → place < 2 ^ 62 → h ≤ 62 → S.birth (over place h) h < 2 ^ 64
   birth_small place h l s = omega (arith, L.soon (over place h) h, small_over place h l s)
 
   -- the rest is left to the next leaf, which is below the same node

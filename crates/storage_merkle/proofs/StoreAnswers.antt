@@ -11,7 +11,7 @@ use Rattle.storage_merkle.specs.RangeProofs.{RangeProof, apart, look_up, range_s
 use Rattle.storage_merkle.specs.Checks.{IsRecomputed}
 use Rattle.storage_merkle.specs.Extracted.{HoldsOfEach, entries, digest_at}
 use Rattle.storage_merkle.specs.Stores.{Store, IsStoreOf, IsMadeOf, kept_sites, or_else, store_of}
-use Rattle.storage_merkle.proofs.StoreMade.{stores_true, no_kept}
+use Rattle.storage_merkle.proofs.StoreMade.{made_of_accepted, stores_true, no_kept}
 
 nothing_there : (none : List ℕ) (ss : List Site) (ds : List (List ℕ)) (s : Site) → ds ≡ [] → look_up none ss ds s ≡ none
 nothing_there none [] ds s e = refl
@@ -58,6 +58,8 @@ module _ (h : HashFunction) (T : Layout) (b : Bagging) (proof : RangeProof) (sta
       of_trees = subst (λ s. HoldsOfEach d h T b proof.leaves claim (check_strings h T b proof start claim) root
           (λ U content inactive. IsStoreOf h U s content inactive)) (sym e)
           (stores_true d h T b proof start claim root sized L wide accepted);
+      of_own = λ content inactive is. subst (λ s. IsStoreOf h T s content inactive) (sym e)
+          (made_of_accepted h T L b proof start claim content inactive is root accepted);
     }
 
     pub made_some : (x : List ℕ) → IsRecomputed h T b proof start claim (Some x) → x ≡ root

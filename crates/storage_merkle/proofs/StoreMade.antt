@@ -8,13 +8,13 @@ use Rattle.storage_merkle.specs.Calc.{Site, front, back, Values}
 use Rattle.storage_merkle.specs.declared.merkle.bagging.Bagging.{Bagging}
 use Rattle.storage_merkle.specs.declared.merkle.bagging.Bagging.TheVariants.{ForwardFold, BackwardFold}
 use Rattle.storage_merkle.specs.Trees.{Layout, Content, Peak, places, peaks_of, folded, unfolded, part, tree_root, tree_strings}
-use Rattle.storage_merkle.specs.RangeProofs.{RangeProof, apart, leading, not_leading, up_to, trailing, front_given, back_given, check_bag, check_values, check_strings, IsAccepted}
+use Rattle.storage_merkle.specs.RangeProofs.{RangeProof, apart, leading, not_leading, up_to, trailing, front_given, back_given, check_bag, check_values, check_strings, own_proof, IsAccepted, IsOwn}
 use Rattle.storage_merkle.specs.Multi.{tree_digest}
 use Rattle.storage_merkle.specs.Extracted.{nodes_in, entries, digest_at}
 use Rattle.storage_merkle.specs.Stores.{kept_sites, store_of, IsStoreOf, StoresOfAcceptedProofsAreTrue}
 use Rattle.storage_merkle.proofs.Agreeing.{AgreeAll, AgreeBag, agree_bag, agree_append, agree_by_position}
 use Rattle.storage_merkle.proofs.RangeSound.{own_values, range_agrees, range_sound}
-use Rattle.storage_merkle.proofs.RangeOwn.{append_of}
+use Rattle.storage_merkle.proofs.RangeOwn.{append_of, own_agrees}
 use Rattle.storage_merkle.proofs.Extracted.{bare, entries_agree, same_in}
 
 front_agrees : (v w : Values) (ps : List Peak) → AgreeAll v w (front_given ps) → 0 < length ps
@@ -101,6 +101,22 @@ made_of_nothing h T L b proof start claim content inactive zn zi en ei =
       kept_are = no_kept T b _ n i start high none zn zi
           ∙ sym (no_kept T b (tree_digest h T content) n i start high none zn zi);
     }
+
+-- a store made from a tree's own proof
+module _ (h : HashFunction) (T : Layout) (L : Laws T.shape) (b : Bagging) (proof : RangeProof) (start : ℕ)
+    (claim content : Content) (inactive : ℕ) (is : IsOwn h T b proof start claim content inactive) where
+  pub made_of_own : 0 < length claim.elements → IsStoreOf h T (store_of h T b proof start claim) content inactive
+  made_of_own some =
+      let own : RangeProof = own_proof h T b content inactive start (start + length claim.elements) in
+      subst (λ p. IsStoreOf h T (store_of h T b p start claim) content inactive) (sym is.proof_is)
+      (made_of h T b own start claim content inactive refl refl
+      (own_agrees h T L b start claim content inactive some proof is))
+
+  pub made_of_accepted : (root : List ℕ) → IsAccepted h T b proof start claim root
+      → IsStoreOf h T (store_of h T b proof start claim) content inactive
+  made_of_accepted root (inl ok) = made_of_own ok.0.some
+  made_of_accepted root (inr ok) = made_of_nothing h T L b proof start claim content inactive ok.0.no_leaves
+      ok.0.no_inactive (ap (λ (p : RangeProof). p.leaves) is.proof_is) (ap (λ (p : RangeProof). p.inactive) is.proof_is)
 
 pub stores_true : StoresOfAcceptedProofsAreTrue
 stores_true d h T b proof start claim root sized L wide accepted N grafted same other chunked content inactive chunks

@@ -16,10 +16,14 @@ pub mod Peaks
 pub mod PeakLaws
 pub mod MmrLaws
 pub mod MmbLaws
+pub mod Pace
+pub mod PaceLaws
 pub mod Calc
 pub mod CalcLaws
 pub mod Trees
 pub mod RangeProofs
+pub mod Equality
+pub mod EqualityLaws
 pub mod Held
 pub mod Hashing
 pub mod HashingLaws

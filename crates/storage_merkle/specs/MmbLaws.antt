@@ -418,7 +418,7 @@ mmb_offset n o few z h =
     let a = mmb_after n 64 (omega arith) (omega arith) in
     (omega (arith, a.two), mmb_offset_low n (count_trailing_zeros 64 (n + 2)) few a.fits, a)
 
-pub mmb_birth_height : (a k : ℕ) → a + 3 * 2 ^ k - 1 ≤ 2 ^ 63 → k ≤ 62
+pub mmb_birth_height : (a k : ℕ) → a + 3 * 2 ^ k - 1 < 2 ^ 64 → k ≤ 62
 mmb_birth_height a k h =
     ⊎_elim (λ (l : 62 < k). absurd (let p : 2 ^ 63 ≤ 2 ^ k = pow_le 63 k l in omega arith)) (λ g. g) (cases_lt 62 k)
 
@@ -435,7 +435,7 @@ mmb_raised a (suc k) z ha h =
     let b = mmb_height a k ha h in
     record { low = rw e b.0; room = rw e b.1; is = rw e (mmb_position_is a k ha) }
 
-pub mmb_birth_low : (a k : ℕ) → (k ≡ 0 → ⊥) → mmb_birth a k ≤ 2 ^ 63 → k - 1 ≤ 62
+pub mmb_birth_low : (a k : ℕ) → (k ≡ 0 → ⊥) → mmb_birth a k < 2 ^ 64 → k - 1 ≤ 62
 mmb_birth_low a zero z h = absurd (z refl)
 mmb_birth_low a (suc k) z h = let e : suc k - 1 ≡ k = omega arith in rw e (mmb_birth_height a k h)
 

@@ -263,7 +263,7 @@ pub mmr_offset : (n o : ℕ) → n ≤ 2 ^ 62 → mmr_size n + o < mmr_size (n +
 mmr_offset n o few h = let a = mmr_after n o h in ⊎_elim
     (λ (l : 62 < o). absurd (let p : 2 ^ 63 ≤ 2 ^ o = pow_le 63 o l in omega (arith, a.fits))) (λ g. g) (cases_lt 62 o)
 
-pub mmr_birth_height : (a k : ℕ) → a + 2 ^ k ≤ 2 ^ 63 → k ≤ 63
+pub mmr_birth_height : (a k : ℕ) → a + 2 ^ k < 2 ^ 64 → k ≤ 63
 mmr_birth_height a k h =
     ⊎_elim (λ (l : 63 < k). absurd (let p : 2 ^ 64 ≤ 2 ^ k = pow_le 64 k l in omega arith)) (λ g. g) (cases_lt 63 k)
 

@@ -61,7 +61,7 @@ module _ (S : Shape) (L : Laws S) where
       let b : S.position a k < size S (a + 2 * 2 ^ k) = (L.born (a + 2 * 2 ^ k) a k ha).1 (L.soon a k) in
       omega arith
 
-  pub chunk_birth : (g : ℕ) → g ≤ 62 → S.birth 0 g ≤ 2 ^ 63
+  pub chunk_birth : (g : ℕ) → g ≤ 62 → S.birth 0 g < 2 ^ 64
   chunk_birth g h = let p : 2 ^ g ≤ 2 ^ 62 = pow_le g 62 h in omega (arith, L.soon 0 g)
 
   chunk_inside : (n g j : ℕ) → (Inside (S.peaks n) 0 (j * 2 ^ g) g → j * 2 ^ g + S.birth 0 g ≤ n)
@@ -278,9 +278,6 @@ module _ (S : Shape) (L : Laws S) where
   at_height p p' a k b j e x y =
       let i = L.injective a k b j x.aligned y.aligned (x.at ∙ e ∙ sym y.at) in
       record { aligned = rw i.0 y.aligned; at = rw i.0 y.at }
-
-  pub birth_fits : (a k p : ℕ) → IsNode S p a k → p ≤ size S (2 ^ 62) → S.birth a k ≤ 2 ^ 63
-  birth_fits a k p n v = omega (arith, valid_birth a k n.aligned (omega (arith, n.at)))
 
   -- each position is a node's
   pub place : (n p : ℕ) → p < size S n → (m : ℕ) × (m < n) × (size S m ≤ p) × (p < size S (m + 1))

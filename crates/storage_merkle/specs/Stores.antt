@@ -1,5 +1,5 @@
 -- Proof stores: what is kept of an accepted range proof, and the proofs that it gives.
-use Rattle.std.specs.Prelude.{◌≡◌, ℕ, ◌+◌, ◌<◌, List, [], ◌∷◌, ◌++◌, length, map, Bool, ◌&&◌, if◌then◌else◌, leb, ltb, eqb, Option, Some, None}
+use Rattle.std.specs.Prelude.{◌≡◌, ℕ, ◌+◌, ◌<◌, ◌≤◌, ◌^◌, List, [], ◌∷◌, ◌++◌, length, map, Bool, ◌&&◌, if◌then◌else◌, leb, ltb, eqb, Option, Some, None}
 use Rattle.std.specs.List.{list_any}
 use Rattle.storage_codec.specs.Digests.{HashFunction, IsSized}
 use Rattle.storage_merkle.specs.declared.merkle.error.Error.{Error}
@@ -8,10 +8,10 @@ use Rattle.storage_merkle.specs.Shape.{Shape, Laws}
 use Rattle.storage_merkle.specs.Calc.{Site, front, back, node, Calc, given, Values}
 use Rattle.storage_merkle.specs.declared.merkle.bagging.Bagging.{Bagging}
 use Rattle.storage_merkle.specs.Nodes.{IsNode}
-use Rattle.storage_merkle.specs.Trees.{Layout, Content, Peak, ungrafted, peaks_of, folded, unfolded, bag, tree_node}
-use Rattle.storage_merkle.specs.RangeProofs.{RangeProof, apart, leading, not_leading, up_to, trailing, front_given, back_given, position_of, by_position, sites, check_values, check_strings, fold_digest, own_digest, own_proof, IsAccepted, AreDigests}
+use Rattle.storage_merkle.specs.Trees.{Layout, Content, Peak, ungrafted, peaks_of, folded, unfolded, bag, tree_node, tree_root}
+use Rattle.storage_merkle.specs.RangeProofs.{RangeProof, apart, leading, not_leading, up_to, trailing, front_given, back_given, position_of, by_position, sites, check_values, check_strings, fold_digest, own_digest, own_proof, StandAt, SameChunks, IsAccepted, IsOwn, AreDigests}
 use Rattle.storage_merkle.specs.Plans.{refusal}
-use Rattle.storage_merkle.specs.Multi.{tree_digest, needed_sites, own_multi_proof}
+use Rattle.storage_merkle.specs.Multi.{Claim, locations, Stand, tree_digest, needed_sites, own_multi_proof, IsMultiAccepted}
 use Rattle.storage_merkle.specs.Extracted.{nodes_in, entries, digest_at, HoldsOfEach}
 
 -- what is kept: the counts, the bagging and the range of the source, its folds where it has them, and digests with their
@@ -168,13 +168,15 @@ store_of h T b proof start claim = record {
 }
 
 -- the store is that of an accepted proof, and one of each tree with that root, or a string of the check and a different one of the
--- tree have one digest
+-- tree have one digest; of each tree whose own proof it is, it is one
 pub record IsMadeOf (d : ℕ) (h : HashFunction) (T : Layout) (b : Bagging) (proof : RangeProof) (start : ℕ)
     (claim : Content) (root : List ℕ) (store : Store) : Type 0 where
   pub accepted : IsAccepted h T b proof start claim root
   pub all : store ≡ store_of h T b proof start claim
   pub of_trees : HoldsOfEach d h T b proof.leaves claim (check_strings h T b proof start claim) root
       (λ U content inactive. IsStoreOf h U store content inactive)
+  pub of_own : (content : Content) (inactive : ℕ) → IsOwn h T b proof start claim content inactive
+      → IsStoreOf h T store content inactive
 
 -- given digests that are a tree's, where they stand at the place of one of its nodes
 abbrev pub AreTrueAt : HashFunction → Layout → Content → List (ℕ × List ℕ) → Type 0
@@ -207,3 +209,31 @@ StoresOfAcceptedProofsAreTrue =
     IsSized d h → Laws T.shape → AreDigests d proof.digests → IsAccepted h T b proof start claim root →
     HoldsOfEach d h T b proof.leaves claim (check_strings h T b proof start claim) root
     (λ U content inactive. IsStoreOf h U (store_of h T b proof start claim) content inactive)
+
+-- A store is one of a tree. What it gives of a range is the tree's own proof, which is accepted for the elements and chunks that
+-- stand there; what it gives of some locations, with peaks that are the tree's, is accepted for claims that stand in the tree.
+pub record GivesAccepted (F : Type 0) (h : HashFunction) (T : Layout) (store : Store) (content : Content)
+    (inactive : ℕ) : Type 0 where
+  pub of_tree : IsStoreOf h T store content inactive
+  pub own : (low high : ℕ) → range_refusal F T.shape store low high ≡ None
+      → store_proof h T store low high ≡ own_proof h T store.bagging content inactive low high
+  pub ranges : (low : ℕ) (claim : Content) → StandAt content.elements low claim.elements
+      → SameChunks T (length content.elements) low (low + length claim.elements) claim content
+      → range_refusal F T.shape store low (low + length claim.elements) ≡ None
+      → IsAccepted h T store.bagging (store_proof h T store low (low + length claim.elements)) low claim
+      (tree_root h T store.bagging content inactive)
+  pub multi : (peaks : List (ℕ × List ℕ)) → AreTrueAt h T content peaks
+      → (claims : List Claim) → Stand content.elements claims
+      → multi_refusal F T.shape store peaks (locations claims) ≡ None
+      → IsMultiAccepted h T store.bagging (store_multi_proof T.shape store peaks (locations claims)) claims
+      content.chunk (tree_root h T store.bagging content inactive)
+
+-- A store made from a tree's own proof of some elements is one of that tree, and what it gives is accepted against the tree's root.
+abbrev pub StoresOfOwnProofsGiveAccepted : Type 0 → Type 0
+StoresOfOwnProofsGiveAccepted F =
+    (h : HashFunction) (T : Layout) → Laws T.shape →
+    (b : Bagging) (proof : RangeProof) (start : ℕ) (claim content : Content) (inactive : ℕ) →
+    length content.elements ≤ 2 ^ 62 → inactive ≤ length (T.shape.peaks (length content.elements))
+    → 0 < length claim.elements →
+    IsOwn h T b proof start claim content inactive →
+    GivesAccepted F h T (store_of h T b proof start claim) content inactive

@@ -9,6 +9,7 @@ ghost use Rattle.storage_merkle.specs.Soundness.{OwnRangeProofsAreAccepted, Rang
 use crate::merkle::hasher::Hasher;
 use crate::merkle::{Family, Position};
 
+pub mod equality;
 pub mod extracted;
 pub mod families;
 pub mod kept;

@@ -1,5 +1,5 @@
 -- Equality of operations: what `==` answers, by cases.
-use Rattle.std.specs.Prelude.{◌≡◌, ◌↔◌, ◌==◌, ◌&&◌, Bool, true, false}
+use Rattle.std.specs.Prelude.{◌==◌, ◌&&◌, Bool, false}
 use Rattle.std.specs.Option.{option_eq}
 use Rattle.storage_ops.specs.Operations.{OperationView, Delete, Update, CommitFloor}
 
@@ -10,15 +10,3 @@ operation_eq key update value (Delete a) (Delete b) = key a b
 operation_eq key update value (Update a) (Update b) = update a b
 operation_eq key update value (CommitFloor a m) (CommitFloor b n) = option_eq value a b && m == n
 operation_eq key update value x y = false
-
--- The two answer alike.
-abbrev pub AnswersAs : {A : Type 0} → (A → A → Bool) → (A → A → Bool) → Type 0
-AnswersAs {A} f g = (a b : A) → f a b ≡ g a b
-
--- Equal are exactly those that are seen alike.
-abbrev pub EqualAsSeen : {A X : Type 0} → (A → A → Bool) → (A → X) → Type 0
-EqualAsSeen {A} eq seen = (a b : A) → (eq a b ≡ true) ↔ (seen a ≡ seen b)
-
--- Equal is each value to itself alone.
-abbrev pub EqualToItself : {A : Type 0} → (A → A → Bool) → Type 0
-EqualToItself eq = EqualAsSeen eq (λ a. a)

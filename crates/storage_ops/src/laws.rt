@@ -1,7 +1,8 @@
 //! Laws of operations, each as the contract of a function with an empty body.
 
 ghost use Rattle.std.specs.Prelude.{◌≡◌, ◌&&◌};
-ghost use Rattle.storage_ops.specs.Equality.{operation_eq, AnswersAs, EqualAsSeen, EqualToItself};
+ghost use Rattle.storage_merkle.specs.Equality.{AnswersAs, EqualAsSeen, EqualToItself};
+ghost use Rattle.storage_ops.specs.Equality.{operation_eq};
 ghost use Rattle.storage_ops.specs.Operations.{OperationView, operation_map, parts};
 
 use crate::qmdb::any::operation::update::{Ordered, Unordered};

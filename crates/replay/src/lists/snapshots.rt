@@ -12,6 +12,7 @@ use crate::lists::{served, unframed};
 use commonware_storage::bitmap::{Prunable, Readable};
 use commonware_storage::codec::{Decode, Encode, Error, FixedBytes};
 use commonware_storage::digest::Sha256;
+use commonware_storage::light::check_range;
 use commonware_storage::merkle::{Graftable, Location, MAX_LEAVES, mmb, mmr};
 use commonware_storage::qmdb::current::Snapshot;
 use commonware_storage::qmdb::current::proof::RangeProof;
@@ -286,7 +287,8 @@ impl<F: Graftable, const N: usize> Served<F, N> {
 }
 
 /// `most start operations chunks proof root label`: whether the bytes are a range proof of at most `most` digests that shows
-/// the operations and chunks, by the check of bytes and by that of operations alike. The label says how the case was made.
+/// the operations and chunks, by the client's check, by that of bytes and by that of operations alike. The label says how the
+/// case was made.
 fn ranges_checks<F: Graftable>(
     alloc: Global,
     chunk_size: usize,
@@ -304,10 +306,15 @@ fn ranges_checks<F: Graftable>(
         root: digest(*root)?,
     };
     let chunks = strings(alloc, *chunks)?;
-    match range_proof::<F>(alloc, *proof, most)? {
-        Some(proof) => claim.shown(alloc, &proof, &chunks),
-        None => verdict(alloc, false),
+    let chunks = lent(alloc, &chunks)?;
+    let yes = match range_proof::<F>(alloc, *proof, most)? {
+        Some(proof) => claim.shown(alloc, &proof, &chunks)?,
+        None => false,
+    };
+    if claim.shown_to_client(alloc, *proof, most, &chunks)? != yes {
+        return Err(Fault::Differs);
     }
+    verdict(alloc, yes)
 }
 
 /// The range proof of at most `most` digests that bytes in hexadecimal are, if they are one.
@@ -339,14 +346,36 @@ impl<F: Graftable> Claim<'_, F> {
         &self,
         alloc: Global,
         proof: &RangeProof<F, FixedBytes<32>>,
-        chunks: &[Vec<u8>],
-    ) -> Result<String, Fault> {
-        let chunks = lent(alloc, chunks)?;
-        let yes = self.shows_bytes(alloc, proof, &chunks)?;
-        if self.shows_operations(alloc, proof, &chunks)? != yes {
+        chunks: &[&[u8]],
+    ) -> Result<bool, Fault> {
+        let yes = self.shows_bytes(alloc, proof, chunks)?;
+        if self.shows_operations(alloc, proof, chunks)? != yes {
             return Err(Fault::Differs);
         }
-        verdict(alloc, yes)
+        Ok(yes)
+    }
+
+    /// Whether the bytes of a proof of at most `most` digests show them, by the client's check.
+    fn shown_to_client(
+        &self,
+        alloc: Global,
+        proof: &str,
+        most: usize,
+        chunks: &[&[u8]],
+    ) -> Result<bool, Fault> {
+        let proof = bytes(alloc, proof)?;
+        let operations = strings(alloc, self.operations)?;
+        let operations = lent(alloc, &operations)?;
+        Ok(check_range::<F, Sha256>(
+            alloc,
+            &proof,
+            self.chunk_size,
+            most,
+            self.start,
+            &operations,
+            chunks,
+            &self.root,
+        )?)
     }
 
     /// The check of bytes.

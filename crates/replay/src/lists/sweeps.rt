@@ -1,6 +1,6 @@
 //! Lists on every location and every range of a snapshot. Chunks have one byte.
 
-use crate::columns::{Fault, number, spelled, strings};
+use crate::columns::{Fault, lent, number, spelled, strings};
 use crate::lists::keys::decoded;
 use crate::lists::refusals::{database_fault, merkle_fault};
 use crate::lists::served::{operation_proof, range_proof, snapshot};
@@ -9,7 +9,8 @@ use commonware_storage::bitmap::{Prunable, Readable};
 use commonware_storage::codec::{Encode, FixedBytes};
 use commonware_storage::digest::Sha256;
 use commonware_storage::laws::built_proofs_are_accepted;
-use commonware_storage::merkle::{ElementPlan, Graftable, Location};
+use commonware_storage::laws::ranges::built_ranges_are_accepted;
+use commonware_storage::merkle::{ElementPlan, Graftable, Location, RangePlan};
 use commonware_storage::qmdb::current::Snapshot;
 use commonware_storage::qmdb::current::proof::RangeProof;
 use commonware_storage::qmdb::current::proof::constant::OperationProof;
@@ -107,8 +108,8 @@ fn is_shown_at_once<F: Graftable>(
     }
 }
 
-/// `floor bits operations`: of how many ranges that are not empty the snapshot's own proof is accepted. It is
-/// also read again, and copied.
+/// `floor bits operations`: of how many ranges that are not empty the snapshot's own proof is accepted: as it was built, and
+/// built, written and checked from the bytes in one call. It is also read again, and copied.
 pub fn each_range<F: Graftable>(alloc: Global, columns: &[&str]) -> Result<String, Fault> {
     let [_, bits, _] = columns else {
         return Err(Fault::Malformed);
@@ -127,6 +128,7 @@ pub fn each_range<F: Graftable>(alloc: Global, columns: &[&str]) -> Result<Strin
     spelled(alloc, &shown)
 }
 
+/// Whether the proof of the operations from `start` to before `end` is accepted, in both ways.
 fn is_range_shown<F: Graftable>(
     alloc: Global,
     swept: &Swept<F>,
@@ -139,8 +141,49 @@ fn is_range_shown<F: Graftable>(
     let chunks = places(chunks, start / 8, end.div_ceil(8))?;
     let proof = range_proof(alloc, &swept.snapshot, swept.floor, start, end)?;
     compare_range_copies(alloc, &proof)?;
-    let start = Location::new(start);
-    Ok(proof.verify_encoded::<Sha256, _, [u8; 1]>(alloc, start, operations, chunks, 1, &root)?)
+    let first = Location::new(start);
+    let yes = proof.verify_encoded::<Sha256, _, [u8; 1]>(
+        alloc, first, operations, chunks, 1, &root,
+    )?;
+    let last = Location::new(end);
+    if is_range_shown_at_once(alloc, swept, first, last, operations, chunks)? != yes {
+        return Err(Fault::Differs);
+    }
+    Ok(yes)
+}
+
+/// What a client answers that is given the bytes of the proof.
+fn is_range_shown_at_once<F: Graftable>(
+    alloc: Global,
+    swept: &Swept<F>,
+    start: Location<F>,
+    end: Location<F>,
+    operations: &[Vec<u8>],
+    chunks: &[[u8; 1]],
+) -> Result<bool, Fault> {
+    let snapshot = &swept.snapshot;
+    let leaves = Location::new(snapshot.status().len());
+    let plan = match RangePlan::new(alloc, leaves, start..end) {
+        Ok(plan) => plan,
+        Err(error) => return Err(merkle_fault(&error)),
+    };
+    let operations = lent(alloc, operations)?;
+    let chunks: Vec<&[u8]> = chunks.iter().map(|chunk| chunk.as_slice()).collect(alloc)?;
+    match built_ranges_are_accepted::<F, Sha256, Prunable<1>, _, 1>(
+        alloc,
+        snapshot.status(),
+        plan,
+        |position| snapshot.get_node(position),
+        Location::new(swept.floor),
+        snapshot.ops_root(),
+        128,
+        &operations,
+        &chunks,
+        &snapshot.root(),
+    ) {
+        Ok(yes) => Ok(yes),
+        Err(error) => Err(database_fault(&error)),
+    }
 }
 
 /// The same of the proof of a range.

@@ -1,12 +1,10 @@
 //! A tree over chunks and a tree over the operations, and both read as one.
 
-ghost use Rattle.std.specs.Prelude.{◌≡◌, ℕ, ◌*◌, ◌^◌, ◌<◌, ◌≤◌, ◌⊎◌, None, Option};
-ghost use Rattle.storage_merkle.specs.Mmb.{mmb};
-ghost use Rattle.storage_merkle.specs.Mmr.{mmr};
+ghost use Rattle.std.specs.Prelude.{◌≡◌, ℕ, ◌*◌, ◌^◌, ◌<◌, ◌≤◌, ◌⊎◌, false, None, Option};
 ghost use Rattle.storage_merkle.specs.Nodes.{CoversSame, IsNode};
 ghost use Rattle.storage_merkle.specs.Shape.{size};
 ghost use Rattle.storage_current.specs.Combined.{IsRaised, joined};
-ghost use Rattle.storage_current.specs.CombinedViews.{ChunksKeepPace, JoinedTreesAreTheView, JoinedTreesServeTheView};
+ghost use Rattle.storage_current.specs.CombinedViews.{JoinedTreesAnswerTheView, JoinedTreesAreTheView, JoinedTreesServeTheView, PlannedNodesServeARange};
 ghost use Rattle.storage_current.specs.Snapshots.{grafting_of};
 
 use storage_codec::digest::{self, Digest};
@@ -15,10 +13,17 @@ use storage_merkle::merkle::hasher::Hasher;
 use storage_merkle::merkle::{Family, Graftable};
 
 /// Each node of a tree over chunks has a position among the operations' nodes, where the chunks have at most half of the
-/// operations that a tree may have: a hasher of a tree over chunks takes it where the hasher below takes that position.
+/// operations that a tree may have, and in a family with no pending chunk all of them: a hasher of a tree over chunks takes it
+/// where the hasher below takes that position.
 pub fn nodes_over_chunks_are_taken<F: Graftable, H: Hasher<F>>()
-    ensures { (hasher : H) (chunks height position : ℕ) → 1 ≤ height
+    ensures half { (hasher : H) (chunks height position : ℕ) → 1 ≤ height
         → chunks * (2 * 2 ^ height) ≤ 2 ^ 62
+        → position < size F.shape chunks
+        → ((p : ℕ) → CoversSame F.shape height position p → H.takes hasher p)
+        → IsRaised F.shape (H.takes hasher) height position }
+    ensures all { F.has_pending ≡ false
+        → (hasher : H) (chunks height position : ℕ) → 1 ≤ height
+        → chunks * 2 ^ height ≤ 2 ^ 62
         → position < size F.shape chunks
         → ((p : ℕ) → CoversSame F.shape height position p → H.takes hasher p)
         → IsRaised F.shape (H.takes hasher) height position }
@@ -44,19 +49,27 @@ pub fn joined_trees_meet_at_a_height<F: Family, D: Digest>()
         → joined F.shape height nodes chunks operations position ≡ chunks over }
 {}
 
-/// Both families: over each chunk's node that is in a tree, the tree over its graftable chunks has one.
-pub fn chunks_keep_pace()
-    ensures { (height : ℕ) → 1 ≤ height → ChunksKeepPace mmr height × ChunksKeepPace mmb height }
-{}
-
 /// A tree over chunks that stands for the digests of a snapshot's graftable chunks, and a tree over the operations that has each
 /// node, are both as one the snapshot's grafted view.
 pub fn joined_trees_are_the_view<F: Graftable, H: digest::Hasher, const N: usize>()
     ensures { JoinedTreesAreTheView H.Digest.text H.hash_of (grafting_of F.shape N) }
 {}
 
-/// From such trees both as one each proof of the snapshot's operations is made: every planned position has its digest, and what
-/// is proved is the snapshot's own.
+/// Where each of the trees has some of its nodes, what both as one have is of the snapshot's grafted view.
+pub fn joined_trees_answer_the_view<F: Graftable, H: digest::Hasher, const N: usize>()
+    ensures { JoinedTreesAnswerTheView H.Digest.text H.hash_of (grafting_of F.shape N) }
+{}
+
+/// Where they have at least what is planned of a range, both as one serve that range: every planned position has its digest, and
+/// what is proved is the snapshot's own.
+pub fn planned_nodes_serve_a_range<F: Graftable, H: digest::Hasher, const N: usize>()
+    ensures { PlannedNodesServeARange H.Digest.text H.hash_of (grafting_of F.shape N) }
+{
+    greatest_nodes_are_planned();
+}
+
+/// From trees that have each node both as one each proof of the snapshot's operations is made: every planned position has its
+/// digest, and what is proved is the snapshot's own.
 pub fn combined_stores_serve_the_view<F: Graftable, H: digest::Hasher, const N: usize>()
     ensures { JoinedTreesServeTheView H.Digest.text H.hash_of (grafting_of F.shape N) }
 {

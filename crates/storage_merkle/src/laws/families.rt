@@ -4,6 +4,7 @@ ghost use Rattle.std.specs.Prelude.{◌≡◌, ℕ, ◌+◌, ◌*◌, ◌/◌, �
 ghost use Rattle.storage_merkle.specs.Mmr.{mmr, mmr_digits};
 ghost use Rattle.storage_merkle.specs.Mmb.{mmb, mmb_digits};
 ghost use Rattle.storage_merkle.specs.Nodes.{IsNode, AreGraftable};
+ghost use Rattle.storage_merkle.specs.Pace.{ChunksKeepPace};
 ghost use Rattle.storage_merkle.specs.Peaks.{HasPeak};
 ghost use Rattle.storage_merkle.specs.Shape.{Laws, Inside, size};
 
@@ -68,4 +69,9 @@ pub fn at_most_one_chunk_is_pending<F: Graftable>()
     ensures none { F.has_pending ≡ false
         → (n height r : ℕ) → AreGraftable F.shape n height r
         → r ≡ n / 2 ^ height }
+{}
+
+/// Both families: over each node of at least a chunk's height that is in a tree, the tree over its graftable chunks has one.
+pub fn chunks_keep_pace()
+    ensures { (height : ℕ) → ChunksKeepPace mmr height × ChunksKeepPace mmb height }
 {}

@@ -1,6 +1,6 @@
 //! Proof stores: what is kept of an accepted range proof.
 
-ghost use Rattle.storage_merkle.specs.Stores.{StoresGiveOwnMultiProofs, StoresGiveOwnProofs, StoresOfAcceptedProofsAreTrue};
+ghost use Rattle.storage_merkle.specs.Stores.{StoresGiveOwnMultiProofs, StoresGiveOwnProofs, StoresOfAcceptedProofsAreTrue, StoresOfOwnProofsGiveAccepted};
 
 use crate::merkle::Family;
 
@@ -18,4 +18,11 @@ pub fn stores_give_own_multi_proofs<F: Family>()
 /// digest, one hashed by the check and one by the tree.
 pub fn stores_of_accepted_proofs_are_true()
     ensures { StoresOfAcceptedProofsAreTrue }
+{}
+
+/// A store made from a tree's own proof is one of that tree: the range proofs that it gives are the tree's own, and these and
+/// the multi proofs that it gives, with peaks that are the tree's, are accepted against the tree's root for what stands in the
+/// tree.
+pub fn stores_of_own_proofs_give_accepted<F: Family>()
+    ensures { StoresOfOwnProofsGiveAccepted F }
 {}

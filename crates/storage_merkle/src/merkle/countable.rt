@@ -21,6 +21,21 @@ pub fn leaves_of<F: Countable>(nodes: Position<F>) -> Option<Location<F>>
         (λ n. size F.shape n ≡ nodes) }
 {
     let nodes = nodes.as_u64();
+    let leaves = most_leaves_within::<F>(nodes);
+    if F::nodes_over(leaves) == nodes {
+        Some(Location::new(leaves))
+    } else {
+        None
+    }
+}
+
+/// How many leaves the largest tree with at most `nodes` nodes has, also past
+/// [`MAX_LEAVES`](crate::merkle::MAX_LEAVES). Takes no memory.
+pub(crate) fn most_leaves_within<F: Countable>(nodes: u64) -> u64
+    ensures small { result + 1 < 2 ^ 64 }
+    ensures low { size F.shape result ≤ nodes }
+    ensures high { nodes < size F.shape (result + 1) }
+{
     let mut low: u64 = 0;
     let mut high: u64 = F::most_leaves() + 1;
     while low + 1 < high {
@@ -31,9 +46,5 @@ pub fn leaves_of<F: Countable>(nodes: Position<F>) -> Option<Location<F>>
             high = middle;
         }
     }
-    if F::nodes_over(low) == nodes {
-        Some(Location::new(low))
-    } else {
-        None
-    }
+    low
 }

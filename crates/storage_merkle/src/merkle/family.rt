@@ -7,8 +7,10 @@ ghost use Rattle.storage_merkle.specs.Wire.{slot_text, slot_at, IsSlot};
 ghost use Rattle.storage_merkle.specs.Shape.{Shape, Laws, size};
 ghost use Rattle.storage_merkle.specs.Inactive.{IsExact, IsAligned};
 ghost use Rattle.storage_merkle.specs.Nodes.{IsNode, AreGraftable, CoversSame, placed};
+ghost use Rattle.storage_merkle.specs.Pace.{ChunksKeepPace};
 
-use crate::merkle::{Location, NodesToPin, Peaks, Position};
+use crate::merkle::countable::most_leaves_within;
+use crate::merkle::{Countable, Location, NodesToPin, Peaks, Position};
 use std::alloc::Global;
 use storage_codec::NoMemory;
 use storage_codec::codec::{self, Buf, Read, Write, small_size};
@@ -43,7 +45,7 @@ pub trait Family: Copy {
 
     /// The least number of leaves whose tree has the node of height `height` over the leaves from `first` on.
     fn birth(first: u64, height: u32) -> u64
-        requires { shape.birth first height ≤ 2 ^ 63 }
+        requires { shape.birth first height < 2 ^ 64 }
         ensures { result ≡ shape.birth first height };
 
     /// The position of the node of height `height` over the leaves from `first` on; `first` is a multiple of `2^height`.
@@ -117,20 +119,21 @@ pub trait Family: Copy {
 
 /// A family whose chunks of leaves may be grafted: hashed into the nodes that cover them, as leaves of a tree of the
 /// family.
-pub trait Graftable: Family {
+pub trait Graftable: Countable {
     /// Whether a tree of the family may have a pending chunk.
     ghost has_pending: { Bool };
 
-    /// The first leaf under the node at the valid position `position`, whose own height is `height`.
+    /// The first leaf under the node at `position`, whose own height is `height`. A tree whose leaves are counted in 64
+    /// digits has that node.
     final fn leftmost_leaf(position: Position<Self>, height: u32) -> Location<Self>
     where
         Self: Sized,
-        requires valid { position ≤ size Self.shape (2 ^ 62) }
-        requires own { (first : ℕ) × IsNode Self.shape position first height }
-        ensures { IsNode Self.shape position result height }
+        requires { (first : ℕ) × IsNode Self.shape position first height }
+        ensures node { IsNode Self.shape position result height }
+        ensures early { Self.shape.birth result height < 2 ^ 64 }
     {
-        let (first, _) = node_at::<Self>(position.as_u64());
-        Location::new(first)
+        let birth = most_leaves_within::<Self>(position.as_u64()) + 1;
+        Location::new(birth - Self::birth(0, height))
     }
 
     /// The position of the node of height `height` over the leaves from `first` on; `first` is a multiple of `2^height`.
@@ -144,19 +147,17 @@ pub trait Graftable: Family {
         Position::new(Self::position(first.as_u64(), height))
     }
 
-    /// The least number of leaves whose tree has the node at the valid position `position`, whose own height is `height`,
-    /// at least 1.
+    /// The least number of leaves whose tree has the node at `position`, whose own height is `height`, at least 1.
     final fn peak_birth_size(position: Position<Self>, height: u32) -> u64
     where
         Self: Sized,
         requires inner { 1 ≤ height }
-        requires valid { position ≤ size Self.shape (2 ^ 62) }
         requires own { (first : ℕ) × IsNode Self.shape position first height }
         ensures { (first : ℕ) → IsNode Self.shape position first height
             → result ≡ Self.shape.birth first height }
     {
-        let (first, _) = node_at::<Self>(position.as_u64());
-        Self::birth(first, height)
+        let first = Self::leftmost_leaf(position, height);
+        Self::birth(first.as_u64(), height)
     }
 
     /// Whether the family may have a pending chunk: a complete chunk that lies in no single peak, for whose digest there
@@ -223,6 +224,9 @@ pub trait Graftable: Family {
 
     /// Where a family has no pending chunk, each node comes with the last of its leaves.
     ghost prompt: { has_pending ≡ false → (first height : ℕ) → Self.shape.birth first height ≡ first + 2 ^ height };
+
+    /// Over each node of at least a chunk's height that is in a tree, the tree over its graftable chunks has one.
+    ghost keeps_pace: { (height : ℕ) → ChunksKeepPace Self.shape height };
 }
 
 /// How many leaves the largest tree with at most `nodes` nodes has. `nodes` is at most the number of nodes of the tree

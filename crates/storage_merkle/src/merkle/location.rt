@@ -1,8 +1,9 @@
 //! The place of a leaf among the leaves of a tree.
 
-ghost use Rattle.std.specs.Prelude.{◌≡◌, ℕ, ◌+◌, ◌-◌, ◌^◌, ◌<◌, ◌≤◌, ◌↔◌, min, IsTrue, MatchOption, Some};
+ghost use Rattle.std.specs.Prelude.{◌≡◌, ◌≢◌, ℕ, ◌+◌, ◌-◌, ◌^◌, ◌<◌, ◌≤◌, ◌↔◌, min, IsTrue, MatchOption, Some};
 ghost use Rattle.std.specs.Fmt.{decimal, styled_decimal};
-ghost use Rattle.storage_codec.specs.Parts.{varint_text};
+ghost use Rattle.storage_codec.specs.Codec.{Gives};
+ghost use Rattle.storage_codec.specs.Parts.{IsEnding, varint_text};
 ghost use Rattle.storage_merkle.specs.Wire.{location_at};
 ghost use Rattle.storage_merkle.specs.WireLaws.{location_again, location_back};
 
@@ -96,6 +97,7 @@ impl<F> EncodeSize for Location<F> {
     }
 }
 
+/// Refuses what is no shortest spelling of a number, then a number past [`MAX_LEAVES`]. Takes no memory.
 // Callers take the answer apart by `match`: the borrow checker does not cover a `?` on it yet.
 impl<F> Read for Location<F> {
     type Cfg = ();
@@ -108,7 +110,11 @@ impl<F> Read for Location<F> {
 
     ghost parse = { λ _. location_at };
 
-    fn read_cfg<B: Buf>(alloc: Global, buf: &mut B, _cfg: &()) -> Result<Location<F>, Error> {
+    fn read_cfg<B: Buf>(alloc: Global, buf: &mut B, _cfg: &()) -> Result<Location<F>, Error>
+        ensures gives { Gives (λ l. l) result (B.unread buf.new) (location_at (B.unread buf.old)) }
+        ensures ends { IsEnding (B.unread buf.old) (B.unread buf.new) }
+        ensures no_memory { result ≢ Err Error.Memory }
+    {
         let UInt(value) = UInt::read_cfg(alloc, buf, &())?;
         if value > MAX_LEAVES {
             return Err(Error::Invalid("location", "past the limit"));

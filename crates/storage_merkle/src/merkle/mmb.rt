@@ -6,6 +6,7 @@ ghost use Rattle.storage_merkle.specs.Shape.{Shape, Laws, size};
 ghost use Rattle.storage_merkle.specs.Mmb.{mmb};
 ghost use Rattle.storage_merkle.specs.MmbLaws.{mmb_laws};
 ghost use Rattle.storage_merkle.specs.Nodes.{IsNode};
+ghost use Rattle.storage_merkle.specs.PaceLaws.{mmb_keeps_pace};
 
 use crate::merkle::family::power;
 
@@ -70,6 +71,8 @@ impl crate::merkle::Graftable for Family {
     }
 
     ghost prompt = { λ absent. absurd (true≢false absent) };
+
+    ghost keeps_pace = { mmb_keeps_pace };
 }
 
 impl crate::merkle::Countable for Family {

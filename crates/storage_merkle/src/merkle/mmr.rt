@@ -5,6 +5,7 @@ ghost use Rattle.storage_merkle.specs.Shape.{Shape, Laws, size};
 ghost use Rattle.storage_merkle.specs.Mmr.{mmr};
 ghost use Rattle.storage_merkle.specs.MmrLaws.{mmr_laws};
 ghost use Rattle.storage_merkle.specs.Nodes.{IsNode};
+ghost use Rattle.storage_merkle.specs.PaceLaws.{mmr_keeps_pace};
 
 use crate::merkle::family::power;
 
@@ -52,6 +53,8 @@ impl crate::merkle::Graftable for Family {
     }
 
     ghost prompt = { λ _ first height. refl };
+
+    ghost keeps_pace = { mmr_keeps_pace };
 }
 
 impl crate::merkle::Countable for Family {

@@ -28,3 +28,6 @@ returns-in-Err-Memory-clause-refused g c = search rules
 
 pub returns-in-Ok-2-clause-exact : goal.returns-in-Ok-2-clause-exact
 returns-in-Ok-2-clause-exact g c = grind (arith, common_steps)
+
+pub returns-then-is_none-clause-refused : goal.returns-then-is_none-clause-refused
+returns-then-is_none-clause-refused g c = search rules

@@ -1,4 +1,4 @@
-use Rattle.std.proofs.Common.{ℕ, ◌/◌, ◌%◌, length, map, ap, sym}
+use Rattle.std.proofs.Common.{ℕ, ◌/◌, ◌%◌, length, map, ap, sym, ◌∙◌}
 use Rattle.std.proofs.lemmas.List.{length-map}
 use Rattle.reference.proofs.Snapshots.{canonical_from}
 use Rattle.reference.proofs.snapshot.canonical_root.Goals as goal
@@ -13,4 +13,4 @@ returns g c =
     (c.height-height.ensures.value g.F.Family.shape) c.graftable-graftable.ensures
     (ap (λ (d : ℕ). m / d) c.power.ensures) (ap (λ (d : ℕ). m % d) c.power-2.ensures)
     c.in_ok-ops_root.ensures c.in_ok-grafted_root.ensures c.in_ok-pending.ensures c.in_ok-partial.ensures
-    c.joined_root.ensures
+    (c.string_digest.ensures ∙ ap g.H.Hasher.hash_of (c.deref.ensures.value ∙ c.in_ok-string.ensures))

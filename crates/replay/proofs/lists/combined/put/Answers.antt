@@ -10,5 +10,5 @@ update_leaves-requires g c p below =
     let product : c.args.tree.now.leaves * (2 * 2 ^ c.args.height) ≤ 1000 * 512 =
     mul-le c.args.tree.now.leaves (2 * 2 ^ c.args.height) 1000 512 most (omega arith) in
     let room : c.args.tree.now.leaves * (2 * 2 ^ c.args.height) ≤ 2 ^ 62 = omega arith in
-    rw c.hasher.ensures (c.nodes_over_chunks_are_taken.ensures c.hasher.result.inner c.args.tree.now.leaves
+    rw c.hasher.ensures (c.nodes_over_chunks_are_taken.ensures.half c.hasher.result.inner c.args.tree.now.leaves
     c.args.height p c.requires.low room below (λ q covers. tt))

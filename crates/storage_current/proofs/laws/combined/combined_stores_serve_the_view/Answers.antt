@@ -1,12 +1,13 @@
-use Rattle.storage_current.specs.Snapshots.{Grafting}
+use Rattle.storage_current.specs.Snapshots.{Grafting, height}
 use Rattle.storage_current.proofs.CombinedViews.{joined_view}
 use Rattle.storage_current.proofs.StoresOfViews.{store_of_view}
 use Rattle.storage_current.proofs.laws.combined.combined_stores_serve_the_view.Goals as goal
 
 pub returns : goal.returns
-returns g c grafting pace s snapshot leaves grafted chunks operations over below =
+returns g c grafting s snapshot leaves grafted chunks operations over below =
     let text = g.H.Digest.Write.text in
     let hash = g.H.Hasher.hash_of in
     let G : Grafting = record { shape = g.F.Family.shape; bytes = g.row.N } in
+    let pace = g.met.F.Graftable.keeps_pace (height G) in
     store_of_view text hash G grafting.laws c.greatest_nodes_are_planned.ensures s _
-    (joined_view text hash G grafting pace s snapshot leaves grafted chunks operations over below)
+    (joined_view hash G pace grafting s snapshot leaves grafted chunks operations text over below)

@@ -1,20 +1,10 @@
-use Rattle.std.proofs.Common.{◌+◌, ◌-◌, ◌/◌, ◌≤◌, arith}
-use Rattle.storage_merkle.specs.Shape.{size}
-use Rattle.storage_merkle.specs.ShapeLaws.{size_order}
+use Rattle.std.proofs.Common.{arith, ◌+◌}
 use Rattle.storage_merkle.proofs.Countable.{no_tree}
 use Rattle.storage_merkle.proofs.merkle.countable.leaves_of.Goals as goal
 
-pub nodes_over-requires : goal.nodes_over-requires
-nodes_over-requires g c =
-    let S = g.F.Family.shape in
-    let middle = c.loop-low.low + (c.loop-low.high - c.loop-low.low) / 2 in
-    let up : size S middle ≤ size S c.most_leaves-high.result = size_order S g.met.F.Family.laws middle
-    c.most_leaves-high.result (omega (arith, c.loop-low-test.true, c.loop-low.invariant.few)) in
-    omega (arith, up, c.most_leaves-high.ensures.fits)
-
-pub returns-else-nodes_over-nodes-2 : goal.returns-else-nodes_over-nodes-2
-returns-else-nodes_over-nodes-2 g c = λ n same.
-    no_tree g.F.Family.shape g.met.F.Family.laws c.loop-low.low c.loop-low.high c.as_u64-nodes.result
-    (omega (arith, c.loop-low-test.false))
-    (omega (arith, c.loop-low.invariant.low, c.if-nodes_over-nodes-2.false, c.nodes_over-2.ensures))
-    c.loop-low.invariant.high n (omega (arith, same, c.as_u64-nodes.ensures))
+pub returns-else-nodes_over-nodes : goal.returns-else-nodes_over-nodes
+returns-else-nodes_over-nodes g c = λ n same.
+    no_tree g.F.Family.shape g.met.F.Family.laws c.most_leaves_within-leaves.result (c.most_leaves_within-leaves.result + 1)
+    c.as_u64-nodes.result (omega arith)
+    (omega (arith, c.most_leaves_within-leaves.ensures.low, c.if-nodes_over-nodes.false, c.nodes_over.ensures))
+    c.most_leaves_within-leaves.ensures.high n (omega (arith, same, c.as_u64-nodes.ensures))

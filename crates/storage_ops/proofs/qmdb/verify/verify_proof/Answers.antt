@@ -1,4 +1,5 @@
-use Rattle.std.proofs.Common.{refl}
+use Rattle.std.proofs.Common.{refl, arith}
+use Rattle.std.proofs.lemmas.Grind.{common_steps}
 use Rattle.storage_ops.proofs.qmdb.verify.verify_proof.Goals as goal
 
 pub returns-clause-exact : goal.returns-clause-exact
@@ -8,3 +9,6 @@ returns-clause-exact g c = rw (c.deref.ensures.value, c.in_ok-elements.ensures.a
 pub returns-clause-means : goal.returns-clause-means
 returns-clause-means g c = rw (c.deref.ensures.value, c.in_ok-elements.ensures.all, c.hasher.ensures) at
     (c.verify_range_inclusion.ensures.means refl)
+
+pub returns-clause-none : goal.returns-clause-none
+returns-clause-none g c = grind (arith, common_steps)

@@ -1,6 +1,6 @@
 //! Updates of a key's value.
 
-ghost use Rattle.std.specs.Prelude.{◌≡◌, ◌≤◌, ◌+◌, ◌*◌, ◌^◌, ℕ, List, ◌++◌, IfOk, OnOk, OnErr};
+ghost use Rattle.std.specs.Prelude.{◌≡◌, ◌≤◌, ◌+◌, ◌*◌, ◌^◌, ℕ, List, ◌++◌, Bool, true, false, IfOk, OnOk, OnErr};
 ghost use Rattle.std.specs.Fmt.{WritesOnOk};
 ghost use Rattle.storage_codec.specs.Parts.{AppendsStart, size_of};
 
@@ -71,15 +71,19 @@ pub trait Update: sealed::Sealed + Write + EncodeSize + Drop {
     /// The payload is that of the update.
     ghost is_cached: { Self → Self.Cached → Type 0 };
 
-    /// What is kept of the update that `update` answers. It is called only where that depends on it.
+    /// Whether what is kept depends on the update.
+    ghost depends: { Bool };
+
+    /// What is kept of an update that `update` answers. Where that is the same for all updates, `update` is not called.
     fn cached<R: Deref<Target = Self> + Drop, C: FnOnce() -> R + Drop>(
         update: C,
     ) -> Result<Self::Cached, NoMemory>
     where
         Self: Sized,
-        requires { C.pre update }
-        ensures { (u : Self) → ((r : R) (v : Self) → C.post update r → R.deref_gives r v → v ≡ u)
-            → IfOk result (is_cached u) };
+        requires { depends ≡ true → C.pre update }
+        ensures answered { depends ≡ true → IfOk result (λ kept.
+            (r : R) × (u : Self) × C.post update r × R.deref_gives r u × is_cached u kept) }
+        ensures all { depends ≡ false → (u : Self) → IfOk result (is_cached u) };
 
     /// What an update is displayed as: keys by their bytes and the value by its encoding, in hexadecimal.
     ghost shown: { Self → List ℕ };

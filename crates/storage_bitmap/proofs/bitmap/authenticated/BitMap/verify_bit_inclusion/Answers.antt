@@ -1,4 +1,4 @@
-use Rattle.std.proofs.Common.{map, option_map, arith}
+use Rattle.std.proofs.Common.{map, option_map, arith, rules}
 use Rattle.storage_merkle.specs.ProofWireLaws.{all_digests}
 use Rattle.storage_bitmap.proofs.Bits.{chunk_positive}
 use Rattle.storage_bitmap.proofs.BitChecks.{accepted_computed, chained, same_option}
@@ -38,3 +38,6 @@ returns-clause-means g c = λ same yes.
     }) c.args.chunk.now c.args.bit (omega arith)
     (omega arith) (g.D.Write.text c.args.root.now) (option_map g.D.Write.text c.in_ok-computed.computed)
     (c.in_ok-computed.ensures.root same))).0 yes)
+
+pub returns-then-bit-as_u64-clause-past_the_end : goal.returns-then-bit-as_u64-clause-past_the_end
+returns-then-bit-as_u64-clause-past_the_end g c = search rules

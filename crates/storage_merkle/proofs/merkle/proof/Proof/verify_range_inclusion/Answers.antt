@@ -1,4 +1,4 @@
-use Rattle.std.proofs.Common.{map, option_map, subst, sym}
+use Rattle.std.proofs.Common.{map, option_map, subst, sym, rules}
 use Rattle.storage_merkle.specs.ProofWireLaws.{all_digests}
 use Rattle.storage_merkle.specs.Shape.{Laws}
 use Rattle.storage_merkle.proofs.Meaning.{accepted_proved, accepted_nothing, accepted_some, chained, no_elements, some_elements, same_option}
@@ -84,3 +84,6 @@ returns-clause-means g c = λ same accepted.
     (record { elements = map g.E.AsSlice.items c.args.elements.now; chunk = g.H.Hasher.chunk c.args.hasher.now })
     (g.D.Write.text c.args.root.now) (some_elements g.E.AsSlice.items c.args.elements.now c.if-is_empty.ensures)
     (option_map g.D.Write.text c.in_ok-computed.computed) (c.in_ok-computed.ensures same))).0 accepted)
+
+pub returns-then-is_empty-clause-none : goal.returns-then-is_empty-clause-none
+returns-then-is_empty-clause-none g c = search rules

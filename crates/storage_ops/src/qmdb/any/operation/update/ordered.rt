@@ -1,6 +1,6 @@
 //! Updates that name the next key.
 
-ghost use Rattle.std.specs.Prelude.{◌≡◌, ℕ, List, ◌+◌, ◌++◌, IfOk, OnOk, OnErr};
+ghost use Rattle.std.specs.Prelude.{◌≡◌, ℕ, List, ◌+◌, ◌++◌, true, IfOk, OnOk, OnErr};
 ghost use Rattle.storage_codec.specs.Codec.{Gives};
 ghost use Rattle.storage_codec.specs.Parts.{AppendsStart, IsEnding};
 ghost use Rattle.hex.specs.Hex.{encode_lower};
@@ -91,6 +91,8 @@ impl<K: Key, V: ValueEncoding> UpdateTrait for Update<K, V> {
     type Cached = K;
 
     ghost is_cached = { λ u c. (K.view c ≡ K.view u.next_key) × (K.text c ≡ K.text u.next_key) };
+
+    ghost depends = { true };
 
     fn cached<R: Deref<Target = Self> + Drop, C: FnOnce() -> R + Drop>(
         update: C,

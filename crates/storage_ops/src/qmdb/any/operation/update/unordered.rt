@@ -1,6 +1,6 @@
 //! Updates that name no other key.
 
-ghost use Rattle.std.specs.Prelude.{◌≡◌, ℕ, List, ◌+◌, ◌++◌, IfOk, OnOk, OnErr};
+ghost use Rattle.std.specs.Prelude.{◌≡◌, ℕ, List, ◌+◌, ◌++◌, false, IfOk, OnOk, OnErr};
 ghost use Rattle.storage_codec.specs.Codec.{Gives};
 ghost use Rattle.storage_codec.specs.Parts.{AppendsStart, IsEnding};
 ghost use Rattle.hex.specs.Hex.{encode_lower};
@@ -79,6 +79,8 @@ impl<K: Key, V: ValueEncoding> UpdateTrait for Update<K, V> {
     type Cached = ();
 
     ghost is_cached = { λ _ _. Unit {0} };
+
+    ghost depends = { false };
 
     fn cached<R: Deref<Target = Self> + Drop, C: FnOnce() -> R + Drop>(
         _update: C,

@@ -1,7 +1,7 @@
 use Rattle.std.specs.Result.{IfOk}
 use Rattle.std.specs.Bool.{IsTrue}
 use Rattle.std.proofs.lemmas.List.{map-id}
-use Rattle.std.proofs.Common.{◌↔◌, List, ℕ, map, subst}
+use Rattle.std.proofs.Common.{◌↔◌, List, ℕ, map, subst, rules}
 use Rattle.storage_current.specs.CurrentProofs.{IsCurrent}
 use Rattle.storage_current.specs.CurrentSoundness.{MeansCurrent}
 use Rattle.storage_current.specs.Held.{current_of}
@@ -22,3 +22,6 @@ returns-clause-meaning g c = λ wide.
     (record { shape = g.F.Family.shape; bytes = g.row.N }) (current_of g.D.Write.text c.args.self.now) c.args.start
     (map g.O.Write.text c.args.operations.now) chunks (g.D.Write.text c.args.root.now)))
     (map-id c.args.chunks.now) (c.verify_with_chunk_size.ensures.meaning wide)
+
+pub returns-clause-at_once : goal.returns-clause-at_once
+returns-clause-at_once g c = search rules

@@ -1,6 +1,6 @@
 use Rattle.std.proofs.Common.{◌-◌, ◌<◌, ◌≤◌}
 use Rattle.storage_merkle.specs.Shape.{size}
-use Rattle.storage_merkle.proofs.merkle.countable.leaves_of.Given as goal
+use Rattle.storage_merkle.proofs.merkle.countable.most_leaves_within.Given as goal
 
 abbrev pub invariant-loop-low : goal.invariant-loop-low
 invariant-loop-low g l = record {

@@ -1,0 +1,6 @@
+use Rattle.storage_merkle.specs.EqualityLaws.{equal_on, equal_both}
+use Rattle.storage_current.proofs.laws.equality.equal_key_value_proofs.Goals as goal
+
+pub returns-clause-seen : goal.returns-clause-seen
+returns-clause-seen g c chunks keys =
+    equal_both (equal_on (c.equal_operation_proofs.ensures.seen chunks) (λ p. p.proof)) (equal_on keys (λ p. p.next_key))

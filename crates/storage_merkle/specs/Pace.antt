@@ -1,0 +1,8 @@
+-- How fast a tree over chunks grows beside the tree over their leaves.
+use Rattle.std.specs.Prelude.{ℕ, ◌+◌, ◌*◌, ◌^◌, ◌≤◌}
+use Rattle.storage_merkle.specs.Shape.{Shape}
+use Rattle.storage_merkle.specs.Nodes.{AreGraftable}
+
+-- over each node of at least the height g that is in the tree over n leaves, the tree over its r graftable chunks has one
+abbrev pub ChunksKeepPace : Shape → ℕ → Type 0
+ChunksKeepPace S g = (n r a k : ℕ) → AreGraftable S n g r → S.birth (a * 2 ^ g) (k + g) ≤ n → S.birth a k ≤ r

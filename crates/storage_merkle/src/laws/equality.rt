@@ -1,0 +1,18 @@
+//! Which proofs are equal.
+
+ghost use Rattle.std.specs.Prelude.{◌==◌, ◌&&◌};
+ghost use Rattle.std.specs.Cmp.Lexicographic.{pointwise};
+ghost use Rattle.storage_merkle.specs.Equality.{AnswersAs, EqualAsSeen};
+ghost use Rattle.storage_merkle.specs.Held.{range_of};
+
+use crate::merkle::Proof;
+use storage_codec::digest::Digest;
+
+/// Proofs are equal exactly where their leaves, their inactive peaks and their digests are, so exactly where they are the
+/// same proof by the bytes of the digests.
+pub fn equal_proofs<F, D: Digest>()
+    ensures parts { AnswersAs ⟦<Proof<F, D> as PartialEq>⟧.eq (λ x y. x.leaves == y.leaves
+        && x.inactive_peaks == y.inactive_peaks
+        && pointwise D.PartialEq.eq x.digests.items y.digests.items) }
+    ensures seen { EqualAsSeen ⟦<Proof<F, D> as PartialEq>⟧.eq (range_of D.text) }
+{}
