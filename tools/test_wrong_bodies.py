@@ -3,8 +3,8 @@
 
 Of the edits of a crate a harmless one must be named, also where the function that it is in calls one with a wrong body, where it
 needs a trait's block that is not proved for another edit, where it takes away a goal that a proof file answers, and where such a goal
-of another function of that name fails. An edit that cannot be applied must be named too, and a crate that is not proved without an
-edit. An edit that names the goal that it breaks is refused by it, and one that names another goal by a search. A crate that a gate
+of another function of that name fails. An edit that cannot be applied must be named too, one that cannot be applied behind those above
+it in its file among them, and a crate that is not proved without an edit. An edit that names the goal that it breaks is refused by it, and one that names another goal by a search. A crate that a gate
 keeps from an earlier run is tried all the same. The last line is 'N passed, M failed'.
 """
 import pathlib
@@ -121,11 +121,14 @@ EDITS = {
     "harmless_beside_block": ("word.measure()", "word.measure() + 0"),
     "harmless_where_a_goal_is_answered": ("let third = three_more(n);", "let third = n + 3;"),
     "no_such_text": ("five_more", "six_more"),
+    "text_taken_by_one_above": ("    n + 1", "    n + 3"),
     # an edit that names the answered goal that it breaks, a harmless one that names a goal, and one that breaks another goal
     "wrong_by_its_answer": ("        4", "        6", "returns"),
     "harmless_that_names_a_goal": ("        4", "        2 + 2", "returns"),
     "wrong_by_another_goal": ("third + 1", "third + 2", "three_more-third-requires"),
 }
+# the edits that are not in a file of their own, which has their name
+GROUPS = {"callee_wrong": "src.lib", "text_taken_by_one_above": "src.lib"}
 REFUSED = {"callee_wrong", "other_word_wrong", "block_wrong", "wrong_by_its_answer", "wrong_by_another_goal"}
 
 
@@ -148,8 +151,10 @@ def said(text, edits, gate=None):
         (crate / "proofs/Lib.antt").write_text("")
         for folder, answers in ANSWERS.items():
             (crate / "proofs" / folder / "Answers.antt").write_text(answers)
-        group = "".join(f"\nname: {it}\n{goals_of(edits[it])}old: {edits[it][0]}\nnew: {edits[it][1]}\n" for it in edits)
-        (crate / "must-fail/src.lib.edit").write_text(f"file: src/lib.rt\n{group}")
+        for it, edit in edits.items():
+            group = crate / f"must-fail/{GROUPS.get(it, it)}.edit"
+            above = group.read_text() if group.exists() else "file: src/lib.rt\n"
+            group.write_text(f"{above}\nname: {it}\n{goals_of(edit)}old: {edit[0]}\nnew: {edit[1]}\n")
         words = [root / "tools/wrong_bodies.py"]
         if gate:
             (root / "gate.log").write_text(gate)

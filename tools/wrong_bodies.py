@@ -4,7 +4,8 @@
     tools/wrong_bodies.py [--built FOLDER [--gate LOG]] [--jobs N] [--kept] [--only NAME,..] [CRATE..]
 
 A file crates/CRATE/must-fail/NAME.edit has one edit: a line 'file: src/FILE.rt', then pairs of lines 'old: TEXT' and 'new: TEXT'.
-A file with lines 'name: NAME' has a group: an edit of its own under each of them, all of the file named above them. A line
+A file with lines 'name: NAME' has a group: an edit of its own under each of them, all of the file named above them. `rt ci` takes a
+group for one edit, so that each must be found once also where those above it are made. A line
 'goal: GOAL' names a goal of the edited function which a proof file answers, and whose answer the edit breaks: of that function nothing
 is searched then, since one goal is enough. An edit that breaks no such answer is tried once more, with all searches.
 
@@ -73,14 +74,24 @@ class Edit:
     """A named edit of a crate: the lines that it changes, and the functions whose bodies it changes, if it changes nothing else; and the
     answered goal that it breaks, where it names one."""
 
-    def __init__(self, name, changes):
-        self.name, self.changes, self.goal = name, changes, None
+    def __init__(self, name, changes, group):
+        self.name, self.changes, self.group, self.goal = name, changes, group, None
         self.lines, self.places, self.is_of_bodies = {}, set(), True
 
     def locate(self, texts):
         """Finds which lines of the crate's texts become which, and where they stand."""
         if not self.changes:
             raise BadEdit("it has no 'old:' and 'new:' pair")
+        for file, text in self.applied(texts).items():
+            before = texts[file].split("\n")
+            for number, line in enumerate(text.split("\n")):
+                if line != before[number]:
+                    self.lines[file, number] = line
+                    self.place(file, before, number, line)
+        self.is_of_bodies = self.is_of_bodies and bool(self.places)
+
+    def applied(self, texts):
+        """The texts of the files that it changes, as it leaves them."""
         edited = {}
         for change in self.changes:
             if change.file not in texts:
@@ -89,13 +100,7 @@ class Edit:
             if text.count(change.old) != 1:
                 raise BadEdit(f"an 'old:' text is in {change.file} {text.count(change.old)} times, and not once")
             edited[change.file] = text.replace(change.old, change.new)
-        for file, text in edited.items():
-            before = texts[file].split("\n")
-            for number, line in enumerate(text.split("\n")):
-                if line != before[number]:
-                    self.lines[file, number] = line
-                    self.place(file, before, number, line)
-        self.is_of_bodies = self.is_of_bodies and bool(self.places)
+        return edited
 
     def place(self, file, before, number, line):
         """Notes the function whose body a changed line is in. An import beside it is no other place."""
@@ -230,11 +235,11 @@ def edits_of(folder):
         lines = path.read_text().split("\n")
         is_group = any(line.startswith("name: ") for line in lines)
         if not is_group:
-            edits.append(Edit(path.stem, changes))
+            edits.append(Edit(path.stem, changes, path.stem))
         for line in lines:
             if line.startswith("name: "):
                 changes = []
-                edits.append(Edit(line[len("name: ") :].strip(), changes))
+                edits.append(Edit(line[len("name: ") :].strip(), changes, path.stem))
             elif line.startswith("goal: "):
                 edits[-1].goal = line[len("goal: ") :].strip()
             elif line.startswith("file: "):
@@ -463,13 +468,14 @@ class Trial:
 
     def run(self):
         """Tries all edits of the crate; the work that is kept goes from one check to the next."""
-        sound, names = [], collections.Counter()
+        sound, names, above = [], collections.Counter(), collections.defaultdict(dict)
         for edit in edits_of(self.crate.folder):
             names[edit.name] += 1
             try:
                 if names[edit.name] > 1:
                     raise BadEdit("another edit has its name")
                 edit.locate(self.crate.texts)
+                above[edit.group].update(edit.applied({**self.crate.texts, **above[edit.group]}))
                 sound.append(edit)
             except BadEdit as why:
                 self.say(f"{edit.name}: BAD EDIT: {why}", False)
