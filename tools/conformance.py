@@ -24,7 +24,9 @@ FOLDER = ROOT / "conformance"
 REPLAY = ROOT / "crates/replay"
 
 # The texts of a kind, in a list and in a case alike.
-TEXTS = {"number": r"0|[1-9]\d{0,19}", "bytes": r"(?:[0-9a-f]{2})*", "digest": r"[0-9a-f]{64}", "bits": r"[01]*", "text": r".+"}
+TEXTS = {"number": r"0|[1-9]\d{0,19}", "bytes": r"(?:[0-9a-f]{2})*", "digest": r"(?:[0-9a-f]{64}){1,2}", "bits": r"[01]*", "text": r".+"}
+# The digest function of the cases that tell theirs; of all others it is SHA-256.
+OTHER_HASH = "sha512"
 REFUSAL = re.compile(r"[CEQ]\d+(?:\(.*\))?")
 OR_REFUSAL = " or refusal"
 # The kinds that are arrays: the kind of a part, what stands between two parts, what stands for no part.
@@ -102,22 +104,33 @@ def comment_of(lists, row, label):
     return (f"{name}: {note}" if note else name) + (f" ({told})" if told else "")
 
 
-def case_of(lists, entry, row, texts, answer):
-    """One case in JSON."""
+def case_of(lists, entry, heads, texts, answer):
+    """One case in JSON. Its heads are the row and the digest function, where they are told."""
     given = values_of(entry["columns"], texts)
-    comment = comment_of(lists, row, given.get("label", "row"))
-    return {**({"row": row} if row else {}), "comment": comment, "in": given, "out": out_of(entry["answer"], answer)}
+    comment = comment_of(lists, heads.get("row"), given.get("label", "row"))
+    return {**heads, "comment": comment, "in": given, "out": out_of(entry["answer"], answer)}
+
+
+def parts_of(line):
+    """The row and the digest function of a line, where they are told, its list and its columns."""
+    row, colon, rest = line.partition(": ")
+    name, *texts = (rest if colon else line).split(" ")
+    heads = {"row": row} if colon else {}
+    if name == OTHER_HASH and texts:
+        heads["hash"], (name, *texts) = name, texts
+    return heads, name, texts
 
 
 def lines_of(content, case):
     """The line that a case stands for, and that of its answer."""
-    row = [f"{case['row']}:"] if "row" in case else []
+    heads = [f"{case['row']}:"] if "row" in case else []
+    heads += [case["hash"]] if "hash" in case else []
     out = case["out"] if isinstance(case["out"], dict) else None
     form = form_of(content["answer"], len(out) if out else 1)
     try:
         given = [text_of(it["kind"], case["in"][it["name"]]) for it in content["columns"]]
         asked = [text_of(it["kind"], out[it["name"]] if out else case["out"]) for it in form]
-        return " ".join([*row, content["list"], *given]), " ".join(asked)
+        return " ".join([*heads, content["list"], *given]), " ".join(asked)
     except (KeyError, TypeError) as error:
         raise Wrong(f"{content['list']}: a case has other columns than the list: {error}") from None
 
@@ -141,12 +154,11 @@ def made():
     cases = {name: [] for name in lists["lists"]}
     asked, answers = ((REPLAY / it).read_text().splitlines() for it in ("stdin", "stdout"))
     for number, (line, answer) in enumerate(itertools.zip_longest(asked, answers, fillvalue=""), 1):
-        row, colon, rest = line.partition(": ")
-        name, *texts = (rest if colon else line).split(" ")
+        heads, name, texts = parts_of(line)
         try:
             if name not in cases:
                 raise Wrong(f"no list {name!r} in conformance/lists.json")
-            cases[name].append(case_of(lists, lists["lists"][name], row if colon else None, texts, answer))
+            cases[name].append(case_of(lists, lists["lists"][name], heads, texts, answer))
         except Wrong as wrong:
             raise Wrong(f"crates/replay/stdin:{number}: {wrong}") from None
     for name in (it for it in cases if not cases[it]):

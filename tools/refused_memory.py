@@ -3,10 +3,10 @@
 
     tools/refused_memory.py [CRATE..]
 
-Takes what `rt ci` left: the tests of each crate that has some, and the programs `stateproof` and `replay`; or of the named
-crates alone. A case is a test, a command of `stateproof`, or a line for `replay`, LINES of them of each list, and of each list in each
-worked row, whose lines begin with its name and a colon. It is run once with
-all memory that it asks for, and must give the right answer. Then each of its requests for memory is refused in turn: once alone,
+Takes what `rt ci` left: the tests of each crate that has some, and the programs `stateproof`, `replay` and `many_checks`; or of
+the named crates alone. A case is a test, a command of `stateproof`, or a line for `replay`, LINES of them of each list, and of each
+list in each worked row, whose lines begin with its name and a colon, or for `many_checks` the shortest line of each kind. It is run
+once with all memory that it asks for, and must give the right answer. Then each of its requests for memory is refused in turn: once alone,
 and once with all that come after it. Such a run must give the right answer too, or name want of memory, and write nothing else.
 
 Of a case with more than EACH requests the first EACH are refused, and SPREAD of the others, spread evenly up to the last; the line
@@ -30,6 +30,8 @@ ROOT = pathlib.Path(__file__).resolve().parent.parent
 EACH = 250
 SPREAD = 50
 LINES = 8
+# The word before the list of a line whose digests are not those of SHA-256.
+OTHER_HASH = "sha512"
 SECONDS = 60
 NOT_RUN = 77
 LAST = 2**64 - 1
@@ -124,8 +126,9 @@ def is_want_of_line(ending):
 
 def list_of(line):
     """The worked row of a line, None where it is of none, and the line's list."""
-    first, second, *_ = line.split()
-    return (first, second) if first.endswith(":") else (None, first)
+    first, second, third, *_ = f"{line.strip()} - -".split()
+    row, words = (first, (second, third)) if first.endswith(":") else (None, (first, second))
+    return row, words[words[0] == OTHER_HASH]
 
 
 def sampled():
@@ -133,7 +136,7 @@ def sampled():
     folder = ROOT / "crates/replay"
     lists = collections.defaultdict(list)
     for given, answer in zip((folder / "stdin").open(), (folder / "stdout").open()):
-        lists[list_of(given)].append((given, answer))
+        lists[list_of(given), f" {OTHER_HASH} " in f" {given}"].append((given, answer))
     for cases in lists.values():
         step = -(-len(cases) // (LINES - 1))
         yield from dict.fromkeys([*cases[::step], max(cases, key=lambda it: len(it[0]))])
@@ -143,6 +146,24 @@ def lines():
     """A case for each of these lines."""
     for given, answer in sampled():
         yield Case(given.strip(), [built("replay")], given, (0, answer, ""), is_want_of_line)
+
+
+def is_want_of_check(ending):
+    """Whether `many_checks` answered nothing but that it wants memory."""
+    said = re.fullmatch(r"Error: (out of memory|Out of memory|memory allocation failed)\n", ending.errors)
+    return ending.status == 1 and ending.output == "" and said is not None
+
+
+def shortest_checks():
+    """A case for the shortest line of each kind that `many_checks` answers."""
+    folder = ROOT / "crates/many_checks"
+    kinds = {}
+    for given, answer in zip((folder / "stdin").open(), (folder / "stdout").open()):
+        kind = given.split()[1]
+        if kind not in kinds or len(given) < len(kinds[kind][0]):
+            kinds[kind] = given, answer
+    for given, answer in kinds.values():
+        yield Case(given.strip(), [built("many_checks"), "altered"], given, (0, answer, ""), is_want_of_check)
 
 
 def refused(requests):
@@ -190,6 +211,8 @@ def cases_of(shim, crate):
         return [*commands(shim)]
     if crate == "replay":
         return [*lines()]
+    if crate == "many_checks":
+        return [*shortest_checks()]
     sources = (ROOT / f"crates/{crate}/src").rglob("*.rt")
     return [*tests(shim, crate)] if any("#[test]" in it.read_text() for it in sources) else []
 

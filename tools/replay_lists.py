@@ -5,8 +5,9 @@
 
 LISTS is a folder of lists, one case a line, columns with blanks between them, the first line their names. They were
 made by an independent program that computes the definitions over whole lists. A line of stdin is the name of a list
-and the columns that are given, a line of stdout the columns that are asked for. Only cases over SHA-256 are taken. Left
-out are the list `db`, for databases stand above these crates, and cases of `combined` whose tree over chunks is pruned.
+and the columns that are given, a line of stdout the columns that are asked for. The cases over SHA-512 come last, with that word
+before the list's name. Left out are the list `db`, for databases stand above these crates, and cases of `combined` whose tree over
+chunks is pruned.
 
 Lines of stdin that begin with the name of a worked row and a colon are kept with their answers, before the lists.
 """
@@ -15,24 +16,26 @@ import pathlib
 import sys
 
 
-def rows(folder, name):
-    """The cases of a list as lists of columns; of those with a hash the ones over SHA-256, without that column."""
-    lines = (folder / f"{name}.txt").read_text().splitlines()
-    hashed = "hash" in lines[0].split()[1:3]
-    place = lines[0].split().index("hash") - 1 if hashed else 0
-    for line in lines[1:]:
-        columns = line.split(" ")
-        if hashed:
-            if columns[place] != "sha256":
-                continue
-            del columns[place]
-        yield columns
+class Lists:
+    """The lists of a folder, with the cases over one hash."""
 
+    def __init__(self, folder, name):
+        self.folder, self.hash = folder, name
 
-def cut(folder, name, count):
-    """Cases whose first columns are given and whose other columns are asked for."""
-    for columns in rows(folder, name):
-        yield columns[:count], columns[count:]
+    def rows(self, name):
+        """The cases of a list as lists of columns; of those with a hash the ones over this one, without that column. Lists without a
+        hash count as ones over SHA-256."""
+        lines = (self.folder / f"{name}.txt").read_text().splitlines()
+        columns = lines[0].split()[1:]
+        if "hash" not in columns[:2]:
+            return [line.split(" ") for line in lines[1:] if self.hash == "sha256"]
+        place = columns.index("hash")
+        cases = [line.split(" ") for line in lines[1:]]
+        return [it[:place] + it[place + 1 :] for it in cases if it[place] == self.hash]
+
+    def cut(self, name, count):
+        """Cases whose first columns are given and whose other columns are asked for."""
+        return [(it[:count], it[count:]) for it in self.rows(name)]
 
 
 def told_apart(calls):
@@ -52,88 +55,92 @@ def firsts(column):
     return "none" if column == "-" else ",".join(part.split(":")[0] for part in column.split(","))
 
 
-def cases(folder):
+def cases(lists):
     """All cases: the name of the list, the columns that are given, the columns that are asked for."""
-    for given, asked in cut(folder, "varints", 1):
+    for given, asked in lists.cut("varints", 1):
         yield "varints", given, asked
-    for given, asked in cut(folder, "golden_hash", 1):
+    for given, asked in lists.cut("golden_hash", 1):
         yield "golden_hash", given, asked
-    for given, asked in cut(folder, "families", 2):
+    for given, asked in lists.cut("families", 2):
         # the positions of the peaks are also those to pin
         yield "families", given, asked + asked[-1:]
-    for given, asked in cut(folder, "sizes", 2):
+    for given, asked in lists.cut("sizes", 2):
         yield "sizes", given, asked
-    for given, asked in cut(folder, "nodes", 3):
+    for given, asked in lists.cut("nodes", 3):
         yield "nodes", given, asked
-    for given, asked in cut(folder, "graftable", 3):
+    for given, asked in lists.cut("graftable", 3):
         yield "graftable", given, asked
-    for given, asked in cut(folder, "maps", 3):
+    for given, asked in lists.cut("maps", 3):
         # the position is mapped up, and down again
         yield "maps", given, asked + given[-1:]
-    for given, asked in cut(folder, "operations", 2):
+    for given, asked in lists.cut("operations", 2):
         yield "operations", given, asked
-    for given, asked in cut(folder, "written", 2):
+    for given, asked in lists.cut("written", 2):
         yield "written", given, asked
-    for given, asked in cut(folder, "elements", 3):
+    for given, asked in lists.cut("elements", 3):
         yield "elements", given, asked
-    for given, asked in cut(folder, "plans", 4):
+    for given, asked in lists.cut("plans", 4):
         yield "plans", given, asked
-    for family, direction, leaves, inactive, start, _, elements, digests, root in rows(folder, "plain"):
+    for family, direction, leaves, inactive, start, _, elements, digests, root in lists.rows("plain"):
         # an honest proof is accepted, and gives the root
         given = [family, direction, leaves, inactive, digests, start, elements, root, "honest"]
         yield "plain_checks", given, ["yes", root]
-    for given, asked in cut(folder, "plain_checks", 9):
+    for given, asked in lists.cut("plain_checks", 9):
         yield "plain_checks", given, asked
-    for columns in rows(folder, "golden"):
+    for columns in lists.rows("golden"):
         # the first column is a label
         yield "golden", columns[1:8], columns[8:]
-    for columns in rows(folder, "program"):
+    for columns in lists.rows("program"):
         # `root` and `prove` write the root, and `check` is asked about what `prove` wrote
         root, _, _, _, proof, answer = columns[5:]
         yield "program", columns[:5], [root, root, proof, answer]
-    for given, asked in cut(folder, "program_checks", 7):
+    for given, asked in lists.cut("program_checks", 7):
         yield "program_checks", given, asked
-    for given, asked in cut(folder, "ranges", 7):
+    for given, asked in lists.cut("ranges", 7):
         yield "ranges", given, asked
-    for given, asked in cut(folder, "ranges_checks", 9):
+    for given, asked in lists.cut("ranges_checks", 9):
         yield "ranges_checks", given, asked
-    for given, asked in cut(folder, "key_values", 8):
+    for given, asked in lists.cut("key_values", 8):
         yield "key_values", given, asked
-    for given, asked in cut(folder, "exclusions", 7):
+    for given, asked in lists.cut("exclusions", 7):
         yield "exclusions", given, asked
-    for _, *given in rows(folder, "golden_keys"):
+    for _, *given in lists.rows("golden_keys"):
         # the first column is a label; each proof is accepted
         yield "golden_keys", given, ["yes"]
-    for given, asked in cut(folder, "bitmaps_checks", 9):
+    for given, asked in lists.cut("bitmaps_checks", 9):
         yield "bitmaps_checks", given, asked
-    for given, asked in cut(folder, "bitmaps_init", 4):
+    for given, asked in lists.cut("bitmaps_init", 4):
         yield "bitmaps_init", given, asked
-    for given, asked in cut(folder, "mem_init", 4):
+    for given, asked in lists.cut("mem_init", 4):
         yield "mem_init", given, asked
-    for family, direction, calls, *asked in rows(folder, "mems"):
+    for family, direction, calls, *asked in lists.rows("mems"):
         given, refusals = told_apart(calls)
         yield "mems", [family, direction, given], [refusals, *asked]
-    for direction, chunk, calls, *asked in rows(folder, "bitmaps"):
+    for direction, chunk, calls, *asked in lists.rows("bitmaps"):
         # proofs are asked of the bits that the list proves
         yield "bitmaps", [direction, chunk, calls, firsts(asked[7])], asked
-    for given, asked in cut(folder, "required", 6):
+    for given, asked in lists.cut("required", 6):
         yield "required", given, asked
-    for given, asked in cut(folder, "witnesses", 5):
+    for given, asked in lists.cut("witnesses", 5):
         yield "witnesses", given, asked
-    for given, asked in cut(folder, "multi_checks", 8):
+    for given, asked in lists.cut("multi_checks", 8):
         yield "multi_checks", given, asked
-    for given, asked in cut(folder, "extracted", 8):
+    for given, asked in lists.cut("extracted", 8):
         yield "extracted", given, asked
-    for family, chunk, _, bits, floor, operations, location, pruned, grafted, absent, answer in rows(folder, "combined"):
+    for *given, root, asked in lists.rows("extracted"):
+        # an accepted proof gives the root that is trusted; one whose counts do not fit gives none
+        if asked != "E9":
+            yield "recomputed", given, [asked] if asked == "E8" else [root, asked]
+    for family, chunk, _, bits, floor, operations, location, pruned, grafted, absent, answer in lists.rows("combined"):
         # no chunk of the tree over chunks is pruned, or it has none; the stage says how the tree was made
         if grafted in ("0", "empty"):
             yield "combined", [family, chunk, bits, floor, operations, location, pruned, grafted, absent], [answer]
-    for given, asked in cut(folder, "pinned_checks", 10):
+    for given, asked in lists.cut("pinned_checks", 10):
         yield "pinned_checks", given, asked
-    for columns in rows(folder, "stores"):
+    for columns in lists.rows("stores"):
         suffix, call, answer = columns[8:]
         yield "stores", [*columns[:8], call], [suffix, answer]
-    for given, asked in cut(folder, "ranges_extracted", 7):
+    for given, asked in lists.cut("ranges_extracted", 7):
         yield "ranges_extracted", given, asked
 
 
@@ -150,9 +157,10 @@ def main():
     rows_by_hand = worked(crate)
     given = [line for line, _ in rows_by_hand]
     asked = [answer for _, answer in rows_by_hand]
-    for name, columns, answers in cases(folder):
-        given.append(" ".join([name, *columns]) + "\n")
-        asked.append(" ".join(answers) + "\n")
+    for hash, before in (("sha256", []), ("sha512", ["sha512"])):
+        for name, columns, answers in cases(Lists(folder, hash)):
+            given.append(" ".join([*before, name, *columns]) + "\n")
+            asked.append(" ".join(answers) + "\n")
     (crate / "stdin").write_text("".join(given))
     (crate / "stdout").write_text("".join(asked))
 

@@ -91,6 +91,7 @@ class Sources:
     def __init__(self):
         self.functions, self.imports, self.aliases, self.shown = [], {}, {}, {}
         self.by_name, self.types, self.modules, self.reexported = collections.defaultdict(list), collections.defaultdict(list), {}, set()
+        self.passed_on = set()
         for crate in [*LIBRARIES, *RUNNERS]:
             folder = ROOT / "crates" / crate / "src"
             for path in sorted(folder.rglob("*.rt")):
@@ -110,7 +111,9 @@ class Sources:
         for shown, name in re.findall(r"^(?:(pub) )?(?:pub\([\w:]+\) )?(?:unsafe )?(?:struct|enum|trait) (\w+)", text, re.M):
             self.types[name].append((crate, module, bool(shown)))
         for tree in re.findall(r"^pub use ([^;]*);", text, re.M):
-            self.reexported |= {(crate, *it[-2:]) for it in imports_of(f"use {tree};").values() if len(it) > 1}
+            brought = imports_of(f"use {tree};")
+            self.reexported |= {(crate, *it[-2:]) for it in brought.values() if len(it) > 1}
+            self.passed_on |= {(crate, *module[-1:], *it[-2:]) for it in brought.values() if len(it) > 1}
 
     def is_named_outside(self, crate, module, name):
         """Whether an item of a module can be named from outside: all modules above it are public, or it is shown by another one."""
@@ -168,7 +171,9 @@ class Sources:
                 return [it for it in these if (it.crate, it.file) == (function.crate, function.file)]
             crate = whole.pop(0) if whole[0] in [*LIBRARIES, *RUNNERS, "crate", "self", "super"] else "crate"
             is_of = lambda it: it.crate == crate or crate == "commonware_storage" or crate[0] == "c" and it.crate == function.crate
-            return [it for it in these if is_of(it) and (len(whole) < 2 or whole[-2] in it.module)]
+            passed_on = lambda it: (it.crate, whole[-2], *it.module[-1:], name) in self.passed_on
+            is_there = lambda it: len(whole) < 2 or whole[-2] in it.module or passed_on(it)
+            return [it for it in these if is_of(it) and is_there(it)]
         kind = self.meant(function, path[-1])
         return [it for it in these if kind in it.owner] if kind in self.types else [it for it in these if it.is_of_trait]
 

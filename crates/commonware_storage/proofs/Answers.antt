@@ -1,7 +1,7 @@
 -- What bytes are read as, and what a check of them answers.
 use Rattle.std.proofs.Common.{◌≡◌, ℕ, ◌^◌, ◌↔◌, Bool, true, false, cond, leb, ltb, ◌&&◌, List, [], length, take, drop, Result, Ok, Err, refl, sym, ap, subst, ◌∙◌, append-nil, arith, inl, inr}
 use Rattle.std.specs.Prelude.{codes}
-use Rattle.std.specs.Bool.{IsTrue}
+use Rattle.std.specs.Bool.{IsTrue, one_answer}
 use Rattle.std.specs.Result.{IfOk}
 use Rattle.std.proofs.lemmas.List.{length-take}
 use Rattle.std.proofs.lemmas.Bool.{ltb-false}
@@ -21,7 +21,7 @@ use Rattle.storage_current.specs.CurrentProofs.{IsActiveCurrent}
 use Rattle.storage_current.specs.CurrentSoundness.{MeansActive}
 use Rattle.storage_current.specs.CurrentWire.{current_at, operation_text, operation_at, sized_operation_at}
 use Rattle.storage_current.specs.CurrentWireLaws.{sized_back}
-use Rattle.commonware_storage.specs.Light.{IsAcceptedAt, IsTrueAt}
+use Rattle.commonware_storage.specs.Light.{IsAcceptedAt, IsTrueAt, IsAnswerOf}
 
 abbrev at_location : ℕ → List ℕ → CurrentProof → OperationProof
 at_location location chunk range = record { location = location; chunk = chunk; range = range }
@@ -124,3 +124,8 @@ module _ (h : HashFunction) (S : Shape) (size : ℕ) (there : Bool) (d location 
             | inr crossed ↦ inr crossed
           ];
         }
+
+-- an answer whose yes is exact is that of each other call whose yes is exactly the same
+pub same_answer : {P E : Type 0} (answer : Result Bool E) → IfOk answer (λ yes. IsTrue yes ↔ P) → IsAnswerOf answer P
+same_answer (Err e) exact = λ other also. tt
+same_answer (Ok b) exact = λ other also. one_answer b other exact also

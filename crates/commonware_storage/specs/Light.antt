@@ -1,5 +1,5 @@
 -- What a client that trusts one digest learns from bytes and texts.
-use Rattle.std.specs.Prelude.{◌≡◌, ◌⊎◌, ℕ, Bool, List, [], Ok, IsOk, IsErr}
+use Rattle.std.specs.Prelude.{◌≡◌, ◌↔◌, ◌⊎◌, ℕ, Bool, List, [], Result, Ok, IfOk, IsOk, IsErr, IsTrue}
 use Rattle.storage_codec.specs.Digests.{HashFunction, IsSized, Cross}
 use Rattle.storage_codec.specs.Codec.{whole}
 use Rattle.storage_current.specs.Snapshots.{Grafting, IsGrafting, Snapshot, IsSnapshot, canonical_root, snapshot_strings, IsActive, OperationProof, own_operation_proof}
@@ -43,6 +43,10 @@ OwnProofsAreAccepted =
     (s : Snapshot) → IsSnapshot s → (location : ℕ) (operation : List ℕ) → IsActive s location operation →
     IsAcceptedAt h g has_pending d location (operation_text has_pending (own_operation_proof h g s location)) operation
     (canonical_root h g s)
+
+-- A call answers what each other call answers whose yes is exactly this.
+abbrev pub IsAnswerOf : {E : Type 0} → Result Bool E → Type 0 → Type 0
+IsAnswerOf answer Yes = (other : Bool) → (IsTrue other ↔ Yes) → IfOk answer (λ yes. yes ≡ other)
 
 -- the same two of texts, which spell the proof's and the operation's bytes in hexadecimal
 pub record IsTextAcceptedAt (h : HashFunction) (g : Grafting) (has_pending : Bool) (d location : ℕ)

@@ -17,14 +17,19 @@ pub mod ranges;
 use crate::light::check_operation;
 use std::alloc::Global;
 use storage_bitmap::bitmap::Readable;
+pub use storage_bitmap::laws as bitmap;
 use storage_codec::codec::Write;
 use storage_codec::digest::Hasher;
+pub use storage_codec::laws as codec;
+pub use storage_current::laws as current;
 use storage_current::laws::{
     own_operation_proofs_are_accepted, own_operation_proofs_are_read_again,
 };
 use storage_current::qmdb::current::proof::constant::OperationProof;
+pub use storage_merkle::laws as merkle;
 use storage_merkle::laws::greatest_nodes_are_planned;
 use storage_merkle::merkle::{ElementPlan, Graftable, Location, Position};
+pub use storage_ops::laws as operations;
 use storage_ops::qmdb::Error;
 
 /// What a snapshot's own proof of an active operation is written as is accepted at its location: in each family, for each

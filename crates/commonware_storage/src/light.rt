@@ -2,6 +2,7 @@
 
 ghost use Rattle.std.specs.Prelude.{◌≡◌, ◌↔◌, ◌⊎◌, IfOk, IfErr, OnOk, IsOk, IsErr, IsTrue, false};
 ghost use Rattle.hex.specs.Hex.{decode_of};
+ghost use Rattle.storage_codec.specs.Parts.{IsBytes};
 ghost use Rattle.storage_bitmap.specs.Chunks.{IsChunkSize};
 ghost use Rattle.commonware_storage.specs.Light.{IsAcceptedAt, IsTrueAt, IsTextAcceptedAt, IsTextTrueAt, IsProofAt, IsProofTextAt, IsTextRefusal};
 ghost use Rattle.commonware_storage.specs.declared.light.text_error.TextError.TheVariants.{Memory};
@@ -9,13 +10,15 @@ ghost use Rattle.storage_current.specs.Snapshots.{grafting_of};
 
 mod keys;
 mod ranges;
+mod shared;
 mod text_error;
 
 pub use keys::{check_absence, check_value};
 pub use ranges::check_range;
+pub use shared::{check_absence_shared, check_operation_shared, check_value_shared};
 use std::alloc::Global;
 use storage_codec::NoMemory;
-use storage_codec::codec::{Decode, Error};
+use storage_codec::codec::{Buf, Decode, Error};
 use storage_codec::digest::Hasher;
 use storage_current::qmdb::current::grafting;
 use storage_current::qmdb::current::proof::dynamic;
@@ -49,11 +52,33 @@ pub fn check_operation<F: Graftable, H: Hasher>(
     ensures whole { IfOk result (λ yes. IsTrue yes
         → IsProofAt F.has_pending H.Digest.size chunk_size loc proof.now) }
 {
+    operation_from::<F, H, &[u8]>(alloc, proof, chunk_size, loc, operation, root)
+}
+
+/// What [`check_operation`] answers for the bytes that `buf` holds.
+fn operation_from<F: Graftable, H: Hasher, B: Buf>(
+    alloc: Global,
+    buf: B,
+    chunk_size: usize,
+    loc: Location<F>,
+    operation: &[u8],
+    root: &H::Digest,
+) -> Result<bool, NoMemory>
+    ensures refused { ¬ IsChunkSize chunk_size → result ≡ Ok false }
+    ensures exact { IfOk result (λ yes.
+        IsTrue yes ↔ IsAcceptedAt H.hash_of (grafting_of F.shape chunk_size) F.has_pending
+        H.Digest.size loc (B.unread buf) operation.now (H.Digest.text root.now)) }
+    ensures meaning { IsBytes (B.unread buf) → (H.Digest.size ≡ 32) ⊎ (H.Digest.size ≡ 64)
+        → IfOk result (λ yes. IsTrue yes → IsTrueAt H.hash_of (grafting_of F.shape chunk_size)
+        F.has_pending H.Digest.size loc (B.unread buf) operation.now (H.Digest.text root.now)) }
+    ensures whole { IfOk result (λ yes. IsTrue yes
+        → IsProofAt F.has_pending H.Digest.size chunk_size loc (B.unread buf)) }
+{
     if grafting::chunk_height(chunk_size).is_none() {
         return Ok(false);
     }
     let cfg = (chunk_size, MAX_DIGESTS);
-    match dynamic::OperationProof::<F, H::Digest>::decode_cfg(alloc, proof, &cfg) {
+    match dynamic::OperationProof::<F, H::Digest>::decode_cfg(alloc, buf, &cfg) {
         Ok(proof) if proof.loc == loc => proof.verify_encoded::<H>(alloc, operation, root),
         Ok(_) => Ok(false),
         Err(Error::Memory) => Err(NoMemory),

@@ -10,6 +10,7 @@ use storage_codec::codec::{
     Buf, Encode, Error, FixedBytes, FixedSize, Read, U64, UInt, small_size,
 };
 use storage_codec::digest::{Digest, DigestOf, Hasher, Sha256};
+use storage_merkle::merkle::{Proof, mmr};
 use storage_ops::qmdb::any::operation::{Update, update};
 use storage_ops::qmdb::any::value::VariableEncoding;
 
@@ -59,4 +60,12 @@ fn next_key_kept(rt: HostRuntime) -> Result<(), Fail> {
     let kept = <update::Ordered<U64, VariableEncoding<Vec<u8>>> as Update>::cached(|| &update)?;
     assert!(rt; kept == U64::new(8));
     Ok(())
+}
+
+#[test]
+fn too_many_digests_refused(rt: HostRuntime) {
+    // eight leaves, no inactive peaks, four digests
+    let mut bytes = [0x08, 0x00, 0x04].as_slice();
+    let read = Proof::<mmr::Family, FixedBytes<32>>::read_cfg(rt.alloc(), &mut bytes, &3);
+    assert_eq!(rt; read.err(), Some(Error::InvalidLength(4)));
 }

@@ -11,7 +11,7 @@ use Rattle.storage_merkle.specs.declared.merkle.bagging.Bagging.{Bagging}
 module _ (h : HashFunction) (T : Layout) (cut : ℕ → ℕ → Bool) (v : Values) where
   -- a node from its halves
   pub node_halves : (j k a m p : ℕ) (l r i d : List ℕ) → k ≡ suc j → cut a k ≡ false → m ≡ a + 2 ^ j
-      → p ≡ T.shape.position a k → l ≡ eval h v (node_calc T cut j a) → r ≡ eval h v (node_calc T cut j m)
+      → p ≡ T.position a k → l ≡ eval h v (node_calc T cut j a) → r ≡ eval h v (node_calc T cut j m)
       → i ≡ h (be8 p ++ (l ++ r)) → d ≡ (if T.grafted a k then grafted_digest h (v.chunk a) i else i)
       → d ≡ eval h v (node_calc T cut k a)
   node_halves j zero a m p l r i d s c n e x y z w = absurd (omega arith)
@@ -20,7 +20,7 @@ module _ (h : HashFunction) (T : Layout) (cut : ℕ → ℕ → Bool) (v : Value
       let left : l ≡ eval h v (node_calc T cut k a) = x ∙ ap (λ (q : ℕ). eval h v (node_calc T cut q a)) same in
       let right : r ≡ eval h v (node_calc T cut k (a + 2 ^ k)) =
       y ∙ ap₂ (λ (q o : ℕ). eval h v (node_calc T cut q o)) same (n ∙ ap (λ (q : ℕ). a + 2 ^ q) same) in
-      let inner : i ≡ h (be8 (T.shape.position a (suc k))
+      let inner : i ≡ h (be8 (T.position a (suc k))
       ++ (eval h v (node_calc T cut k a) ++ eval h v (node_calc T cut k (a + 2 ^ k)))) =
       z ∙ ap₂ (λ (q : ℕ) (o : List ℕ). h (be8 q ++ o)) e (ap₂ (λ (o u : List ℕ). o ++ u) left right) in
       w ∙ ap (λ (o : List ℕ). if T.grafted a (suc k) then grafted_digest h (v.chunk a) o else o) inner

@@ -7,7 +7,7 @@ use Rattle.storage_current.specs.Snapshots.{Snapshot}
 
 -- a family's layout with a chunk grafted over these nodes
 abbrev pub laid_out : Shape → (ℕ → ℕ → Bool) → Layout
-laid_out S grafted = record { shape = S; grafted = grafted }
+laid_out S grafted = record { shape = S; position = S.position; grafted = grafted }
 
 -- digests, elements and chunks
 abbrev pub valued : (Site → List ℕ) → (ℕ → List ℕ) → (ℕ → List ℕ) → Values

@@ -4,7 +4,8 @@ use hex::{FromHex, FromHexError};
 use std::alloc::{AllocError, AllocFailed, Global};
 use std::fmt::Display;
 use storage_codec::NoMemory;
-use storage_codec::codec::FixedBytes;
+use storage_codec::codec::{self, Decode};
+use storage_codec::digest::Digest;
 use thiserror::Error;
 
 /// Why a line has no answer.
@@ -62,33 +63,36 @@ pub fn array<const N: usize>(column: &str) -> Result<[u8; N], Fault> {
     }
 }
 
-/// A digest of 32 bytes in hexadecimal.
-pub fn digest(column: &str) -> Result<FixedBytes<32>, Fault> {
-    Ok(FixedBytes {
-        bytes: array(column)?,
-    })
+/// A digest in hexadecimal.
+pub fn digest<D: Digest>(alloc: Global, column: &str) -> Result<D, Fault> {
+    let bytes = bytes(alloc, column)?;
+    match D::decode_cfg(alloc, bytes.as_slice(), &()) {
+        Ok(digest) => Ok(digest),
+        Err(codec::Error::Memory) => Err(Fault::Memory),
+        Err(_) => Err(Fault::Malformed),
+    }
 }
 
 /// Digests with commas between them; `none` is none.
-pub fn digests(alloc: Global, column: &str) -> Result<Vec<FixedBytes<32>>, Fault> {
+pub fn digests<D: Digest>(alloc: Global, column: &str) -> Result<Vec<D>, Fault> {
     digests_between(alloc, column, ',', "none")
 }
 
 /// Digests with slashes between them; `-` is none.
-pub fn inner_digests(alloc: Global, column: &str) -> Result<Vec<FixedBytes<32>>, Fault> {
+pub fn inner_digests<D: Digest>(alloc: Global, column: &str) -> Result<Vec<D>, Fault> {
     digests_between(alloc, column, '/', "-")
 }
 
-fn digests_between(
+fn digests_between<D: Digest>(
     alloc: Global,
     column: &str,
     separator: char,
     none: &str,
-) -> Result<Vec<FixedBytes<32>>, Fault> {
+) -> Result<Vec<D>, Fault> {
     let mut digests = Vec::new(alloc);
     if column != none {
         for part in column.split(separator) {
-            digests.push(digest(part)?)?;
+            digests.push(digest(alloc, part)?)?;
         }
     }
     Ok(digests)
@@ -179,9 +183,9 @@ pub fn numbers_between(alloc: Global, separator: &str, numbers: &[u64]) -> Resul
 }
 
 /// A digest in hexadecimal; `-` is none.
-pub fn digest_or_dash(alloc: Global, digest: Option<FixedBytes<32>>) -> Result<String, Fault> {
+pub fn digest_or_dash<D: Digest>(alloc: Global, digest: Option<D>) -> Result<String, Fault> {
     match digest {
-        Some(digest) => Ok(hex::encode(alloc, digest.bytes)?),
+        Some(digest) => Ok(hex::encode(alloc, digest.bytes())?),
         None => owned(alloc, "-"),
     }
 }
@@ -247,11 +251,11 @@ impl Series {
     }
 
     /// Adds a place and the digest there at the end; `-` stands for none.
-    pub fn push_digest(
+    pub fn push_digest<D: Digest>(
         &mut self,
         alloc: Global,
         place: u64,
-        digest: Option<FixedBytes<32>>,
+        digest: Option<D>,
     ) -> Result<(), Fault> {
         let digest = digest_or_dash(alloc, digest)?;
         Ok(self.push_at(place, digest.as_str())?)

@@ -2,14 +2,18 @@
 
 mod asked;
 mod bitmaps;
+mod both_chunks;
 mod checks;
 mod chunks;
 mod codecs;
 mod combined;
 mod constant;
+mod errors;
 mod extracted;
 mod faulty;
 mod fetched;
+mod hashed;
+mod key_proofs;
 mod keyed;
 mod keys;
 mod mems;
@@ -22,9 +26,11 @@ mod places;
 mod plain;
 mod program;
 mod proofs;
+mod recomputed;
 mod refusals;
 mod required;
 mod served;
+mod shared;
 mod snapshots;
 mod spelling;
 mod stores;
@@ -32,9 +38,11 @@ mod sweeps;
 mod trees;
 mod unframed;
 mod values;
+mod verifiers;
 mod witnesses;
 
 use crate::columns::Fault;
+use commonware_storage::digest::{Sha256, Sha512};
 use std::alloc::Global;
 
 /// The text of a case. Where it is worked by hand, the row's name, a colon and a blank stand before it.
@@ -42,11 +50,18 @@ fn without_row_name(line: &str) -> &str {
     line.split_once(": ").map_or(line, |(_, case)| case)
 }
 
-/// The answer to a line: the list's name, then the columns of the case, with blanks between them.
+/// The answer to a line: the list's name, then the columns of the case, with blanks between them. The digests of a list are
+/// those of SHA-256, but of SHA-512 where `sha512` stands before its name.
 pub fn answer(alloc: Global, line: &str) -> Result<String, Fault> {
     let columns: Vec<&str> = without_row_name(line).split(' ').collect(alloc)?;
-    match columns.as_slice().split_first() {
-        Some((list, columns)) => over(alloc, *list, columns),
+    let Some((first, rest)) = columns.as_slice().split_first() else {
+        return Err(Fault::Malformed);
+    };
+    if *first != "sha512" {
+        return over(alloc, *first, rest);
+    }
+    match rest.split_first() {
+        Some((list, columns)) => hashed::answer::<Sha512, 64>(alloc, *list, columns),
         None => Err(Fault::Malformed),
     }
 }
@@ -55,27 +70,24 @@ pub fn answer(alloc: Global, line: &str) -> Result<String, Fault> {
 fn over(alloc: Global, list: &str, columns: &[&str]) -> Result<String, Fault> {
     match list {
         "varints" => codecs::varints(alloc, columns),
-        "golden_hash" => codecs::golden_hash(alloc, columns),
         "operations" => operations::operations(alloc, columns),
         "written" => operations::written(alloc, columns),
-        "asked" | "equal" => asked::answer(alloc, list, columns),
+        "asked" | "equal" | "valued" => asked::answer(alloc, list, columns),
         "values" => values::values(alloc, columns),
         "cuts" => values::cuts(alloc, columns),
         "chunks" => chunks::answer(alloc, columns),
-        "tree_roots" | "constant_checks" => constant::answer(alloc, list, columns),
         "program" => program::program(alloc, columns),
-        "program_checks" => program::program_checks(alloc, columns),
         "runs" => program::runs(alloc, columns),
-        "key_values" | "exclusions" | "golden_keys" => keys::answer(alloc, list, columns),
-        "keyed" => keyed::keyed(alloc, columns),
-        "bitmaps" | "bitmaps_checks" | "bitmaps_init" | "bitmaps_stages" | "bitmaps_verified" => {
-            bitmaps::answer(alloc, list, columns)
-        }
-        "combined" => combined::combined(alloc, columns),
-        "combined_asked" => combined::combined_asked(alloc, columns),
-        "fetched_ranges" => fetched::fetched_ranges(alloc, columns),
-        "fetched_operations" => fetched::fetched_operations(alloc, columns),
-        "golden" | "ranges" | "ranges_checks" => snapshots::answer(alloc, list, columns),
-        _ => trees::answer(alloc, list, columns),
+        "errors" => errors::errors(alloc, columns),
+        _ => others(alloc, list, columns),
+    }
+}
+
+/// The answer of another list: with the digests of SHA-256, or about the families.
+fn others(alloc: Global, list: &str, columns: &[&str]) -> Result<String, Fault> {
+    if hashed::has(list) {
+        hashed::answer::<Sha256, 32>(alloc, list, columns)
+    } else {
+        trees::answer(alloc, list, columns)
     }
 }

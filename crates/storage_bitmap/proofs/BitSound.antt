@@ -99,8 +99,8 @@ module _ (range_sound : RangeProofsAreSound) (d : ℕ) (h : HashFunction) (size 
   tree_part : (a : Bool) → CountsFit h (ungrafted mmr) b (over a) at claim → h (found a) ≡ root
       → IsTreePart a ⊎ Cross h (used a) tree
   tree_part a ok same =
-      elim (range_sound d 0 h sized (omega arith) mmr mmr_laws (λ m x k. false) b (over a) at claim (front_wide a)
-      (λ x. refl) (listed C) 0 (λ x. refl) few_chunks (omega arith) (inl (ok, same))) [
+      elim (range_sound d 0 h sized (omega arith) mmr mmr_laws mmr.position (λ m x k. false) b (over a) at claim (front_wide a)
+      (λ x k o g m i c. refl) (listed C) 0 (λ x k o g m i c. refl) few_chunks (omega arith) (inl (ok, same))) [
         | inl o ↦
             let le : proof.leaves / (8 * n) ≡ length C = ap (λ (p : RangeProof). p.leaves) o.proof_is in
             let within : at + 1 ≤ length C = o.elements_are.within in

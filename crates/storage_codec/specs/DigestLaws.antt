@@ -1,6 +1,8 @@
--- Digests are read as their bytes, and SHA-256 has 32 of them.
+-- Digests are read as their bytes; SHA-256 has 32 of them, and SHA-512 has 64.
 use Rattle.std.proofs.Common.{◌≡◌, ℕ, ◌^◌, Bool, true, false, cond, ltb, List, length, take, drop, Ok, Err, refl}
 use Rattle.sha2.specs.Sha256.{sha256, digest_bytes}
+use Rattle.sha2.specs.Sha512.{sha512}
+use Rattle.sha2.specs.Sha512 as S512
 use Rattle.storage_codec.specs.Faults.{EndOfBuffer}
 use Rattle.storage_codec.specs.Codec.{mapped, fixed_at}
 use Rattle.storage_codec.specs.Digests.{IsPlain, IsSized}
@@ -8,6 +10,10 @@ use Rattle.storage_codec.specs.Digests.{IsPlain, IsSized}
 pub sha256_sized : IsSized 32 sha256
 unfolding sha256 digest_bytes
 sha256_sized x = refl
+
+pub sha512_sized : IsSized 64 sha512
+unfolding sha512 S512.digest_bytes
+sha512_sized x = refl
 
 same_front : (b : Bool) (x : List ℕ × List ℕ)
     → mapped {V = List ℕ} {W = List ℕ} (λ y. y) (cond b (Err EndOfBuffer) (Ok x)) ≡ cond b (Err EndOfBuffer) (Ok x)

@@ -3,16 +3,20 @@
 ghost use Rattle.std.specs.Prelude.{◌*◌, ◌<◌, ◌^◌, ◌≡◌, ℕ, List, length, ◌↔◌, replicate, flat_map, option_map, true, Ok, refl};
 ghost use Rattle.std.specs.Mem.{type_size};
 ghost use Rattle.std.proofs.Common.{lit<};
-ghost use Rattle.sha2.specs.Sha256.{sha256};
 ghost use Rattle.std.proofs.lemmas.Slice.Eq.{bytes_eq-Decides};
 ghost use Rattle.storage_codec.specs.Codec.{Gives, front_at, option_at};
 ghost use Rattle.storage_codec.specs.Digests.{HashFunction, IsPlain, IsSized};
-ghost use Rattle.storage_codec.specs.DigestLaws.{fixed_plain, sha256_sized};
+ghost use Rattle.storage_codec.specs.DigestLaws.{fixed_plain};
 ghost use Rattle.storage_codec.specs.Parts.{IsEnding};
 
 use crate::codec::{Buf, Canonical, EncodeSize, Error, FixedBytes, Read, Small};
-use sha2::Digest as _;
 use std::alloc::Global;
+
+mod sha256;
+mod sha512;
+
+pub use sha256::Sha256;
+pub use sha512::Sha512;
 
 /// A digest: a byte string of one length, the same for each digest of the type. It is written as
 /// its bytes and nothing else.
@@ -20,6 +24,13 @@ pub trait Digest: Copy + Eq + Canonical + EncodeSize + Small + Read<Cfg = ()> {
     /// The bytes of the digest, as many as the type's fixed size. Takes no memory.
     fn bytes(&self) -> &[u8]
         ensures { result.now ≡ Self.text self.now };
+
+    /// How many bytes a digest has: 32 or 64 for the digests that there are.
+    final fn size() -> usize
+        ensures { result ≡ Self.size }
+    {
+        Self::fixed_size()
+    }
 
     /// Reads the next digest from the front of `buf`, seen by its bytes. Refuses `EndOfBuffer` where fewer bytes are
     /// left than a digest has; then `buf` is at an ending of what it held.
@@ -98,31 +109,6 @@ impl Digest for FixedBytes<64> {
     ghost plain = { fixed_plain 64 (λ x. x.bytes) refl };
 
     ghost few = { lit< tt };
-}
-
-/// SHA-256, as FIPS 180-4 defines it: digests of 32 bytes.
-pub struct Sha256;
-
-impl Hasher for Sha256 {
-    type Digest = FixedBytes<32>;
-
-    ghost hash_of = { sha256 };
-
-    fn hash(parts: &[&[u8]]) -> FixedBytes<32> {
-        let mut hasher = sha2::Sha256::new();
-        for part in parts {
-            hasher.update(*part);
-        }
-        FixedBytes {
-            bytes: hasher.finalize(),
-        }
-    }
-
-    fn fill(byte: u8) -> FixedBytes<32> {
-        FixedBytes { bytes: [byte; 32] }
-    }
-
-    ghost sized = { sha256_sized };
 }
 
 /// The digests that a hasher makes.

@@ -339,9 +339,10 @@ module _ (sound : RangeProofsAreSound) (d : ℕ) (h : HashFunction) (width : (d 
         | inr c ↦ inr c
         | inl parts ↦
             let whole = padded d h sized g proof start operations chunks s in
-            elim (sound d g.bytes h sized (chunk_apart g ok.size d width) g.shape laws (λ i. (view g i).grafted)
-            BackwardFold proof.range start whole digests.range (λ a. pad-length g.bytes _) ct (aligned_of h g s)
-            (λ a. chunk-length g.bytes s.bits _) snapshot.few (aligned-le g.shape m s.floor (height g))
+            elim (sound d g.bytes h sized (chunk_apart g ok.size d width) g.shape laws g.shape.position (λ i. (view g i).grafted)
+            BackwardFold proof.range start whole digests.range (λ a k o g' m' i c. pad-length g.bytes _) ct
+            (aligned_of h g s) (λ a k o g' m' i c. chunk-length g.bytes s.bits _) snapshot.few
+            (aligned-le g.shape m s.floor (height g))
             (grafted_accepted d h sized g proof start operations chunks s ok parts)) [
               | inr c ↦ inr (wider d h sized g proof start operations chunks s ok c)
               | inl own ↦

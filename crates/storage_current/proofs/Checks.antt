@@ -50,7 +50,7 @@ module _ (h : HashFunction) (g : Grafting) (proof : CurrentProof) (start : ℕ) 
   module _ (k first r : ℕ) (lent : List (List ℕ)) (k_is : k ≡ w.height) (first_is : first ≡ w.first_chunk)
       (r_is : r ≡ w.counts.graftable) (lent_is : lent ≡ chunks) where
     abbrev pub layout : Layout
-    layout = record { shape = g.shape; grafted = grafted_over k r }
+    layout = record { shape = g.shape; position = g.shape.position; grafted = grafted_over k r }
 
     abbrev pub content : Content
     content = record { elements = operations; chunk = λ a. supplied first lent (a / 2 ^ k) }

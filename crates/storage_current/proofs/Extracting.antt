@@ -30,8 +30,8 @@ extracted_true law d h width sized g laws proof start operations chunks digests 
           let filled = same_extracted h T proof.range start operations (claim h g proof start operations chunks).chunk
           whole.chunk (fewer d h sized g proof start operations chunks s ok) in
           elim (law d h T BackwardFold proof.range start whole _ sized laws digests.range accepted g.bytes
-          (λ i. (view g i).grafted) refl (chunk_apart g ok.size d width) (λ a. pad-length g.bytes _) (content h g s)
-          (aligned_of h g s) (λ a. chunk-length g.bytes s.bits _) snapshot.few
+          (λ i. (view g i).grafted) refl (chunk_apart g ok.size d width) (λ a k o g' m i c. pad-length g.bytes _)
+          (content h g s) (aligned_of h g s) (λ a k o g' m i c. chunk-length g.bytes s.bits _) snapshot.few
           (aligned-le g.shape (length s.operations) s.floor (height g)) refl) [
             | inr c ↦ inr (wider d h sized g proof start operations chunks s ok c)
             | inl e ↦ inl (filled ∙ e)

@@ -12,6 +12,7 @@ pub mod Witnesses
 pub mod Families
 pub mod Examples
 mod Grafts
+mod ChunkLengths
 mod Raised
 mod Joined
 mod CombinedViews
@@ -35,3 +36,4 @@ mod WitnessWritten
 mod Fetching
 mod Making
 mod Serving
+mod SharedChunks

@@ -24,7 +24,7 @@ tree_join h T content a (suc k) one =
 -- where no chunk is grafted
 pub tree_pair : (h : HashFunction) (T : Layout) (content : Content) (a k : ℕ) → 1 ≤ k → T.grafted a k ≡ false
     → tree_node h T content a k ≡ h
-    (be8 (T.shape.position a k) ++ (tree_node h T content a (k - 1) ++ tree_node h T content (a + 2 ^ (k - 1)) (k - 1)))
+    (be8 (T.position a k) ++ (tree_node h T content a (k - 1) ++ tree_node h T content (a + 2 ^ (k - 1)) (k - 1)))
 tree_pair h T content a k one bare = tree_join h T content a k one ∙ rw bare refl
 
 grafted_there : (height r a k : ℕ) → k ≡ height → a % 2 ^ k ≡ 0 → a / 2 ^ k < r → grafted_over height r a k ≡ true

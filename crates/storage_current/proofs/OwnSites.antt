@@ -48,8 +48,8 @@ module _ (T : Layout) (low : ℕ) where
 
   joined : (k a : ℕ) (l r : Calc) → length (sites_of (join_calc T a k l r)) ≡ length (sites_of l) + length (sites_of r)
   joined k a l r =
-      elim (T.grafted a k) as (λ b. length (sites_of (if b then graft a (T.shape.position a k) l r
-      else pair (be8 (T.shape.position a k)) l r)) ≡ length (sites_of l) + length (sites_of r)) [
+      elim (T.grafted a k) as (λ b. length (sites_of (if b then graft a (T.position a k) l r
+      else pair (be8 (T.position a k)) l r)) ≡ length (sites_of l) + length (sites_of r)) [
         | true ↦ length-append (sites_of l) (sites_of r)
         | false ↦ length-append (sites_of l) (sites_of r)
       ]

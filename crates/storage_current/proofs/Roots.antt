@@ -25,12 +25,12 @@ use Rattle.storage_current.specs.Snapshots.{Grafting, height, complete as comple
 pub root_from : (h : HashFunction) (S : Shape) (grafted : ℕ → ℕ → Bool) (content : Content) (leaves i : ℕ) (b : Bagging)
     (ds : List (List ℕ)) (out : List ℕ)
     → b ≡ BackwardFold → length content.elements ≡ leaves
-    → ds ≡ map (λ p. tree_node h (record { shape = S; grafted = grafted }) content p.first p.height)
+    → ds ≡ map (λ p. tree_node h (record { shape = S; position = S.position; grafted = grafted }) content p.first p.height)
     (places 0 (S.peaks leaves))
     → out ≡ root_of h (ungrafted S) b leaves i ds
-    → out ≡ tree_root h (record { shape = S; grafted = grafted }) BackwardFold content i
+    → out ≡ tree_root h (record { shape = S; position = S.position; grafted = grafted }) BackwardFold content i
 root_from h S grafted content leaves i b ds out backward count digests e =
-    let T : Layout = record { shape = S; grafted = grafted } in
+    let T : Layout = record { shape = S; position = S.position; grafted = grafted } in
     e ∙ ap (λ c. root_of h (ungrafted S) c leaves i ds) backward
     ∙ ap (root_of h T BackwardFold leaves i) digests
     ∙ ap (λ n. root_of h T BackwardFold n i

@@ -16,7 +16,7 @@ use Rattle.storage_current.proofs.Padding.{supplied-get}
 use Rattle.storage_current.proofs.Bits.{get_or-chunks_from, length-chunks_from}
 use Rattle.storage_current.proofs.Canonical.{chunk-length}
 
-or-false : (x y : Bool) → (x || y) ≡ false → (x ≡ false) × (y ≡ false)
+pub or-false : (x y : Bool) → (x || y) ≡ false → (x ≡ false) × (y ≡ false)
 or-false true true e = cc
 or-false true false e = cc
 or-false false true e = cc

@@ -1,6 +1,8 @@
 -- Positions of two stores, of which one is read at once and the other later.
-use Rattle.std.proofs.Common.{◌≡◌, ℕ, suc, List, [], ◌∷◌, ◌++◌, length, map, Option, Some, None, inl, inr, refl, sym, ap, ◌∙◌}
-use Rattle.storage_merkle.specs.Plans.{IsFirstAbsent}
+use Rattle.std.proofs.Common.{◌≡◌, ℕ, suc, List, [], ◌∷◌, ◌++◌, length, map, Option, Some, None, inl, inr, refl, sym, ap, subst, ◌∙◌}
+use Rattle.std.specs.List.{All}
+use Rattle.std.proofs.lemmas.List.Elements.{All-head, All-tail}
+use Rattle.storage_merkle.specs.Plans.{IsFirstAbsent, IsFirstFault}
 use Rattle.storage_current.specs.Splits.{IsSplit, gaps, filled}
 
 module _ {D : Type 0} (node later : ℕ → Option D) where
@@ -42,6 +44,22 @@ module _ {D : Type 0} (node later : ℕ → Option D) where
   absent_below r rest (None ∷ ds) (q ∷ ps) (o ∷ os) h (inl x) = inl (x.0 ∙ ap later h.0 ∙ sym h.1, x.1 ∙ h.0)
   absent_below r rest (None ∷ ds) (q ∷ ps) (o ∷ os) h (inr x) =
       inr (x.0, x.1 ∙ ap later h.0 ∙ sym h.1, absent_below r rest ds ps os h.2 x.2)
+
+  -- the first fault of the positions that are read later is the first of all
+  pub fault_below : (reads : ℕ → Type 0) (may_fail : ℕ → ℕ → Type 0) (code : ℕ) (rest : List ℕ) (ds : List (Option D))
+      (ps os : List ℕ) → IsSplit node later rest ds ps os → All reads os
+      → IsFirstFault (λ q a. a ≡ later q) may_fail os code
+      → IsFirstFault (λ q a. a ≡ node q) (λ p c. reads p × may_fail p c) ps code
+  fault_below reads may_fail code rest [] ps os h r f = let g = rw h.1 at f in absurd g
+  fault_below reads may_fail code rest (Some c ∷ ds) [] os h r f = absurd h
+  fault_below reads may_fail code rest (Some c ∷ ds) (q ∷ ps) os h r f =
+      inr (c, sym h.0, fault_below reads may_fail code rest ds ps os h.1 r f)
+  fault_below reads may_fail code rest (None ∷ ds) [] os h r f = absurd h
+  fault_below reads may_fail code rest (None ∷ ds) (q ∷ ps) [] h r f = absurd h
+  fault_below reads may_fail code rest (None ∷ ds) (q ∷ ps) (o ∷ os) h r (inl x) =
+      inl (subst (λ z. reads z × may_fail z code) h.0 (All-head reads o os r, x))
+  fault_below reads may_fail code rest (None ∷ ds) (q ∷ ps) (o ∷ os) h r (inr x) =
+      inr (x.0, x.1 ∙ ap later h.0 ∙ sym h.1, fault_below reads may_fail code rest ds ps os h.2 (All-tail reads o os r) x.2)
 
   -- a position that is missing is the first that is absent, where those that are read later are all there
   pub absent_missing : (p : ℕ) (more rest : List ℕ) (ds : List (Option D)) (ps os : List ℕ) (es : List D)

@@ -1,19 +1,16 @@
 -- Trees over chunks, whose leaves are the chunks' nodes of the tree over the operations; and both trees read as one.
-use Rattle.std.specs.Prelude.{ℕ, ◌+◌, ◌-◌, ◌*◌, ◌/◌, ◌%◌, ◌^◌, ◌≤◌, ◌&&◌, eqb, ltb, leb, if◌then◌else◌, Bool, Option, None}
+use Rattle.std.specs.Prelude.{ℕ, ◌+◌, ◌-◌, ◌*◌, ◌/◌, ◌%◌, ◌^◌, ◌<◌, ◌≤◌, ◌&&◌, eqb, ltb, leb, if◌then◌else◌, Bool, Option, None}
 use Rattle.storage_merkle.specs.Shape.{Shape, size}
-use Rattle.storage_merkle.specs.Nodes.{CoversSame}
+use Rattle.storage_merkle.specs.Nodes.{IsNode, CoversSame}
 use Rattle.storage_merkle.specs.Trees.{Layout}
 use Rattle.storage_current.specs.Snapshots.{greatest}
 
--- the layout of a tree over chunks of 2 ^ g leaves: a node is that of the tree over the leaves which covers the same leaves
+-- the layout of a tree over chunks of 2 ^ g leaves: a node is hashed with the number of the node of the tree over the leaves which
+-- covers the same leaves
 abbrev pub over_chunks : ℕ → Layout → Layout
 over_chunks g T = record {
-  shape = record {
-    byte = T.shape.byte;
-    peaks = T.shape.peaks;
-    position = λ a k. T.shape.position (a * 2 ^ g) (k + g);
-    birth = λ a k. T.shape.birth (a * 2 ^ g) (k + g);
-  };
+  shape = T.shape;
+  position = λ a k. T.position (a * 2 ^ g) (k + g);
   grafted = λ a k. T.grafted (a * 2 ^ g) (k + g);
 }
 
@@ -25,6 +22,12 @@ pub record IsRaised (S : Shape) (takes : ℕ → Type 0) (g p : ℕ) : Type 0 wh
   pub taken : (q : ℕ) → CoversSame S g p q → takes q
 
 -- ---- both trees as one
+
+-- the position is valid, one of so many, and of a node below the height g: of one of the operations' nodes
+pub record IsOfOperations (S : Shape) (g nodes p : ℕ) : Type 0 where
+  pub within : p < nodes
+  pub valid : p ≤ size S (2 ^ 62)
+  pub below : (a : ℕ) × (k : ℕ) × IsNode S p a k × (k < g)
 
 -- the height of the node at a position, and the first leaf of a node of that height
 unfoldable pub first_at : Shape → ℕ → ℕ → ℕ

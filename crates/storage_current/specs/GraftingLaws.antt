@@ -17,7 +17,7 @@ and-true true false e = cc
 and-true false true e = cc
 and-true false false e = cc
 
-or-true : (x y : Bool) → (x || y) ≡ true → (x ≡ true) ⊎ (y ≡ true)
+pub or-true : (x y : Bool) → (x || y) ≡ true → (x ≡ true) ⊎ (y ≡ true)
 or-true true y e = inl refl
 or-true false true e = inr refl
 or-true false false e = cc

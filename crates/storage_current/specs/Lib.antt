@@ -25,3 +25,6 @@ pub mod OwnWire
 pub mod Required
 pub mod WitnessWire
 pub mod WitnessWireLaws
+pub mod HeldOfViews
+pub mod SharedChunks
+pub mod HashedLengths

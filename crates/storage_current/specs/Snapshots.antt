@@ -46,7 +46,7 @@ graftable g n = graftable_at g.shape (height g) n
 
 -- the grafted view's layout: the chunk is grafted over each graftable chunk's node
 abbrev pub view : Grafting → ℕ → Layout
-view g n = record { shape = g.shape; grafted = grafted_over (height g) (graftable g n) }
+view g n = record { shape = g.shape; position = g.shape.position; grafted = grafted_over (height g) (graftable g n) }
 
 -- how many leading peaks over n leaves end at or before the floor; and how many such, the last of which ends on a multiple of 2 ^ k
 abbrev pub exact : Shape → ℕ → ℕ → ℕ

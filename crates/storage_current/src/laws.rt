@@ -2,12 +2,15 @@
 //! function that does nothing.
 
 ghost use Rattle.storage_current.specs.CurrentSoundness.{CurrentProofsAreSound, FamiliesAreLawful, OperationProofsAreSound, OwnCurrentProofsAreAccepted, OwnOperationProofsAreAccepted, OwnWitnessesAreAccepted, WitnessesAreSound};
+ghost use Rattle.storage_current.specs.HashedLengths.{HashedLengthsDiffer};
 ghost use Rattle.storage_current.specs.OwnWire.{OwnCurrentProofsAreReadAgain, OwnOperationProofsAreReadAgain};
 
+pub mod chunk_lengths;
 pub mod combined;
 pub mod equality;
 pub mod extracted;
 pub mod keys;
+pub mod shared;
 
 use storage_merkle::laws::{own_range_proofs_are_accepted, range_proofs_are_sound};
 
@@ -66,4 +69,10 @@ pub fn own_witnesses_are_accepted()
 /// Both families of trees can be grafted at each height from 1 on.
 pub fn families_are_lawful()
     ensures { FamiliesAreLawful }
+{}
+
+/// Among the strings that are hashed neither that of a node with a chunk nor that of a tree's root is ever as long as that of a node
+/// without one, for digests of 32 and of 64 bytes.
+pub fn hashed_lengths_differ()
+    ensures { HashedLengthsDiffer }
 {}

@@ -46,8 +46,8 @@ module _ (v w : Values) where
   agree_append (t ∷ ts) us a = let r = agree_append ts us a.1 in ((a.0, r.0), r.1)
 
   pub agree_join : (T : Layout) (a k : ℕ) (l r : Calc) → Agree v w (join_calc T a k l r) → Agree v w l × Agree v w r
-  agree_join T a k l r = elim (T.grafted a k) as (λ b. Agree v w (if b then graft a (T.shape.position a k) l r
-      else pair (be8 (T.shape.position a k)) l r) → Agree v w l × Agree v w r) [ true ↦ λ g. g.1 | false ↦ λ g. g ]
+  agree_join T a k l r = elim (T.grafted a k) as (λ b. Agree v w (if b then graft a (T.position a k) l r
+      else pair (be8 (T.position a k)) l r) → Agree v w l × Agree v w r) [ true ↦ λ g. g.1 | false ↦ λ g. g ]
 
   -- at a leaf over which nothing is cut
   module _ (T : Layout) (cut : ℕ → ℕ → Bool) (j : ℕ) (out : (a k : ℕ) → a ≤ j → j < a + 2 ^ k → cut a k ≡ false) where
@@ -81,8 +81,8 @@ module _ (v w : Values) where
               let ac : a ≡ c = omega (arith, ap (λ n. n * 2 ^ G) (le_zero m (omega arith))) in
               let t' : T.grafted c (suc k) ≡ true =
               subst (λ x. T.grafted x (suc k) ≡ true) ac (subst (λ x. T.grafted a x ≡ true) same t) in
-              let here' = subst (λ b. Agree v w (if b then graft c (T.shape.position c (suc k)) (node_calc T cut k c)
-              (node_calc T cut k (c + 2 ^ k)) else pair (be8 (T.shape.position c (suc k))) (node_calc T cut k c)
+              let here' = subst (λ b. Agree v w (if b then graft c (T.position c (suc k)) (node_calc T cut k c)
+              (node_calc T cut k (c + 2 ^ k)) else pair (be8 (T.position c (suc k))) (node_calc T cut k c)
               (node_calc T cut k (c + 2 ^ k)))) t' f' in
               subst (λ x. v.chunk x ≡ w.chunk x) (sym ac) here'.0
           | inr below' ↦

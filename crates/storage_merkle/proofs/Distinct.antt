@@ -44,8 +44,8 @@ other_first a k b m ne = rw (ne_eqb a b ne) refl
 
 pub times-join : (s : Site) (T : Layout) (a k : ℕ) (l r : Calc)
     → times s (sites_of (join_calc T a k l r)) ≡ times s (sites_of l) + times s (sites_of r)
-times-join s T a k l r = elim (T.grafted a k) as (λ b. times s (sites_of (if b then graft a (T.shape.position a k) l r
-    else pair (be8 (T.shape.position a k)) l r)) ≡ times s (sites_of l) + times s (sites_of r)) [
+times-join s T a k l r = elim (T.grafted a k) as (λ b. times s (sites_of (if b then graft a (T.position a k) l r
+    else pair (be8 (T.position a k)) l r)) ≡ times s (sites_of l) + times s (sites_of r)) [
       | true ↦
           times-append s (sites_of l) (sites_of r)
       | false ↦ times-append s (sites_of l) (sites_of r)

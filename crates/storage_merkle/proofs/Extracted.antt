@@ -11,6 +11,7 @@ use Rattle.storage_merkle.specs.Multiples.{multiple_down, multiple_add, power_mu
 use Rattle.storage_merkle.specs.Calc.{Site, front, back, node, given, Values, eval, Agree}
 use Rattle.storage_merkle.specs.declared.merkle.bagging.Bagging.{Bagging}
 use Rattle.storage_merkle.specs.Trees.{Layout, Content, Peak, node_calc, join_calc, never, places, peaks_of, folded, unfolded, part, plain, tree_root, tree_strings}
+use Rattle.storage_merkle.specs.Chunked.{AreChunks}
 use Rattle.storage_merkle.specs.RangeProofs.{RangeProof, apart, leading, not_leading, up_to, trailing, front_given, check_bag, position_of, by_position, same_site, check_values, check_strings, IsAccepted}
 use Rattle.storage_merkle.specs.Multi.{tree_digest}
 use Rattle.storage_merkle.specs.Extracted.{nodes_under, nodes_in, overlapped, checked_sites, extracted_sites, entries, digest_at, extracted, tree_entries, ExtractedDigestsAreTrue, ExtractedPositionsAscend}
@@ -141,9 +142,11 @@ no_entries T f n low high none e = ap (λ m. entries T f (extracted_sites T m lo
 pub extracted_true : ExtractedDigestsAreTrue
 extracted_true d h T b proof start claim root sized L wide accepted N grafted same other chunked content inactive chunks
     few peaks at =
-    let over : ℕ → Layout = λ n. record { shape = T.shape; grafted = grafted n } in
+    let over : ℕ → Layout = λ n. record { shape = T.shape; position = T.position; grafted = grafted n } in
     let m = length content.elements in
     let high = start + length claim.elements in
+    let chunked' : AreChunks N (over proof.leaves) proof.leaves (apart start (start + length claim.elements)) claim.chunk =
+    subst (λ U. AreChunks N U proof.leaves (apart start (start + length claim.elements)) claim.chunk) same chunked in
     let Outcome : Layout → Type 0 =
     λ U. (extracted h U b proof start claim ≡ tree_entries h (over m) content start high)
     ⊎ Cross h (check_strings h U b proof start claim) (tree_strings h (over m) b content inactive) in
@@ -152,7 +155,7 @@ extracted_true d h T b proof start claim root sized L wide accepted N grafted sa
     (subst (IsAccepted h T b proof start claim) (sym at) accepted) in
     let none : T.shape.peaks 0 ≡ [] = no_peaks T.shape L in
     let answer : Outcome (over proof.leaves) = elim here [
-      | inl ok ↦ elim (range_agrees d N h sized other T.shape L grafted b proof start claim wide chunked content chunks
+      | inl ok ↦ elim (range_agrees d N h sized other T.shape L T.position grafted b proof start claim wide chunked' content chunks
           inactive few peaks ok.0 ok.1) [
             | inr c ↦ inr c
             | inl r ↦
@@ -161,7 +164,7 @@ extracted_true d h T b proof start claim root sized L wide accepted N grafted sa
                 extracted_same h U b proof start claim content ok.0.some r.leaves_are r.agree in
                 inl (one ∙ ap (λ n. tree_entries h (over n) content start high) r.leaves_are)
           ]
-      | inr ok ↦ elim (range_sound d N h sized other T.shape L grafted b proof start claim wide chunked content chunks
+      | inr ok ↦ elim (range_sound d N h sized other T.shape L T.position grafted b proof start claim wide chunked' content chunks
           inactive few peaks (inr ok)) [
             | inr c ↦ inr c
             | inl own ↦

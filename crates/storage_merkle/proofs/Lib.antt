@@ -1,6 +1,8 @@
 pub mod Prune
 pub mod Agreeing
 pub mod Distinct
+pub mod Under
+pub mod Chunked
 pub mod RangeSound
 pub mod RangeOwn
 pub mod Extracted

@@ -1,11 +1,12 @@
 -- What the answers of a check mean.
-use Rattle.std.proofs.Common.{◌≡◌, ℕ, ◌<◌, ◌↔◌, ◌⊎◌, inl, inr, List, [], ◌∷◌, length, map, option_map, ◌==◌, eqb-true, Bool, true, false, refl, sym, ap, ◌∙◌, arith, subst, Option, Some, None}
+use Rattle.std.proofs.Common.{◌≡◌, ℕ, ◌+◌, ◌<◌, ◌↔◌, ◌⊎◌, inl, inr, List, [], ◌∷◌, length, map, option_map, ◌==◌, eqb-true, Bool, true, false, refl, sym, ap, ◌∙◌, arith, subst, Option, Some, None}
 use Rattle.std.specs.Option.{option_eq}
 use Rattle.storage_codec.specs.Digests.{HashFunction, IsSized, Cross}
 use Rattle.storage_merkle.specs.Shape.{Laws}
 use Rattle.storage_merkle.specs.declared.merkle.bagging.Bagging.{Bagging}
 use Rattle.storage_merkle.specs.Trees.{Layout, Content, empty_root, tree_root, tree_strings}
-use Rattle.storage_merkle.specs.RangeProofs.{RangeProof, AreDigests, IsEmptyProof, IsAccepted, IsOwn, check_strings}
+use Rattle.storage_merkle.specs.Chunked.{AreChunks}
+use Rattle.storage_merkle.specs.RangeProofs.{RangeProof, apart, AreDigests, IsEmptyProof, IsAccepted, IsOwn, check_strings}
 use Rattle.storage_merkle.specs.Checks.{IsRecomputed, IsProved}
 use Rattle.storage_merkle.proofs.RangeSound.{range_sound}
 use Rattle.storage_merkle.proofs.Siblings.{not_both}
@@ -16,15 +17,15 @@ module _ (h : HashFunction) (T : Layout) (b : Bagging) (proof : RangeProof) (sta
   pub accepted_proved : (d : ℕ) → IsSized d h → Laws T.shape → AreDigests d proof.digests
       → IsAccepted h T b proof start claim root → IsProved d h T b proof start claim root
   accepted_proved d sized L wide accepted N grafted same other chunked content inactive chunks few peaks at =
-      let over : ℕ → Layout = λ n. record { shape = T.shape; grafted = grafted n } in
+      let over : ℕ → Layout = λ n. record { shape = T.shape; position = T.position; grafted = grafted n } in
       let m = length content.elements in
       let here : IsAccepted h (over proof.leaves) b proof start claim (tree_root h (over m) b content inactive) =
       subst (λ U. IsAccepted h U b proof start claim (tree_root h (over m) b content inactive)) same
       (subst (IsAccepted h T b proof start claim) (sym at) accepted) in
       subst (λ U. IsOwn h (over m) b proof start claim content inactive
       ⊎ Cross h (check_strings h U b proof start claim) (tree_strings h (over m) b content inactive)) (sym same)
-      (range_sound d N h sized other T.shape L grafted b proof start claim wide chunked content chunks inactive
-      few peaks here)
+      (range_sound d N h sized other T.shape L T.position grafted b proof start claim wide (subst (λ U. AreChunks N U proof.leaves
+      (apart start (start + length claim.elements)) claim.chunk) same chunked) content chunks inactive few peaks here)
 
   -- no elements
   pub accepted_nothing : claim.elements ≡ []

@@ -11,11 +11,13 @@ use Rattle.storage_merkle.specs.declared.merkle.bagging.Bagging.{Bagging}
 use Rattle.storage_merkle.specs.declared.merkle.bagging.Bagging.TheVariants.{ForwardFold, BackwardFold}
 use Rattle.storage_merkle.specs.Trees.{Layout, Content, Peak, places, peaks_of, folded, unfolded, bag, eval_bag, strings_bag, part, whole, tree_bag, plain, node_calc, never, root_head, tree_string, tree_strings, tree_root, empty_root}
 use Rattle.storage_merkle.specs.RangeProofs.{RangeProof, sites_in, by_position, AreDigests}
+use Rattle.storage_merkle.specs.Chunked.{AreChunks}
 use Rattle.storage_merkle.specs.CalcLaws.{IsWide, eval_length, cross_wider, heads, same_head}
 use Rattle.storage_merkle.specs.Multi.{Claim, locations, touched, untouched, Ascend, element_at, Stand, needed_sites, tree_digest, own_multi_proof, multi_values, multi_bag, multi_string, multi_strings, ClaimsFit, default_proof, IsMultiAccepted, IsMultiOwn, IsMultiProved}
 use Rattle.storage_merkle.proofs.Prune.{PrunesBag, prunes_bag}
 use Rattle.storage_merkle.proofs.Agreeing.{AllPeaks, AgreeAll, AgreeBag, agree_leaf, agree_bag, agree_parts, agree_sites_in, agree_by_position}
 use Rattle.storage_merkle.proofs.Distinct.{times, times-by_position, each_given_once, read_all}
+use Rattle.storage_merkle.proofs.Chunked.{cut_chunked, uncut}
 use Rattle.storage_merkle.proofs.RangeSound.{law_bag, look_up-wide, folded-all}
 use Rattle.storage_merkle.proofs.RangeOwn.{append_of}
 
@@ -76,12 +78,15 @@ module _ (list : List (List ℕ)) (n : ℕ) (all : List Claim)
       )
 
 module _ (d N : ℕ) (h : HashFunction) (sized : IsSized d h) (other : N ≢ 8 + d) (S : Shape) (L : Laws S)
-    (grafted : ℕ → ℕ → ℕ → Bool) (b : Bagging) (proof : RangeProof) (claims : List Claim) (chunk : ℕ → List ℕ)
-    (wide : AreDigests d proof.digests) (chunked : (a : ℕ) → length (chunk a) ≡ N) (content : Content)
-    (chunks : (a : ℕ) → length (content.chunk a) ≡ N) (inactive : ℕ) (few : length content.elements ≤ 2 ^ 62)
+    (position : ℕ → ℕ → ℕ) (grafted : ℕ → ℕ → ℕ → Bool) (b : Bagging) (proof : RangeProof) (claims : List Claim) (chunk : ℕ → List ℕ)
+    (wide : AreDigests d proof.digests)
+    (chunked : AreChunks N (record { shape = S; position = position; grafted = grafted proof.leaves }) proof.leaves (untouched (locations claims)) chunk)
+    (content : Content)
+    (chunks : AreChunks N (record { shape = S; position = position; grafted = grafted (length content.elements) }) (length content.elements) never content.chunk)
+    (inactive : ℕ) (few : length content.elements ≤ 2 ^ 62)
     (peaks : inactive ≤ length (S.peaks (length content.elements))) where
   abbrev over : ℕ → Layout
-  over n = record { shape = S; grafted = grafted n }
+  over n = record { shape = S; position = position; grafted = grafted n }
 
   abbrev T : Layout
   T = over proof.leaves
@@ -166,8 +171,12 @@ module _ (d N : ℕ) (h : HashFunction) (sized : IsSized d h) (other : N ≢ 8 +
             ap (λ x. tree_bag (over x) b x i) fixed.leaves ∙ ap (λ k. tree_bag (over m) b m k) fixed.inactive in
             let p = cut-prunes h T content cut (folded b i (peaks_of T n)) (unfolded b i (peaks_of T n)) in
             let q : PrunesBag h w (plain h content) t u = subst (λ x. PrunesBag h w (plain h content) t x) moved p in
+            let chunks' : AreChunks N T n cut content.chunk = uncut N T n cut content.chunk
+            (subst (λ x. AreChunks N (over x) x never content.chunk) (sym fixed.leaves) chunks) in
             elim (law_bag d N h v w sized other (look_up-wide d (h []) (sized []) (needed_sites T (locations claims) n)
-            proof.digests wide) (tree_values-wide d h T content sized) chunked chunks t (fixed.rest ∙ sym q.same)) [
+            proof.digests wide) (tree_values-wide d h T content sized) t
+            (cut_chunked N v T n cut (L.aligned n) chunked b i) (cut_chunked N w T n cut (L.aligned n) chunks' b i)
+            (fixed.rest ∙ sym q.same)) [
               | inl a ↦ inl (agreed ok fixed.leaves fixed.inactive a)
               | inr c ↦
                   inr (cross_wider (λ x r. Contains-append_right (multi_string h T b proof claims chunk ∷ []) _ x r)
@@ -207,7 +216,7 @@ pub multi_sound : (d : ℕ) (h : HashFunction) → IsSized d h → (T : Layout) 
     → IsMultiAccepted h T b proof claims chunk root → IsMultiProved d h T b proof claims chunk root
 multi_sound d h sized T L b proof claims chunk root wide accepted N grafted same other chunked content inactive chunks
     few peaks at =
-    let over : ℕ → Layout = λ n. record { shape = T.shape; grafted = grafted n } in
+    let over : ℕ → Layout = λ n. record { shape = T.shape; position = T.position; grafted = grafted n } in
     let m = length content.elements in
     let ok = fit_and_rooted h T L b proof claims chunk root accepted in
     let ok' : ClaimsFit h (over proof.leaves) b proof claims chunk
@@ -215,5 +224,6 @@ multi_sound d h sized T L b proof claims chunk root wide accepted N grafted same
     subst (λ U. ClaimsFit h U b proof claims chunk × (h (multi_string h U b proof claims chunk) ≡ root)) same ok in
     subst (λ U. IsMultiOwn h (over m) proof claims content inactive
     ⊎ Cross h (multi_strings h U b proof claims chunk) (tree_strings h (over m) b content inactive)) (sym same)
-    (claims_sound d N h sized other T.shape L grafted b proof claims chunk wide chunked content chunks inactive few
-    peaks ok'.0 (ok'.1 ∙ sym at))
+    (claims_sound d N h sized other T.shape L T.position grafted b proof claims chunk wide
+    (subst (λ U. AreChunks N U proof.leaves (untouched (locations claims)) chunk) same chunked) content chunks inactive
+    few peaks ok'.0 (ok'.1 ∙ sym at))

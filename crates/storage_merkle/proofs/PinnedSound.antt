@@ -17,6 +17,7 @@ use Rattle.storage_merkle.specs.Pinned.{stands_in, peak_sites, Match, recomputed
 use Rattle.storage_merkle.proofs.Prune.{PrunesBag, prunes_bag, up_to-all}
 use Rattle.storage_merkle.proofs.Agreeing.{AllPeaks, AgreeAll, AgreeAt, agree_bag, agree_append, agree_join, holds_inside}
 use Rattle.storage_merkle.proofs.Distinct.{times, one_if, one_if-le, other_first, read_all}
+use Rattle.storage_merkle.proofs.Chunked.{always_bag}
 use Rattle.storage_merkle.proofs.RangeSound.{own_values, law_bag, look_up-wide, own-wide, own-prunes, places-take, places-drop, leaves-split, all_take, all_drop, range_agrees, range_sound, some_own}
 use Rattle.storage_merkle.proofs.RangeOwn.{and-true, bag_eval, peaks_under}
 use Rattle.storage_merkle.proofs.Extracted.{tells, all_weaker}
@@ -279,8 +280,8 @@ module _ (d : ℕ) (h : HashFunction) (sized : IsSized d h) (S : Shape) (L : Law
         let cs = check_string h (ungrafted S) b proof start (listed elements) in
         let us' = tree_string h (ungrafted S) b ct inactive in
         let some = acc.some in
-        elim (range_agrees d 0 h sized (no_chunk d) S L (λ m a k. false) b proof start (listed elements) wide
-        (λ a. refl) ct (λ a. refl) inactive fl fi acc root_is) [
+        elim (range_agrees d 0 h sized (no_chunk d) S L S.position (λ m a k. false) b proof start (listed elements) wide
+        (λ a k o g m i c. refl) ct (λ a k o g m i c. refl) inactive fl fi acc root_is) [
           | inr c ↦ inr (cross_wider (λ x m. Contains-append_left (cs ∷ strings_bag h v t) X x m) (λ x m. m) c)
           | inl r ↦
               let x = deep_all h S b proof start elements pinned X some (λ s l e. (
@@ -301,7 +302,8 @@ module _ (d : ℕ) (h : HashFunction) (sized : IsSized d h) (S : Shape) (L : Law
               let e : eval_bag h v2 u ≡ eval_bag h w u =
               sym (bag_same h rd dr el X t u x) ∙ bag_eval v w h t r.agree ∙ hp.same ∙ sym p'.same in
               elim (law_bag d 0 h v2 w sized (no_chunk d) (deep-wide)
-              (own-wide d h (ungrafted S) b ct n i start high sized) (λ a. refl) (λ a. refl) u e) [
+              (own-wide d h (ungrafted S) b ct n i start high sized) u (always_bag 0 v2 (λ a. refl) u)
+              (always_bag 0 w (λ a. refl) u) e) [
                 | inr c ↦ inr (cross_wider
                     (λ z m. elim (bag_within h rd dr el X t u x z m) [
                       | inl y ↦ Contains-append_left (cs ∷ strings_bag h v t) X z
@@ -318,8 +320,8 @@ module _ (d : ℕ) (h : HashFunction) (sized : IsSized d h) (S : Shape) (L : Law
                     (nested S L start n (omega arith)) (omega (arith, L.sum start)) in
                     inl (record {
                       own = subst (λ (z : ℕ). IsOwn h (ungrafted S) b proof start (listed elements) ct inactive)
-                          r.leaves_are (some_own d 0 h sized (no_chunk d) S L (λ m a k. false) b proof start
-                          (listed elements) wide (λ z. refl) ct (λ z. refl) inactive fl fi acc r);
+                          r.leaves_are (some_own d 0 h sized (no_chunk d) S L S.position (λ m a k. false) b proof start
+                          (listed elements) wide (λ z m o g l s c. refl) ct (λ z m o g l s c. refl) inactive fl fi acc r);
                       pinned_are = read_all (h []) (pinned_sites h (ungrafted S) b proof start (listed elements) pinned)
                           pinned (bare (tree_digest h (ungrafted S) ct) (λ j. [])) (λ j. []) (λ c. []) counted
                           (λ s. peak_once s (S.peaks start) 0) at;
@@ -337,8 +339,9 @@ module _ (d : ℕ) (h : HashFunction) (sized : IsSized d h) (S : Shape) (L : Law
     pinned_sound inactive fl fi ok =
         elim ok.accepted [
           | inl fit ↦ some_sound inactive fl fi fit.0 fit.1 ok.count ok.same
-          | inr none ↦ elim (range_sound d 0 h sized (no_chunk d) S L (λ m a k. false) b proof start
-              (listed elements) wide (λ a. refl) (listed list) (λ a. refl) inactive fl fi (inr none)) [
+          | inr none ↦ elim (range_sound d 0 h sized (no_chunk d) S L S.position (λ m a k. false) b proof start
+              (listed elements) wide (λ a k o g m i c. refl) (listed list) (λ a k o g m i c. refl) inactive fl fi
+              (inr none)) [
                 | inr c ↦ inr (cross_wider (λ x m. Contains-append_left
                     (check_strings h (ungrafted S) b proof start (listed elements)) _ x m) (λ x m. m) c)
                 | inl own ↦

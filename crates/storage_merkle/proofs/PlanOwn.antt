@@ -6,7 +6,7 @@ use Rattle.storage_merkle.specs.Shape.{Shape}
 use Rattle.storage_merkle.specs.Calc.{Site, front, back, node, given, leaf, be8, eval}
 use Rattle.storage_merkle.specs.declared.merkle.bagging.Bagging.{Bagging}
 use Rattle.storage_merkle.specs.declared.merkle.bagging.Bagging.TheVariants.{ForwardFold, BackwardFold}
-use Rattle.storage_merkle.specs.Trees.{Layout, ungrafted, Content, Peak, places, peaks_of, node_calc, join_calc, whole, bag, folded, unfolded, plain, tree_node}
+use Rattle.storage_merkle.specs.Trees.{Layout, ungrafted, Content, listed, Peak, places, peaks_of, node_calc, join_calc, whole, bag, folded, unfolded, plain, tree_node}
 use Rattle.storage_merkle.specs.RangeProofs.{RangeProof, apart, leading, not_leading, up_to, trailing, sites_of, sites_in, front_sites, back_sites, position_of, place_in, by_position, sites, fold_digest, own_digest, own_proof}
 use Rattle.storage_merkle.specs.Rests.{peaks_from}
 use Rattle.storage_merkle.specs.Siblings.{sibling_sites}
@@ -14,7 +14,7 @@ use Rattle.storage_merkle.specs.Hashing.{folded_forward, folded_backward}
 use Rattle.storage_merkle.specs.HashingLaws.{eval-forward, eval-backward}
 use Rattle.storage_merkle.specs.Hashers.{folded_onto, forward_of}
 use Rattle.storage_merkle.specs.Nodes.{IsNode}
-use Rattle.storage_merkle.specs.Plans.{AnswersAre}
+use Rattle.storage_merkle.specs.Plans.{PlanOf, AnswersAre, AnswersAreOf, gathered_proof}
 use Rattle.storage_merkle.specs.PlanParts.{AreOf, StandsAt, digest_or, peaks_by, site_digest, tops}
 use Rattle.storage_merkle.proofs.Folds.{onto_none}
 use Rattle.storage_merkle.proofs.Siblings.{sites-join}
@@ -161,6 +161,23 @@ is_own h S T es b content n i low high leaves inactive texts en el ei e =
           (length content.elements) i low high) (sites T low high b (length content.elements) i);
     }) ei
 
+-- the proof gathered from any digests
+pub is_gathered : (h : HashFunction) (S : Shape) (b : Bagging) (digest_of : ℕ → ℕ → List ℕ) (plan : PlanOf)
+    (i leaves inactive : ℕ) (texts : List (List ℕ)) → leaves ≡ plan.leaves → inactive ≡ i → texts ≡ map
+    (site_digest plan.start plan.end (folded b i (peaks_from S 0 plan.leaves))
+    (unfolded b i (peaks_from S 0 plan.leaves)) h digest_of)
+    (tops plan.start plan.end (folded b i (peaks_from S 0 plan.leaves))
+    (unfolded b i (peaks_from S 0 plan.leaves)) (ungrafted S)
+    ++ sibling_sites (ungrafted S) plan.leaves plan.start plan.end) → ◌≡◌ {A = RangeProof}
+    (record { leaves = leaves; inactive = inactive; digests = texts }) (gathered_proof h S b digest_of plan i)
+is_gathered h S b digest_of plan i leaves inactive texts el ei e =
+    let digests = (gathered_proof h S b digest_of plan i).digests in
+    let all : texts ≡ digests = e ∙ ap (map (site_digest plan.start plan.end (folded b i (peaks_from S 0 plan.leaves))
+    (unfolded b i (peaks_from S 0 plan.leaves)) h digest_of))
+    (sym (sites_own h (ungrafted S) (listed []) b plan.leaves i plan.start plan.end)) in
+    ap₂ (λ (l : ℕ) (ds : List (List ℕ)). record { leaves = l; inactive = inactive; digests = ds }) el all
+    ∙ ap (λ (j : ℕ). record { leaves = plan.leaves; inactive = j; digests = digests }) ei
+
 -- ---- what is answered at the planned positions
 
 module _ {D : Type 0} (A : ℕ → D → Type 0) where
@@ -185,10 +202,15 @@ module _ {D : Type 0} (A : ℕ → D → Type 0) where
   as_many (q ∷ qs) [] z = absurd z
   as_many (q ∷ qs) (e ∷ es) z = ap suc (as_many qs es z.1)
 
+pub are_of_any : {D : Type 0} (text : D → List ℕ) (answers : ℕ → Option D → Type 0) (S : Shape) (digest_of : ℕ → ℕ → List ℕ)
+    (ps : List ℕ) (ds : List D) → AllZip (λ p d. answers p (Some d)) ps ds → AnswersAreOf text answers ps S digest_of
+    → AreOf text S ps ds digest_of
+are_of_any text answers S digest_of ps ds z are p a k d s is =
+    let r = answered_at (λ q x. answers q (Some x)) ps ds z p d s in are p a k d r.0 is r.1
+
 pub are_of : {D : Type 0} (text : D → List ℕ) (answers : ℕ → Option D → Type 0) (h : HashFunction) (S : Shape)
     (T : Layout) (content : Content) → T.shape ≡ S → (ps : List ℕ) (ds : List D)
     → AllZip (λ p d. answers p (Some d)) ps ds → AnswersAre text answers ps h T content
     → AreOf text S ps ds (tree_node h T content)
-are_of text answers h S T content e ps ds z are p a k d s is =
-    let r = answered_at (λ q x. answers q (Some x)) ps ds z p d s in
-    are p a k d r.0 (subst (λ R. IsNode R p a k) (sym e) is) r.1
+are_of text answers h S T content e ps ds z are = are_of_any text answers S (tree_node h T content) ps ds z
+    (λ p a k d c is r. are p a k d c (subst (λ R. IsNode R p a k) (sym e) is) r)

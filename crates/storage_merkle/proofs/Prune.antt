@@ -75,9 +75,9 @@ module _ (h : HashFunction) (v w : Values) where
         → Prunes h v w (join_calc T a k l r) (join_calc T a k l' r')
     prunes_join a k l r l' r' s t =
         elim (T.grafted a k) as (λ b.
-        Prunes h v w (if b then graft a (T.shape.position a k) l r else pair (be8 (T.shape.position a k)) l r)
-        (if b then graft a (T.shape.position a k) l' r' else pair (be8 (T.shape.position a k)) l' r')) [
-          | true ↦ prunes_graft a (T.shape.position a k) l r l' r' (chunks a) s t
+        Prunes h v w (if b then graft a (T.position a k) l r else pair (be8 (T.position a k)) l r)
+        (if b then graft a (T.position a k) l' r' else pair (be8 (T.position a k)) l' r')) [
+          | true ↦ prunes_graft a (T.position a k) l r l' r' (chunks a) s t
           | false ↦ prunes_pair _ l r l' r' s t
         ]
 

@@ -12,7 +12,8 @@ use Rattle.storage_merkle.specs.RangeProofs.{RangeProof, apart, leading, not_lea
 use Rattle.storage_merkle.proofs.Prune.{up_to-all}
 use Rattle.storage_merkle.proofs.Agreeing.{AllPeaks, AgreeAll, AgreeBag, up_to-leading}
 use Rattle.storage_merkle.proofs.Distinct.{times, one_if, times-append, times-join, times-by_position, times-in, same_itself}
-use Rattle.storage_merkle.proofs.RangeSound.{own_values, own-prunes, or-false, all_take, all_drop}
+use Rattle.storage_merkle.proofs.RangeSound.{own_values, own-prunes, or-false}
+pub use Rattle.storage_merkle.proofs.Under.{all_not_leading, all_up_to, inside_half, IsUnder, under_halves, peaks_under, all_folded}
 
 pub and-true : (x y : Bool) → (x && y) ≡ true → (x ≡ true) × (y ≡ true)
 and-true true true e = (refl, refl)
@@ -51,54 +52,6 @@ found none w (t ∷ ts) s l = go (same_site s t) refl (found none w ts s)
         → (if b then w t else look_up none ts (map w ts) s) ≡ w s
     go true e rest = ap w (sym (same_site-eq s t e))
     go false e rest = rest (let f : one_if (same_site t s) ≡ 0 = ap one_if (other_way s t e) in omega arith)
-
--- sublists of peaks
-pub all_not_leading : (low : ℕ) (Q : Peak → Type 0) (ps : List Peak) → AllPeaks Q ps → AllPeaks Q (not_leading low ps)
-all_not_leading low Q [] a = tt
-all_not_leading low Q (p ∷ ps) a =
-    elim (leb (p.first + 2 ^ p.height) low) as (λ b. AllPeaks Q (if b then not_leading low ps else p ∷ ps)) [
-      | true ↦
-          all_not_leading low Q ps a.1
-      | false ↦ a
-    ]
-
-pub all_up_to : (high : ℕ) (Q : Peak → Type 0) (ps : List Peak) → AllPeaks Q ps → AllPeaks Q (up_to high ps)
-all_up_to high Q [] a = tt
-all_up_to high Q (p ∷ ps) a =
-    elim (leb high p.first) as (λ b. AllPeaks Q (if b then [] else p ∷ up_to high ps)) [
-      | true ↦ tt
-      | false ↦
-          (a.0, all_up_to high Q ps a.1)
-    ]
-
--- nodes that stand inside one of the peaks
-pub inside_half : (hs : List ℕ) (s a k : ℕ) → Inside hs s a (suc k) → Inside hs s a k × Inside hs s (a + 2 ^ k) k
-unfolding Inside
-inside_half [] s a k i = absurd i
-inside_half (x ∷ hs) s a k (inl i) =
-    (inl (i.0, omega (arith, i, pow_two k)), inl (omega (arith, i), omega (arith, i, pow_two k)))
-inside_half (x ∷ hs) s a k (inr i) = let r = inside_half hs (s + 2 ^ x) a k i in (inr r.0, inr r.1)
-
-abbrev pub IsUnder : List ℕ → ℕ → ℕ → Type 0
-IsUnder ks a k = (a % 2 ^ k ≡ 0) × Inside ks 0 a k
-
-pub under_halves : (ks : List ℕ) (a k : ℕ) → IsUnder ks a (suc k) → IsUnder ks a k × IsUnder ks (a + 2 ^ k) k
-under_halves ks a k u =
-    let down : a % 2 ^ k ≡ 0 = multiple_down a k (suc k) (omega arith) u.0 in
-    let i = inside_half ks 0 a k u.1 in
-    ((down, i.0), (multiple_add a (2 ^ k) (2 ^ k) (pow_pos k) down (power_multiple k k (omega arith)), i.1))
-
-pub peaks_under : (ks hs : List ℕ) (s : ℕ) → AreAligned hs s → ((a k : ℕ) → Inside hs s a k → Inside ks 0 a k)
-    → AllPeaks (λ p. IsUnder ks p.first p.height) (places s hs)
-unfolding AreAligned Inside
-peaks_under ks [] s al f = tt
-peaks_under ks (x ∷ hs) s al f =
-    ((al.0, f s x (inl (omega arith, omega arith))), peaks_under ks hs (s + 2 ^ x) al.1 (λ a k i. f a k (inr i)))
-
-pub all_folded : (Q : Peak → Type 0) (b : Bagging) (i : ℕ) (ps : List Peak) → AllPeaks Q ps
-    → AllPeaks Q (folded b i ps) × AllPeaks Q (unfolded b i ps)
-all_folded Q ForwardFold i ps a = (a, tt)
-all_folded Q BackwardFold i ps a = (all_take Q i ps a, all_drop Q i ps a)
 
 module _ (v w : Values) where
   pub eval_agree : (h : HashFunction) (t : Calc) → Agree v w t → eval h v t ≡ eval h w t
@@ -140,7 +93,7 @@ module _ (v w : Values) where
     join_of a k l r q e x y = go (T.grafted a (suc k)) refl
       where
         go : (b : Bool) → T.grafted a (suc k) ≡ b → Agree v w
-            (if b then graft a (T.shape.position a (suc k)) l r else pair (be8 (T.shape.position a (suc k))) l r)
+            (if b then graft a (T.position a (suc k)) l r else pair (be8 (T.position a (suc k))) l r)
         go true t = (touched a k q e t, (x, y))
         go false t = (x, y)
 

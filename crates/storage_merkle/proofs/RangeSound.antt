@@ -10,11 +10,14 @@ use Rattle.storage_merkle.specs.Calc.{Site, front, back, node, Calc, Values, Agr
 use Rattle.storage_merkle.specs.declared.merkle.bagging.Bagging.{Bagging}
 use Rattle.storage_merkle.specs.declared.merkle.bagging.Bagging.TheVariants.{ForwardFold, BackwardFold}
 use Rattle.storage_merkle.specs.Trees.{Layout, Content, Peak, places, peaks_of, folded, unfolded, bag, eval_bag, strings_bag, whole, part, tree_bag, plain, node_calc, never, root_head, tree_string, tree_strings, tree_root, empty_root}
+use Rattle.storage_merkle.specs.Chunked.{AreChunks}
 use Rattle.storage_merkle.specs.RangeProofs.{RangeProof, apart, leading, not_leading, up_to, trailing, front_given, back_given, check_bag, sites, sites_over, range_sites, look_up, same_site, check_values, check_string, check_strings, CountsFit, IsEmptyProof, IsAccepted, fold_digest, own_digest, IsOwn, AreDigests}
-use Rattle.storage_merkle.specs.CalcLaws.{IsWide, IsChunked, law, eval_length, cross_wider, heads, same_head}
+use Rattle.storage_merkle.specs.CalcLaws.{IsWide, law, eval_length, cross_wider, heads, same_head}
 use Rattle.storage_merkle.proofs.Prune.{PrunesBag, prunes_bag, leading-all, up_to-all}
 use Rattle.storage_merkle.proofs.Agreeing.{AllPeaks, AgreeAll, AgreeBag, agree_leaf, agree_chunk, AgreeAt, agree_bag, agree_append, agree_front, agree_back, agree_sites_in, agree_front_sites, agree_back_sites, agree_at_append, agree_by_position, up_to-leading, not_apart, Holds, holds_inside}
 use Rattle.storage_merkle.proofs.Distinct.{each_once, read_all}
+pub use Rattle.storage_merkle.proofs.Under.{all_take, all_drop}
+use Rattle.storage_merkle.proofs.Chunked.{ChunkedBag, check_chunked, uncut}
 
 -- what stands in a tree, at the sites of a range too
 abbrev pub own_values : HashFunction → Layout → Bagging → Content → ℕ → ℕ → ℕ → ℕ → Values
@@ -31,10 +34,10 @@ or-false false true e = cc
 or-false false false e = (refl, refl)
 
 pub law_bag : (d N : ℕ) (h : HashFunction) (v w : Values) → IsSized d h → N ≢ 8 + d → IsWide d v → IsWide d w
-    → IsChunked N v → IsChunked N w → (t : Option Calc) → eval_bag h v t ≡ eval_bag h w t
+    → (t : Option Calc) → ChunkedBag N v t → ChunkedBag N w t → eval_bag h v t ≡ eval_bag h w t
     → AgreeBag v w t ⊎ Cross h (strings_bag h v t) (strings_bag h w t)
-law_bag d N h v w sized apart wv ww cv cw None e = inl tt
-law_bag d N h v w sized apart wv ww cv cw (Some t) e = law d N h v w sized apart wv ww cv cw t e
+law_bag d N h v w sized apart wv ww None cv cw e = inl tt
+law_bag d N h v w sized apart wv ww (Some t) cv cw e = law d N h v w sized apart wv ww t cv cw e
 
 pub look_up-wide : (d : ℕ) (none : List ℕ) → length none ≡ d → (ss : List Site) (ds : List (List ℕ)) → AreDigests d ds
     → (s : Site) → length (look_up none ss ds s) ≡ d
@@ -98,16 +101,6 @@ leaves-split zero ks = omega arith
 leaves-split (suc i) [] = refl
 leaves-split (suc i) (k ∷ ks) = omega (arith, leaves-split i ks)
 
-pub all_take : (Q : Peak → Type 0) (i : ℕ) (ps : List Peak) → AllPeaks Q ps → AllPeaks Q (take i ps)
-all_take Q zero ps a = tt
-all_take Q (suc i) [] a = tt
-all_take Q (suc i) (p ∷ ps) a = (a.0, all_take Q i ps a.1)
-
-pub all_drop : (Q : Peak → Type 0) (i : ℕ) (ps : List Peak) → AllPeaks Q ps → AllPeaks Q (drop i ps)
-all_drop Q zero ps a = a
-all_drop Q (suc i) [] a = a
-all_drop Q (suc i) (p ∷ ps) a = all_drop Q i ps a.1
-
 all_any : (ps : List Peak) → AllPeaks (λ p. Unit {0}) ps
 all_any [] = tt
 all_any (p ∷ ps) = (tt, all_any ps)
@@ -158,10 +151,10 @@ peaks-le [] = omega arith
 peaks-le (k ∷ ks) = omega (arith, peaks-le ks, pow_pos k)
 
 -- two calculations of one tree that give one digest
-module _ (d N : ℕ) (h : HashFunction) (sized : IsSized d h) (other : N ≢ 8 + d) (T : Layout) (b : Bagging)
-    (proof : RangeProof) (start : ℕ) (claim : Content) (wide : AreDigests d proof.digests)
-    (chunked : (a : ℕ) → length (claim.chunk a) ≡ N) (content : Content)
-    (chunks : (a : ℕ) → length (content.chunk a) ≡ N) where
+module _ (d N : ℕ) (h : HashFunction) (sized : IsSized d h) (other : N ≢ 8 + d) (T : Layout) (L : Laws T.shape)
+    (b : Bagging) (proof : RangeProof) (start : ℕ) (claim : Content) (wide : AreDigests d proof.digests)
+    (chunked : AreChunks N T proof.leaves (apart start (start + length claim.elements)) claim.chunk)
+    (content : Content) (chunks : AreChunks N T proof.leaves never content.chunk) where
   pub core : eval_bag h (check_values h T b proof start claim) (check_bag T start (start + length claim.elements) b
       proof.leaves proof.inactive) ≡ eval_bag h (plain h content) (tree_bag T b proof.leaves proof.inactive)
       → AgreeBag (check_values h T b proof start claim)
@@ -177,8 +170,10 @@ module _ (d N : ℕ) (h : HashFunction) (sized : IsSized d h) (other : N ≢ 8 +
       let w = own_values h T b content n i start high in
       let p = own-prunes h T b content n i start high in
       elim (law_bag d N h v w sized other (look_up-wide d (h []) (sized []) (range_sites h T b proof start claim)
-      proof.digests wide) (own-wide d h T b content n i start high sized) chunked chunks
-      (check_bag T start high b n i) (e ∙ sym p.same)) [
+      proof.digests wide) (own-wide d h T b content n i start high sized) (check_bag T start high b n i)
+      (check_chunked N v T n start high (L.aligned n) chunked b i)
+      (check_chunked N w T n start high (L.aligned n) (uncut N T n (apart start high) content.chunk chunks) b i)
+      (e ∙ sym p.same)) [
         | inl a ↦ inl a
         | inr c ↦ inr (cross_wider (λ x m. m) p.fewer c)
       ]
@@ -266,11 +261,11 @@ no_sites : (T : Layout) (b : Bagging) (low high : ℕ) → T.shape.peaks 0 ≡ [
 no_sites T ForwardFold low high e = rw e refl
 no_sites T BackwardFold low high e = rw e refl
 
-module _ (h : HashFunction) (S : Shape) (L : Laws S) (grafted : ℕ → ℕ → ℕ → Bool) (b : Bagging) (chunk : ℕ → List ℕ)
-    (content : Content) (inactive : ℕ) (few : length content.elements ≤ 2 ^ 62)
+module _ (h : HashFunction) (S : Shape) (L : Laws S) (position : ℕ → ℕ → ℕ) (grafted : ℕ → ℕ → ℕ → Bool) (b : Bagging)
+    (chunk : ℕ → List ℕ) (content : Content) (inactive : ℕ) (few : length content.elements ≤ 2 ^ 62)
     (peaks : inactive ≤ length (S.peaks (length content.elements))) where
   abbrev layout : ℕ → Layout
-  layout n = record { shape = S; grafted = grafted n }
+  layout n = record { shape = S; position = position; grafted = grafted n }
 
   abbrev nothing : RangeProof
   nothing = record { leaves = 0; inactive = 0; digests = [] }
@@ -314,12 +309,15 @@ module _ (h : HashFunction) (S : Shape) (L : Laws S) (grafted : ℕ → ℕ → 
 
 -- an accepted proof of some elements agrees with the tree at each slot, or two strings cross; which nodes are grafted may depend on the number of leaves
 module _ (d N : ℕ) (h : HashFunction) (sized : IsSized d h) (other : N ≢ 8 + d) (S : Shape) (L : Laws S)
-    (grafted : ℕ → ℕ → ℕ → Bool) (b : Bagging) (proof : RangeProof) (start : ℕ) (claim : Content)
-    (wide : AreDigests d proof.digests) (chunked : (a : ℕ) → length (claim.chunk a) ≡ N) (content : Content)
-    (chunks : (a : ℕ) → length (content.chunk a) ≡ N) (inactive : ℕ) (few : length content.elements ≤ 2 ^ 62)
+    (position : ℕ → ℕ → ℕ) (grafted : ℕ → ℕ → ℕ → Bool) (b : Bagging) (proof : RangeProof) (start : ℕ) (claim : Content)
+    (wide : AreDigests d proof.digests)
+    (chunked : AreChunks N (record { shape = S; position = position; grafted = grafted proof.leaves }) proof.leaves (apart start (start + length claim.elements)) claim.chunk)
+    (content : Content)
+    (chunks : AreChunks N (record { shape = S; position = position; grafted = grafted (length content.elements) }) (length content.elements) never content.chunk)
+    (inactive : ℕ) (few : length content.elements ≤ 2 ^ 62)
     (peaks : inactive ≤ length (S.peaks (length content.elements))) where
   abbrev pub over : ℕ → Layout
-  over n = record { shape = S; grafted = grafted n }
+  over n = record { shape = S; position = position; grafted = grafted n }
 
   pub record RangeAgrees : Type 0 where
     pub leaves_are : proof.leaves ≡ length content.elements
@@ -353,7 +351,9 @@ module _ (d N : ℕ) (h : HashFunction) (sized : IsSized d h) (other : N ≢ 8 +
             (eval_bag h (plain h content) u) bound bound2 bound3 bound4 same in
             let moved : tree_bag (over n) b n i ≡ u =
             ap (λ x. tree_bag (over x) b x i) fixed.leaves ∙ ap (λ k. tree_bag (over m) b m k) fixed.inactive in
-            elim (core d N h sized other (over n) b proof start claim wide chunked content chunks (fixed.rest
+            let chunks' : AreChunks N (over n) n never content.chunk =
+            subst (λ x. AreChunks N (over x) x never content.chunk) (sym fixed.leaves) chunks in
+            elim (core d N h sized other (over n) L b proof start claim wide chunked content chunks' (fixed.rest
             ∙ ap (eval_bag h (plain h content)) (sym moved))) [
               | inl a ↦ inl (record { leaves_are = fixed.leaves; inactive_are = fixed.inactive; agree = a })
               | inr c ↦ inr (cross_wider (λ x q. Contains-append_right (check_string h (over n) b proof start claim
@@ -382,7 +382,7 @@ module _ (d N : ℕ) (h : HashFunction) (sized : IsSized d h) (other : N ≢ 8 +
       (over proof.leaves) b proof start claim) (tree_strings h (over (length content.elements)) b content inactive)
   unfolding Outcome
   none_own ok root_is =
-      let e0 : Outcome 0 0 [] 0 [] = nothing_sound h S L grafted b claim.chunk content inactive few peaks root_is in
+      let e0 : Outcome 0 0 [] 0 [] = nothing_sound h S L position grafted b claim.chunk content inactive few peaks root_is in
       let e1 = subst (λ n. Outcome n 0 [] 0 []) (sym ok.no_leaves) e0 in
       let e2 = subst (λ i. Outcome proof.leaves i [] 0 []) (sym ok.no_inactive) e1 in
       let e3 = subst (λ ds. Outcome proof.leaves proof.inactive ds 0 []) (sym ok.no_digests) e2 in

@@ -51,8 +51,8 @@ module _ (low high : ℕ) where
 -- the sites of a node
 module _ (T : Layout) where
   pub sites-join : (a k : ℕ) (l r : Calc) → sites_of (join_calc T a k l r) ≡ sites_of l ++ sites_of r
-  sites-join a k l r = elim (T.grafted a k) as (λ b. sites_of (if b then graft a (T.shape.position a k) l r
-      else pair (be8 (T.shape.position a k)) l r) ≡ sites_of l ++ sites_of r) [ true ↦ refl | false ↦ refl ]
+  sites-join a k l r = elim (T.grafted a k) as (λ b. sites_of (if b then graft a (T.position a k) l r
+      else pair (be8 (T.position a k)) l r) ≡ sites_of l ++ sites_of r) [ true ↦ refl | false ↦ refl ]
 
   module _ (cut : ℕ → ℕ → Bool) where
     pub sites-cut : (k a : ℕ) → cut a k ≡ true → sites_of (node_calc T cut k a) ≡ node a k ∷ []

@@ -55,7 +55,7 @@ module _ (h : HashFunction) (T : Layout) (b : Bagging) (proof : RangeProof) (sta
     made accepted e = record {
       accepted = accepted;
       all = e;
-      of_trees = subst (λ s. HoldsOfEach d h T b proof.leaves claim (check_strings h T b proof start claim) root
+      of_trees = subst (λ s. HoldsOfEach d h T b proof.leaves start claim (check_strings h T b proof start claim) root
           (λ U content inactive. IsStoreOf h U s content inactive)) (sym e)
           (stores_true d h T b proof start claim root sized L wide accepted);
       of_own = λ content inactive is. subst (λ s. IsStoreOf h T s content inactive) (sym e)

@@ -8,6 +8,7 @@ use Rattle.storage_merkle.specs.Calc.{Site, front, back, Values}
 use Rattle.storage_merkle.specs.declared.merkle.bagging.Bagging.{Bagging}
 use Rattle.storage_merkle.specs.declared.merkle.bagging.Bagging.TheVariants.{ForwardFold, BackwardFold}
 use Rattle.storage_merkle.specs.Trees.{Layout, Content, Peak, places, peaks_of, folded, unfolded, part, tree_root, tree_strings}
+use Rattle.storage_merkle.specs.Chunked.{AreChunks}
 use Rattle.storage_merkle.specs.RangeProofs.{RangeProof, apart, leading, not_leading, up_to, trailing, front_given, back_given, check_bag, check_values, check_strings, own_proof, IsAccepted, IsOwn}
 use Rattle.storage_merkle.specs.Multi.{tree_digest}
 use Rattle.storage_merkle.specs.Extracted.{nodes_in, entries, digest_at}
@@ -121,8 +122,10 @@ module _ (h : HashFunction) (T : Layout) (L : Laws T.shape) (b : Bagging) (proof
 pub stores_true : StoresOfAcceptedProofsAreTrue
 stores_true d h T b proof start claim root sized L wide accepted N grafted same other chunked content inactive chunks
     few peaks at =
-    let over : ℕ → Layout = λ n. record { shape = T.shape; grafted = grafted n } in
+    let over : ℕ → Layout = λ n. record { shape = T.shape; position = T.position; grafted = grafted n } in
     let m = length content.elements in
+    let chunked' : AreChunks N (over proof.leaves) proof.leaves (apart start (start + length claim.elements)) claim.chunk =
+    subst (λ U. AreChunks N U proof.leaves (apart start (start + length claim.elements)) claim.chunk) same chunked in
     let Outcome : Layout → Type 0 = λ U. IsStoreOf h (over m) (store_of h U b proof start claim) content inactive
     ⊎ Cross h (check_strings h U b proof start claim) (tree_strings h (over m) b content inactive) in
     let here : IsAccepted h (over proof.leaves) b proof start claim (tree_root h (over m) b content inactive) =
@@ -131,13 +134,13 @@ stores_true d h T b proof start claim root sized L wide accepted N grafted same 
     let U = over proof.leaves in
     let Made : ℕ → Type 0 = λ n. IsStoreOf h (over n) (store_of h U b proof start claim) content inactive in
     let answer : Outcome U = elim here [
-      | inl ok ↦ elim (range_agrees d N h sized other T.shape L grafted b proof start claim wide chunked content chunks
+      | inl ok ↦ elim (range_agrees d N h sized other T.shape L T.position grafted b proof start claim wide chunked' content chunks
           inactive few peaks ok.0 ok.1) [
             | inr c ↦ inr c
             | inl r ↦ inl (subst Made r.leaves_are
                 (made_of h U b proof start claim content inactive r.leaves_are r.inactive_are r.agree))
           ]
-      | inr ok ↦ elim (range_sound d N h sized other T.shape L grafted b proof start claim wide chunked content chunks
+      | inr ok ↦ elim (range_sound d N h sized other T.shape L T.position grafted b proof start claim wide chunked' content chunks
           inactive few peaks (inr ok)) [
             | inr c ↦ inr c
             | inl own ↦

@@ -16,9 +16,12 @@ use Rattle.storage_merkle.specs.Trees.{Layout, root_head}
 abbrev pub IsWide : ℕ → Values → Type 0
 IsWide d v = (s : Site) → length (v.digest s) ≡ d
 
--- each chunk has N bytes
-abbrev pub IsChunked : ℕ → Values → Type 0
-IsChunked N v = (a : ℕ) → length (v.chunk a) ≡ N
+-- each chunk that a calculation grafts has N bytes
+abbrev pub IsChunked : ℕ → Values → Calc → Type 0
+IsChunked N v (given s) = Unit {0}
+IsChunked N v (leaf p j) = Unit {0}
+IsChunked N v (pair p l r) = IsChunked N v l × IsChunked N v r
+IsChunked N v (graft a p l r) = (length (v.chunk a) ≡ N) × (IsChunked N v l × IsChunked N v r)
 
 pub split_append : (a b c d : List ℕ) → length a ≡ length c → a ++ b ≡ c ++ d → (a ≡ c) × (b ≡ d)
 split_append a b c d l e =
@@ -124,21 +127,21 @@ graft_heads d N h sized apart c e x y lc le lx ly xs ys same = go (is_zero c) (i
 
 -- the law
 pub law : (d N : ℕ) (h : HashFunction) (v w : Values) → IsSized d h → N ≢ 8 + d → IsWide d v → IsWide d w
-    → IsChunked N v → IsChunked N w → (t : Calc) → eval h v t ≡ eval h w t
+    → (t : Calc) → IsChunked N v t → IsChunked N w t → eval h v t ≡ eval h w t
     → Agree v w t ⊎ Cross h (strings h v t) (strings h w t)
-law d N h v w sized apart wv ww cv cw (given s) e = inl e
-law d N h v w sized apart wv ww cv cw (leaf p j) e =
+law d N h v w sized apart wv ww (given s) cv cw e = inl e
+law d N h v w sized apart wv ww (leaf p j) cv cw e =
     elim (heads h _ _ [] [] e) [ inl same ↦ inl (append_cancel_left p _ _ same) | inr c ↦ inr c ]
-law d N h v w sized apart wv ww cv cw (pair p l r) e =
+law d N h v w sized apart wv ww (pair p l r) cv cw e =
     elim (heads h _ _ (strings h v l ++ strings h v r) (strings h w l ++ strings h w r) e) [
       | inr c ↦ inr c
       | inl same ↦
           let parts = split_append (eval h v l) (eval h v r) (eval h w l) (eval h w r) (eval_length d h v sized wv l
           ∙ sym (eval_length d h w sized ww l)) (append_cancel_left p _ _ same) in
-          elim (law d N h v w sized apart wv ww cv cw l parts.0) [
+          elim (law d N h v w sized apart wv ww l cv.0 cw.0 parts.0) [
             | inr c ↦ inr (cross_wider (λ x m. Contains-append_right (_ ∷ []) _ x (Contains-append_left _ _ x m))
                 (λ x m. Contains-append_right (_ ∷ []) _ x (Contains-append_left _ _ x m)) c)
-            | inl one ↦ elim (law d N h v w sized apart wv ww cv cw r parts.1) [
+            | inl one ↦ elim (law d N h v w sized apart wv ww r cv.1 cw.1 parts.1) [
               | inr c ↦ inr
                   (cross_wider (λ x m. Contains-append_right (_ ∷ []) _ x (Contains-append_right (strings h v l) _ x m))
                   (λ x m. Contains-append_right (_ ∷ []) _ x (Contains-append_right (strings h w l) _ x m)) c)
@@ -146,7 +149,7 @@ law d N h v w sized apart wv ww cv cw (pair p l r) e =
             ]
           ]
     ]
-law d N h v w sized apart wv ww cv cw (graft a p l r) e =
+law d N h v w sized apart wv ww (graft a p l r) cv cw e =
     let x = be8 p ++ (eval h v l ++ eval h v r) in
     let y = be8 p ++ (eval h w l ++ eval h w r) in
     let lv = eval_length d h v sized wv l in
@@ -167,17 +170,17 @@ law d N h v w sized apart wv ww cv cw (graft a p l r) e =
     ) in
     let gs = grafted_strings (v.chunk a) (h x) in
     let hs = grafted_strings (w.chunk a) (h y) in
-    elim (graft_heads d N h sized apart (v.chunk a) (w.chunk a) x y (cv a) (cw a) lx ly (strings h v l ++ strings h v r)
+    elim (graft_heads d N h sized apart (v.chunk a) (w.chunk a) x y cv.0 cw.0 lx ly (strings h v l ++ strings h v r)
     (strings h w l ++ strings h w r) e) [
       | inr c ↦ inr c
       | inl same ↦
           let parts = split_append (eval h v l) (eval h v r) (eval h w l) (eval h w r) (lv ∙ sym lw)
           (append_cancel_left (be8 p) _ _ same.1) in
-          elim (law d N h v w sized apart wv ww cv cw l parts.0) [
+          elim (law d N h v w sized apart wv ww l cv.1.0 cw.1.0 parts.0) [
             | inr c ↦ inr (cross_wider (λ z m. Contains-append_right gs _ z
                 (Contains-append_right (x ∷ []) _ z (Contains-append_left _ _ z m))) (λ z m.
                 Contains-append_right hs _ z (Contains-append_right (y ∷ []) _ z (Contains-append_left _ _ z m))) c)
-            | inl one ↦ elim (law d N h v w sized apart wv ww cv cw r parts.1) [
+            | inl one ↦ elim (law d N h v w sized apart wv ww r cv.1.1 cw.1.1 parts.1) [
               | inr c ↦ inr (cross_wider (λ z m. Contains-append_right gs _ z (Contains-append_right (x ∷ []) _ z
                   (Contains-append_right (strings h v l) _ z m))) (λ z m. Contains-append_right hs _ z
                   (Contains-append_right (y ∷ []) _ z (Contains-append_right (strings h w l) _ z m))) c)

@@ -5,8 +5,9 @@ use Rattle.storage_codec.specs.Digests.{HashFunction, IsSized, Cross}
 use Rattle.storage_merkle.specs.Shape.{Laws}
 use Rattle.storage_merkle.specs.Calc.{Site, front, back, node, Values, eval}
 use Rattle.storage_merkle.specs.declared.merkle.bagging.Bagging.{Bagging}
-use Rattle.storage_merkle.specs.Trees.{Layout, Content, Peak, node_calc, peaks_of, tree_root, tree_strings}
+use Rattle.storage_merkle.specs.Trees.{Layout, Content, Peak, never, node_calc, peaks_of, tree_root, tree_strings}
 use Rattle.storage_merkle.specs.RangeProofs.{RangeProof, apart, position_of, by_position, check_values, check_strings, CountsFit, IsEmptyProof, IsAccepted, AreDigests}
+use Rattle.storage_merkle.specs.Chunked.{AreChunks}
 use Rattle.storage_merkle.specs.Multi.{tree_digest}
 
 -- the nodes whose digests the calculation of a node reads or computes, children first
@@ -65,15 +66,17 @@ tree_entries h T content low high = entries T (tree_digest h T content)
 abbrev pub Fits : HashFunction → Layout → Bagging → RangeProof → ℕ → Content → Type 0
 Fits h T b proof start claim = CountsFit h T b proof start claim ⊎ IsEmptyProof h T b proof start claim
 
--- Of each tree with that root some property holds, or one of the strings and a different one of the tree have one digest. Digests
--- have d bytes and chunks N; which nodes have a chunk grafted may depend on the number of leaves.
-abbrev pub HoldsOfEach : ℕ → HashFunction → Layout → Bagging → ℕ → Content → List (List ℕ) → List ℕ
+-- Of each tree with that root some property holds, or one of the strings and a different one of the tree have one digest, for what
+-- is claimed from `start` on. Digests have d bytes and grafted chunks N; which nodes have a chunk grafted may depend on the number
+-- of leaves.
+abbrev pub HoldsOfEach : ℕ → HashFunction → Layout → Bagging → ℕ → ℕ → Content → List (List ℕ) → List ℕ
     → (Layout → Content → ℕ → Type 0) → Type 0
-HoldsOfEach d h T b leaves claim strings root P =
+HoldsOfEach d h T b leaves start claim strings root P =
     (N : ℕ) (grafted : ℕ → ℕ → ℕ → Bool) →
-    let over : ℕ → Layout = λ n. record { shape = T.shape; grafted = grafted n } in
-    T ≡ over leaves → N ≢ 8 + d → ((a : ℕ) → length (claim.chunk a) ≡ N) →
-    (content : Content) (inactive : ℕ) → ((a : ℕ) → length (content.chunk a) ≡ N) →
+    let over : ℕ → Layout = λ n. record { shape = T.shape; position = T.position; grafted = grafted n } in
+    T ≡ over leaves → N ≢ 8 + d → AreChunks N T leaves (apart start (start + length claim.elements)) claim.chunk →
+    (content : Content) (inactive : ℕ) →
+    AreChunks N (over (length content.elements)) (length content.elements) never content.chunk →
     length content.elements ≤ 2 ^ 62 → inactive ≤ length (T.shape.peaks (length content.elements)) →
     tree_root h (over (length content.elements)) b content inactive ≡ root →
     P (over (length content.elements)) content inactive
@@ -82,7 +85,7 @@ HoldsOfEach d h T b leaves claim strings root P =
 -- what a check hands out is what each tree with that root has there, digest by digest
 abbrev pub AreExtracted : ℕ → HashFunction → Layout → Bagging → RangeProof → ℕ → Content → List ℕ → Type 0
 AreExtracted d h T b proof start claim root =
-    HoldsOfEach d h T b proof.leaves claim (check_strings h T b proof start claim) root
+    HoldsOfEach d h T b proof.leaves start claim (check_strings h T b proof start claim) root
     (λ U content inactive. extracted h T b proof start claim
     ≡ tree_entries h U content start (start + length claim.elements))
 

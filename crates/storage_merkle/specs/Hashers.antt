@@ -1,14 +1,8 @@
--- What a hasher of a tree family keeps of the family, and folds of digests step by step.
-use Rattle.std.specs.Prelude.{◌≡◌, ℕ, List, [], ◌∷◌, ◌++◌, ◌≤◌, ◌<◌, ◌^◌, Option, Some, None}
+-- What a hasher of a tree family takes, and folds of digests step by step.
+use Rattle.std.specs.Prelude.{ℕ, List, [], ◌∷◌, ◌++◌, ◌≤◌, ◌<◌, ◌^◌, Option, Some, None}
 use Rattle.storage_codec.specs.Digests.{HashFunction}
 use Rattle.storage_merkle.specs.Shape.{Shape, size}
-use Rattle.storage_merkle.specs.Trees.{Layout}
 use Rattle.storage_merkle.specs.Hashing.{folded_forward}
-
--- the layout has the byte and the peaks of the family
-pub record IsOver (S : Shape) (T : Layout) : Type 0 where
-  pub byte : T.shape.byte ≡ S.byte
-  pub peaks : (n : ℕ) → T.shape.peaks n ≡ S.peaks n
 
 -- node digests may be asked for at each position of the tree over n leaves
 abbrev pub TakesTree : (ℕ → Type 0) → Shape → ℕ → Type 0

@@ -9,8 +9,8 @@ use Rattle.storage_merkle.specs.declared.merkle.bagging.Bagging.TheVariants.{For
 -- the digest of a node, by its first leaf and its height, from those of its children
 abbrev pub join_digest : HashFunction → Layout → (ℕ → List ℕ) → ℕ → ℕ → List ℕ → List ℕ → List ℕ
 join_digest h T chunk a k l r =
-    if T.grafted a k then grafted_digest h (chunk a) (h (be8 (T.shape.position a k) ++ (l ++ r)))
-    else h (be8 (T.shape.position a k) ++ (l ++ r))
+    if T.grafted a k then grafted_digest h (chunk a) (h (be8 (T.position a k) ++ (l ++ r)))
+    else h (be8 (T.position a k) ++ (l ++ r))
 
 -- the digests of leaves, the first of which is leaf a
 abbrev pub leaf_digests : HashFunction → Layout → ℕ → List (List ℕ) → List (List ℕ)

@@ -15,9 +15,9 @@ pub eval-join : (h : HashFunction) (v : Values) (T : Layout) (a k : ℕ) (l r : 
     → eval h v (join_calc T a k l r) ≡ join_digest h T v.chunk a k (eval h v l) (eval h v r)
 eval-join h v T a k l r =
     elim (T.grafted a k) as (λ b.
-    eval h v (if b then graft a (T.shape.position a k) l r else pair (be8 (T.shape.position a k)) l r)
-    ≡ (if b then grafted_digest h (v.chunk a) (h (be8 (T.shape.position a k) ++ (eval h v l ++ eval h v r)))
-    else h (be8 (T.shape.position a k) ++ (eval h v l ++ eval h v r)))) [
+    eval h v (if b then graft a (T.position a k) l r else pair (be8 (T.position a k)) l r)
+    ≡ (if b then grafted_digest h (v.chunk a) (h (be8 (T.position a k) ++ (eval h v l ++ eval h v r)))
+    else h (be8 (T.position a k) ++ (eval h v l ++ eval h v r)))) [
       | true ↦ refl
       | false ↦ refl
     ]

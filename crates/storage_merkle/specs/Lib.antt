@@ -27,6 +27,7 @@ pub mod EqualityLaws
 pub mod Held
 pub mod Hashing
 pub mod HashingLaws
+pub mod Chunked
 pub mod Soundness
 pub mod Extracted
 pub mod Pinned

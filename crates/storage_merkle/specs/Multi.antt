@@ -4,8 +4,9 @@ use Rattle.storage_codec.specs.Digests.{HashFunction, IsSized, Cross}
 use Rattle.storage_merkle.specs.Shape.{Laws}
 use Rattle.storage_merkle.specs.Calc.{Site, front, back, node, Calc, Values}
 use Rattle.storage_merkle.specs.declared.merkle.bagging.Bagging.{Bagging}
-use Rattle.storage_merkle.specs.Trees.{Layout, Content, peaks_of, folded, unfolded, part, bag, root_string, strings_bag, empty_root, tree_node, tree_root, tree_strings}
+use Rattle.storage_merkle.specs.Trees.{Layout, Content, never, peaks_of, folded, unfolded, part, bag, root_string, strings_bag, empty_root, tree_node, tree_root, tree_strings}
 use Rattle.storage_merkle.specs.RangeProofs.{RangeProof, sites_in, by_position, look_up, AreDigests}
+use Rattle.storage_merkle.specs.Chunked.{AreChunks}
 
 -- an element that is claimed to stand at a location
 pub record Claim : Type 0 where
@@ -106,15 +107,16 @@ pub record IsMultiOwn (h : HashFunction) (T : Layout) (proof : RangeProof) (clai
   pub elements_stand : Stand content.elements claims
 
 -- Of each tree with that root, the proof is the tree's own and what it claims stands there, or a string of the check and a
--- different one of the tree have one digest. Digests have d bytes and chunks N; which nodes have a chunk grafted may depend on
--- the number of leaves.
+-- different one of the tree have one digest. Digests have d bytes and grafted chunks N; which nodes have a chunk grafted may depend
+-- on the number of leaves.
 abbrev pub IsMultiProved : ℕ → HashFunction → Layout → Bagging → RangeProof → List Claim → (ℕ → List ℕ)
     → List ℕ → Type 0
 IsMultiProved d h T b proof claims chunk root =
     (N : ℕ) (grafted : ℕ → ℕ → ℕ → Bool) →
-    let over : ℕ → Layout = λ n. record { shape = T.shape; grafted = grafted n } in
-    T ≡ over proof.leaves → N ≢ 8 + d → ((a : ℕ) → length (chunk a) ≡ N) →
-    (content : Content) (inactive : ℕ) → ((a : ℕ) → length (content.chunk a) ≡ N) →
+    let over : ℕ → Layout = λ n. record { shape = T.shape; position = T.position; grafted = grafted n } in
+    T ≡ over proof.leaves → N ≢ 8 + d → AreChunks N T proof.leaves (untouched (locations claims)) chunk →
+    (content : Content) (inactive : ℕ) →
+    AreChunks N (over (length content.elements)) (length content.elements) never content.chunk →
     length content.elements ≤ 2 ^ 62 → inactive ≤ length (T.shape.peaks (length content.elements)) →
     tree_root h (over (length content.elements)) b content inactive ≡ root →
     IsMultiOwn h (over (length content.elements)) proof claims content inactive

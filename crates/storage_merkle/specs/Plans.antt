@@ -1,4 +1,4 @@
--- Which nodes are asked for, and the first that is not there.
+-- Which nodes are asked for, the first that is not there, and the first whose read may fail.
 use Rattle.std.specs.Prelude.{◌≡◌, ℕ, ◌+◌, ◌-◌, ◌%◌, ◌<◌, ◌≤◌, ◌^◌, ◌↔◌, true, List, [], ◌∷◌, length, map, ◌⊎◌, Option, Some, None, leb, ltb, if◌then◌else◌}
 use Rattle.std.specs.List.{Contains}
 use Rattle.storage_codec.specs.Digests.{HashFunction}
@@ -8,8 +8,9 @@ use Rattle.storage_merkle.specs.Shape.{Shape, Laws, size, Inside, AreAligned}
 use Rattle.storage_merkle.specs.Calc.{Site}
 use Rattle.storage_merkle.specs.Nodes.{IsNode}
 use Rattle.storage_merkle.specs.declared.merkle.bagging.Bagging.{Bagging}
-use Rattle.storage_merkle.specs.Trees.{Layout, Content, ungrafted, peaks_of, tree_node}
-use Rattle.storage_merkle.specs.RangeProofs.{RangeProof, apart, sites_in, position_of, by_position, own_proof}
+use Rattle.storage_merkle.specs.Trees.{Layout, Content, ungrafted, peaks_of, folded, unfolded, tree_node}
+use Rattle.storage_merkle.specs.RangeProofs.{RangeProof, apart, sites_in, position_of, by_position, sites, own_proof}
+use Rattle.storage_merkle.specs.PlanParts.{site_digest}
 use Rattle.storage_merkle.specs.Siblings.{sibling_sites}
 
 -- p is the first of the positions for which the answer is none
@@ -17,6 +18,12 @@ abbrev pub IsFirstAbsent : {D : Type 0} → (ℕ → Option D → Type 0) → Li
 IsFirstAbsent answers [] p = ⊥
 IsFirstAbsent {D} answers (q ∷ qs) p =
     (answers q None × (p ≡ q)) ⊎ ((d : D) × answers q (Some d) × IsFirstAbsent answers qs p)
+
+-- a fault with this code is at the first of the positions that is absent or may fail: each one before it has a digest
+abbrev pub IsFirstFault : {D : Type 0} → (ℕ → Option D → Type 0) → (ℕ → ℕ → Type 0) → List ℕ → ℕ → Type 0
+IsFirstFault answers may_fail [] code = ⊥
+IsFirstFault {D} answers may_fail (q ∷ qs) code =
+    may_fail q code ⊎ ((d : D) × answers q (Some d) × IsFirstFault answers may_fail qs code)
 
 -- a range of leaves, from start to before end, of a tree
 pub record PlanOf : Type 0 where
@@ -54,6 +61,30 @@ IsOwnOfEach text answers h S b plan inactive proof =
     (T : Layout) (content : Content) → T.shape ≡ S → length content.elements ≡ plan.leaves →
     AnswersAre text answers (planned S plan.leaves plan.start plan.end) h T content →
     proof ≡ own_proof h T b content inactive plan.start plan.end
+
+-- what is answered for each of the positions is the digest that `digest_of` gives the node there, by its first leaf and height
+abbrev pub AnswersAreOf : {D : Type 0} → (D → List ℕ) → (ℕ → Option D → Type 0) → List ℕ → Shape → (ℕ → ℕ → List ℕ)
+    → Type 0
+AnswersAreOf {D} text answers positions S digest_of = (p a k : ℕ) (d : D) → Contains positions p → IsNode S p a k
+    → answers p (Some d) → text d ≡ digest_of a k
+
+-- the proof of a plan with i inactive peaks whose digests are those that `digest_of` gives nodes, and folds of these
+abbrev pub gathered_proof : HashFunction → Shape → Bagging → (ℕ → ℕ → List ℕ) → PlanOf → ℕ → RangeProof
+gathered_proof h S b digest_of plan i = record {
+  leaves = plan.leaves;
+  inactive = i;
+  digests = map (site_digest plan.start plan.end (folded b i (peaks_of (ungrafted S) plan.leaves))
+      (unfolded b i (peaks_of (ungrafted S) plan.leaves)) h digest_of)
+      (sites (ungrafted S) plan.start plan.end b plan.leaves i);
+}
+
+-- a proof is the one gathered from the answers for the planned positions, whatever digests they are
+abbrev pub IsGathered : {D : Type 0} → (D → List ℕ) → (ℕ → Option D → Type 0) → HashFunction → Shape → Bagging → PlanOf → ℕ
+    → RangeProof → Type 0
+IsGathered text answers h S b plan inactive proof =
+    (digest_of : ℕ → ℕ → List ℕ) →
+    AnswersAreOf text answers (planned S plan.leaves plan.start plan.end) S digest_of →
+    proof ≡ gathered_proof h S b digest_of plan inactive
 
 -- a plan's positions are those that are planned, and its siblings' those of the siblings
 pub record ArePlanned (S : Shape) (leaves start end : ℕ) (positions siblings : List ℕ) : Type 0 where

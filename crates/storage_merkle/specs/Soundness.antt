@@ -5,21 +5,23 @@ use Rattle.storage_codec.specs.Digests.{HashFunction, IsSized, Cross}
 use Rattle.storage_merkle.specs.Shape.{Shape, Laws}
 use Rattle.storage_merkle.specs.Calc.{Site}
 use Rattle.storage_merkle.specs.declared.merkle.bagging.Bagging.{Bagging}
-use Rattle.storage_merkle.specs.Trees.{Layout, Content, peaks_of, folded, unfolded, tree_root, tree_strings}
+use Rattle.storage_merkle.specs.Trees.{Layout, Content, never, peaks_of, folded, unfolded, tree_root, tree_strings}
 use Rattle.storage_merkle.specs.RangeProofs.{RangeProof, apart, not_leading, up_to, sites_in, position_of, sites, check_strings, IsAccepted, IsOwn, AreDigests}
+use Rattle.storage_merkle.specs.Chunked.{AreChunks}
 use Rattle.storage_merkle.specs.Hashing.{leaf_digests, peak_digests, root_of}
 
 -- A range proof that is accepted against a tree's root is the tree's own, and what it claims stands there, or a string of the
--- check and a different one of the tree have one digest. Digests have d bytes and chunks N; which nodes have a chunk grafted
--- may depend on the number of leaves.
+-- check and a different one of the tree have one digest. Digests have d bytes and grafted chunks N; which nodes have a chunk
+-- grafted may depend on the number of leaves.
 abbrev pub RangeProofsAreSound : Type 0
 RangeProofsAreSound =
     (d N : ℕ) (h : HashFunction) → IsSized d h → N ≢ 8 + d →
-    (S : Shape) → Laws S → (grafted : ℕ → ℕ → ℕ → Bool) →
-    let over : ℕ → Layout = λ n. record { shape = S; grafted = grafted n } in
+    (S : Shape) → Laws S → (position : ℕ → ℕ → ℕ) (grafted : ℕ → ℕ → ℕ → Bool) →
+    let over : ℕ → Layout = λ n. record { shape = S; position = position; grafted = grafted n } in
     (b : Bagging) (proof : RangeProof) (start : ℕ) (claim : Content) → AreDigests d proof.digests
-    → ((a : ℕ) → length (claim.chunk a) ≡ N) →
-    (content : Content) (inactive : ℕ) → ((a : ℕ) → length (content.chunk a) ≡ N) →
+    → AreChunks N (over proof.leaves) proof.leaves (apart start (start + length claim.elements)) claim.chunk →
+    (content : Content) (inactive : ℕ)
+    → AreChunks N (over (length content.elements)) (length content.elements) never content.chunk →
     length content.elements ≤ 2 ^ 62 → inactive ≤ length (S.peaks (length content.elements)) →
     IsAccepted h (over proof.leaves) b proof start claim
     (tree_root h (over (length content.elements)) b content inactive) →

@@ -173,7 +173,7 @@ pub record IsMadeOf (d : ℕ) (h : HashFunction) (T : Layout) (b : Bagging) (pro
     (claim : Content) (root : List ℕ) (store : Store) : Type 0 where
   pub accepted : IsAccepted h T b proof start claim root
   pub all : store ≡ store_of h T b proof start claim
-  pub of_trees : HoldsOfEach d h T b proof.leaves claim (check_strings h T b proof start claim) root
+  pub of_trees : HoldsOfEach d h T b proof.leaves start claim (check_strings h T b proof start claim) root
       (λ U content inactive. IsStoreOf h U store content inactive)
   pub of_own : (content : Content) (inactive : ℕ) → IsOwn h T b proof start claim content inactive
       → IsStoreOf h T store content inactive
@@ -207,7 +207,7 @@ StoresOfAcceptedProofsAreTrue =
     (d : ℕ) (h : HashFunction) (T : Layout) (b : Bagging) (proof : RangeProof) (start : ℕ) (claim : Content)
     (root : List ℕ) →
     IsSized d h → Laws T.shape → AreDigests d proof.digests → IsAccepted h T b proof start claim root →
-    HoldsOfEach d h T b proof.leaves claim (check_strings h T b proof start claim) root
+    HoldsOfEach d h T b proof.leaves start claim (check_strings h T b proof start claim) root
     (λ U content inactive. IsStoreOf h U (store_of h T b proof start claim) content inactive)
 
 -- A store is one of a tree. What it gives of a range is the tree's own proof, which is accepted for the elements and chunks that

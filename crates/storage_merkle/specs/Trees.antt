@@ -6,14 +6,16 @@ use Rattle.storage_merkle.specs.Calc.{node, Calc, given, leaf, pair, graft, be8,
 use Rattle.storage_merkle.specs.declared.merkle.bagging.Bagging.{Bagging}
 use Rattle.storage_merkle.specs.declared.merkle.bagging.Bagging.TheVariants.{ForwardFold, BackwardFold}
 
--- how trees are laid out: a family's shape, and which nodes, by first leaf and height, have a chunk grafted
+-- how trees are laid out: a family's shape, whose positions leaves are hashed with and digests are sorted by; and for each node, by
+-- first leaf and height, the number that it is hashed with, if it isn't a leaf, and whether it has a chunk grafted
 pub record Layout : Type 0 where
   pub shape : Shape
+  pub position : ℕ → ℕ → ℕ
   pub grafted : ℕ → ℕ → Bool
 
--- no node has a chunk grafted
+-- each node is hashed with its position, and has no chunk grafted
 abbrev pub ungrafted : Shape → Layout
-ungrafted S = record { shape = S; grafted = λ a k. false }
+ungrafted S = record { shape = S; position = S.position; grafted = λ a k. false }
 
 -- what a tree is over: its elements, and the chunk from a leaf on
 pub record Content : Type 0 where
@@ -29,10 +31,10 @@ listed list = record { elements = list; chunk = λ a. [] }
 
 -- ---- nodes
 
--- a node from its halves: their digests after its position, with the chunk grafted where the layout says so
+-- a node from its halves: their digests after its number, with the chunk grafted where the layout says so
 abbrev pub join_calc : Layout → ℕ → ℕ → Calc → Calc → Calc
-join_calc T a k l r = if T.grafted a k then graft a (T.shape.position a k) l r
-    else pair (be8 (T.shape.position a k)) l r
+join_calc T a k l r = if T.grafted a k then graft a (T.position a k) l r
+    else pair (be8 (T.position a k)) l r
 
 -- the node of height k over the leaves from a on: its digest is given where `cut` names the node, else calculated
 abbrev pub node_calc : Layout → (ℕ → ℕ → Bool) → ℕ → ℕ → Calc

@@ -34,12 +34,10 @@ pub fn built_range_proofs_are_accepted<
     H: Hasher<F>,
     G: Fn(Position<F>) -> Option<H::Digest>,
 >()
-    ensures accepted { (hasher : H) (get_node : G) → (H.layout hasher).shape ≡ F.shape
-        → BuiltRangeProofsAreAccepted H.Digest.text (G.post get_node) H.hash_of (H.layout hasher)
-        (H.bagging hasher) }
-    ensures read_again { (hasher : H) (get_node : G) → (H.layout hasher).shape ≡ F.shape
-        → BuiltRangeProofsAreReadAgain H.Digest.text (G.post get_node) H.Digest.size H.hash_of
-        (H.layout hasher) (H.bagging hasher) }
+    ensures accepted { (hasher : H) (get_node : G) → BuiltRangeProofsAreAccepted H.Digest.text
+        (G.post get_node) H.hash_of (H.layout hasher) (H.bagging hasher) }
+    ensures read_again { (hasher : H) (get_node : G) → BuiltRangeProofsAreReadAgain H.Digest.text
+        (G.post get_node) H.Digest.size H.hash_of (H.layout hasher) (H.bagging hasher) }
 {}
 
 /// The root of a tree is the one calculated from the digests of its leaves.

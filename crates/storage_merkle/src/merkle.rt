@@ -22,6 +22,7 @@ pub use countable::{Countable, leaves_of};
 pub use error::Error;
 pub use family::{Family, Graftable};
 pub use location::Location;
+pub use mem::Mem;
 pub use peaks::{NodesToPin, Peaks};
 pub use plan::{ElementPlan, RangePlan};
 pub use position::Position;

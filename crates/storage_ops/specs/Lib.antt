@@ -16,3 +16,4 @@ pub mod Vectors
 pub mod Shown
 pub mod Equality
 pub mod Located
+pub mod OwnStores

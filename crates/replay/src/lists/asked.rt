@@ -1,4 +1,4 @@
-//! Lists on what operations say of themselves, and on equal ones.
+//! Lists on what operations say of themselves, on equal ones, and on the values of updates.
 
 use crate::columns::{Fault, verdict};
 use crate::lists::spelling::{Ask, Spell};
@@ -9,7 +9,8 @@ use storage_ops::qmdb::any::operation::{Ordered, Unordered};
 use storage_ops::qmdb::any::value::{FixedEncoding, VariableEncoding};
 
 /// `type operation` for `asked`: what it is, its key, its floor, and the key that it gives up; `-` for none. `type operation operation`
-/// for `equal`: whether a copy of the first is equal to the second.
+/// for `equal`: whether a copy of the first is equal to the second. `type update` for `valued`: the value that the key gets, as it is
+/// lent and as it is given up.
 pub fn answer(alloc: Global, list: &str, columns: &[&str]) -> Result<String, Fault> {
     let [kind, columns @ ..] = columns else {
         return Err(Fault::Malformed);
@@ -37,6 +38,7 @@ fn over<O: Spell + Ask + PartialEq + Drop>(
 ) -> Result<String, Fault> {
     match (list, columns) {
         ("asked", [operation]) => O::parse(alloc, *operation)?.asked(alloc),
+        ("valued", [operation]) => O::parse(alloc, *operation)?.valued(alloc),
         ("equal", [first, second]) => {
             let copy = O::parse(alloc, *first)?.copied()?;
             let second = O::parse(alloc, *second)?;

@@ -76,7 +76,7 @@ impl<F: Family, H: digest::Hasher> Hasher<F> for Counting<H> {
 
     ghost sized = { H.sized };
 
-    ghost over = { λ _. record { byte = refl; peaks = λ _. refl } };
+    ghost over = { λ _. refl };
 }
 
 /// `bagging leaves inactive digests location element root label`: whether the proof of one element is accepted, and how many digests of
@@ -97,8 +97,8 @@ pub fn element_checks<F: Family>(alloc: Global, columns: &[&str]) -> Result<Stri
     };
     let bagging = bagging(*direction)?;
     let location = Location::new(number(*location)?);
-    let root = digest(*root)?;
-    let proof = proof_of::<F>(alloc, *leaves, *inactive, *nodes)?;
+    let root = digest(alloc, *root)?;
+    let proof = proof_of::<F, _>(alloc, *leaves, *inactive, *nodes)?;
     let element = bytes(alloc, *element)?;
     let hasher = Counting::<Sha256>::new(bagging);
     let yes = proof.verify_element_inclusion(alloc, &hasher, &element, location, &root)?;
@@ -112,8 +112,8 @@ pub fn plain_operations<F: Family>(alloc: Global, columns: &[&str]) -> Result<St
         return Err(Fault::Malformed);
     };
     let start = Location::new(number(*start)?);
-    let root = digest(*root)?;
-    let proof = proof_of::<F>(alloc, *leaves, *inactive, *nodes)?;
+    let root = digest(alloc, *root)?;
+    let proof = proof_of::<F, _>(alloc, *leaves, *inactive, *nodes)?;
     let operations = operations(alloc, *items)?;
     let yes = verify_proof::<Sha256, F, _>(alloc, &proof, start, &operations, &root)?;
     verdict(alloc, yes)

@@ -59,7 +59,7 @@ fn told<const N: usize>(alloc: Global, bits: &Prunable<N>) -> Result<String, Fau
     let length = bits.len();
     let pruned = bits.pruned_chunks();
     let kept = kept(alloc, bits)?;
-    let chunks = chunks(alloc, bits)?;
+    let chunks = chunks::<N, Prunable<N>>(alloc, bits)?;
     let last = last(alloc, bits)?;
     spaced_five(alloc, &length, &pruned, &kept, &chunks, &last)
 }
@@ -109,7 +109,7 @@ fn kept<const N: usize>(alloc: Global, bits: &Prunable<N>) -> Result<String, Fau
 }
 
 /// The chunks that are left.
-fn chunks<const N: usize>(alloc: Global, bits: &Prunable<N>) -> Result<String, Fault>
+pub fn chunks<const N: usize, R: Readable<N>>(alloc: Global, bits: &R) -> Result<String, Fault>
     requires { IsChunkSize N }
 {
     let mut series = Series::new(alloc);

@@ -4,7 +4,7 @@ use crate::columns::{Fault, bytes, lent, spaced_three, spelled, strings};
 use crate::lists::refusals::codec_refusal;
 use std::alloc::Global;
 use storage_codec::codec::{Read, UInt};
-use storage_codec::digest::{Digest, Hasher, Sha256};
+use storage_codec::digest::{Digest, Hasher};
 use storage_merkle::merkle::{Location, mmr};
 
 /// `bytes`: the varint in front, how many bytes are left, and the location in front.
@@ -37,13 +37,13 @@ fn front_location(alloc: Global, mut input: &[u8]) -> Result<String, Fault> {
     }
 }
 
-/// `parts`: the SHA-256 digest of all of them, one after another.
-pub fn golden_hash(alloc: Global, columns: &[&str]) -> Result<String, Fault> {
+/// `parts`: the digest of all of them, one after another.
+pub fn golden_hash<H: Hasher>(alloc: Global, columns: &[&str]) -> Result<String, Fault> {
     let [parts] = columns else {
         return Err(Fault::Malformed);
     };
     let parts = strings(alloc, *parts)?;
     let lent = lent(alloc, &parts)?;
-    let digest = Sha256::hash(&lent);
+    let digest = H::hash(&lent);
     Ok(hex::encode(alloc, digest.bytes())?)
 }

@@ -12,18 +12,17 @@ use crate::lists::served;
 use crate::lists::snapshots::bits_of;
 use commonware_storage::bitmap::{Prunable, Readable};
 use commonware_storage::codec::{Encode, FixedBytes};
-use commonware_storage::digest::Sha256;
+use commonware_storage::digest::{Digest, Hasher};
+use commonware_storage::laws::current::combined::nodes_over_chunks_are_taken;
 use commonware_storage::merkle::hasher::Standard;
-use commonware_storage::merkle::mem::Mem;
 use commonware_storage::merkle::{
-    Bagging, Countable, Graftable, Location, MAX_LEAVES, Position, mmb, mmr,
+    Bagging, Countable, Graftable, Location, MAX_LEAVES, Mem, Position, mmb, mmr,
 };
 use commonware_storage::qmdb;
 use commonware_storage::qmdb::current::Snapshot;
 use commonware_storage::qmdb::current::grafting::{self, GraftedHasher, Storage, graftable_chunks};
 use commonware_storage::qmdb::current::proof::constant::OperationProof;
 use std::alloc::Global;
-use storage_current::laws::combined::nodes_over_chunks_are_taken;
 
 /// More chunks than a case has.
 const MANY: u64 = 1000;
@@ -56,22 +55,44 @@ struct Asked {
 /// `family chunk_size bits floor operations location pruned grafted absent`: the proof of the operation at the location, or the
 /// refusal. `pruned` chunks of the status are pruned, the tree over chunks is whole or `empty`, and the one over the operations
 /// lacks a position or `none`.
-pub fn combined(alloc: Global, columns: &[&str]) -> Result<String, Fault> {
-    Ok(asked_of(alloc, columns, ALWAYS)?.answer)
+pub fn combined<H: Hasher<Digest = FixedBytes<D>>, const D: usize>(
+    alloc: Global,
+    columns: &[&str],
+) -> Result<String, Fault>
+where
+    FixedBytes<D>: Digest,
+    requires small { D ≤ 64 }
+{
+    Ok(asked_of::<H, D>(alloc, columns, ALWAYS)?.answer)
 }
 
 /// The same with a last column, how many digests the tree over the operations answers: the proof or the refusal, and how often
 /// that tree was asked and failed.
-pub fn combined_asked(alloc: Global, columns: &[&str]) -> Result<String, Fault> {
+pub fn combined_asked<H: Hasher<Digest = FixedBytes<D>>, const D: usize>(
+    alloc: Global,
+    columns: &[&str],
+) -> Result<String, Fault>
+where
+    FixedBytes<D>: Digest,
+    requires small { D ≤ 64 }
+{
     let Some((left, columns)) = columns.split_last() else {
         return Err(Fault::Malformed);
     };
-    let asked = asked_of(alloc, columns, number(*left)?)?;
+    let asked = asked_of::<H, D>(alloc, columns, number(*left)?)?;
     let (answer, calls, failures) = (asked.answer, asked.calls, asked.failures);
     spaced_three(alloc, &answer, &calls, &failures)
 }
 
-fn asked_of(alloc: Global, columns: &[&str], left: u64) -> Result<Asked, Fault> {
+fn asked_of<H: Hasher<Digest = FixedBytes<D>>, const D: usize>(
+    alloc: Global,
+    columns: &[&str],
+    left: u64,
+) -> Result<Asked, Fault>
+where
+    FixedBytes<D>: Digest,
+    requires small { D ≤ 64 }
+{
     let [
         family,
         chunk_size,
@@ -101,37 +122,42 @@ fn asked_of(alloc: Global, columns: &[&str], left: u64) -> Result<Asked, Fault> 
         left,
     };
     match (*family, *chunk_size) {
-        ("mmr", "1") => proved::<mmr::Family, 1>(alloc, &case),
-        ("mmr", "2") => proved::<mmr::Family, 2>(alloc, &case),
-        ("mmb", "1") => proved::<mmb::Family, 1>(alloc, &case),
-        ("mmb", "2") => proved::<mmb::Family, 2>(alloc, &case),
+        ("mmr", "1") => proved::<mmr::Family, H, D, 1>(alloc, &case),
+        ("mmr", "2") => proved::<mmr::Family, H, D, 2>(alloc, &case),
+        ("mmb", "1") => proved::<mmb::Family, H, D, 1>(alloc, &case),
+        ("mmb", "2") => proved::<mmb::Family, H, D, 2>(alloc, &case),
         _ => Err(Fault::Malformed),
     }
 }
 
-fn proved<F: Graftable + Countable, const N: usize>(
-    alloc: Global,
-    case: &Case<'_>,
-) -> Result<Asked, Fault>
-    requires { IsChunkSize N }
+fn proved<
+    F: Graftable + Countable,
+    H: Hasher<Digest = FixedBytes<D>>,
+    const D: usize,
+    const N: usize,
+>(alloc: Global, case: &Case<'_>) -> Result<Asked, Fault>
+where
+    FixedBytes<D>: Digest,
+    requires chunk { IsChunkSize N }
+    requires small { D ≤ 64 }
 {
     let height = grafting::height::<N>();
     if height > 8 {
         return Err(Fault::Malformed);
     }
     let floor = Location::new(case.floor);
-    let snapshot = served::snapshot::<F, N>(alloc, &case.operations, case.bits, case.floor)?;
+    let snapshot = served::snapshot::<F, H, N>(alloc, &case.operations, case.bits, case.floor)?;
     let grafted = if case.whole {
         grafted_tree(alloc, &snapshot, height)?
     } else {
         Mem::new(alloc)
     };
     let status = status_of::<N>(alloc, case.bits, case.pruned)?;
-    let nodes = operations_nodes::<F>(alloc, &case.operations)?;
+    let nodes = operations_nodes::<F, H>(alloc, &case.operations)?;
     let size = nodes.len() as u64;
     let mut operations = Faulty::new(nodes, size, case.absent, case.left);
     let mut both = Storage::new(&grafted, height, &mut operations);
-    let answer = OperationProof::new::<Sha256, Prunable<N>, _>(
+    let answer = OperationProof::new::<H, Prunable<N>, _>(
         alloc,
         &status,
         &mut both,
@@ -176,11 +202,11 @@ pub fn status_of<const N: usize>(
 }
 
 /// The nodes of the tree over operations.
-fn operations_nodes<F: Graftable>(
+fn operations_nodes<F: Graftable, H: Hasher>(
     alloc: Global,
     operations: &[Vec<u8>],
-) -> Result<Vec<FixedBytes<32>>, Fault> {
-    let hasher = qmdb::hasher::<Sha256>();
+) -> Result<Vec<H::Digest>, Fault> {
+    let hasher = qmdb::hasher::<H>();
     let mut tree = Mem::<F, _>::new(alloc);
     for operation in operations {
         if let Err(error) = tree.add(&hasher, operation.as_slice()) {
@@ -195,70 +221,73 @@ fn operations_nodes<F: Graftable>(
 }
 
 /// The tree over the graftable chunks of a snapshot.
-fn grafted_tree<F: Graftable, const N: usize>(
+fn grafted_tree<F: Graftable, H: Hasher, const N: usize>(
     alloc: Global,
-    snapshot: &Snapshot<F, Sha256, N>,
+    snapshot: &Snapshot<F, H, N>,
     height: u32,
-) -> Result<Mem<F, FixedBytes<32>>, Fault>
+) -> Result<Mem<F, H::Digest>, Fault>
     requires low { 1 ≤ height }
     requires high { height ≤ 8 }
 {
     let mut tree = Mem::new(alloc);
     let mut digests = Vec::new(alloc);
     for chunk in 0..graftable_chunks::<F>(snapshot.status().len(), height) {
-        add_chunk(&mut tree, height)?;
+        add_chunk::<F, H>(&mut tree, height)?;
         digests.push((Location::new(chunk), chunk_digest(snapshot, chunk, height)?))?;
     }
-    put(&mut tree, &digests, height)?;
+    put::<F, H>(&mut tree, &digests, height)?;
     Ok(tree)
 }
 
-fn hasher<F: Graftable>(height: u32) -> GraftedHasher<F, Standard<Sha256>>
+fn hasher<F: Graftable, H: Hasher>(height: u32) -> GraftedHasher<F, Standard<H>>
     ensures { result.height ≡ height }
 {
     GraftedHasher::new(Standard::new(Bagging::BackwardFold), height)
 }
 
 /// Adds a chunk whose digest is put in later.
-fn add_chunk<F: Graftable>(tree: &mut Mem<F, FixedBytes<32>>, height: u32) -> Result<(), Fault>
+fn add_chunk<F: Graftable, H: Hasher>(
+    tree: &mut Mem<F, H::Digest>,
+    height: u32,
+) -> Result<(), Fault>
     requires low { 1 ≤ height }
     requires high { height ≤ 8 }
 {
-    nodes_over_chunks_are_taken::<F, Standard<Sha256>>();
+    nodes_over_chunks_are_taken::<F, Standard<H>>();
     if tree.leaves().as_u64() >= MANY {
         return Err(Fault::Malformed);
     }
-    match tree.add(&hasher::<F>(height), &[]) {
+    match tree.add(&hasher::<F, H>(height), &[]) {
         Ok(()) => Ok(()),
         Err(error) => Err(merkle_fault(&error)),
     }
 }
 
 /// Puts in the digests of chunks.
-fn put<F: Graftable>(
-    tree: &mut Mem<F, FixedBytes<32>>,
-    digests: &[(Location<F>, FixedBytes<32>)],
+fn put<F: Graftable, H: Hasher>(
+    tree: &mut Mem<F, H::Digest>,
+    digests: &[(Location<F>, H::Digest)],
     height: u32,
 ) -> Result<(), Fault>
     requires low { 1 ≤ height }
     requires high { height ≤ 8 }
 {
-    nodes_over_chunks_are_taken::<F, Standard<Sha256>>();
+    nodes_over_chunks_are_taken::<F, Standard<H>>();
     if tree.leaves().as_u64() >= MANY {
         return Err(Fault::Malformed);
     }
-    match tree.update_leaves(&hasher::<F>(height), digests) {
+    match tree.update_leaves(&hasher::<F, H>(height), digests) {
         Ok(()) => Ok(()),
         Err(error) => Err(merkle_fault(&error)),
     }
 }
 
 /// The digest that a snapshot's grafted view has of a chunk's node.
-fn chunk_digest<F: Graftable, const N: usize>(
-    snapshot: &Snapshot<F, Sha256, N>,
+fn chunk_digest<F: Graftable, H: Hasher, const N: usize>(
+    snapshot: &Snapshot<F, H, N>,
     chunk: u64,
     height: u32,
-) -> Result<FixedBytes<32>, Fault>
+) -> Result<H::Digest, Fault>
     requires { height ≤ 8 }
 {
     let Some(first) = chunk.checked_mul(1 << height) else {

@@ -1,10 +1,10 @@
 //! A store and a log that fail after a number of answers.
 
-ghost use Rattle.std.specs.Prelude.{◌≡◌, ℕ, ◌+◌, ◌<◌, ◌^◌, ◌⊎◌, ◌↔◌, ◌∷◌, [], Option, Some, None, Err, eqb, if◌then◌else◌, map, IfOk, IfErr, MatchResult};
+ghost use Rattle.std.specs.Prelude.{◌≡◌, ℕ, ◌+◌, ◌<◌, ◌^◌, ◌⊎◌, ◌↔◌, ◌∷◌, [], Option, Some, None, Err, eqb, false, if◌then◌else◌, map, IfOk, IfErr, MatchResult};
 ghost use Rattle.std.specs.List.{slice_get};
-ghost use Rattle.storage_merkle.specs.Plans.{IsFirstAbsent};
+ghost use Rattle.storage_merkle.specs.Plans.{IsFirstAbsent, IsFirstFault};
 
-use commonware_storage::codec::FixedBytes;
+use commonware_storage::digest::Digest;
 use commonware_storage::merkle::{Error, Family, Position, Storage};
 use commonware_storage::qmdb::current::{Contiguous, LogError};
 use std::alloc::Global;
@@ -24,8 +24,8 @@ pub const ALWAYS: u64 = u64::MAX;
 
 /// Digests at positions, but for the one that is lacking. Once all answers that it has left are given it fails.
 #[derive(Drop)]
-pub struct Faulty {
-    nodes: Vec<FixedBytes<32>>,
+pub struct Faulty<D> {
+    nodes: Vec<D>,
     size: u64,
     lacks: u64,
     left: u64,
@@ -33,9 +33,9 @@ pub struct Faulty {
     failures: u64,
 }
 
-impl Faulty {
+impl<D: Digest> Faulty<D> {
     /// The store of `nodes`, which says to have `size` of them, lacks the one at `lacks`, and answers `left` of them.
-    pub fn new(nodes: Vec<FixedBytes<32>>, size: u64, lacks: u64, left: u64) -> Self
+    pub fn new(nodes: Vec<D>, size: u64, lacks: u64, left: u64) -> Self
         ensures { result.failures ≡ 0 }
     {
         Faulty {
@@ -64,6 +64,7 @@ impl Faulty {
         ensures size { self.new.size ≡ self.old.size }
         ensures lacks { self.new.lacks ≡ self.old.lacks }
         ensures failures { self.new.failures ≡ self.old.failures }
+        ensures refused { result ≡ false → self.old.left < count }
     {
         self.calls = self.calls.saturating_add(1);
         if self.left < count {
@@ -74,7 +75,7 @@ impl Faulty {
     }
 
     /// The digest at a position.
-    fn look_up<F: Family>(&self, position: Position<F>) -> Option<FixedBytes<32>>
+    fn look_up<F: Family>(&self, position: Position<F>) -> Option<D>
         ensures { result ≡ (if eqb position self.now.lacks then None
             else slice_get self.now.nodes.items position) }
     {
@@ -90,7 +91,7 @@ impl Faulty {
         &self,
         alloc: Global,
         positions: &[Position<F>],
-    ) -> Result<Vec<FixedBytes<32>>, Error<F>>
+    ) -> Result<Vec<D>, Error<F>>
         ensures served { let node = λ (p : ℕ). (if eqb p self.now.lacks then None
             else slice_get self.now.nodes.items p) in
             IfOk result (λ v. map Some v.items ≡ map node positions.now) }
@@ -112,14 +113,16 @@ impl Faulty {
     }
 }
 
-impl<F: Family> Storage<F> for Faulty {
-    type Digest = FixedBytes<32>;
+impl<F: Family, D: Digest> Storage<F> for Faulty<D> {
+    type Digest = D;
 
     ghost nodes = { λ s. s.size };
 
     ghost node = { λ s p. (if eqb p s.lacks then None else slice_get s.nodes.items p) };
 
     ghost failed = { λ s. s.failures };
+
+    ghost may_fail = { λ _ _ code. code ≡ 7 };
 
     fn size(&self) -> Position<F> {
         Position::new(self.size)
@@ -129,11 +132,12 @@ impl<F: Family> Storage<F> for Faulty {
         self.failures
     }
 
-    fn get_node(&mut self, position: Position<F>) -> Result<Option<FixedBytes<32>>, Error<F>>
+    fn get_node(&mut self, position: Position<F>) -> Result<Option<D>, Error<F>>
         requires { self.old.failures + 1 < 2 ^ 64 }
         ensures answer { MatchResult result (λ d. d ≡ (if eqb position self.old.lacks then None
             else slice_get self.old.nodes.items position)) (λ e.
             ((code : ℕ) × (e ≡ Error.Source code)) ⊎ (e ≡ Error.Memory)) }
+        ensures fault { (code : ℕ) → result ≡ Err (Error.Source code) → code ≡ 7 }
         ensures failure { ((code : ℕ) × (result ≡ Err (Error.Source code)))
             ↔ (self.new.failures ≡ self.old.failures + 1) }
         ensures count { (self.new.failures ≡ self.old.failures)
@@ -150,17 +154,17 @@ impl<F: Family> Storage<F> for Faulty {
         Ok(self.look_up(position))
     }
 
-    fn get_nodes(
-        &mut self,
-        alloc: Global,
-        positions: &[Position<F>],
-    ) -> Result<Vec<FixedBytes<32>>, Error<F>>
+    fn get_nodes(&mut self, alloc: Global, positions: &[Position<F>]) -> Result<Vec<D>, Error<F>>
         requires { self.old.failures + 1 < 2 ^ 64 }
         ensures answers { let node = λ (p : ℕ). (if eqb p self.old.lacks then None
             else slice_get self.old.nodes.items p) in
             MatchResult result (λ v. map Some v.items ≡ map node positions.now) (λ e. ((p : ℕ)
             × (e ≡ Error.ElementPruned p) × IsFirstAbsent (λ q a. a ≡ node q) positions.now p)
             ⊎ (((code : ℕ) × (e ≡ Error.Source code)) ⊎ (e ≡ Error.Memory))) }
+        ensures fault { let node = λ (p : ℕ). (if eqb p self.old.lacks then None
+            else slice_get self.old.nodes.items p) in
+            (code : ℕ) → result ≡ Err (Error.Source code) → IsFirstFault (λ q a. a ≡ node q)
+            (λ _ c. c ≡ 7) positions.now code }
         ensures failure { ((code : ℕ) × (result ≡ Err (Error.Source code)))
             ↔ (self.new.failures ≡ self.old.failures + 1) }
         ensures count { (self.new.failures ≡ self.old.failures)

@@ -10,7 +10,7 @@ use crate::lists::refusals::{database_fault, database_refusal};
 use crate::lists::served;
 use commonware_storage::bitmap::{Prunable, Readable};
 use commonware_storage::codec::{Encode, FixedBytes};
-use commonware_storage::digest::Sha256;
+use commonware_storage::digest::{Digest, Hasher};
 use commonware_storage::merkle::{self, Location, Position, mmr};
 use commonware_storage::qmdb::Error;
 use commonware_storage::qmdb::current::proof::constant::OperationProof;
@@ -18,17 +18,22 @@ use commonware_storage::qmdb::current::proof::{RangeProof, RangeProofSpec};
 use commonware_storage::qmdb::current::{Contiguous as _, Snapshot};
 use std::alloc::Global;
 
-type Rows = Snapshot<mmr::Family, Sha256, 1>;
+type Rows<H> = Snapshot<mmr::Family, H, 1>;
 
-type Proof = RangeProof<mmr::Family, FixedBytes<32>>;
-
-type Answer = Result<(Proof, Vec<u64>, Vec<[u8; 1]>), Error<mmr::Family>>;
+type Answer<D> = Result<(RangeProof<mmr::Family, D>, Vec<u64>, Vec<[u8; 1]>), Error<mmr::Family>>;
 
 /// More answers of a store, or of a log, than a case asks for.
 const ENOUGH: u64 = 8;
 
 /// The digests of a snapshot's grafted view.
-fn view(alloc: Global, snapshot: &Rows) -> Result<Vec<FixedBytes<32>>, Fault> {
+fn view<H: Hasher<Digest = FixedBytes<D>>, const D: usize>(
+    alloc: Global,
+    snapshot: &Rows<H>,
+) -> Result<Vec<FixedBytes<D>>, Fault>
+where
+    FixedBytes<D>: Digest,
+    requires small { D ≤ 64 }
+{
     let mut nodes = Vec::new(alloc);
     for position in 0..100 {
         match snapshot.get_node(Position::new(position)) {
@@ -40,9 +45,9 @@ fn view(alloc: Global, snapshot: &Rows) -> Result<Vec<FixedBytes<32>>, Fault> {
 }
 
 /// A call for operations of a snapshot.
-#[derive(Clone, Copy)]
-struct Call<'a> {
-    snapshot: &'a Rows,
+#[derive(Drop)]
+struct Call<'a, H: Hasher> {
+    snapshot: &'a Rows<H>,
     status: &'a Prunable<1>,
     /// How many nodes the store says to have, where it does not tell the truth.
     size: Option<u64>,
@@ -57,7 +62,14 @@ struct Call<'a> {
 /// says to have `nodes` nodes, or as many as it has where that is `-`, the log begins at `first`, and at most `most` operations
 /// from `start` on are asked for: the proof, the operations and their chunks, or the refusal. Then, for each number of answers of
 /// the store from 0 to 7, and in it of the log, what is told: the fault of the store, `s`, that of the log, `l`, or the same, `=`.
-pub fn fetched_ranges(alloc: Global, columns: &[&str]) -> Result<String, Fault> {
+pub fn fetched_ranges<H: Hasher<Digest = FixedBytes<D>>, const D: usize>(
+    alloc: Global,
+    columns: &[&str],
+) -> Result<String, Fault>
+where
+    FixedBytes<D>: Digest,
+    requires small { D ≤ 64 }
+{
     let [bits, operations, pruned, size, first, start, most] = columns else {
         return Err(Fault::Malformed);
     };
@@ -71,7 +83,7 @@ pub fn fetched_ranges(alloc: Global, columns: &[&str]) -> Result<String, Fault> 
     if max_ops < 1 {
         return Err(Fault::Malformed);
     }
-    let snapshot = snapshot_of(alloc, *bits, *operations)?;
+    let snapshot = snapshot_of::<H, D>(alloc, *bits, *operations)?;
     let status = status_of::<1>(alloc, *bits, number(*pruned)?)?;
     let call = Call {
         snapshot: &snapshot,
@@ -81,17 +93,32 @@ pub fn fetched_ranges(alloc: Global, columns: &[&str]) -> Result<String, Fault> 
         start,
         max_ops,
     };
-    told_with_marks(alloc, call)
+    told_with_marks(alloc, &call)
 }
 
 /// The snapshot of operations and their bits.
-fn snapshot_of(alloc: Global, bits: &str, operations: &str) -> Result<Rows, Fault> {
+fn snapshot_of<H: Hasher<Digest = FixedBytes<D>>, const D: usize>(
+    alloc: Global,
+    bits: &str,
+    operations: &str,
+) -> Result<Rows<H>, Fault>
+where
+    FixedBytes<D>: Digest,
+    requires small { D ≤ 64 }
+{
     let operations = strings(alloc, operations)?;
     served::snapshot(alloc, &operations, bits, 0)
 }
 
 /// What is answered where nothing fails, and the marks.
-fn told_with_marks(alloc: Global, call: Call<'_>) -> Result<String, Fault> {
+fn told_with_marks<H: Hasher<Digest = FixedBytes<D>>, const D: usize>(
+    alloc: Global,
+    call: &Call<'_, H>,
+) -> Result<String, Fault>
+where
+    FixedBytes<D>: Digest,
+    requires small { D ≤ 64 }
+{
     let (own, _) = answered(alloc, call, u64::MAX, u64::MAX)?;
     let told = told(alloc, &own)?;
     let marks = marks(alloc, call, &own)?;
@@ -99,12 +126,16 @@ fn told_with_marks(alloc: Global, call: Call<'_>) -> Result<String, Fault> {
 }
 
 /// What is answered, and how often the store and the log failed, where the store has `nodes` answers and the log `items`.
-fn answered(
+fn answered<H: Hasher<Digest = FixedBytes<D>>, const D: usize>(
     alloc: Global,
-    call: Call<'_>,
+    call: &Call<'_, H>,
     nodes: u64,
     items: u64,
-) -> Result<(Answer, (u64, u64)), Fault> {
+) -> Result<(Answer<FixedBytes<D>>, (u64, u64)), Fault>
+where
+    FixedBytes<D>: Digest,
+    requires small { D ≤ 64 }
+{
     let view = view(alloc, call.snapshot)?;
     let size = call.size.unwrap_or(view.len() as u64);
     let mut store = Faulty::new(view, size, NONE, nodes);
@@ -115,7 +146,7 @@ fn answered(
         inactivity_floor: Location::new(0),
         ops_root: call.snapshot.ops_root(),
     };
-    let answer = RangeProof::new_with_ops::<Sha256, _, _, _, 1>(
+    let answer = RangeProof::new_with_ops::<H, _, _, _, 1>(
         alloc,
         call.status,
         &mut store,
@@ -130,7 +161,7 @@ fn answered(
 }
 
 /// The proof, the operations and their chunks, or the refusal.
-fn told(alloc: Global, answer: &Answer) -> Result<String, Fault> {
+fn told<D: Digest>(alloc: Global, answer: &Answer<D>) -> Result<String, Fault> {
     match answer {
         Ok((proof, items, chunks)) => {
             let proof = hex::encode(alloc, proof.encode(alloc)?)?;
@@ -162,7 +193,15 @@ fn chunks_told(alloc: Global, chunks: &[[u8; 1]]) -> Result<String, Fault> {
 }
 
 /// What is told, for each number of answers of the store, and in it of the log.
-fn marks(alloc: Global, call: Call<'_>, own: &Answer) -> Result<String, Fault> {
+fn marks<H: Hasher<Digest = FixedBytes<D>>, const D: usize>(
+    alloc: Global,
+    call: &Call<'_, H>,
+    own: &Answer<FixedBytes<D>>,
+) -> Result<String, Fault>
+where
+    FixedBytes<D>: Digest,
+    requires small { D ≤ 64 }
+{
     let mut rows = Series::inner(alloc);
     for nodes in 0..ENOUGH {
         let mut row = String::new(alloc);
@@ -176,7 +215,11 @@ fn marks(alloc: Global, call: Call<'_>, own: &Answer) -> Result<String, Fault> {
 }
 
 /// `s` where the store's one fault is told, `l` where the log's is, `=` where neither failed and the answer is the same.
-fn mark(answer: &Answer, own: &Answer, failures: (u64, u64)) -> Result<char, Fault> {
+fn mark<D: Digest>(
+    answer: &Answer<D>,
+    own: &Answer<D>,
+    failures: (u64, u64),
+) -> Result<char, Fault> {
     match (answer, failures) {
         (Err(Error::Merkle(merkle::Error::Source(code))), (1, 0)) if *code == STORE_FAULT => {
             Ok('s')
@@ -189,12 +232,19 @@ fn mark(answer: &Answer, own: &Answer, failures: (u64, u64)) -> Result<char, Fau
 
 /// `bits operations location`: how many digests and bytes the proof of the operation there has, and what is told for each number
 /// of answers of the store.
-pub fn fetched_operations(alloc: Global, columns: &[&str]) -> Result<String, Fault> {
+pub fn fetched_operations<H: Hasher<Digest = FixedBytes<D>>, const D: usize>(
+    alloc: Global,
+    columns: &[&str],
+) -> Result<String, Fault>
+where
+    FixedBytes<D>: Digest,
+    requires small { D ≤ 64 }
+{
     let [bits, operations, location] = columns else {
         return Err(Fault::Malformed);
     };
     let location = number(*location)?;
-    let snapshot = snapshot_of(alloc, *bits, *operations)?;
+    let snapshot = snapshot_of::<H, D>(alloc, *bits, *operations)?;
     let own = served::operation_proof(alloc, &snapshot, 0, location)?;
     let digests = own.range_proof.proof.digests.len();
     let size = own.encode(alloc)?.len();
@@ -203,12 +253,16 @@ pub fn fetched_operations(alloc: Global, columns: &[&str]) -> Result<String, Fau
 }
 
 /// What is told of the operation at a location, for each number of answers of the store.
-fn marks_of_operation(
+fn marks_of_operation<H: Hasher<Digest = FixedBytes<D>>, const D: usize>(
     alloc: Global,
-    snapshot: &Rows,
+    snapshot: &Rows<H>,
     location: u64,
-    own: &OperationProof<mmr::Family, FixedBytes<32>, 1>,
-) -> Result<String, Fault> {
+    own: &OperationProof<mmr::Family, FixedBytes<D>, 1>,
+) -> Result<String, Fault>
+where
+    FixedBytes<D>: Digest,
+    requires small { D ≤ 64 }
+{
     let mut marks = String::new(alloc);
     for nodes in 0..ENOUGH {
         marks.push(mark_of_operation(alloc, snapshot, location, nodes, own)?)?;
@@ -216,17 +270,21 @@ fn marks_of_operation(
     Ok(marks)
 }
 
-fn mark_of_operation(
+fn mark_of_operation<H: Hasher<Digest = FixedBytes<D>>, const D: usize>(
     alloc: Global,
-    snapshot: &Rows,
+    snapshot: &Rows<H>,
     location: u64,
     nodes: u64,
-    own: &OperationProof<mmr::Family, FixedBytes<32>, 1>,
-) -> Result<char, Fault> {
+    own: &OperationProof<mmr::Family, FixedBytes<D>, 1>,
+) -> Result<char, Fault>
+where
+    FixedBytes<D>: Digest,
+    requires small { D ≤ 64 }
+{
     let view = view(alloc, snapshot)?;
     let size = view.len() as u64;
     let mut store = Faulty::new(view, size, NONE, nodes);
-    let answer = OperationProof::<mmr::Family, FixedBytes<32>, 1>::new::<Sha256, Prunable<1>, _>(
+    let answer = OperationProof::<mmr::Family, FixedBytes<D>, 1>::new::<H, Prunable<1>, _>(
         alloc,
         snapshot.status(),
         &mut store,

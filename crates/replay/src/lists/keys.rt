@@ -1,9 +1,9 @@
 //! Lists on checks of the values of keys, and that keys have none.
 
 use crate::columns::{Fault, bytes, digest, number, verdict};
+use crate::lists::shared::Given;
 use commonware_storage::codec::{Decode, Error, FixedBytes, RangeCfg, Read, Small, U64};
-use commonware_storage::digest::Sha256;
-use commonware_storage::light::{check_absence, check_value};
+use commonware_storage::digest::Hasher;
 use commonware_storage::merkle::{Graftable, mmb, mmr};
 use commonware_storage::qmdb::any::{FixedEncoding, VariableEncoding, VariableValue};
 use commonware_storage::qmdb::operation::Key;
@@ -11,34 +11,36 @@ use std::alloc::Global;
 
 /// A check of a key: its value by its encoding, and none where the key is to have no value.
 #[derive(Drop)]
-struct Case<'a> {
-    chunk_size: usize,
-    proof: &'a [u8],
+struct Case<'a, D> {
+    given: Given<'a, D>,
     key: &'a [u8],
     value: Option<&'a [u8]>,
-    root: FixedBytes<32>,
 }
 
 /// `family chunk type proof key value root label` for `key_values`, the same without a value for `exclusions`, and
 /// `family chunk root key value proof` for `golden_keys`, whose keys have four bytes and whose values are numbers or
 /// `absent`: whether the proof is accepted. The label says how the case was made.
-pub fn answer(alloc: Global, list: &str, columns: &[&str]) -> Result<String, Fault> {
+pub fn answer<H: Hasher>(alloc: Global, list: &str, columns: &[&str]) -> Result<String, Fault> {
     let [family, columns @ ..] = columns else {
         return Err(Fault::Malformed);
     };
     let yes = match *family {
-        "mmr" => over::<mmr::Family>(alloc, list, columns)?,
-        "mmb" => over::<mmb::Family>(alloc, list, columns)?,
+        "mmr" => over::<mmr::Family, H>(alloc, list, columns)?,
+        "mmb" => over::<mmb::Family, H>(alloc, list, columns)?,
         _ => return Err(Fault::Malformed),
     };
     verdict(alloc, yes)
 }
 
-fn over<F: Graftable>(alloc: Global, list: &str, columns: &[&str]) -> Result<bool, Fault> {
+fn over<F: Graftable, H: Hasher>(
+    alloc: Global,
+    list: &str,
+    columns: &[&str],
+) -> Result<bool, Fault> {
     match (list, columns) {
         ("key_values", [chunk_size, kind, proof, key, value, root, _]) => {
             let value = bytes(alloc, *value)?;
-            by_columns::<F>(
+            by_columns::<F, H>(
                 alloc,
                 *kind,
                 [*chunk_size, *proof, *key, *root],
@@ -46,23 +48,23 @@ fn over<F: Graftable>(alloc: Global, list: &str, columns: &[&str]) -> Result<boo
             )
         }
         ("exclusions", [chunk_size, kind, proof, key, root, _]) => {
-            by_columns::<F>(alloc, *kind, [*chunk_size, *proof, *key, *root], None)
+            by_columns::<F, H>(alloc, *kind, [*chunk_size, *proof, *key, *root], None)
         }
         ("golden_keys", [chunk_size, root, key, value, proof]) => {
             let columns = [*chunk_size, *proof, *key, *root];
             let kind = "ordered-fixed/fixed4/u64";
             if *value == "absent" {
-                return by_columns::<F>(alloc, kind, columns, None);
+                return by_columns::<F, H>(alloc, kind, columns, None);
             }
             let value = number(*value)?.to_be_bytes();
-            by_columns::<F>(alloc, kind, columns, Some(&value))
+            by_columns::<F, H>(alloc, kind, columns, Some(&value))
         }
         _ => Err(Fault::Malformed),
     }
 }
 
 /// The answer for the size of a chunk, a proof, a key and a root.
-fn by_columns<F: Graftable>(
+fn by_columns<F: Graftable, H: Hasher>(
     alloc: Global,
     kind: &str,
     [chunk_size, proof, key, root]: [&str; 4],
@@ -70,44 +72,56 @@ fn by_columns<F: Graftable>(
 ) -> Result<bool, Fault> {
     let proof = bytes(alloc, proof)?;
     let key = bytes(alloc, key)?;
-    let case = Case {
-        chunk_size: number(chunk_size)? as usize,
+    let given = Given {
         proof: proof.as_slice(),
+        chunk_size: number(chunk_size)? as usize,
+        root: digest(alloc, root)?,
+    };
+    let case = Case {
+        given,
         key: key.as_slice(),
         value,
-        root: digest(root)?,
     };
-    by_type::<F>(alloc, kind, &case)
+    by_type::<F, H>(alloc, kind, &case)
 }
 
 /// The answer for a type `ordered-ENCODING/KEY/VALUE`.
-fn by_type<F: Graftable>(alloc: Global, kind: &str, case: &Case<'_>) -> Result<bool, Fault> {
+fn by_type<F: Graftable, H: Hasher>(
+    alloc: Global,
+    kind: &str,
+    case: &Case<'_, H::Digest>,
+) -> Result<bool, Fault> {
     let (shape, types) = kind.split_once('/').ok_or(Fault::Malformed)?;
     let (key, value) = types.split_once('/').ok_or(Fault::Malformed)?;
     match (shape, key, value) {
-        ("ordered-fixed", "fixed4", "u64") => fixed::<F, FixedBytes<4>>(alloc, case),
-        ("ordered-fixed", "u64", "u64") => fixed::<F, U64>(alloc, case),
+        ("ordered-fixed", "fixed4", "u64") => fixed::<F, H, FixedBytes<4>>(alloc, case),
+        ("ordered-fixed", "u64", "u64") => fixed::<F, H, U64>(alloc, case),
         ("ordered-variable", "fixed4", "u64") => {
-            variable::<F, FixedBytes<4>, u64>(alloc, &(((), ()), ()), (&(), &()), case)
+            variable::<F, H, FixedBytes<4>, u64>(alloc, &(((), ()), ()), (&(), &()), case)
         }
         ("ordered-variable", "u64", "u64") => {
-            variable::<F, U64, u64>(alloc, &(((), ()), ()), (&(), &()), case)
+            variable::<F, H, U64, u64>(alloc, &(((), ()), ()), (&(), &()), case)
         }
         ("ordered-variable", "fixed4", _) => {
             let (value, any) = (lengths(value)?, any_length());
-            variable::<F, FixedBytes<4>, Vec<u8>>(alloc, &(((), value), value), (&(), &any), case)
+            variable::<F, H, FixedBytes<4>, Vec<u8>>(
+                alloc,
+                &(((), value), value),
+                (&(), &any),
+                case,
+            )
         }
         ("ordered-variable", "u64", _) => {
             let (value, any) = (lengths(value)?, any_length());
-            variable::<F, U64, Vec<u8>>(alloc, &(((), value), value), (&(), &any), case)
+            variable::<F, H, U64, Vec<u8>>(alloc, &(((), value), value), (&(), &any), case)
         }
         ("ordered-variable", _, "u64") => {
             let (key, any) = (lengths(key)?, any_length());
-            variable::<F, Vec<u8>, u64>(alloc, &((key, ()), ()), (&any, &()), case)
+            variable::<F, H, Vec<u8>, u64>(alloc, &((key, ()), ()), (&any, &()), case)
         }
         ("ordered-variable", _, _) => {
             let (key, value, any) = (lengths(key)?, lengths(value)?, any_length());
-            variable::<F, Vec<u8>, Vec<u8>>(alloc, &((key, value), value), (&any, &any), case)
+            variable::<F, H, Vec<u8>, Vec<u8>>(alloc, &((key, value), value), (&any, &any), case)
         }
         _ => Err(Fault::Malformed),
     }
@@ -141,51 +155,39 @@ pub fn decoded<T: Read>(alloc: Global, bytes: &[u8], cfg: &T::Cfg) -> Result<T, 
     }
 }
 
-fn fixed<F: Graftable, K: Key + Small + Read<Cfg = ()>>(
+fn fixed<F: Graftable, H: Hasher, K: Key + Small + Read<Cfg = ()>>(
     alloc: Global,
-    case: &Case<'_>,
+    case: &Case<'_, H::Digest>,
 ) -> Result<bool, Fault> {
-    let (proof, chunk_size, root) = (case.proof, case.chunk_size, &case.root);
     let key = decoded::<K>(alloc, case.key, &())?;
-    let Some(value) = case.value else {
-        let yes = check_absence::<F, Sha256, K, FixedEncoding<u64>>(
-            alloc,
-            proof,
-            chunk_size,
-            &((), ()),
-            &key,
-            root,
-        )?;
-        return Ok(yes);
+    let Some(bytes) = case.value else {
+        return case
+            .given
+            .shows_absence::<F, H, K, FixedEncoding<u64>>(alloc, &((), ()), &key);
     };
-    let value = decoded::<u64>(alloc, value, &())?;
-    Ok(check_value::<F, Sha256, K, FixedEncoding<u64>>(
-        alloc,
-        proof,
-        chunk_size,
-        &(),
-        key,
-        value,
-        root,
-    )?)
+    let value = decoded::<u64>(alloc, bytes, &())?;
+    let again = decoded::<K>(alloc, case.key, &())?;
+    case.given
+        .shows_value::<F, H, K, FixedEncoding<u64>>(alloc, &(), (key, value), (again, value))
 }
 
-fn variable<F: Graftable, K: Key, V: VariableValue>(
+fn variable<F: Graftable, H: Hasher, K: Key, V: VariableValue>(
     alloc: Global,
     cfgs: &((K::Cfg, V::Cfg), V::Cfg),
     own: (&K::Cfg, &V::Cfg),
-    case: &Case<'_>,
+    case: &Case<'_, H::Digest>,
 ) -> Result<bool, Fault> {
-    let (proof, chunk_size, root) = (case.proof, case.chunk_size, &case.root);
     let key = decoded::<K>(alloc, case.key, own.0)?;
-    let Some(value) = case.value else {
-        let yes = check_absence::<F, Sha256, K, VariableEncoding<V>>(
-            alloc, proof, chunk_size, cfgs, &key, root,
-        )?;
-        return Ok(yes);
+    let Some(bytes) = case.value else {
+        return case
+            .given
+            .shows_absence::<F, H, K, VariableEncoding<V>>(alloc, cfgs, &key);
     };
-    let value = decoded::<V>(alloc, value, own.1)?;
-    Ok(check_value::<F, Sha256, K, VariableEncoding<V>>(
-        alloc, proof, chunk_size, &cfgs.0.0, key, value, root,
-    )?)
+    let value = decoded::<V>(alloc, bytes, own.1)?;
+    let again = (
+        decoded::<K>(alloc, case.key, own.0)?,
+        decoded::<V>(alloc, bytes, own.1)?,
+    );
+    case.given
+        .shows_value::<F, H, K, VariableEncoding<V>>(alloc, &cfgs.0.0, (key, value), again)
 }

@@ -6,21 +6,20 @@ use crate::columns::{
 use crate::lists::proofs::bagging;
 use crate::lists::refusals::merkle_refusal;
 use std::alloc::Global;
-use storage_codec::codec::FixedBytes;
-use storage_codec::digest::Sha256;
+use storage_codec::digest::{Digest, Hasher};
 use storage_merkle::merkle::hasher::Standard;
 use storage_merkle::merkle::mem::Mem;
 use storage_merkle::merkle::{Family, Location, Position};
 
 /// `bagging boundary digests`: how many nodes the tree has whose leaves before the boundary are forgotten, its root, and what
 /// adding a leaf of no bytes answers; or the refusal.
-pub fn mem_init<F: Family>(alloc: Global, columns: &[&str]) -> Result<String, Fault> {
+pub fn mem_init<F: Family, H: Hasher>(alloc: Global, columns: &[&str]) -> Result<String, Fault> {
     let [direction, boundary, pinned] = columns else {
         return Err(Fault::Malformed);
     };
-    let hasher = Standard::<Sha256>::new(bagging(*direction)?);
+    let hasher = Standard::<H>::new(bagging(*direction)?);
     let boundary = Location::<F>::new(number(*boundary)?);
-    let pinned: Vec<FixedBytes<32>> = digests(alloc, *pinned)?;
+    let pinned = digests::<H::Digest>(alloc, *pinned)?;
     match Mem::init(alloc, boundary, &pinned) {
         Ok(tree) => begun(alloc, &hasher, tree),
         Err(error) => merkle_refusal(alloc, &error),
@@ -28,15 +27,15 @@ pub fn mem_init<F: Family>(alloc: Global, columns: &[&str]) -> Result<String, Fa
 }
 
 /// How many nodes a tree has, its root, and what adding a leaf of no bytes answers; or the root's refusal.
-fn begun<F: Family>(
+fn begun<F: Family, H: Hasher>(
     alloc: Global,
-    hasher: &Standard<Sha256>,
-    mut tree: Mem<F, FixedBytes<32>>,
+    hasher: &Standard<H>,
+    mut tree: Mem<F, H::Digest>,
 ) -> Result<String, Fault> {
     let size = tree.size().as_u64();
     match tree.root(hasher, 0) {
         Ok(root) => {
-            let root = hex::encode(alloc, root.bytes)?;
+            let root = hex::encode(alloc, root.bytes())?;
             let added = added(alloc, hasher, &mut tree)?;
             Ok(format!(in alloc; "{size}:{root}:{added}")?)
         }
@@ -45,10 +44,10 @@ fn begun<F: Family>(
 }
 
 /// What adding a leaf of no bytes answers.
-fn added<F: Family>(
+fn added<F: Family, H: Hasher>(
     alloc: Global,
-    hasher: &Standard<Sha256>,
-    tree: &mut Mem<F, FixedBytes<32>>,
+    hasher: &Standard<H>,
+    tree: &mut Mem<F, H::Digest>,
 ) -> Result<String, Fault> {
     match tree.add(hasher, &[]) {
         Ok(()) => owned(alloc, "ok"),
@@ -59,11 +58,11 @@ fn added<F: Family>(
 /// `bagging calls`: the places of the refused calls on a tree in memory and their refusals, and what stands after the last call:
 /// how many leaves and nodes there are, the root with none of the peaks inactive, with one, and so on up to the refusal, and
 /// the digests at all positions and at the next two.
-pub fn mems<F: Family>(alloc: Global, columns: &[&str]) -> Result<String, Fault> {
+pub fn mems<F: Family, H: Hasher>(alloc: Global, columns: &[&str]) -> Result<String, Fault> {
     let [direction, calls] = columns else {
         return Err(Fault::Malformed);
     };
-    let hasher = Standard::<Sha256>::new(bagging(*direction)?);
+    let hasher = Standard::<H>::new(bagging(*direction)?);
     let mut tree = Mem::<F, _>::new(alloc);
     let refusals = refusals(alloc, &hasher, &mut tree, *calls)?;
     let grown = grown(alloc, &hasher, &tree)?;
@@ -71,10 +70,10 @@ pub fn mems<F: Family>(alloc: Global, columns: &[&str]) -> Result<String, Fault>
 }
 
 /// Makes calls with commas between them: the places of the refused ones and their refusals.
-fn refusals<F: Family>(
+fn refusals<F: Family, H: Hasher>(
     alloc: Global,
-    hasher: &Standard<Sha256>,
-    tree: &mut Mem<F, FixedBytes<32>>,
+    hasher: &Standard<H>,
+    tree: &mut Mem<F, H::Digest>,
     calls: &str,
 ) -> Result<String, Fault> {
     let mut refusals = Series::new(alloc);
@@ -87,10 +86,10 @@ fn refusals<F: Family>(
 }
 
 /// How many leaves and nodes a tree has, its roots and its nodes.
-fn grown<F: Family>(
+fn grown<F: Family, H: Hasher>(
     alloc: Global,
-    hasher: &Standard<Sha256>,
-    tree: &Mem<F, FixedBytes<32>>,
+    hasher: &Standard<H>,
+    tree: &Mem<F, H::Digest>,
 ) -> Result<String, Fault> {
     let leaves = tree.leaves();
     let size = tree.size();
@@ -100,7 +99,7 @@ fn grown<F: Family>(
 }
 
 /// The digests at all positions and at the next two.
-fn nodes<F: Family>(alloc: Global, tree: &Mem<F, FixedBytes<32>>) -> Result<String, Fault> {
+fn nodes<F: Family, D: Digest>(alloc: Global, tree: &Mem<F, D>) -> Result<String, Fault> {
     let mut nodes = Series::new(alloc);
     for place in 0..tree.size().as_u64().saturating_add(2) {
         nodes.push_digest(alloc, place, tree.get_node(Position::new(place)))?;
@@ -110,10 +109,10 @@ fn nodes<F: Family>(alloc: Global, tree: &Mem<F, FixedBytes<32>>) -> Result<Stri
 
 /// Makes a call: `a:ELEMENT` adds a leaf, `u:LOCATION=DIGEST/..` changes leaves, `x:LOCATION` forgets those before it, and
 /// `init:BOUNDARY:DIGESTS` takes another tree, whose leaves are all forgotten. The name of its refusal, if there is one.
-fn called<F: Family>(
+fn called<F: Family, H: Hasher>(
     alloc: Global,
-    hasher: &Standard<Sha256>,
-    tree: &mut Mem<F, FixedBytes<32>>,
+    hasher: &Standard<H>,
+    tree: &mut Mem<F, H::Digest>,
     call: &str,
 ) -> Result<Option<String>, Fault> {
     let (verb, rest) = call.split_once(':').ok_or(Fault::Malformed)?;
@@ -137,9 +136,9 @@ fn called<F: Family>(
 }
 
 /// Takes the tree of `BOUNDARY:DIGESTS` in place of this one; the name of the refusal, if there is one.
-fn taken<F: Family>(
+fn taken<F: Family, D: Digest>(
     alloc: Global,
-    tree: &mut Mem<F, FixedBytes<32>>,
+    tree: &mut Mem<F, D>,
     parts: &str,
 ) -> Result<Option<String>, Fault> {
     let (boundary, pinned) = parts.split_once(':').ok_or(Fault::Malformed)?;
@@ -155,26 +154,26 @@ fn taken<F: Family>(
 }
 
 /// Leaves and their digests, `LOCATION=DIGEST` with slashes between them; `-` is none.
-fn updates<F: Family>(
+fn updates<F: Family, D: Digest>(
     alloc: Global,
     column: &str,
-) -> Result<Vec<(Location<F>, FixedBytes<32>)>, Fault> {
+) -> Result<Vec<(Location<F>, D)>, Fault> {
     let mut updates = Vec::new(alloc);
     if column == "-" {
         return Ok(updates);
     }
     for part in column.split('/') {
         let (location, written) = part.split_once('=').ok_or(Fault::Malformed)?;
-        updates.push((Location::new(number(location)?), digest(written)?))?;
+        updates.push((Location::new(number(location)?), digest(alloc, written)?))?;
     }
     Ok(updates)
 }
 
 /// The roots with none of the peaks inactive, with one, and so on up to the refusal.
-fn roots<F: Family>(
+fn roots<F: Family, H: Hasher>(
     alloc: Global,
-    hasher: &Standard<Sha256>,
-    tree: &Mem<F, FixedBytes<32>>,
+    hasher: &Standard<H>,
+    tree: &Mem<F, H::Digest>,
 ) -> Result<String, Fault> {
     let mut roots = Series::new(alloc);
     for inactive in 0..=u64::BITS {

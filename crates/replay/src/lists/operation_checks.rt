@@ -1,18 +1,20 @@
 //! Lists on checks of operation proofs from bytes and from texts.
 
 use crate::columns::{Fault, bytes, digest, number, verdict};
+use crate::lists::both_chunks::read_both;
 use crate::lists::keys::decoded;
 use crate::lists::refusals::codec_refusal;
+use crate::lists::unframed::Unframed;
 use commonware_storage::codec::{Decode, Encode, FixedBytes};
-use commonware_storage::digest::Sha256;
+use commonware_storage::digest::{Hasher, Sha256};
 use commonware_storage::light::{TextError, check_text};
 use commonware_storage::merkle::{Graftable, Location};
 use commonware_storage::qmdb::current::proof::{constant, dynamic};
 use std::alloc::Global;
 
 /// `chunk leaves operation proof root label`: whether the bytes, read as the proof of an operation and said to be over that number
-/// of leaves, or over as many as they say where that is `-`, are accepted; or why they are none. Chunks of one byte are read in
-/// both ways. The label says how the case was made.
+/// of leaves, or over as many as they say where that is `-`, are accepted; or why they are none. They are read from a slice and from
+/// shared bytes, and chunks of one byte as an array too. The label says how the case was made.
 pub fn operation_checks<F: Graftable>(alloc: Global, columns: &[&str]) -> Result<String, Fault> {
     let [chunk_size, leaves, operation, proof, root, _] = columns else {
         return Err(Fault::Malformed);
@@ -22,7 +24,7 @@ pub fn operation_checks<F: Graftable>(alloc: Global, columns: &[&str]) -> Result
         "-" => None,
         leaves => Some(number(leaves)?),
     };
-    let root = digest(*root)?;
+    let root = digest(alloc, *root)?;
     let operation = bytes(alloc, *operation)?;
     let input = bytes(alloc, *proof)?;
     let case = Case {
@@ -31,10 +33,15 @@ pub fn operation_checks<F: Graftable>(alloc: Global, columns: &[&str]) -> Result
         input: input.as_slice(),
         root,
     };
-    match Proof::<F>::decode_cfg(alloc, case.input, &(chunk_size, 128)) {
-        Ok(proof) => verdict(alloc, case.checked(alloc, proof, chunk_size)?),
-        Err(error) => codec_refusal(alloc, error),
+    let cfg = (chunk_size, 128);
+    let (read, refusal) = read_both::<Proof<F>, Proof<F>>(alloc, case.input, &cfg, &cfg)?;
+    let Some((proof, shared)) = read else {
+        return Ok(refusal);
+    };
+    if proof != shared {
+        return Err(Fault::Differs);
     }
+    verdict(alloc, case.checked(alloc, proof, chunk_size)?)
 }
 
 type Proof<F> = dynamic::OperationProof<F, FixedBytes<32>>;
@@ -64,10 +71,25 @@ impl Case<'_> {
             proof.range_proof.proof.leaves = Location::new(leaves);
         }
         let yes = proof.verify_encoded::<Sha256>(alloc, self.operation, &self.root)?;
+        if self.copy_shows(alloc, &proof)? != yes {
+            return Err(Fault::Differs);
+        }
         if chunk_size == 1 && self.over_one_byte::<F>(alloc)? != yes {
             return Err(Fault::Differs);
         }
         Ok(yes)
+    }
+
+    /// Whether a copy, which is equal, is accepted for the operation that is written as the bytes.
+    fn copy_shows<F: Graftable>(&self, alloc: Global, proof: &Proof<F>) -> Result<bool, Fault> {
+        let copy = proof.clone()?;
+        if copy != *proof {
+            return Err(Fault::Differs);
+        }
+        let mut bytes = Vec::new(alloc);
+        bytes.extend_from_slice(self.operation)?;
+        let operation = Unframed::new(bytes);
+        Ok(copy.verify::<Sha256, Unframed>(alloc, operation, &self.root)?)
     }
 
     /// The same over a chunk of one byte, known beforehand.
@@ -83,15 +105,15 @@ impl Case<'_> {
 }
 
 /// `chunk location operation proof root`: what a client answers for texts, or which of them is no hexadecimal; `-` is no text.
-pub fn texts<F: Graftable>(alloc: Global, columns: &[&str]) -> Result<String, Fault> {
+pub fn texts<F: Graftable, H: Hasher>(alloc: Global, columns: &[&str]) -> Result<String, Fault> {
     let [chunk_size, location, operation, proof, root] = columns else {
         return Err(Fault::Malformed);
     };
     let chunk_size = number(*chunk_size)? as usize;
     let loc = Location::<F>::new(number(*location)?);
-    let root = digest(*root)?;
+    let root = digest(alloc, *root)?;
     let (proof, operation) = (text(*proof), text(*operation));
-    match check_text::<F, Sha256>(alloc, proof, chunk_size, loc, operation, &root) {
+    match check_text::<F, H>(alloc, proof, chunk_size, loc, operation, &root) {
         Ok(yes) => verdict(alloc, yes),
         Err(TextError::Operation) => Ok(String::from_str(alloc, "operation")?),
         Err(TextError::Proof) => Ok(String::from_str(alloc, "proof")?),

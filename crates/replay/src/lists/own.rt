@@ -11,13 +11,13 @@ use storage_codec::digest::Sha256;
 use storage_merkle::merkle::hasher::Standard;
 use storage_merkle::merkle::mem::Mem;
 use storage_merkle::merkle::{
-    ElementPlan, Error, Family, Location, Position, Proof, ProofStore, RangePlan, Storage as _,
+    ElementPlan, Error, Family, Location, Position, Proof, ProofStore, RangePlan, Storage,
 };
 
 /// A tree over some elements.
 #[derive(Drop)]
-struct Grown<F: Family> {
-    hasher: Standard<Sha256>,
+pub struct Grown<F: Family> {
+    pub hasher: Standard<Sha256>,
     mem: Mem<F, FixedBytes<32>>,
     inactive: usize,
 }
@@ -38,25 +38,29 @@ impl<F: Family> Grown<F> {
         })
     }
 
-    /// The tree's own proof of a range.
-    fn proof(
-        &self,
+    /// The tree over elements with that many inactive peaks.
+    pub fn with(
         alloc: Global,
-        start: u64,
-        end: u64,
-    ) -> Result<Proof<F, FixedBytes<32>>, Fault> {
+        direction: &str,
+        inactive: usize,
+        elements: &[Vec<u8>],
+    ) -> Result<Self, Fault> {
+        let mut tree = Grown::new(alloc, direction, elements)?;
+        tree.inactive = inactive;
+        Ok(tree)
+    }
+
+    /// The tree's own proof of a range.
+    fn proof(&self, start: u64, end: u64) -> Result<Proof<F, FixedBytes<32>>, Fault> {
         let range = Location::new(start)..Location::new(end);
-        match self
-            .mem
-            .range_proof(alloc, &self.hasher, range, self.inactive)
-        {
+        match self.mem.range_proof(&self.hasher, range, self.inactive) {
             Ok(proof) => Ok(proof),
             Err(error) => Err(merkle_fault(&error)),
         }
     }
 
     /// The store of the tree's own proof of a range.
-    fn store(
+    pub fn store(
         &self,
         alloc: Global,
         elements: &[Vec<u8>],
@@ -65,7 +69,7 @@ impl<F: Family> Grown<F> {
     ) -> Result<ProofStore<F, FixedBytes<32>>, Fault> {
         let claimed = places(elements, start, end)?;
         let root = self.root()?;
-        let proof = self.proof(alloc, start, end)?;
+        let proof = self.proof(start, end)?;
         let first = Location::new(start);
         match ProofStore::new(alloc, &self.hasher, &proof, claimed, first, &root) {
             Ok(store) => Ok(store),
@@ -73,7 +77,8 @@ impl<F: Family> Grown<F> {
         }
     }
 
-    fn root(&self) -> Result<FixedBytes<32>, Fault> {
+    /// The root.
+    pub fn root(&self) -> Result<FixedBytes<32>, Fault> {
         match self.mem.root(&self.hasher, self.inactive) {
             Ok(root) => Ok(root),
             Err(error) => Err(merkle_fault(&error)),
@@ -90,7 +95,7 @@ impl<F: Family> Grown<F> {
     ) -> Result<bool, Fault> {
         let range = Location::new(start)..Location::new(end);
         match store.range_proof(alloc, &self.hasher, range) {
-            Ok(given) => Ok(given == self.proof(alloc, start, end)?),
+            Ok(given) => Ok(given == self.proof(start, end)?),
             Err(error) => Err(merkle_fault(&error)),
         }
     }
@@ -127,8 +132,7 @@ pub fn parts<F: Family>(alloc: Global, columns: &[&str]) -> Result<String, Fault
     let start = number(*start)?;
     let end = number(*end)?;
     let elements = strings(alloc, *elements)?;
-    let mut tree = Grown::<F>::new(alloc, *direction, &elements)?;
-    tree.inactive = inactive;
+    let tree = Grown::<F>::with(alloc, *direction, inactive, &elements)?;
     let store = tree.store(alloc, &elements, start, end)?;
     let (ranges, own) = tree.given(alloc, &store, start, end)?;
     spaced_two(alloc, &ranges, &own)
@@ -152,13 +156,34 @@ pub fn served<F: Family>(alloc: Global, columns: &[&str]) -> Result<String, Faul
     let elements = strings(alloc, *elements)?;
     let mut tree = Grown::<F>::new(alloc, *direction, &elements)?;
     match digests_at(alloc, &mut tree.mem, &positions) {
-        Ok(digests) => series(alloc, &digests),
+        Ok(digests) => {
+            compare_each(&mut tree.mem, &positions, &digests)?;
+            series(alloc, &digests)
+        }
         Err(error) => merkle_refusal(alloc, &error),
     }
 }
 
+/// Whether a tree serves these digests one by one too.
+fn compare_each<F: Family>(
+    mem: &mut Mem<F, FixedBytes<32>>,
+    positions: &[Position<F>],
+    digests: &[FixedBytes<32>],
+) -> Result<(), Fault> {
+    for (position, digest) in positions.iter().zip(digests) {
+        let node = match Storage::<F>::get_node(mem, *position) {
+            Ok(node) => node,
+            Err(error) => return Err(merkle_fault(&error)),
+        };
+        if node != Some(*digest) {
+            return Err(Fault::Differs);
+        }
+    }
+    Ok(())
+}
+
 /// Positions with commas between them.
-fn positions<F>(alloc: Global, column: &str) -> Result<Vec<Position<F>>, Fault> {
+pub fn positions<F>(alloc: Global, column: &str) -> Result<Vec<Position<F>>, Fault> {
     let mut positions = Vec::new(alloc);
     for part in column.split(',') {
         positions.push(Position::new(number(part)?))?;
@@ -186,7 +211,7 @@ pub fn built<F: Family>(alloc: Global, columns: &[&str]) -> Result<String, Fault
     let leaves = Location::new(number(*leaves)?);
     let location = Location::new(number(*location)?);
     let inactive = number(*inactive)? as usize;
-    let nodes = peaks::<F>(alloc, *nodes)?;
+    let nodes = peaks::<F, _>(alloc, *nodes)?;
     let plan: RangePlan<F> = match ElementPlan::new(alloc, leaves, location) {
         Ok(plan) => plan.into(),
         Err(error) => return merkle_refusal(alloc, &error),

@@ -5,14 +5,16 @@ use crate::lists::proofs::Claim;
 use crate::lists::unframed::{Unframed, operations};
 use commonware_storage::qmdb::verify::verify_proof_and_pinned_nodes;
 use std::alloc::Global;
-use storage_codec::codec::FixedBytes;
-use storage_codec::digest::Sha256;
+use storage_codec::digest::Hasher;
 use storage_merkle::merkle::hasher::Standard;
 use storage_merkle::merkle::{Bagging, Family};
 
 /// `bagging leaves inactive digests start elements pinned root label`: whether the proof and the pinned digests are accepted;
 /// under the direction of databases, by the check of operations. The label says how the case was made.
-pub fn pinned_checks<F: Family>(alloc: Global, columns: &[&str]) -> Result<String, Fault> {
+pub fn pinned_checks<F: Family, H: Hasher>(
+    alloc: Global,
+    columns: &[&str],
+) -> Result<String, Fault> {
     let [
         direction,
         leaves,
@@ -27,34 +29,34 @@ pub fn pinned_checks<F: Family>(alloc: Global, columns: &[&str]) -> Result<Strin
     else {
         return Err(Fault::Malformed);
     };
-    let claim = Claim::<F>::new(
+    let claim = Claim::<F, H::Digest>::new(
         alloc,
         [*direction, *leaves, *inactive, *nodes, *start, *root],
     )?;
     let pinned = digests(alloc, *pinned)?;
-    verdict(alloc, is_accepted(alloc, &claim, *items, &pinned)?)
+    verdict(alloc, is_accepted::<F, H>(alloc, &claim, *items, &pinned)?)
 }
 
-fn is_accepted<F: Family>(
+fn is_accepted<F: Family, H: Hasher>(
     alloc: Global,
-    claim: &Claim<F>,
+    claim: &Claim<F, H::Digest>,
     items: &str,
-    pinned: &[FixedBytes<32>],
+    pinned: &[H::Digest],
 ) -> Result<bool, Fault> {
     if claim.bagging == Bagging::BackwardFold {
-        return shows_operations(alloc, claim, &operations(alloc, items)?, pinned);
+        return shows_operations::<F, H>(alloc, claim, &operations(alloc, items)?, pinned);
     }
-    shows_elements(alloc, claim, &strings(alloc, items)?, pinned)
+    shows_elements::<F, H>(alloc, claim, &strings(alloc, items)?, pinned)
 }
 
-fn shows_operations<F: Family>(
+fn shows_operations<F: Family, H: Hasher>(
     alloc: Global,
-    claim: &Claim<F>,
+    claim: &Claim<F, H::Digest>,
     operations: &[Unframed],
-    pinned: &[FixedBytes<32>],
+    pinned: &[H::Digest],
 ) -> Result<bool, Fault> {
     let (proof, root) = (&claim.proof, &claim.root);
-    Ok(verify_proof_and_pinned_nodes::<Sha256, F, _>(
+    Ok(verify_proof_and_pinned_nodes::<H, F, _>(
         alloc,
         proof,
         claim.start,
@@ -64,13 +66,13 @@ fn shows_operations<F: Family>(
     )?)
 }
 
-fn shows_elements<F: Family>(
+fn shows_elements<F: Family, H: Hasher>(
     alloc: Global,
-    claim: &Claim<F>,
+    claim: &Claim<F, H::Digest>,
     items: &[Vec<u8>],
-    pinned: &[FixedBytes<32>],
+    pinned: &[H::Digest],
 ) -> Result<bool, Fault> {
-    let hasher = Standard::<Sha256>::new(claim.bagging);
+    let hasher = Standard::<H>::new(claim.bagging);
     let (proof, root) = (&claim.proof, &claim.root);
     Ok(proof.verify_proof_and_pinned_nodes(alloc, &hasher, items, claim.start, pinned, root)?)
 }

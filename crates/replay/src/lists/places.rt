@@ -82,7 +82,7 @@ fn aligned<F>(alloc: Global, position: Position<F>) -> Result<String, Fault> {
 fn slots<F: Graftable>(alloc: Global, columns: &[&str]) -> Result<String, Fault> {
     let slot: Option<FixedBytes<32>> = match columns {
         ["-"] => None,
-        [column] => Some(digest(*column)?),
+        [column] => Some(digest(alloc, *column)?),
         _ => return Err(Fault::Malformed),
     };
     let mut written = Vec::new(alloc);

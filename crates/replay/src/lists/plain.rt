@@ -16,8 +16,7 @@ use reference::shape::{Digits, node_count};
 use reference::snapshot::{Snapshot, canonical_root, own_current};
 use reference::tree::peaks;
 use std::alloc::{AllocError, Global};
-use storage_codec::codec::FixedBytes;
-use storage_codec::digest::Sha256;
+use storage_codec::digest::{Digest, Hasher};
 use storage_merkle::merkle::{Error, MAX_LEAVES};
 
 /// An answer where both programs give it.
@@ -88,16 +87,14 @@ pub fn graftable_chunks<F: Digits>(alloc: Global, leaves: u64, height: u32) -> R
 
 /// Whether the check of a plain range proof accepts it, and the root that it recomputes, or its refusal where a count does not
 /// fit.
-pub fn plain_check<F: Digits>(
+pub fn plain_check<F: Digits, H: Hasher>(
     alloc: Global,
-    claim: &Claim<F>,
+    claim: &Claim<F, H::Digest>,
     elements: &[Vec<u8>],
 ) -> Result<String, Fault> {
     let (bagging, proof, start) = (claim.bagging, &claim.proof, claim.start.as_u64());
-    let root = recomputed_root::<F, Sha256, _, _>(
-        alloc, &Ungrafted, bagging, proof, start, elements,
-    )?;
-    let yes = is_accepted::<F, Sha256, _, _>(
+    let root = recomputed_root::<F, H, _, _>(alloc, &Ungrafted, bagging, proof, start, elements)?;
+    let yes = is_accepted::<F, H, _, _>(
         alloc,
         &Ungrafted,
         bagging,
@@ -108,7 +105,7 @@ pub fn plain_check<F: Digits>(
     )?;
     let accepted = verdict(alloc, yes)?;
     let root = match root {
-        Some(root) => hex::encode(alloc, root.bytes)?,
+        Some(root) => hex::encode(alloc, root.bytes())?,
         None => merkle_refusal(alloc, &Error::<F>::InvalidProof)?,
     };
     spaced_two(alloc, &accepted, &root)
@@ -116,25 +113,25 @@ pub fn plain_check<F: Digits>(
 
 /// What the definitions say of a snapshot and a range of its operations.
 #[derive(Drop)]
-pub struct Own<F> {
+pub struct Own<F, D> {
     /// The canonical root.
-    pub root: FixedBytes<32>,
+    pub root: D,
     /// The range's proof, with the operations root.
-    pub range: RangeProof<F, FixedBytes<32>>,
+    pub range: RangeProof<F, D>,
     /// The chunk with the range's first bit.
     pub chunk: Vec<u8>,
 }
 
 /// The same from the plain program, of a snapshot whose bits are digits, with chunks of `N` bytes, and of the operations
 /// from `start` to before `end`. Each digest is computed anew for each use, so this suits some hundreds of operations.
-pub fn own_answers<F: Digits, const N: usize>(
+pub fn own_answers<F: Digits, H: Hasher, const N: usize>(
     alloc: Global,
     operations: &[Vec<u8>],
     digits: &str,
     floor: u64,
     start: u64,
     end: u64,
-) -> Result<Own<F>, Fault>
+) -> Result<Own<F, H::Digest>, Fault>
     requires { IsChunkSize N }
 {
     if operations.len() as u64 > MAX_LEAVES {
@@ -148,14 +145,14 @@ pub fn own_answers<F: Digits, const N: usize>(
         chunk_size: N,
     };
     Ok(Own {
-        root: canonical_root::<F, Sha256, _>(alloc, &snapshot)?,
-        range: own_current::<F, Sha256, _>(alloc, &snapshot, start, end)?,
+        root: canonical_root::<F, H, _>(alloc, &snapshot)?,
+        range: own_current::<F, H, _>(alloc, &snapshot, start, end)?,
         chunk: chunk(alloc, N, &bits, start / (8 * N as u64))?,
     })
 }
 
 /// A bit for each digit; `-` is none.
-fn bits_of(alloc: Global, digits: &str) -> Result<Vec<bool>, AllocError> {
+pub fn bits_of(alloc: Global, digits: &str) -> Result<Vec<bool>, AllocError> {
     let mut bits = Vec::new(alloc);
     if digits != "-" {
         for digit in digits.bytes() {

@@ -3,8 +3,8 @@
 use crate::columns::{
     Fault, bytes, digest, number, owned, spaced, spaced_three, unblanked, verdict,
 };
-use commonware_storage::digest::Sha256;
-use commonware_storage::light::check_operation;
+use crate::lists::shared::Given;
+use commonware_storage::digest::Hasher;
 use commonware_storage::merkle::{Graftable, Location, mmb, mmr};
 use commonware_storage::stateproof::run;
 use std::alloc::Global;
@@ -154,27 +154,30 @@ fn claimed(operations: &str, location: u64) -> Result<&str, Fault> {
     Ok(parts(operation)?.1)
 }
 
-/// `family chunk location operation proof root label`: what a client answers. The label says how the case was made.
-pub fn program_checks(alloc: Global, columns: &[&str]) -> Result<String, Fault> {
+/// `family chunk location operation proof root label`: what a client answers, by both calls. The label says how the case was made.
+pub fn program_checks<H: Hasher>(alloc: Global, columns: &[&str]) -> Result<String, Fault> {
     let [family, rest @ ..] = columns else {
         return Err(Fault::Malformed);
     };
     match *family {
-        "mmr" => checked::<mmr::Family>(alloc, rest),
-        "mmb" => checked::<mmb::Family>(alloc, rest),
+        "mmr" => checked::<mmr::Family, H>(alloc, rest),
+        "mmb" => checked::<mmb::Family, H>(alloc, rest),
         _ => Err(Fault::Malformed),
     }
 }
 
-fn checked<F: Graftable>(alloc: Global, columns: &[&str]) -> Result<String, Fault> {
+fn checked<F: Graftable, H: Hasher>(alloc: Global, columns: &[&str]) -> Result<String, Fault> {
     let [chunk, location, operation, proof, root, _] = columns else {
         return Err(Fault::Malformed);
     };
-    let chunk = number(*chunk)? as usize;
     let loc = Location::<F>::new(number(*location)?);
-    let root = digest(*root)?;
     let operation = bytes(alloc, *operation)?;
     let proof = bytes(alloc, *proof)?;
-    let yes = check_operation::<F, Sha256>(alloc, &proof, chunk, loc, &operation, &root)?;
+    let given = Given {
+        proof: proof.as_slice(),
+        chunk_size: number(*chunk)? as usize,
+        root: digest::<H::Digest>(alloc, *root)?,
+    };
+    let yes = given.shows_operation::<F, H>(alloc, loc, &operation)?;
     verdict(alloc, yes)
 }

@@ -5,8 +5,7 @@ use crate::lists::plain;
 use crate::lists::refusals::merkle_refusal;
 use reference::shape::Digits;
 use std::alloc::Global;
-use storage_codec::codec::FixedBytes;
-use storage_codec::digest::{Digest, Sha256};
+use storage_codec::digest::{Digest, Hasher};
 use storage_merkle::merkle::hasher::Standard;
 use storage_merkle::merkle::{Bagging, ElementPlan, Family, Location, Proof, RangePlan};
 
@@ -57,12 +56,12 @@ pub fn bagging(word: &str) -> Result<Bagging, Fault> {
 }
 
 /// A proof of these numbers of leaves and of inactive peaks and these digests.
-pub fn proof_of<F>(
+pub fn proof_of<F, D: Digest>(
     alloc: Global,
     leaves: &str,
     inactive: &str,
     nodes: &str,
-) -> Result<Proof<F, FixedBytes<32>>, Fault> {
+) -> Result<Proof<F, D>, Fault> {
     Ok(Proof {
         leaves: Location::new(number(leaves)?),
         inactive_peaks: number(inactive)? as usize,
@@ -72,15 +71,15 @@ pub fn proof_of<F>(
 
 /// A proof with what it is checked against, but for the elements.
 #[derive(Drop)]
-pub struct Claim<F> {
+pub struct Claim<F, D> {
     pub bagging: Bagging,
     /// The first location.
     pub start: Location<F>,
-    pub root: FixedBytes<32>,
-    pub proof: Proof<F, FixedBytes<32>>,
+    pub root: D,
+    pub proof: Proof<F, D>,
 }
 
-impl<F> Claim<F> {
+impl<F, D: Digest> Claim<F, D> {
     /// The claim of `bagging leaves inactive digests start root`.
     pub fn new(
         alloc: Global,
@@ -89,7 +88,7 @@ impl<F> Claim<F> {
         Ok(Claim {
             bagging: bagging(direction)?,
             start: Location::new(number(start)?),
-            root: digest(root)?,
+            root: digest(alloc, root)?,
             proof: proof_of(alloc, leaves, inactive, nodes)?,
         })
     }
@@ -97,27 +96,30 @@ impl<F> Claim<F> {
 
 /// `bagging leaves inactive digests start elements root label`: whether the proof is accepted, and the root that it
 /// gives. The label says how the case was made.
-pub fn plain_checks<F: Digits>(alloc: Global, columns: &[&str]) -> Result<String, Fault> {
+pub fn plain_checks<F: Digits, H: Hasher>(
+    alloc: Global,
+    columns: &[&str],
+) -> Result<String, Fault> {
     let [direction, leaves, inactive, nodes, start, items, root, _] = columns else {
         return Err(Fault::Malformed);
     };
-    let claim = Claim::<F>::new(
+    let claim = Claim::<F, H::Digest>::new(
         alloc,
         [*direction, *leaves, *inactive, *nodes, *start, *root],
     )?;
     let items = strings(alloc, *items)?;
-    let fast = plain_check(alloc, &claim, &items)?;
-    let plain = plain::plain_check(alloc, &claim, &items)?;
+    let fast = plain_check::<F, H>(alloc, &claim, &items)?;
+    let plain = plain::plain_check::<F, H>(alloc, &claim, &items)?;
     plain::agreed(fast, plain.as_str())
 }
 
-fn plain_check<F: Family>(
+fn plain_check<F: Family, H: Hasher>(
     alloc: Global,
-    claim: &Claim<F>,
+    claim: &Claim<F, H::Digest>,
     items: &[Vec<u8>],
 ) -> Result<String, Fault> {
     let (proof, start) = (&claim.proof, claim.start);
-    let hasher = Standard::<Sha256>::new(claim.bagging);
+    let hasher = Standard::<H>::new(claim.bagging);
     let yes = proof.verify_range_inclusion(alloc, &hasher, items, start, &claim.root)?;
     let accepted = verdict(alloc, yes)?;
     let root = match proof.reconstruct_root(alloc, &hasher, items, start) {

@@ -5,7 +5,7 @@ ghost use Rattle.storage_bitmap.specs.Chunks.{IsChunkSize};
 use crate::columns::{Fault, Series, number};
 use crate::lists::refusals::database_refusal;
 use commonware_storage::merkle::{Graftable, Location};
-use commonware_storage::qmdb::current::required_chunks;
+use commonware_storage::qmdb::current::proof::required_chunks;
 use std::alloc::Global;
 
 /// `chunk leaves bits pruned location`: the chunks that are read for a proof, of one operation or, where the location is `-`,

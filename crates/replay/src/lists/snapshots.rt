@@ -1,17 +1,19 @@
 //! Lists on snapshots, their roots, and proofs of ranges and of single operations.
 
-ghost use Rattle.std.specs.Prelude.{◌^◌, ◌<◌};
+ghost use Rattle.std.specs.Prelude.{◌^◌, ◌<◌, ◌≤◌};
 ghost use Rattle.storage_bitmap.specs.Chunks.{IsChunkSize};
 
 use crate::columns::{
-    Fault, bytes, digest, lent, number, owned, spaced_four, spaced_three, spaced_two, strings,
-    verdict,
+    Fault, bytes, digest, lent, number, owned, spaced_three, spaced_two, strings, verdict,
 };
+use crate::lists::both_chunks::compare_shared;
 use crate::lists::plain::{self, Own};
+use crate::lists::shared::{agreed, cut_chunks};
 use crate::lists::{served, unframed};
+use bytes::Bytes;
 use commonware_storage::bitmap::{Prunable, Readable};
 use commonware_storage::codec::{Decode, Encode, Error, FixedBytes};
-use commonware_storage::digest::Sha256;
+use commonware_storage::digest::{Digest, Hasher};
 use commonware_storage::light::check_range;
 use commonware_storage::merkle::{Graftable, Location, MAX_LEAVES, mmb, mmr};
 use commonware_storage::qmdb::current::Snapshot;
@@ -21,31 +23,43 @@ use reference::shape::Digits;
 use std::alloc::Global;
 
 /// The answer of a list whose first columns are the family and the size of a chunk.
-pub fn answer(alloc: Global, list: &str, columns: &[&str]) -> Result<String, Fault> {
+pub fn answer<H: Hasher<Digest = FixedBytes<D>>, const D: usize>(
+    alloc: Global,
+    list: &str,
+    columns: &[&str],
+) -> Result<String, Fault>
+where
+    FixedBytes<D>: Digest,
+    requires small { D ≤ 64 }
+{
     let [family, chunk_size, rest @ ..] = columns else {
         return Err(Fault::Malformed);
     };
     match *family {
-        "mmr" => over::<mmr::Family>(alloc, list, *chunk_size, rest),
-        "mmb" => over::<mmb::Family>(alloc, list, *chunk_size, rest),
+        "mmr" => over::<mmr::Family, H, D>(alloc, list, *chunk_size, rest),
+        "mmb" => over::<mmb::Family, H, D>(alloc, list, *chunk_size, rest),
         _ => Err(Fault::Malformed),
     }
 }
 
-fn over<F: Graftable + Digits>(
+fn over<F: Graftable + Digits, H: Hasher<Digest = FixedBytes<D>>, const D: usize>(
     alloc: Global,
     list: &str,
     chunk_size: &str,
     columns: &[&str],
-) -> Result<String, Fault> {
+) -> Result<String, Fault>
+where
+    FixedBytes<D>: Digest,
+    requires small { D ≤ 64 }
+{
     if list == "ranges_checks" {
-        return ranges_checks::<F>(alloc, number(chunk_size)? as usize, columns);
+        return ranges_checks::<F, H>(alloc, number(chunk_size)? as usize, columns);
     }
     match chunk_size {
-        "1" => over_snapshot::<F, 1>(alloc, list, columns),
-        "2" => over_snapshot::<F, 2>(alloc, list, columns),
-        "4" => over_snapshot::<F, 4>(alloc, list, columns),
-        "32" => over_snapshot::<F, 32>(alloc, list, columns),
+        "1" => over_snapshot::<F, H, D, 1>(alloc, list, columns),
+        "2" => over_snapshot::<F, H, D, 2>(alloc, list, columns),
+        "4" => over_snapshot::<F, H, D, 4>(alloc, list, columns),
+        "32" => over_snapshot::<F, H, D, 32>(alloc, list, columns),
         _ => Err(Fault::Malformed),
     }
 }
@@ -53,17 +67,25 @@ fn over<F: Graftable + Digits>(
 /// `floor bits operations start count`: for `golden` the canonical root, the operations root, the grafted root, the witness,
 /// the proof of the range and, where it has one location, of the operation there; for `ranges` the proof of the range, the
 /// root, and whether the proof is accepted. Roots and proofs are compared with the plain program's.
-fn over_snapshot<F: Graftable + Digits, const N: usize>(
-    alloc: Global,
-    list: &str,
-    columns: &[&str],
-) -> Result<String, Fault>
-    requires { IsChunkSize N }
+fn over_snapshot<
+    F: Graftable + Digits,
+    H: Hasher<Digest = FixedBytes<D>>,
+    const D: usize,
+    const N: usize,
+>(alloc: Global, list: &str, columns: &[&str]) -> Result<String, Fault>
+where
+    FixedBytes<D>: Digest,
+    requires chunk { IsChunkSize N }
+    requires small { D ≤ 64 }
 {
     let case = Case::of(columns)?;
-    let served = Served::<F, N>::of(alloc, &case)?;
+    let served = Served::<F, H, N>::of(alloc, &case)?;
     match list {
-        "golden" => served.golden(alloc, &case),
+        "golden" => {
+            let roots_and_range = served.golden(alloc, &case)?;
+            let operation = served.operation_told(alloc, &case, &served.own.range)?;
+            spaced_two(alloc, &roots_and_range, &operation)
+        }
         _ => served.ranges(alloc, &case),
     }
 }
@@ -148,12 +170,12 @@ fn set(chunk: &mut [u8], place: usize) {
 
 /// A snapshot, and what the definitions say of it.
 #[derive(Drop)]
-struct Served<F: Graftable, const N: usize> {
-    snapshot: Snapshot<F, Sha256, N>,
-    own: Own<F>,
+struct Served<F: Graftable, H: Hasher, const N: usize> {
+    snapshot: Snapshot<F, H, N>,
+    own: Own<F, H::Digest>,
 }
 
-impl<F: Graftable, const N: usize> Served<F, N> {
+impl<F: Graftable, H: Hasher, const N: usize> Served<F, H, N> {
     /// The snapshot of a case, whose roots are its own.
     fn of(alloc: Global, case: &Case<'_>) -> Result<Self, Fault>
     where
@@ -161,7 +183,7 @@ impl<F: Graftable, const N: usize> Served<F, N> {
         requires { IsChunkSize N }
     {
         let operations = strings(alloc, case.operations)?;
-        let own = plain::own_answers::<F, N>(
+        let own = plain::own_answers::<F, H, N>(
             alloc,
             &operations,
             case.bits,
@@ -177,7 +199,7 @@ impl<F: Graftable, const N: usize> Served<F, N> {
     }
 
     /// Whether a proof is the own one.
-    fn compare(&self, proof: &RangeProof<F, FixedBytes<32>>) -> Result<(), Fault> {
+    fn compare(&self, proof: &RangeProof<F, H::Digest>) -> Result<(), Fault> {
         if *proof == self.own.range {
             Ok(())
         } else {
@@ -185,27 +207,25 @@ impl<F: Graftable, const N: usize> Served<F, N> {
         }
     }
 
-    fn golden(&self, alloc: Global, case: &Case<'_>) -> Result<String, Fault>
-        requires { IsChunkSize N }
-    {
+    /// The roots, the witness, and the proof of the range.
+    fn golden(&self, alloc: Global, case: &Case<'_>) -> Result<String, Fault> {
         let roots = self.roots_told(alloc)?;
         let witness = self.witness_told(alloc)?;
         let range = self.range_told(alloc, case)?;
-        let operation = self.operation_told(alloc, case)?;
-        spaced_four(alloc, &roots, &witness, &range, &operation)
+        spaced_three(alloc, &roots, &witness, &range)
     }
 
     /// The canonical root and that of the operations.
     fn roots_told(&self, alloc: Global) -> Result<String, Fault> {
-        let root = hex::encode(alloc, self.snapshot.root().bytes)?;
-        let ops_root = hex::encode(alloc, self.snapshot.ops_root().bytes)?;
+        let root = hex::encode(alloc, self.snapshot.root().bytes())?;
+        let ops_root = hex::encode(alloc, self.snapshot.ops_root().bytes())?;
         spaced_two(alloc, &root, &ops_root)
     }
 
     /// The grafted root and the bytes of the witness.
     fn witness_told(&self, alloc: Global) -> Result<String, Fault> {
         let witness = self.snapshot.witness();
-        let grafted_root = hex::encode(alloc, witness.grafted_root.bytes)?;
+        let grafted_root = hex::encode(alloc, witness.grafted_root.bytes())?;
         let witness = hex::encode(alloc, witness.encode(alloc)?)?;
         spaced_two(alloc, &grafted_root, &witness)
     }
@@ -218,14 +238,21 @@ impl<F: Graftable, const N: usize> Served<F, N> {
         Ok(hex::encode(alloc, self.range_proof(alloc, case)?.encode(alloc)?)?)
     }
 
-    /// The bytes of the proof of an operation where the range has this one location, else `-`.
-    fn operation_told(&self, alloc: Global, case: &Case<'_>) -> Result<String, Fault>
+    /// The bytes of the proof of an operation, of which `own` is the range proof, where the range has this one location, else `-`.
+    fn operation_told(
+        &self,
+        alloc: Global,
+        case: &Case<'_>,
+        own: &RangeProof<F, H::Digest>,
+    ) -> Result<String, Fault>
         requires { IsChunkSize N }
     {
         if case.count != 1 {
             return owned(alloc, "-");
         }
-        Ok(hex::encode(alloc, self.operation_proof(alloc, case)?.encode(alloc)?)?)
+        let proof = self.operation_proof(alloc, case, own)?;
+        compare_shared(alloc, &proof)?;
+        Ok(hex::encode(alloc, proof.encode(alloc)?)?)
     }
 
     fn ranges(&self, alloc: Global, case: &Case<'_>) -> Result<String, Fault>
@@ -234,16 +261,16 @@ impl<F: Graftable, const N: usize> Served<F, N> {
         let proof = self.range_proof(alloc, case)?;
         let yes = self.shown(alloc, case, &proof)?;
         let proof = hex::encode(alloc, proof.encode(alloc)?)?;
-        let root = hex::encode(alloc, self.snapshot.root().bytes)?;
+        let root = hex::encode(alloc, self.snapshot.root().bytes())?;
         spaced_three(alloc, &proof, &root, &yes)
     }
 
-    /// Whether a proof shows the operations of the range and their chunks.
+    /// Whether a proof shows the operations of the range and their chunks, as arrays and as shared bytes.
     fn shown(
         &self,
         alloc: Global,
         case: &Case<'_>,
-        proof: &RangeProof<F, FixedBytes<32>>,
+        proof: &RangeProof<F, H::Digest>,
     ) -> Result<String, Fault>
         requires { IsChunkSize N }
     {
@@ -254,8 +281,12 @@ impl<F: Graftable, const N: usize> Served<F, N> {
         let chunks = chunks_of::<N>(alloc, case.bits)?;
         let size = 8 * N as u64;
         let chunks = places(&chunks, case.start / size, case.end.div_ceil(size))?;
-        let yes = proof.verify::<Sha256, _, N>(alloc, start, operations, chunks, &root)?;
-        verdict(alloc, yes)
+        let yes = proof.verify::<H, _, N>(alloc, start, operations, chunks, &root)?;
+        let chunks = cut_chunks(alloc, chunks)?;
+        let other = proof.verify_with_chunk_size::<H, _, Bytes>(
+            alloc, start, operations, &chunks, N, &root,
+        )?;
+        verdict(alloc, agreed(yes, other)?)
     }
 
     /// The proof of the range.
@@ -263,7 +294,7 @@ impl<F: Graftable, const N: usize> Served<F, N> {
         &self,
         alloc: Global,
         case: &Case<'_>,
-    ) -> Result<RangeProof<F, FixedBytes<32>>, Fault> {
+    ) -> Result<RangeProof<F, H::Digest>, Fault> {
         let proof = served::range_proof(alloc, &self.snapshot, case.floor, case.start, case.end)?;
         self.compare(&proof)?;
         Ok(proof)
@@ -274,11 +305,14 @@ impl<F: Graftable, const N: usize> Served<F, N> {
         &self,
         alloc: Global,
         case: &Case<'_>,
-    ) -> Result<OperationProof<F, FixedBytes<32>, N>, Fault>
+        own: &RangeProof<F, H::Digest>,
+    ) -> Result<OperationProof<F, H::Digest, N>, Fault>
         requires { IsChunkSize N }
     {
         let proof = served::operation_proof(alloc, &self.snapshot, case.floor, case.start)?;
-        self.compare(&proof.range_proof)?;
+        if proof.range_proof != *own {
+            return Err(Fault::Differs);
+        }
         if proof.loc.as_u64() != case.start || proof.chunk.as_slice() != self.own.chunk.as_slice() {
             return Err(Fault::Differs);
         }
@@ -289,7 +323,7 @@ impl<F: Graftable, const N: usize> Served<F, N> {
 /// `most start operations chunks proof root label`: whether the bytes are a range proof of at most `most` digests that shows
 /// the operations and chunks, by the client's check, by that of bytes and by that of operations alike. The label says how the
 /// case was made.
-fn ranges_checks<F: Graftable>(
+fn ranges_checks<F: Graftable, H: Hasher>(
     alloc: Global,
     chunk_size: usize,
     columns: &[&str],
@@ -303,26 +337,26 @@ fn ranges_checks<F: Graftable>(
         chunk_size,
         start,
         operations: *operations,
-        root: digest(*root)?,
+        root: digest(alloc, *root)?,
     };
     let chunks = strings(alloc, *chunks)?;
     let chunks = lent(alloc, &chunks)?;
-    let yes = match range_proof::<F>(alloc, *proof, most)? {
-        Some(proof) => claim.shown(alloc, &proof, &chunks)?,
+    let yes = match range_proof::<F, H::Digest>(alloc, *proof, most)? {
+        Some(proof) => claim.shown::<H>(alloc, &proof, &chunks)?,
         None => false,
     };
-    if claim.shown_to_client(alloc, *proof, most, &chunks)? != yes {
+    if claim.shown_to_client::<H>(alloc, *proof, most, &chunks)? != yes {
         return Err(Fault::Differs);
     }
     verdict(alloc, yes)
 }
 
 /// The range proof of at most `most` digests that bytes in hexadecimal are, if they are one.
-fn range_proof<F: Graftable>(
+fn range_proof<F: Graftable, D: Digest>(
     alloc: Global,
     column: &str,
     most: usize,
-) -> Result<Option<RangeProof<F, FixedBytes<32>>>, Fault> {
+) -> Result<Option<RangeProof<F, D>>, Fault> {
     let bytes = bytes(alloc, column)?;
     match RangeProof::decode_cfg(alloc, bytes.as_slice(), &most) {
         Ok(proof) => Ok(Some(proof)),
@@ -333,30 +367,30 @@ fn range_proof<F: Graftable>(
 
 /// What a range proof is said to show.
 #[derive(Clone, Copy)]
-struct Claim<'a, F> {
+struct Claim<'a, F, D> {
     chunk_size: usize,
     start: Location<F>,
     operations: &'a str,
-    root: FixedBytes<32>,
+    root: D,
 }
 
-impl<F: Graftable> Claim<'_, F> {
+impl<F: Graftable, D: Digest> Claim<'_, F, D> {
     /// Whether a proof shows the operations and chunks, by both checks.
-    fn shown(
+    fn shown<H: Hasher<Digest = D>>(
         &self,
         alloc: Global,
-        proof: &RangeProof<F, FixedBytes<32>>,
+        proof: &RangeProof<F, D>,
         chunks: &[&[u8]],
     ) -> Result<bool, Fault> {
-        let yes = self.shows_bytes(alloc, proof, chunks)?;
-        if self.shows_operations(alloc, proof, chunks)? != yes {
+        let yes = self.shows_bytes::<H>(alloc, proof, chunks)?;
+        if self.shows_operations::<H>(alloc, proof, chunks)? != yes {
             return Err(Fault::Differs);
         }
         Ok(yes)
     }
 
     /// Whether the bytes of a proof of at most `most` digests show them, by the client's check.
-    fn shown_to_client(
+    fn shown_to_client<H: Hasher<Digest = D>>(
         &self,
         alloc: Global,
         proof: &str,
@@ -366,7 +400,7 @@ impl<F: Graftable> Claim<'_, F> {
         let proof = bytes(alloc, proof)?;
         let operations = strings(alloc, self.operations)?;
         let operations = lent(alloc, &operations)?;
-        Ok(check_range::<F, Sha256>(
+        Ok(check_range::<F, H>(
             alloc,
             &proof,
             self.chunk_size,
@@ -379,14 +413,14 @@ impl<F: Graftable> Claim<'_, F> {
     }
 
     /// The check of bytes.
-    fn shows_bytes(
+    fn shows_bytes<H: Hasher<Digest = D>>(
         &self,
         alloc: Global,
-        proof: &RangeProof<F, FixedBytes<32>>,
+        proof: &RangeProof<F, D>,
         chunks: &[&[u8]],
     ) -> Result<bool, Fault> {
         let operations = strings(alloc, self.operations)?;
-        Ok(proof.verify_encoded::<Sha256, _, &[u8]>(
+        Ok(proof.verify_encoded::<H, _, &[u8]>(
             alloc,
             self.start,
             &operations,
@@ -396,21 +430,32 @@ impl<F: Graftable> Claim<'_, F> {
         )?)
     }
 
-    /// The check of operations.
-    fn shows_operations(
+    /// The check of operations, over chunks that are lent and over chunks that are shared bytes.
+    fn shows_operations<H: Hasher<Digest = D>>(
         &self,
         alloc: Global,
-        proof: &RangeProof<F, FixedBytes<32>>,
+        proof: &RangeProof<F, D>,
         chunks: &[&[u8]],
     ) -> Result<bool, Fault> {
         let operations = unframed::operations(alloc, self.operations)?;
-        Ok(proof.verify_with_chunk_size::<Sha256, _, &[u8]>(
+        let (start, size, root) = (self.start, self.chunk_size, &self.root);
+        let yes = proof.verify_with_chunk_size::<H, _, &[u8]>(
             alloc,
-            self.start,
+            start,
             &operations,
             chunks,
-            self.chunk_size,
-            &self.root,
-        )?)
+            size,
+            root,
+        )?;
+        let chunks = cut_chunks(alloc, chunks)?;
+        let other = proof.verify_with_chunk_size::<H, _, Bytes>(
+            alloc,
+            start,
+            &operations,
+            &chunks,
+            size,
+            root,
+        )?;
+        agreed(yes, other)
     }
 }

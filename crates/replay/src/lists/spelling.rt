@@ -181,11 +181,15 @@ pub trait Ask: Sized {
 
     /// What it is, its key, its floor, and the key that it gives up; `-` for none.
     fn asked(self, alloc: Global) -> Result<String, Fault>;
+
+    /// The value that the key of an update gets, as it is lent and as it is given up.
+    fn valued(self, alloc: Global) -> Result<String, Fault>;
 }
 
 impl<S: Update> Ask for Operation<mmr::Family, S>
 where
     S::Key: Spell,
+    S::Value: Spell,
 {
     fn copied(&self) -> Result<Self, Fault> {
         Ok(self.clone()?)
@@ -196,6 +200,23 @@ where
         let given = spell_key(alloc, self.into_key().as_ref())?;
         spaced_two(alloc, &told, &given)
     }
+
+    fn valued(self, alloc: Global) -> Result<String, Fault> {
+        match self {
+            Operation::Update(update) => value_told(alloc, update),
+            _ => Err(Fault::Malformed),
+        }
+    }
+}
+
+/// The value of an update, as it is lent and as it is given up.
+fn value_told<S: Update>(alloc: Global, update: S) -> Result<String, Fault>
+where
+    S::Value: Spell,
+{
+    let lent = update.value().spell(alloc)?;
+    let given = update.into_value().spell(alloc)?;
+    spaced_two(alloc, &lent, &given)
 }
 
 /// What an operation is, its key and its floor; `-` for none.

@@ -7,8 +7,8 @@ ghost use Rattle.storage_merkle.specs.Shape.{size};
 use crate::columns::{Fault, Series, number, spaced_four, spaced_three, spaced_two, spelled};
 use crate::lists::combined::whole;
 use crate::lists::{
-    checks, extracted, mems, multi, operation_checks, own, pinned, places, plain, proofs, required,
-    stores, sweeps, witnesses,
+    checks, key_proofs, multi, operation_checks, own, places, plain, proofs, required, sweeps,
+    verifiers,
 };
 use reference::shape::Digits;
 use std::alloc::Global;
@@ -42,16 +42,8 @@ fn over<F: Graftable + Digits + Countable>(
         "maps" => maps::<F>(alloc, columns),
         "elements" => proofs::elements::<F>(alloc, columns),
         "plans" => proofs::plans::<F>(alloc, columns),
-        "mem_init" => mems::mem_init::<F>(alloc, columns),
-        "mems" => mems::mems::<F>(alloc, columns),
-        "plain_checks" => proofs::plain_checks::<F>(alloc, columns),
-        "multi_checks" => multi::multi_checks::<F>(alloc, columns),
-        "extracted" => extracted::extracted::<F>(alloc, columns),
-        "ranges_extracted" => extracted::current::ranges_extracted::<F>(alloc, columns),
-        "pinned_checks" => pinned::pinned_checks::<F>(alloc, columns),
-        "stores" => stores::stores::<F>(alloc, columns),
+        "multi_proofs" => multi::own::multi_proofs::<F>(alloc, columns),
         "required" => required::required::<F>(alloc, columns),
-        "witnesses" => witnesses::witnesses::<F>(alloc, columns),
         "element_checks" => checks::element_checks::<F>(alloc, columns),
         "plain_operations" => checks::plain_operations::<F>(alloc, columns),
         "parts" => own::parts::<F>(alloc, columns),
@@ -70,7 +62,8 @@ fn rows<F: Graftable + Countable>(
         "each_operation" => sweeps::each_operation::<F>(alloc, columns),
         "each_range" => sweeps::each_range::<F>(alloc, columns),
         "operation_checks" => operation_checks::operation_checks::<F>(alloc, columns),
-        "texts" => operation_checks::texts::<F>(alloc, columns),
+        "verifiers" => verifiers::verifiers::<F>(alloc, columns),
+        "key_proofs" => key_proofs::key_proofs::<F>(alloc, columns),
         "combined_views" => whole::combined_views::<F>(alloc, columns),
         "combined_ranges" => whole::combined_ranges::<F>(alloc, columns),
         _ => places::answer::<F>(alloc, list, columns),
@@ -244,7 +237,7 @@ fn map<F: Graftable>(alloc: Global, position: u64, height: u32) -> Result<String
     if latest > 2 * MAX_LEAVES || F::birth(first, own) > MAX_LEAVES {
         return Err(Fault::Malformed);
     }
-    let above = grafted_to_ops_pos::<F>(position, height);
+    let above = grafted_to_ops_pos::<F>(Position::new(position), height);
     let below = ops_to_grafted_pos::<F>(above, height);
     spaced_two(alloc, &above, &below)
 }

@@ -12,6 +12,11 @@ pub struct Unframed {
 }
 
 impl Unframed {
+    /// The operation of bytes.
+    pub fn new(bytes: Vec<u8>) -> Self {
+        Unframed { bytes }
+    }
+
     /// The operation of bytes in hexadecimal.
     pub fn parse(alloc: Global, column: &str) -> Result<Self, Fault> {
         let bytes = bytes(alloc, column)?;

@@ -2,36 +2,39 @@
 
 use crate::columns::{Fault, bytes, digest, verdict};
 use crate::lists::refusals::codec_refusal;
-use commonware_storage::codec::{Decode, FixedBytes};
-use commonware_storage::digest::Sha256;
+use commonware_storage::codec::Decode;
+use commonware_storage::digest::Hasher;
 use commonware_storage::merkle::Graftable;
 use commonware_storage::qmdb::current::proof::OpsRootWitness;
 use std::alloc::Global;
 
 /// `witness ops_root root label`: whether the operations root is that of the snapshot with that root, by a copy of the
 /// witness, or why that is none. The label says how the case was made.
-pub fn witnesses<F: Graftable>(alloc: Global, columns: &[&str]) -> Result<String, Fault> {
+pub fn witnesses<F: Graftable, H: Hasher>(
+    alloc: Global,
+    columns: &[&str],
+) -> Result<String, Fault> {
     let [witness, ops_root, root, _] = columns else {
         return Err(Fault::Malformed);
     };
-    let ops_root = digest(*ops_root)?;
-    let root = digest(*root)?;
+    let ops_root = digest(alloc, *ops_root)?;
+    let root = digest(alloc, *root)?;
     let witness = bytes(alloc, *witness)?;
-    match OpsRootWitness::<F, FixedBytes<32>>::decode_cfg(alloc, witness.as_slice(), &()) {
-        Ok(witness) => verdict(alloc, copy_shows(&witness, &ops_root, &root)?),
+    match OpsRootWitness::<F, H::Digest>::decode_cfg(alloc, witness.as_slice(), &()) {
+        Ok(witness) => verdict(alloc, copy_shows::<F, H>(&witness, &ops_root, &root)?),
         Err(error) => codec_refusal(alloc, error),
     }
 }
 
 /// Whether a copy, which is equal, shows that the operations root is that of the snapshot.
-fn copy_shows<F: Graftable>(
-    witness: &OpsRootWitness<F, FixedBytes<32>>,
-    ops_root: &FixedBytes<32>,
-    root: &FixedBytes<32>,
+fn copy_shows<F: Graftable, H: Hasher>(
+    witness: &OpsRootWitness<F, H::Digest>,
+    ops_root: &H::Digest,
+    root: &H::Digest,
 ) -> Result<bool, Fault> {
     let copy = witness.clone()?;
     if copy != *witness {
         return Err(Fault::Differs);
     }
-    Ok(copy.verify::<Sha256>(ops_root, root))
+    Ok(copy.verify::<H>(ops_root, root))
 }

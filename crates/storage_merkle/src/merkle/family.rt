@@ -279,30 +279,30 @@ pub fn graftable_chunks<F: Family>(leaves: u64, height: u32) -> u64
 
 /// The position in the tree over chunks of the node over the same leaves as the node at `position` in the tree over the
 /// operations, where a chunk is over `2^height` operations. The node at `position` has at least height `height`.
-pub fn ops_to_grafted_pos<F: Family>(position: u64, height: u32) -> u64
+pub fn ops_to_grafted_pos<F: Family>(position: Position<F>, height: u32) -> Position<F>
     requires low { 1 ≤ height }
     requires valid { position ≤ size F.shape (2 ^ 62) }
     requires above { (a k : ℕ) → IsNode F.shape position a k → height ≤ k }
     ensures { CoversSame F.shape height result position }
 {
-    let (first, own) = node_at::<F>(position);
-    F::position(first >> height, own - height)
+    let (first, own) = node_at::<F>(position.as_u64());
+    Position::new(F::position(first >> height, own - height))
 }
 
 /// The position in the tree over the operations of the node over the same leaves as the node at `position` in the tree
 /// over chunks, where a chunk is over `2^height` operations.
-pub fn grafted_to_ops_pos<F: Family>(position: u64, height: u32) -> u64
+pub fn grafted_to_ops_pos<F: Family>(position: Position<F>, height: u32) -> Position<F>
     requires low { 1 ≤ height }
     requires valid { position ≤ size F.shape (2 ^ 62) }
     requires fits { (p : ℕ) → CoversSame F.shape height position p → p ≤ size F.shape (2 ^ 62) }
     ensures { CoversSame F.shape height position result }
 {
-    let (first, own) = node_at::<F>(position);
-    F::position(first * power(height), own + height)
+    let (first, own) = node_at::<F>(position.as_u64());
+    Position::new(F::position(first * power(height), own + height))
 }
 
 /// `position` itself: [`ops_to_grafted_pos`] undoes [`grafted_to_ops_pos`].
-pub fn up_and_down<F: Family>(position: u64, height: u32) -> u64
+pub fn up_and_down<F: Family>(position: Position<F>, height: u32) -> Position<F>
     requires low { 1 ≤ height }
     requires valid { position ≤ size F.shape (2 ^ 62) }
     requires fits { (p : ℕ) → CoversSame F.shape height position p → p ≤ size F.shape (2 ^ 62) }

@@ -8,7 +8,7 @@ ghost use Rattle.storage_merkle.specs.Nodes.{IsNode};
 ghost use Rattle.storage_merkle.specs.Calc.{be8};
 ghost use Rattle.storage_merkle.specs.Trees.{Layout, ungrafted, root_head};
 ghost use Rattle.storage_merkle.specs.Hashing.{join_digest, bagged, bagged_peaks, root_of};
-ghost use Rattle.storage_merkle.specs.Hashers.{IsOver, or_nothing, appended, joined, folded_onto, forward_of};
+ghost use Rattle.storage_merkle.specs.Hashers.{or_nothing, appended, joined, folded_onto, forward_of};
 ghost use Rattle.storage_merkle.specs.declared.merkle.bagging.Bagging.{Bagging};
 
 use crate::merkle::{Bagging, Family, Location, Position};
@@ -23,7 +23,7 @@ pub trait Hasher<F: Family> {
     /// The digest function.
     ghost hash_of: { HashFunction };
 
-    /// The positions that go into node digests, and the nodes that have a chunk grafted.
+    /// The family's shape, the numbers that go into node digests, and the nodes that have a chunk grafted.
     ghost layout: { Self → Layout };
 
     /// The chunk that is grafted over the node of a first leaf.
@@ -117,8 +117,8 @@ pub trait Hasher<F: Family> {
     /// Each answer of the digest function has the length of a digest.
     ghost sized: { IsSized Self.Digest.size hash_of };
 
-    /// The family's byte and peaks are those of the layout.
-    ghost over: { (s : Self) → IsOver F.shape (layout s) };
+    /// The shape of the layout is the family's.
+    ghost over: { (s : Self) → (layout s).shape ≡ F.shape };
 }
 
 /// The fold of two items: the digest of `left` and `right` joined.
@@ -329,5 +329,5 @@ impl<F: Family, H: digest::Hasher> Hasher<F> for Standard<H> {
 
     ghost sized = { H.sized };
 
-    ghost over = { λ _. record { byte = refl; peaks = λ _. refl } };
+    ghost over = { λ _. refl };
 }

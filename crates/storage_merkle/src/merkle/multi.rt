@@ -35,8 +35,7 @@ pub(crate) fn recompute<F: Family, H: Hasher<F>, E: AsSlice<u8>>(
     claims: &[(E, Location<F>)],
 ) -> Result<Option<H::Digest>, NoMemory>
     requires { TakesTree (H.takes hasher.now) F.shape proof.now.leaves }
-    ensures { (H.layout hasher.now).shape ≡ F.shape
-        → IfOk result (λ root. IsMultiRecomputed H.hash_of (H.layout hasher.now)
+    ensures { IfOk result (λ root. IsMultiRecomputed H.hash_of (H.layout hasher.now)
         (H.bagging hasher.now) (range_of H.Digest.text proof.now) (claims_of E.items claims.now)
         (H.chunk hasher.now) (option_map H.Digest.text root)) }
 {
@@ -93,7 +92,6 @@ impl<F: Family, D: Digest> Given<'_, F, D> {
         ensures all { OnOk result
             (length peaks.new.items ≡ length peaks.old.items + length (F.shape.peaks left)) }
         ensures exact { OnOk result ((digest : Site → List ℕ)
-            → (H.layout hasher.now).shape ≡ F.shape
             → Serves F.shape digest self.now.positions.now (map D.text self.now.digests.now)
             → map D.text peaks.new.items ≡ map D.text peaks.old.items ++ map (λ p. eval H.hash_of
             (claimed_values digest (claims_of E.items claims.now) (H.chunk hasher.now))
@@ -128,11 +126,11 @@ impl<F: Family, D: Digest> Given<'_, F, D> {
         requires present { Present F.shape self.now.positions.now
             (sites_of (node_calc (ungrafted F.shape)
             (untouched (locations (claims_of E.items claims.now))) height first)) }
-        ensures { (digest : Site → List ℕ) → (H.layout hasher.now).shape ≡ F.shape
-            → Serves F.shape digest self.now.positions.now (map D.text self.now.digests.now)
-            → D.text result ≡ eval H.hash_of (claimed_values digest (claims_of E.items claims.now)
-            (H.chunk hasher.now)) (node_calc (H.layout hasher.now)
-            (untouched (locations (claims_of E.items claims.now))) height first) }
+        ensures { (digest : Site → List ℕ) → Serves F.shape digest self.now.positions.now
+            (map D.text self.now.digests.now) → D.text result ≡ eval H.hash_of (claimed_values
+            digest (claims_of E.items claims.now) (H.chunk hasher.now)) (node_calc
+            (H.layout hasher.now) (untouched (locations (claims_of E.items claims.now))) height
+            first) }
     {
         let position = node_position(first, height);
         if claims.is_empty() {

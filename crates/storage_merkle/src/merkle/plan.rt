@@ -5,7 +5,7 @@ ghost use Rattle.std.specs.List.{All, AllZip};
 ghost use Rattle.std.specs.List.Sorted.{IsStrictlyIncreasing};
 ghost use Rattle.storage_merkle.specs.Held.{range_of};
 ghost use Rattle.storage_merkle.specs.Shape.{AreAligned};
-ghost use Rattle.storage_merkle.specs.Plans.{ArePeaks, ArePlanned, IsFirstAbsent, IsOwnOfEach, PlanOf, planned, refusal};
+ghost use Rattle.storage_merkle.specs.Plans.{ArePeaks, ArePlanned, IsFirstAbsent, IsGathered, IsOwnOfEach, PlanOf, planned, refusal};
 ghost use Rattle.storage_merkle.specs.PlanParts.{AreOf, site_digest, tops};
 ghost use Rattle.storage_merkle.specs.RangeProofs.{apart, position_of, sites_of};
 ghost use Rattle.storage_merkle.specs.Rests.{AreAfterLeading, AreFolded, peaks_from};
@@ -139,6 +139,9 @@ impl<F: Family> RangePlan<F> {
             (planned F.shape self.now.leaves self.now.start self.now.end) }
         ensures own { IfOk result (λ proof. IsOwnOfEach H.Digest.text (G.post get_node) H.hash_of
             F.shape (H.bagging hasher.now) self.now inactive (range_of H.Digest.text proof)) }
+        ensures gathered { IfOk result (λ proof. IsGathered H.Digest.text (G.post get_node)
+            H.hash_of F.shape (H.bagging hasher.now) self.now inactive
+            (range_of H.Digest.text proof)) }
         ensures answered { IfOk result (λ _. All (λ p. (d : _) × G.post get_node p (Some d))
             (planned F.shape self.now.leaves self.now.start self.now.end)) }
         ensures counts { IfOk result (λ proof.

@@ -76,13 +76,11 @@ impl<F: Family, D: Digest> Proof<F, D> {
         root: &D,
     ) -> Result<bool, NoMemory>
         requires { TakesTree (H.takes hasher.now) F.shape self.now.leaves }
-        ensures exact { (H.layout hasher.now).shape ≡ F.shape
-            → IfOk result (λ yes. IsTrue yes ↔ IsAccepted H.hash_of (H.layout hasher.now)
+        ensures exact { IfOk result (λ yes. IsTrue yes ↔ IsAccepted H.hash_of (H.layout hasher.now)
             (H.bagging hasher.now) (range_of D.text self.now) location
             (content_of (element.now ∷ []) (H.chunk hasher.now)) (D.text root.now)) }
-        ensures means { (H.layout hasher.now).shape ≡ F.shape
-            → IfOk result (λ yes. IsTrue yes → IsProved D.size H.hash_of (H.layout hasher.now)
-            (H.bagging hasher.now) (range_of D.text self.now) location
+        ensures means { IfOk result (λ yes. IsTrue yes → IsProved D.size H.hash_of
+            (H.layout hasher.now) (H.bagging hasher.now) (range_of D.text self.now) location
             (content_of (element.now ∷ []) (H.chunk hasher.now)) (D.text root.now)) }
     {
         self.verify_range_inclusion(alloc, hasher, &[element], location, root)
@@ -99,13 +97,11 @@ impl<F: Family, D: Digest> Proof<F, D> {
         root: &D,
     ) -> Result<bool, NoMemory>
         requires { TakesTree (H.takes hasher.now) F.shape self.now.leaves }
-        ensures exact { (H.layout hasher.now).shape ≡ F.shape
-            → IfOk result (λ yes. IsTrue yes ↔ IsAccepted H.hash_of (H.layout hasher.now)
-            (H.bagging hasher.now) (range_of D.text self.now) start
-            (content_of (map E.items elements.now) (H.chunk hasher.now)) (D.text root.now)) }
-        ensures means { (H.layout hasher.now).shape ≡ F.shape
-            → IfOk result (λ yes. IsTrue yes → IsProved D.size H.hash_of (H.layout hasher.now)
-            (H.bagging hasher.now) (range_of D.text self.now) start
+        ensures exact { IfOk result (λ yes. IsTrue yes ↔ IsAccepted H.hash_of (H.layout hasher.now)
+            (H.bagging hasher.now) (range_of D.text self.now) start (content_of
+            (map E.items elements.now) (H.chunk hasher.now)) (D.text root.now)) }
+        ensures means { IfOk result (λ yes. IsTrue yes → IsProved D.size H.hash_of
+            (H.layout hasher.now) (H.bagging hasher.now) (range_of D.text self.now) start
             (content_of (map E.items elements.now) (H.chunk hasher.now)) (D.text root.now)) }
         ensures none { elements.now ≡ [] → IsOk result }
     {
@@ -126,14 +122,12 @@ impl<F: Family, D: Digest> Proof<F, D> {
         root: &D,
     ) -> Result<bool, NoMemory>
         requires { TakesTree (H.takes hasher.now) F.shape self.now.leaves }
-        ensures exact { (H.layout hasher.now).shape ≡ F.shape
-            → IfOk result (λ yes. IsTrue yes ↔ IsMultiAccepted H.hash_of (H.layout hasher.now)
-            (H.bagging hasher.now) (range_of D.text self.now) (claims_of E.items elements.now)
-            (H.chunk hasher.now) (D.text root.now)) }
-        ensures means { (H.layout hasher.now).shape ≡ F.shape
-            → IfOk result (λ yes. IsTrue yes → IsMultiProved D.size H.hash_of (H.layout hasher.now)
-            (H.bagging hasher.now) (range_of D.text self.now) (claims_of E.items elements.now)
-            (H.chunk hasher.now) (D.text root.now)) }
+        ensures exact { IfOk result (λ yes. IsTrue yes ↔ IsMultiAccepted H.hash_of
+            (H.layout hasher.now) (H.bagging hasher.now) (range_of D.text self.now)
+            (claims_of E.items elements.now) (H.chunk hasher.now) (D.text root.now)) }
+        ensures means { IfOk result (λ yes. IsTrue yes → IsMultiProved D.size H.hash_of
+            (H.layout hasher.now) (H.bagging hasher.now) (range_of D.text self.now)
+            (claims_of E.items elements.now) (H.chunk hasher.now) (D.text root.now)) }
         ensures none { elements.now ≡ [] → IsOk result }
     {
         if elements.is_empty() {
@@ -153,10 +147,9 @@ impl<F: Family, D: Digest> Proof<F, D> {
         start: Location<F>,
     ) -> Result<Option<D>, NoMemory>
         requires { TakesTree (H.takes hasher.now) F.shape self.now.leaves }
-        ensures { (H.layout hasher.now).shape ≡ F.shape
-            → IfOk result (λ root. IsRecomputed H.hash_of (H.layout hasher.now)
-            (H.bagging hasher.now) (range_of D.text self.now) start
-            (content_of (map E.items elements.now) (H.chunk hasher.now)) (option_map D.text root)) }
+        ensures { IfOk result (λ root. IsRecomputed H.hash_of (H.layout hasher.now)
+            (H.bagging hasher.now) (range_of D.text self.now) start (content_of
+            (map E.items elements.now) (H.chunk hasher.now)) (option_map D.text root)) }
     {
         self.lent().recompute_root(alloc, hasher, elements, start)
     }
@@ -174,14 +167,13 @@ impl<F: Family, D: Digest> Proof<F, D> {
         start: Location<F>,
     ) -> Result<D, Error<F>>
         requires { TakesTree (H.takes hasher.now) F.shape self.now.leaves }
-        ensures root { (H.layout hasher.now).shape ≡ F.shape
-            → IfOk result (λ root. IsRecomputed H.hash_of (H.layout hasher.now)
-            (H.bagging hasher.now) (range_of D.text self.now) start
-            (content_of (map E.items elements.now) (H.chunk hasher.now)) (Some (D.text root))) }
-        ensures why { IfErr result (λ e. (e ≡ Error.Memory)
-            ⊎ ((e ≡ Error.InvalidProof) × ((H.layout hasher.now).shape ≡ F.shape → IsRecomputed
-            H.hash_of (H.layout hasher.now) (H.bagging hasher.now) (range_of D.text self.now) start
-            (content_of (map E.items elements.now) (H.chunk hasher.now)) None))) }
+        ensures root { IfOk result (λ root. IsRecomputed H.hash_of (H.layout hasher.now)
+            (H.bagging hasher.now) (range_of D.text self.now) start (content_of
+            (map E.items elements.now) (H.chunk hasher.now)) (Some (D.text root))) }
+        ensures why { IfErr result (λ e. (e ≡ Error.Memory) ⊎ ((e ≡ Error.InvalidProof)
+            × (IsRecomputed H.hash_of (H.layout hasher.now) (H.bagging hasher.now)
+            (range_of D.text self.now) start (content_of (map E.items elements.now)
+            (H.chunk hasher.now)) None))) }
     {
         match self.recompute_root(alloc, hasher, elements, start)? {
             Some(root) => Ok(root),

@@ -1,7 +1,7 @@
 //! What serves the nodes of a tree.
 
 ghost use Rattle.std.specs.Prelude.{◌≡◌, ℕ, ◌+◌, ◌<◌, ◌^◌, ◌⊎◌, ◌↔◌, map, Option, IfOk, Some, Err, MatchResult};
-ghost use Rattle.storage_merkle.specs.Plans.{IsFirstAbsent};
+ghost use Rattle.storage_merkle.specs.Plans.{IsFirstAbsent, IsFirstFault};
 
 use crate::merkle::{Error, Family, Position};
 use std::alloc::Global;
@@ -36,6 +36,9 @@ pub trait Storage<F: Family> {
     /// How often it has failed.
     ghost failed: { Self → ℕ };
 
+    /// Whether a read at each position may fail, with each code.
+    ghost may_fail: { Self → ℕ → ℕ → Type 0 };
+
     /// How many nodes the tree has, as the position past the last.
     fn size(&self) -> Position<F>
         ensures { result ≡ nodes self.now };
@@ -53,6 +56,8 @@ pub trait Storage<F: Family> {
         requires { failed self.old + 1 < 2 ^ 64 }
         ensures answer { MatchResult result (λ d. d ≡ node self.old position) (λ e.
             ((code : ℕ) × (e ≡ Error.Source code)) ⊎ (e ≡ Error.Memory)) }
+        ensures fault { (code : ℕ) → result ≡ Err (Error.Source code)
+            → may_fail self.old position code }
         ensures failure { ((code : ℕ) × (result ≡ Err (Error.Source code)))
             ↔ (failed self.new ≡ failed self.old + 1) }
         ensures count { (failed self.new ≡ failed self.old)
@@ -64,8 +69,8 @@ pub trait Storage<F: Family> {
     ///
     /// # Errors
     ///
-    /// `Source` where the store failed, just where its count of failures grew, by one; `ElementPruned` of the first
-    /// of `positions` where it has no digest; `Memory`.
+    /// Of the first of `positions` where it has no digest or fails: `ElementPruned` of it where it has none, `Source` where
+    /// it failed, just where its count of failures grew, by one; so none of both for no positions. `Memory`.
     fn get_nodes(
         &mut self,
         alloc: Global,
@@ -76,6 +81,8 @@ pub trait Storage<F: Family> {
             ≡ map (node self.old) positions.now) (λ e. ((p : ℕ) × (e ≡ Error.ElementPruned p)
             × IsFirstAbsent (λ q a. a ≡ node self.old q) positions.now p)
             ⊎ (((code : ℕ) × (e ≡ Error.Source code)) ⊎ (e ≡ Error.Memory))) }
+        ensures fault { (code : ℕ) → result ≡ Err (Error.Source code)
+            → IsFirstFault (λ q a. a ≡ node self.old q) (may_fail self.old) positions.now code }
         ensures failure { ((code : ℕ) × (result ≡ Err (Error.Source code)))
             ↔ (failed self.new ≡ failed self.old + 1) }
         ensures count { (failed self.new ≡ failed self.old)

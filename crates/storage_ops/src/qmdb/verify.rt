@@ -1,7 +1,7 @@
 //! Checks of proofs over lists of operations. Each operation stands in the tree by its encoding, under the hasher of database
 //! trees.
 
-ghost use Rattle.std.specs.Prelude.{◌≡◌, ◌↔◌, ◌⊎◌, [], map, IfErr, IfOk, IsOk, IsTrue};
+ghost use Rattle.std.specs.Prelude.{◌≡◌, ◌↔◌, ◌⊎◌, ℕ, List, [], map, IfErr, IfOk, IsOk, IsTrue};
 ghost use Rattle.storage_merkle.specs.declared.merkle.bagging.Bagging.TheVariants.{BackwardFold};
 ghost use Rattle.storage_merkle.specs.Checks.{IsProved};
 ghost use Rattle.storage_merkle.specs.Extracted.{AreHandedOut, Fits, texts};
@@ -10,6 +10,7 @@ ghost use Rattle.storage_merkle.specs.Pinned.{IsPinnedAccepted, IsPinnedProved};
 ghost use Rattle.storage_merkle.specs.RangeProofs.{IsAccepted};
 ghost use Rattle.storage_merkle.specs.Stores.{IsMadeOf};
 ghost use Rattle.storage_merkle.specs.Trees.{listed, ungrafted};
+ghost use Rattle.storage_ops.specs.OwnStores.{GivesAcceptedOf, IsOwnOfList};
 
 mod multi;
 
@@ -19,6 +20,8 @@ use std::alloc::Global;
 use storage_codec::NoMemory;
 use storage_codec::codec::Encode;
 use storage_codec::digest::{DigestOf, Hasher};
+use storage_merkle::laws::own_range_proofs_are_accepted;
+use storage_merkle::laws::stores::stores_of_own_proofs_give_accepted;
 use storage_merkle::merkle::{Error, Family, Location, Position, Proof, ProofStore};
 
 /// The digests that an accepted check hands out, each as (position, digest).
@@ -99,7 +102,8 @@ pub fn verify_proof_and_extract_digests<H: Hasher, F: Family, Op: Encode>(
 }
 
 /// What is kept of `proof`, whose check says that `operations` stand at the locations from `start` on of the list with the root
-/// `root`, to give other proofs.
+/// `root`, to give other proofs. Where `proof` is a list's own, so are these, and [`verify_proof`] and [`verify_multi_proof`]
+/// say yes to them for operations that stand in the list.
 ///
 /// # Errors
 ///
@@ -114,6 +118,10 @@ pub fn create_proof_store<H: Hasher, F: Family, Op: Encode>(
     ensures made { IfOk result (λ store. IsMadeOf H.Digest.size H.hash_of
         (ungrafted F.shape) BackwardFold (range_of H.Digest.text proof.now) start
         (listed (map Op.text operations.now)) (H.Digest.text root.now) store) }
+    ensures own { IfOk result (λ store. (list : List (List ℕ)) (inactive : ℕ)
+        → IsOwnOfList H.hash_of F.shape (range_of H.Digest.text proof.now) start
+        (map Op.text operations.now) list inactive
+        → GivesAcceptedOf F H.hash_of F.shape store list (H.Digest.text root.now)) }
     ensures why { IfErr result (λ e. (e ≡ Error.Memory)
         ⊎ (((e ≡ Error.InvalidProof) × (Fits H.hash_of (ungrafted F.shape) BackwardFold
         (range_of H.Digest.text proof.now) start (listed (map Op.text operations.now)) → ⊥))
@@ -122,6 +130,8 @@ pub fn create_proof_store<H: Hasher, F: Family, Op: Encode>(
         × (IsAccepted H.hash_of (ungrafted F.shape) BackwardFold (range_of H.Digest.text proof.now)
         start (listed (map Op.text operations.now)) (H.Digest.text root.now) → ⊥))))) }
 {
+    stores_of_own_proofs_give_accepted::<F>();
+    own_range_proofs_are_accepted();
     let elements = encode_all(alloc, operations)?;
     ProofStore::new(alloc, &qmdb::hasher::<H>(), proof, &elements, start, root)
 }

@@ -1,5 +1,6 @@
 //! Lists on calls on bitmaps.
 
+ghost use Rattle.std.specs.Prelude.{◌≤◌};
 ghost use Rattle.storage_bitmap.specs.Chunks.{IsChunkSize};
 
 use crate::columns::{
@@ -12,31 +13,34 @@ use storage_bitmap::bitmap::authenticated::{
     BitMap, MerkleizedBitMap, PrunedState, UnmerkleizedBitMap,
 };
 use storage_codec::codec::FixedBytes;
-use storage_codec::digest::Sha256;
+use storage_codec::digest::{Digest, Hasher};
 use storage_merkle::merkle::hasher::Standard;
 use storage_merkle::merkle::{Error, MAX_LEAVES, Position, Proof, mmr};
 
 /// A bitmap between two calls.
 #[derive(Drop)]
-enum Stage<const N: usize> {
-    Merkleized(MerkleizedBitMap<FixedBytes<32>, N>),
-    Unmerkleized(UnmerkleizedBitMap<FixedBytes<32>, N>),
+enum Stage<D: Digest, const N: usize> {
+    Merkleized(MerkleizedBitMap<D, N>),
+    Unmerkleized(UnmerkleizedBitMap<D, N>),
 }
 
 /// `calls bits`: what stands after the calls on a bitmap, which begins without bits: how many bits it has and how many of them
 /// are pruned, how many nodes, its last chunk and how many bits that has, its root, what is kept of the pruned chunks, the
 /// proofs of these bits, and the digests at all positions.
-pub fn bitmaps<const N: usize>(
+pub fn bitmaps<H: Hasher<Digest = FixedBytes<D>>, const D: usize, const N: usize>(
     alloc: Global,
-    hasher: &Standard<Sha256>,
+    hasher: &Standard<H>,
     columns: &[&str],
 ) -> Result<String, Fault>
-    requires { IsChunkSize N }
+where
+    FixedBytes<D>: Digest,
+    requires chunk { IsChunkSize N }
+    requires small { D ≤ 64 }
 {
     let [calls, bits] = columns else {
         return Err(Fault::Malformed);
     };
-    let bitmap = after::<N>(alloc, hasher, *calls)?;
+    let bitmap = after::<H, D, N>(alloc, hasher, *calls)?;
     let counts = counts_and_kept(alloc, &bitmap)?;
     let proofs = proofs(alloc, hasher, &bitmap, *bits)?;
     let nodes = nodes(alloc, &bitmap)?;
@@ -44,9 +48,9 @@ pub fn bitmaps<const N: usize>(
 }
 
 /// What is counted of a bitmap, and what is kept of its pruned chunks.
-fn counts_and_kept<const N: usize>(
+fn counts_and_kept<D: Digest, const N: usize>(
     alloc: Global,
-    bitmap: &MerkleizedBitMap<FixedBytes<32>, N>,
+    bitmap: &MerkleizedBitMap<D, N>,
 ) -> Result<String, Fault> {
     let counts = counts(alloc, bitmap)?;
     let kept = kept(alloc, bitmap)?;
@@ -54,12 +58,15 @@ fn counts_and_kept<const N: usize>(
 }
 
 /// The bitmap after calls, which begins without bits.
-pub fn after<const N: usize>(
+pub fn after<H: Hasher<Digest = FixedBytes<D>>, const D: usize, const N: usize>(
     alloc: Global,
-    hasher: &Standard<Sha256>,
+    hasher: &Standard<H>,
     calls: &str,
-) -> Result<MerkleizedBitMap<FixedBytes<32>, N>, Fault>
-    requires { IsChunkSize N }
+) -> Result<MerkleizedBitMap<FixedBytes<D>, N>, Fault>
+where
+    FixedBytes<D>: Digest,
+    requires chunk { IsChunkSize N }
+    requires small { D ≤ 64 }
 {
     let mut stage = begun(alloc, hasher)?;
     for call in calls.split(',') {
@@ -72,20 +79,29 @@ pub fn after<const N: usize>(
 }
 
 /// The bitmap without bits.
-fn begun<const N: usize>(alloc: Global, hasher: &Standard<Sha256>) -> Result<Stage<N>, Fault>
-    requires { IsChunkSize N }
+fn begun<H: Hasher<Digest = FixedBytes<D>>, const D: usize, const N: usize>(
+    alloc: Global,
+    hasher: &Standard<H>,
+) -> Result<Stage<FixedBytes<D>, N>, Fault>
+where
+    FixedBytes<D>: Digest,
+    requires chunk { IsChunkSize N }
+    requires small { D ≤ 64 }
 {
     Ok(Stage::Merkleized(restored(alloc, hasher, 0, "-")?))
 }
 
 /// What a bitmap is after a call.
-fn called<const N: usize>(
+fn called<H: Hasher<Digest = FixedBytes<D>>, const D: usize, const N: usize>(
     alloc: Global,
-    hasher: &Standard<Sha256>,
-    stage: Stage<N>,
+    hasher: &Standard<H>,
+    stage: Stage<FixedBytes<D>, N>,
     call: &str,
-) -> Result<Stage<N>, Fault>
-    requires { IsChunkSize N }
+) -> Result<Stage<FixedBytes<D>, N>, Fault>
+where
+    FixedBytes<D>: Digest,
+    requires chunk { IsChunkSize N }
+    requires small { D ≤ 64 }
 {
     let (verb, rest) = call.split_once(':').unwrap_or((call, ""));
     match stage {
@@ -97,18 +113,21 @@ fn called<const N: usize>(
 /// `calls`: what stands after each call that leaves the bitmap with its root: how many bits it has and how many of them are
 /// pruned, how many nodes, its last chunk and how many bits that has, how many digests are kept of the pruned chunks, and which
 /// of the roots so far it has, in the order in which they came.
-pub fn bitmaps_stages<const N: usize>(
+pub fn bitmaps_stages<H: Hasher<Digest = FixedBytes<D>>, const D: usize, const N: usize>(
     alloc: Global,
-    hasher: &Standard<Sha256>,
+    hasher: &Standard<H>,
     columns: &[&str],
 ) -> Result<String, Fault>
-    requires { IsChunkSize N }
+where
+    FixedBytes<D>: Digest,
+    requires chunk { IsChunkSize N }
+    requires small { D ≤ 64 }
 {
     let [calls] = columns else {
         return Err(Fault::Malformed);
     };
     let mut history = History::new(alloc);
-    let mut stage = begun::<N>(alloc, hasher)?;
+    let mut stage = begun::<H, D, N>(alloc, hasher)?;
     for call in calls.split(',') {
         stage = called(alloc, hasher, stage, call)?;
         history.note(alloc, &stage)?;
@@ -118,12 +137,12 @@ pub fn bitmaps_stages<const N: usize>(
 
 /// The roots that a bitmap had, and what stood after each call that left it with its root.
 #[derive(Drop)]
-struct History {
-    roots: Vec<FixedBytes<32>>,
+struct History<D> {
+    roots: Vec<D>,
     stages: Series,
 }
 
-impl History {
+impl<D: Digest> History<D> {
     fn new(alloc: Global) -> Self {
         History {
             roots: Vec::new(alloc),
@@ -132,7 +151,7 @@ impl History {
     }
 
     /// Adds what stands after a call, where the bitmap has its root.
-    fn note<const N: usize>(&mut self, alloc: Global, stage: &Stage<N>) -> Result<(), Fault> {
+    fn note<const N: usize>(&mut self, alloc: Global, stage: &Stage<D, N>) -> Result<(), Fault> {
         if let Stage::Merkleized(bitmap) = stage {
             let told = self.told(alloc, bitmap)?;
             self.stages.push_text(told.as_str())?;
@@ -143,7 +162,7 @@ impl History {
     fn told<const N: usize>(
         &mut self,
         alloc: Global,
-        bitmap: &MerkleizedBitMap<FixedBytes<32>, N>,
+        bitmap: &MerkleizedBitMap<D, N>,
     ) -> Result<String, Fault> {
         let (chunk, count) = bitmap.last_chunk();
         let kept = kept_digests(bitmap)?;
@@ -156,17 +175,15 @@ impl History {
 }
 
 /// How many digests are kept of the pruned chunks.
-fn kept_digests<const N: usize>(
-    bitmap: &MerkleizedBitMap<FixedBytes<32>, N>,
-) -> Result<u64, Fault> {
+fn kept_digests<D: Digest, const N: usize>(bitmap: &MerkleizedBitMap<D, N>) -> Result<u64, Fault> {
     Ok(state(bitmap)?.pinned.len() as u64)
 }
 
 /// How many bits there are and how many of them are pruned, and how many nodes, with a text between them.
-fn lengths<const N: usize>(
+fn lengths<D: Digest, const N: usize>(
     alloc: Global,
     separator: &str,
-    bitmap: &MerkleizedBitMap<FixedBytes<32>, N>,
+    bitmap: &MerkleizedBitMap<D, N>,
 ) -> Result<String, Fault> {
     let size = bitmap.size().as_u64();
     numbers_between(
@@ -177,7 +194,7 @@ fn lengths<const N: usize>(
 }
 
 /// The place of a root among roots, to which it is added where it is new.
-fn place_of(roots: &mut Vec<FixedBytes<32>>, root: FixedBytes<32>) -> Result<u64, Fault> {
+fn place_of<D: Digest>(roots: &mut Vec<D>, root: D) -> Result<u64, Fault> {
     if let Some(place) = roots.iter().position(|known| *known == root) {
         return Ok(place as u64);
     }
@@ -187,9 +204,9 @@ fn place_of(roots: &mut Vec<FixedBytes<32>>, root: FixedBytes<32>) -> Result<u64
 }
 
 /// What is handed out of a bitmap.
-fn state<const N: usize>(
-    bitmap: &MerkleizedBitMap<FixedBytes<32>, N>,
-) -> Result<PrunedState<FixedBytes<32>>, Fault> {
+fn state<D: Digest, const N: usize>(
+    bitmap: &MerkleizedBitMap<D, N>,
+) -> Result<PrunedState<D>, Fault> {
     match bitmap.write_pruned() {
         Ok(state) => Ok(state),
         Err(_) => Err(Fault::Memory),
@@ -197,13 +214,16 @@ fn state<const N: usize>(
 }
 
 /// The bitmap whose chunks, `pruned_chunks` of them, are all pruned, and of which these digests are kept.
-fn restored<const N: usize>(
+fn restored<H: Hasher<Digest = FixedBytes<D>>, const D: usize, const N: usize>(
     alloc: Global,
-    hasher: &Standard<Sha256>,
+    hasher: &Standard<H>,
     pruned_chunks: u64,
     pinned: &str,
-) -> Result<MerkleizedBitMap<FixedBytes<32>, N>, Fault>
-    requires { IsChunkSize N }
+) -> Result<MerkleizedBitMap<FixedBytes<D>, N>, Fault>
+where
+    FixedBytes<D>: Digest,
+    requires chunk { IsChunkSize N }
+    requires small { D ≤ 64 }
 {
     let pinned = inner_digests(alloc, pinned)?;
     from_state(
@@ -216,12 +236,15 @@ fn restored<const N: usize>(
     )
 }
 
-fn from_state<const N: usize>(
+fn from_state<H: Hasher<Digest = FixedBytes<D>>, const D: usize, const N: usize>(
     alloc: Global,
-    hasher: &Standard<Sha256>,
-    state: PrunedState<FixedBytes<32>>,
-) -> Result<MerkleizedBitMap<FixedBytes<32>, N>, Fault>
-    requires { IsChunkSize N }
+    hasher: &Standard<H>,
+    state: PrunedState<FixedBytes<D>>,
+) -> Result<MerkleizedBitMap<FixedBytes<D>, N>, Fault>
+where
+    FixedBytes<D>: Digest,
+    requires chunk { IsChunkSize N }
+    requires small { D ≤ 64 }
 {
     match BitMap::init(alloc, hasher, state) {
         Ok(bitmap) => Ok(bitmap),
@@ -232,14 +255,17 @@ fn from_state<const N: usize>(
 
 /// The bitmap after a call: `d` opens it to changes, `x:BIT` prunes up to a bit, `init:COUNT:DIGESTS` takes another one, and `r` the
 /// one of what this one hands out.
-fn merkleized<const N: usize>(
+fn merkleized<H: Hasher<Digest = FixedBytes<D>>, const D: usize, const N: usize>(
     alloc: Global,
-    hasher: &Standard<Sha256>,
-    mut bitmap: MerkleizedBitMap<FixedBytes<32>, N>,
+    hasher: &Standard<H>,
+    mut bitmap: MerkleizedBitMap<FixedBytes<D>, N>,
     verb: &str,
     rest: &str,
-) -> Result<Stage<N>, Fault>
-    requires { IsChunkSize N }
+) -> Result<Stage<FixedBytes<D>, N>, Fault>
+where
+    FixedBytes<D>: Digest,
+    requires chunk { IsChunkSize N }
+    requires small { D ≤ 64 }
 {
     match verb {
         "d" => return Ok(Stage::Unmerkleized(bitmap.into_dirty())),
@@ -252,8 +278,8 @@ fn merkleized<const N: usize>(
 }
 
 /// Prunes up to a bit.
-fn prune<const N: usize>(
-    bitmap: &mut MerkleizedBitMap<FixedBytes<32>, N>,
+fn prune<D: Digest, const N: usize>(
+    bitmap: &mut MerkleizedBitMap<D, N>,
     bit: u64,
 ) -> Result<(), Fault>
     requires { IsChunkSize N }
@@ -268,25 +294,31 @@ fn prune<const N: usize>(
 }
 
 /// The bitmap of `COUNT:DIGESTS`.
-fn of_parts<const N: usize>(
+fn of_parts<H: Hasher<Digest = FixedBytes<D>>, const D: usize, const N: usize>(
     alloc: Global,
-    hasher: &Standard<Sha256>,
+    hasher: &Standard<H>,
     parts: &str,
-) -> Result<MerkleizedBitMap<FixedBytes<32>, N>, Fault>
-    requires { IsChunkSize N }
+) -> Result<MerkleizedBitMap<FixedBytes<D>, N>, Fault>
+where
+    FixedBytes<D>: Digest,
+    requires chunk { IsChunkSize N }
+    requires small { D ≤ 64 }
 {
     let (count, pinned) = parts.split_once(':').ok_or(Fault::Malformed)?;
     restored(alloc, hasher, number(count)?, pinned)
 }
 
 /// The bitmap after a call: `p:BITS` appends bits, `s:BIT:VALUE` changes a bit, and `m` hashes what changed.
-fn unmerkleized<const N: usize>(
-    hasher: &Standard<Sha256>,
-    mut bitmap: UnmerkleizedBitMap<FixedBytes<32>, N>,
+fn unmerkleized<H: Hasher<Digest = FixedBytes<D>>, const D: usize, const N: usize>(
+    hasher: &Standard<H>,
+    mut bitmap: UnmerkleizedBitMap<FixedBytes<D>, N>,
     verb: &str,
     rest: &str,
-) -> Result<Stage<N>, Fault>
-    requires { IsChunkSize N }
+) -> Result<Stage<FixedBytes<D>, N>, Fault>
+where
+    FixedBytes<D>: Digest,
+    requires chunk { IsChunkSize N }
+    requires small { D ≤ 64 }
 {
     match verb {
         "p" => push(&mut bitmap, rest)?,
@@ -298,11 +330,14 @@ fn unmerkleized<const N: usize>(
 }
 
 /// The bitmap with what changed hashed.
-fn hashed<const N: usize>(
-    hasher: &Standard<Sha256>,
-    bitmap: UnmerkleizedBitMap<FixedBytes<32>, N>,
-) -> Result<Stage<N>, Fault>
-    requires { IsChunkSize N }
+fn hashed<H: Hasher<Digest = FixedBytes<D>>, const D: usize, const N: usize>(
+    hasher: &Standard<H>,
+    bitmap: UnmerkleizedBitMap<FixedBytes<D>, N>,
+) -> Result<Stage<FixedBytes<D>, N>, Fault>
+where
+    FixedBytes<D>: Digest,
+    requires chunk { IsChunkSize N }
+    requires small { D ≤ 64 }
 {
     match bitmap.merkleize(hasher) {
         Ok(bitmap) => Ok(Stage::Merkleized(bitmap)),
@@ -311,8 +346,8 @@ fn hashed<const N: usize>(
 }
 
 /// Appends a bit for each digit.
-fn push<const N: usize>(
-    bitmap: &mut UnmerkleizedBitMap<FixedBytes<32>, N>,
+fn push<D: Digest, const N: usize>(
+    bitmap: &mut UnmerkleizedBitMap<D, N>,
     digits: &str,
 ) -> Result<(), Fault>
     requires { IsChunkSize N }
@@ -326,8 +361,8 @@ fn push<const N: usize>(
 }
 
 /// Changes the bit of `BIT:VALUE`.
-fn set<const N: usize>(
-    bitmap: &mut UnmerkleizedBitMap<FixedBytes<32>, N>,
+fn set<D: Digest, const N: usize>(
+    bitmap: &mut UnmerkleizedBitMap<D, N>,
     parts: &str,
 ) -> Result<(), Fault>
     requires { IsChunkSize N }
@@ -344,21 +379,21 @@ fn set<const N: usize>(
 }
 
 /// How many bits there are and how many are pruned, how many nodes, the last chunk and how many bits it has, and the root.
-fn counts<const N: usize>(
+fn counts<D: Digest, const N: usize>(
     alloc: Global,
-    bitmap: &MerkleizedBitMap<FixedBytes<32>, N>,
+    bitmap: &MerkleizedBitMap<D, N>,
 ) -> Result<String, Fault> {
     let lengths = lengths(alloc, " ", bitmap)?;
     let (chunk, count) = bitmap.last_chunk();
     let chunk = hex::encode(alloc, *chunk)?;
-    let root = hex::encode(alloc, bitmap.root().bytes)?;
+    let root = hex::encode(alloc, bitmap.root().bytes())?;
     spaced_four(alloc, &lengths, &chunk, &count, &root)
 }
 
 /// What is kept of the pruned chunks: their number and the digests of the peaks over them.
-fn kept<const N: usize>(
+fn kept<D: Digest, const N: usize>(
     alloc: Global,
-    bitmap: &MerkleizedBitMap<FixedBytes<32>, N>,
+    bitmap: &MerkleizedBitMap<D, N>,
 ) -> Result<String, Fault> {
     let state = state(bitmap)?;
     let chunks = state.pruned_chunks;
@@ -366,22 +401,26 @@ fn kept<const N: usize>(
     Ok(format!(in alloc; "{chunks}:{pinned}")?)
 }
 
-fn joined(alloc: Global, digests: &[FixedBytes<32>]) -> Result<String, Fault> {
+fn joined<D: Digest>(alloc: Global, digests: &[D]) -> Result<String, Fault> {
     let mut series = Series::inner(alloc);
     for digest in digests {
-        let digest = hex::encode(alloc, digest.bytes)?;
+        let digest = hex::encode(alloc, digest.bytes())?;
         series.push_text(digest.as_str())?;
     }
     Ok(series.finish_or("-")?)
 }
 
 /// The proofs of bits: each bit with the number of leaves, the digests, and the bit's chunk.
-fn proofs<const N: usize>(
+fn proofs<H: Hasher<Digest = FixedBytes<D>>, const D: usize, const N: usize>(
     alloc: Global,
-    hasher: &Standard<Sha256>,
-    bitmap: &MerkleizedBitMap<FixedBytes<32>, N>,
+    hasher: &Standard<H>,
+    bitmap: &MerkleizedBitMap<FixedBytes<D>, N>,
     bits: &str,
-) -> Result<String, Fault> {
+) -> Result<String, Fault>
+where
+    FixedBytes<D>: Digest,
+    requires small { D ≤ 64 }
+{
     let mut series = Series::new(alloc);
     if bits == "none" {
         return Ok(series.finish_or("-")?);
@@ -401,10 +440,10 @@ fn proofs<const N: usize>(
 }
 
 /// A bit with the number of leaves and the digests of its proof, and its chunk.
-fn proof_told<const N: usize>(
+fn proof_told<D: Digest, const N: usize>(
     alloc: Global,
     bit: u64,
-    proof: &Proof<mmr::Family, FixedBytes<32>>,
+    proof: &Proof<mmr::Family, D>,
     chunk: &[u8; N],
 ) -> Result<String, Fault> {
     let leaves = proof.leaves;
@@ -414,9 +453,9 @@ fn proof_told<const N: usize>(
 }
 
 /// The digests at all positions.
-fn nodes<const N: usize>(
+fn nodes<D: Digest, const N: usize>(
     alloc: Global,
-    bitmap: &MerkleizedBitMap<FixedBytes<32>, N>,
+    bitmap: &MerkleizedBitMap<D, N>,
 ) -> Result<String, Fault> {
     let mut series = Series::new(alloc);
     for place in 0..bitmap.size().as_u64() {

@@ -1,5 +1,6 @@
 //! The list on proofs of a bitmap that are said to be other ones.
 
+ghost use Rattle.std.specs.Prelude.{◌≤◌};
 ghost use Rattle.storage_bitmap.specs.Chunks.{IsChunkSize};
 
 use crate::columns::{Fault, Series, number};
@@ -8,24 +9,27 @@ use crate::lists::refusals::merkle_refusal;
 use std::alloc::Global;
 use storage_bitmap::bitmap::authenticated::MerkleizedBitMap;
 use storage_codec::codec::FixedBytes;
-use storage_codec::digest::Sha256;
+use storage_codec::digest::{Digest, Hasher};
 use storage_merkle::merkle::Location;
 use storage_merkle::merkle::hasher::Standard;
 
 /// `calls claims`: of each claim on the bitmap after the calls the numbers of leaves with which it is accepted. A claim
 /// `BIT:CLAIMED:INACTIVE:FIRST:LAST` is the proof of one bit, said to be one of another bit with that number of inactive peaks and,
 /// in turn, each number of leaves from the first to the last.
-pub fn bitmaps_verified<const N: usize>(
+pub fn bitmaps_verified<H: Hasher<Digest = FixedBytes<D>>, const D: usize, const N: usize>(
     alloc: Global,
-    hasher: &Standard<Sha256>,
+    hasher: &Standard<H>,
     columns: &[&str],
 ) -> Result<String, Fault>
-    requires { IsChunkSize N }
+where
+    FixedBytes<D>: Digest,
+    requires chunk { IsChunkSize N }
+    requires small { D ≤ 64 }
 {
     let [calls, claims] = columns else {
         return Err(Fault::Malformed);
     };
-    let bitmap = after::<N>(alloc, hasher, *calls)?;
+    let bitmap = after::<H, D, N>(alloc, hasher, *calls)?;
     let mut answers = Series::new(alloc);
     for claim in claims.split(',') {
         answers.push_text(accepted(alloc, hasher, &bitmap, claim)?.as_str())?;
@@ -49,13 +53,16 @@ fn five_numbers(alloc: Global, claim: &str) -> Result<[u64; 5], Fault> {
 }
 
 /// The numbers of leaves with which a claim is accepted.
-fn accepted<const N: usize>(
+fn accepted<H: Hasher<Digest = FixedBytes<D>>, const D: usize, const N: usize>(
     alloc: Global,
-    hasher: &Standard<Sha256>,
-    bitmap: &MerkleizedBitMap<FixedBytes<32>, N>,
+    hasher: &Standard<H>,
+    bitmap: &MerkleizedBitMap<FixedBytes<D>, N>,
     claim: &str,
 ) -> Result<String, Fault>
-    requires { IsChunkSize N }
+where
+    FixedBytes<D>: Digest,
+    requires chunk { IsChunkSize N }
+    requires small { D ≤ 64 }
 {
     let [bit, claimed, inactive, first, last] = five_numbers(alloc, claim)?;
     if bit < bitmap.pruned_bits() {

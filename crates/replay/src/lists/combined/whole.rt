@@ -31,9 +31,9 @@ pub fn combined_views<F: Graftable>(alloc: Global, columns: &[&str]) -> Result<S
         return Err(Fault::Malformed);
     };
     let operations = strings(alloc, *operations)?;
-    let snapshot = served::snapshot::<F, 1>(alloc, &operations, *bits, 0)?;
+    let snapshot = served::snapshot::<F, Sha256, 1>(alloc, &operations, *bits, 0)?;
     let grafted = grafted_tree(alloc, &snapshot, HEIGHT)?;
-    let nodes = operations_nodes::<F>(alloc, &operations)?;
+    let nodes = operations_nodes::<F, Sha256>(alloc, &operations)?;
     let size = nodes.len() as u64;
     let mut store = Faulty::new(nodes, size, NONE, ALWAYS);
     let mut both = Storage::new(&grafted, HEIGHT, &mut store);
@@ -76,7 +76,7 @@ pub fn combined_ranges<F: Graftable + Countable>(
         return Err(Fault::Malformed);
     };
     let operations = strings(alloc, *operations)?;
-    let snapshot = served::snapshot::<F, 1>(alloc, &operations, *bits, 0)?;
+    let snapshot = served::snapshot::<F, Sha256, 1>(alloc, &operations, *bits, 0)?;
     range_told(
         alloc,
         &snapshot,
@@ -147,7 +147,7 @@ fn without_operations<F: Graftable + Countable>(
     end: u64,
 ) -> Result<RangeProof<F, FixedBytes<32>>, Fault> {
     let grafted = grafted_tree(alloc, snapshot, HEIGHT)?;
-    let nodes = operations_nodes::<F>(alloc, operations)?;
+    let nodes = operations_nodes::<F, Sha256>(alloc, operations)?;
     let size = nodes.len() as u64;
     let mut store = Faulty::new(nodes, size, NONE, ALWAYS);
     let mut both = Storage::new(&grafted, HEIGHT, &mut store);
@@ -178,7 +178,7 @@ fn with_operations<F: Graftable + Countable>(
     requires { 1 ≤ most }
 {
     let grafted = grafted_tree(alloc, snapshot, HEIGHT)?;
-    let nodes = operations_nodes::<F>(alloc, operations)?;
+    let nodes = operations_nodes::<F, Sha256>(alloc, operations)?;
     let size = nodes.len() as u64;
     let mut store = Faulty::new(nodes, size, NONE, ALWAYS);
     let mut both = Storage::new(&grafted, HEIGHT, &mut store);

@@ -6,47 +6,53 @@ use crate::columns::{Fault, array, bytes, digest, number};
 use crate::lists::extracted::series;
 use crate::lists::refusals::{codec_refusal, merkle_refusal};
 use crate::lists::unframed::{Unframed, operations};
-use commonware_storage::codec::{self, Decode, FixedBytes};
-use commonware_storage::digest::Sha256;
+use commonware_storage::codec::{self, Decode};
+use commonware_storage::digest::{Digest, Hasher};
 use commonware_storage::merkle::{Graftable, Location};
 use commonware_storage::qmdb::current::proof::{RangeProof, verify_proof_and_extract_digests};
 use std::alloc::Global;
 
 /// `chunk start operations chunks proof root`: the digests that the check of the range proof hands out, each with its position,
 /// or the refusal.
-pub fn ranges_extracted<F: Graftable>(alloc: Global, columns: &[&str]) -> Result<String, Fault> {
+pub fn ranges_extracted<F: Graftable, H: Hasher>(
+    alloc: Global,
+    columns: &[&str],
+) -> Result<String, Fault> {
     let Some((chunk_size, columns)) = columns.split_first() else {
         return Err(Fault::Malformed);
     };
     match *chunk_size {
-        "1" => over::<F, 1>(alloc, columns),
-        "2" => over::<F, 2>(alloc, columns),
-        "4" => over::<F, 4>(alloc, columns),
+        "1" => over::<F, H, 1>(alloc, columns),
+        "2" => over::<F, H, 2>(alloc, columns),
+        "4" => over::<F, H, 4>(alloc, columns),
         _ => Err(Fault::Malformed),
     }
 }
 
-fn over<F: Graftable, const N: usize>(alloc: Global, columns: &[&str]) -> Result<String, Fault>
+fn over<F: Graftable, H: Hasher, const N: usize>(
+    alloc: Global,
+    columns: &[&str],
+) -> Result<String, Fault>
     requires { IsChunkSize N }
 {
     let [start, items, chunks, proof, root] = columns else {
         return Err(Fault::Malformed);
     };
     let start = Location::new(number(*start)?);
-    let root = digest(*root)?;
+    let root = digest(alloc, *root)?;
     let operations = operations(alloc, *items)?;
     let chunks = arrays::<N>(alloc, *chunks)?;
-    match range_proof::<F>(alloc, *proof)? {
-        Ok(proof) => handed_out(alloc, &proof, start, &operations, &chunks, &root),
+    match range_proof::<F, H::Digest>(alloc, *proof)? {
+        Ok(proof) => handed_out::<F, H, N>(alloc, &proof, start, &operations, &chunks, &root),
         Err(error) => codec_refusal(alloc, error),
     }
 }
 
 /// The range proof of bytes in hexadecimal, or why they are none.
-fn range_proof<F: Graftable>(
+fn range_proof<F: Graftable, D: Digest>(
     alloc: Global,
     column: &str,
-) -> Result<Result<RangeProof<F, FixedBytes<32>>, codec::Error>, Fault> {
+) -> Result<Result<RangeProof<F, D>, codec::Error>, Fault> {
     let bytes = bytes(alloc, column)?;
     // no digest takes less than a byte
     let most = bytes.len();
@@ -54,17 +60,17 @@ fn range_proof<F: Graftable>(
 }
 
 /// The digests that the check of a range proof hands out, or the refusal.
-fn handed_out<F: Graftable, const N: usize>(
+fn handed_out<F: Graftable, H: Hasher, const N: usize>(
     alloc: Global,
-    proof: &RangeProof<F, FixedBytes<32>>,
+    proof: &RangeProof<F, H::Digest>,
     start: Location<F>,
     operations: &[Unframed],
     chunks: &[[u8; N]],
-    root: &FixedBytes<32>,
+    root: &H::Digest,
 ) -> Result<String, Fault>
     requires { IsChunkSize N }
 {
-    match verify_proof_and_extract_digests::<F, _, Sha256, N>(
+    match verify_proof_and_extract_digests::<F, _, H, N>(
         alloc, proof, start, operations, chunks, root,
     ) {
         Ok(digests) => series(alloc, &digests),

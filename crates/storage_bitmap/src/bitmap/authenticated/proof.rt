@@ -92,7 +92,7 @@ fn bit_digests<D: Digest, H: Hasher<mmr::Family, Digest = D>, const N: usize>(
         return Ok(digests);
     }
     let range = Location::new(place)..Location::new(place + 1);
-    let Ok(mut proof) = tree.range_proof(alloc, hasher, range, 0) else {
+    let Ok(mut proof) = tree.range_proof(hasher, range, 0) else {
         return Err(NoMemory);
     };
     if length.is_multiple_of(chunk_bits) {

@@ -3,7 +3,7 @@
 ghost use Rattle.std.specs.Prelude.{◌≡◌, ℕ, ◌+◌, ◌⊎◌, ◌↔◌, map, Some, Ok, Err, MatchResult};
 ghost use Rattle.storage_merkle.specs.Kept.{kept_at};
 ghost use Rattle.storage_merkle.specs.Mmr.{mmr};
-ghost use Rattle.storage_merkle.specs.Plans.{IsFirstAbsent};
+ghost use Rattle.storage_merkle.specs.Plans.{IsFirstAbsent, IsFirstFault};
 ghost use Rattle.storage_merkle.specs.Shape.{size};
 
 use crate::bitmap::authenticated::{BitMap, Merkleized};
@@ -20,6 +20,8 @@ impl<D: Digest, const N: usize> Storage<mmr::Family> for BitMap<D, N, Merkleized
 
     ghost failed = { λ _. 0 };
 
+    ghost may_fail = { λ _ _ _. ⊥ };
+
     fn size(&self) -> Position<mmr::Family> {
         self.tree.size()
     }
@@ -32,6 +34,7 @@ impl<D: Digest, const N: usize> Storage<mmr::Family> for BitMap<D, N, Merkleized
         ensures answer { MatchResult result (λ d. d
             ≡ kept_at mmr self.old.tree.boundary self.old.tree.pinned self.old.tree.nodes position)
             (λ e. ((code : ℕ) × (e ≡ Error.Source code)) ⊎ (e ≡ Error.Memory)) }
+        ensures fault { (code : ℕ) → result ≡ Err (Error.Source code) → ⊥ }
         ensures failure { let none : ℕ = 0 in
             ((code : ℕ) × (result ≡ Err (Error.Source code))) ↔ (none ≡ none + 1) }
         ensures count { let none : ℕ = 0 in (none ≡ none) ⊎ (none ≡ none + 1) }
@@ -56,6 +59,9 @@ impl<D: Digest, const N: usize> Storage<mmr::Family> for BitMap<D, N, Merkleized
             ((p : ℕ) × (e ≡ Error.ElementPruned p) × IsFirstAbsent (λ q a. a ≡ kept_at mmr
             self.old.tree.boundary self.old.tree.pinned self.old.tree.nodes q) positions.now p)
             ⊎ (((code : ℕ) × (e ≡ Error.Source code)) ⊎ (e ≡ Error.Memory))) }
+        ensures fault { (code : ℕ) → result ≡ Err (Error.Source code) → IsFirstFault (λ q a. a
+            ≡ kept_at mmr self.old.tree.boundary self.old.tree.pinned self.old.tree.nodes q)
+            (λ _ _. ⊥) positions.now code }
         ensures failure { let none : ℕ = 0 in
             ((code : ℕ) × (result ≡ Err (Error.Source code))) ↔ (none ≡ none + 1) }
         ensures count { let none : ℕ = 0 in (none ≡ none) ⊎ (none ≡ none + 1) }

@@ -27,6 +27,7 @@ use crate::laws::current_proofs_are_sound;
 use crate::qmdb::current::chunks::{ChunkCounts, chunk_digest};
 use crate::qmdb::current::grafting::{self, Verifier, aligned_inactive};
 use crate::qmdb::current::proof::window::Window;
+pub use crate::qmdb::current::required::{RequiredChunks, required_chunks};
 use crate::qmdb::current::root::canonical_root;
 pub use chunk::Chunk;
 pub use extract::verify_proof_and_extract_digests;
@@ -135,7 +136,8 @@ impl<F: Graftable, D: Digest> RangeProof<F, D> {
         self.verify_with_chunk_size::<H, O, [u8; N]>(alloc, start, operations, chunks, N, root)
     }
 
-    /// As [`verify`](Self::verify), for chunks of `chunk_size` bytes, known at run time.
+    /// As [`verify`](Self::verify), for chunks of `chunk_size` bytes, known at run time. The no where a chunk has another
+    /// length takes no memory either, and hashes nothing. The chunks are lent to the hasher, and not copied.
     pub fn verify_with_chunk_size<H: Hasher<Digest = D>, O: Write, C: Chunk>(
         &self,
         alloc: Global,
@@ -154,6 +156,8 @@ impl<F: Graftable, D: Digest> RangeProof<F, D> {
             start (map O.text operations.now) (map C.text chunks.now) (D.text root.now)) }
         ensures at_once { (IsWindow (grafting_of F.shape chunk_size) self.now.proof.leaves start
             (length operations.now) (length chunks.now) → ⊥)
+            → result ≡ Ok false }
+        ensures lengths { (AreDigests chunk_size (map C.text chunks.now) → ⊥)
             → result ≡ Ok false }
     {
         let Some(window) = self.window(start, operations.len(), chunks, chunk_size) else {
@@ -183,11 +187,15 @@ impl<F: Graftable, D: Digest> RangeProof<F, D> {
         ensures at_once { (IsWindow (grafting_of F.shape chunk_size) self.now.proof.leaves start
             (length operations.now) (length chunks.now) → ⊥)
             → result ≡ Ok false }
+        ensures lengths { (AreDigests chunk_size (map C.text chunks.now) → ⊥)
+            → result ≡ Ok false }
     {
-        let Some(window) = self.window(start, operations.len(), chunks, chunk_size) else {
-            return Ok(false);
-        };
-        self.verify_in::<H, E, C>(alloc, &window, start, operations, chunks, root)
+        match self.window(start, operations.len(), chunks, chunk_size) {
+            Some(window) => {
+                self.verify_in::<H, E, C>(alloc, &window, start, operations, chunks, root)
+            }
+            None => Ok(false),
+        }
     }
 
     /// Where `count` operations from `start` on stand among the chunks of `chunk_size` bytes; none where no chunk may

@@ -260,7 +260,7 @@ fn tree_root<F: Graftable, H: Hasher>(
     requires whole { length nodes.now ≡ size F.shape leaves }
     requires inactive { inactive ≤ length (F.shape.peaks leaves) }
     ensures { IfOk result (λ root. (grafted : ℕ → ℕ → Bool) (content : Content)
-        → let T : Layout = record { shape = F.shape; grafted = grafted } in
+        → let T : Layout = record { shape = F.shape; position = F.shape.position; grafted = grafted } in
         length content.elements ≡ leaves
         → AreNodes F.shape (tree_node H.hash_of T content) (map H.Digest.text nodes.now)
         → H.Digest.text root ≡ tree_root H.hash_of T BackwardFold content inactive) }

@@ -11,12 +11,12 @@ ghost use Rattle.storage_merkle.specs.Trees.{Content, Layout};
 use crate::merkle::hasher::Hasher;
 use crate::merkle::mem::Mem;
 use crate::merkle::{Error, Family, Location, Position, Proof, RangePlan};
-use std::alloc::Global;
 use std::ops::Range;
 use storage_codec::digest::Digest;
 
 impl<F: Family, D: Digest> Mem<F, D> {
-    /// The tree's own proof of the leaves of `range`, with the first `inactive` peaks inactive.
+    /// The tree's own proof of the leaves of `range`, with the first `inactive` peaks inactive. Memory comes from the
+    /// tree's own allocator.
     ///
     /// # Errors
     ///
@@ -26,7 +26,6 @@ impl<F: Family, D: Digest> Mem<F, D> {
     /// begins at the boundary or past it; `Memory`.
     pub fn range_proof<H: Hasher<F, Digest = D>>(
         &self,
-        alloc: Global,
         hasher: &H,
         range: Range<Location<F>>,
         inactive: usize,
@@ -45,7 +44,7 @@ impl<F: Family, D: Digest> Mem<F, D> {
         ensures kept { self.now.boundary ≤ range.start
             → IfErr result (λ e. (p : ℕ) → e ≢ Error.ElementPruned p) }
     {
-        self.proof_by(alloc, hasher, range, inactive, |position| {
+        self.proof_by(hasher, range, inactive, |position| {
             self.get_node(position)
         })
     }
@@ -53,7 +52,6 @@ impl<F: Family, D: Digest> Mem<F, D> {
     /// The proof that [`range_proof`](Self::range_proof) answers, where `get_node` answers the digests that are kept.
     fn proof_by<H: Hasher<F, Digest = D>, G: Fn(Position<F>) -> Option<D>>(
         &self,
-        alloc: Global,
         hasher: &H,
         range: Range<Location<F>>,
         inactive: usize,
@@ -77,6 +75,7 @@ impl<F: Family, D: Digest> Mem<F, D> {
         ensures kept { self.now.boundary ≤ range.start
             → IfErr result (λ e. (p : ℕ) → e ≢ Error.ElementPruned p) }
     {
+        let alloc = *self.nodes.allocator();
         let plan = match RangePlan::new(alloc, Location::new(self.leaves), range) {
             Ok(plan) => plan,
             Err(error) => return Err(error),

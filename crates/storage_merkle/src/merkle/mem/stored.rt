@@ -36,6 +36,8 @@ impl<F: Family, D: Digest> Storage<F> for Mem<F, D> {
 
     ghost failed = { λ _. 0 };
 
+    ghost may_fail = { λ _ _ _. ⊥ };
+
     fn size(&self) -> Position<F> {
         Position::new(F::nodes_over(self.leaves))
     }

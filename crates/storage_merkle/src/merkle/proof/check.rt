@@ -36,20 +36,18 @@ pub(crate) fn recompute<F: Family, H: Hasher<F>, E: AsSlice<u8>>(
     found: &mut Found<F, H::Digest>,
 ) -> Result<Option<H::Digest>, NoMemory>
     requires { TakesTree (H.takes hasher.now) F.shape proof.now.leaves }
-    ensures root { (H.layout hasher.now).shape ≡ F.shape
-        → IfOk result (λ root. IsRecomputed H.hash_of (H.layout hasher.now) (H.bagging hasher.now)
-        (lent_range_of H.Digest.text proof.now) start (content_of (map E.items elements.now)
-        (H.chunk hasher.now)) (option_map H.Digest.text root)) }
+    ensures root { IfOk result (λ root. IsRecomputed H.hash_of (H.layout hasher.now)
+        (H.bagging hasher.now) (lent_range_of H.Digest.text proof.now) start (content_of
+        (map E.items elements.now) (H.chunk hasher.now)) (option_map H.Digest.text root)) }
     ensures fits { IfOk result (λ root. MatchOption root (Unit {0}) (λ _. CountsFit H.hash_of
         (ungrafted F.shape) (H.bagging hasher.now) (lent_range_of H.Digest.text proof.now) start
         (content_of (map E.items elements.now) (H.chunk hasher.now)))) }
-    ensures found { (H.layout hasher.now).shape ≡ F.shape
-        → IfOk result (λ root.
-        MatchOption root (Unit {0}) (λ _. option_map (λ v. texts H.Digest.text v.items) found.new
-        ≡ option_map (λ v. texts H.Digest.text v.items ++ checked H.hash_of (H.layout hasher.now)
-        (H.bagging hasher.now) (lent_range_of H.Digest.text proof.now) start (content_of
-        (map E.items elements.now) (H.chunk hasher.now)) (checked_sites (H.layout hasher.now)
-        proof.now.leaves start (start + length (map E.items elements.now)))) found.old)) }
+    ensures found { IfOk result (λ root. MatchOption root (Unit {0}) (λ _. option_map
+        (λ v. texts H.Digest.text v.items) found.new ≡ option_map (λ v. texts H.Digest.text v.items
+        ++ checked H.hash_of (H.layout hasher.now) (H.bagging hasher.now)
+        (lent_range_of H.Digest.text proof.now) start (content_of (map E.items elements.now)
+        (H.chunk hasher.now)) (checked_sites (H.layout hasher.now) proof.now.leaves start
+        (start + length (map E.items elements.now)))) found.old)) }
 {
     let leaves = proof.leaves.as_u64();
     let start = start.as_u64();
@@ -139,14 +137,13 @@ impl<F: Family, D: Digest, E: AsSlice<u8>> Given<'_, F, D, E> {
             (peaks_from F.shape rest.first rest.left) }
         requires tops { length tops.now ≡ length (front_before rest.first ++ top_sites
             self.now.start self.now.end (peaks_from F.shape rest.first rest.left) rest.folded) }
-        ensures { (digest : Site → List ℕ) → (H.layout hasher.now).shape ≡ F.shape
-            → Serves F.shape digest self.now.siblings.now (map D.text self.now.digests.now)
-            → map D.text tops.now ≡ map digest (front_before rest.first ++ top_sites self.now.start
-            self.now.end (peaks_from F.shape rest.first rest.left) rest.folded)
-            → IfOk result (λ r.
-            (option_map D.text r ≡ bag_onto H.hash_of (λ p. eval H.hash_of (given_values digest
-            self.now.start (map E.items self.now.elements.now) (H.chunk hasher.now)) (part
-            (H.layout hasher.now) (apart self.now.start self.now.end) p)) (digest back) self.now.end
+        ensures { (digest : Site → List ℕ) → Serves F.shape digest self.now.siblings.now
+            (map D.text self.now.digests.now) → map D.text tops.now ≡ map digest (front_before
+            rest.first ++ top_sites self.now.start self.now.end
+            (peaks_from F.shape rest.first rest.left) rest.folded) → IfOk result (λ r. (option_map
+            D.text r ≡ bag_onto H.hash_of (λ p. eval H.hash_of (given_values digest self.now.start
+            (map E.items self.now.elements.now) (H.chunk hasher.now)) (part (H.layout hasher.now)
+            (apart self.now.start self.now.end) p)) (digest back) self.now.end
             (folded_before (digest front) rest.first) (peaks_from F.shape rest.first rest.left)
             rest.folded) × (option_map (λ v. texts D.text v.items) found.new ≡ option_map
             (λ v. texts D.text v.items ++ entries (H.layout hasher.now) (digest_at H.hash_of
@@ -193,20 +190,19 @@ impl<F: Family, D: Digest, E: AsSlice<u8>> Given<'_, F, D, E> {
             (peaks_from F.shape rest.first rest.left) }
         requires tops { length tops.now ≡ length
             (top_sites self.now.start self.now.end (peaks_from F.shape rest.first rest.left) 0) }
-        ensures { (digest : Site → List ℕ) → (H.layout hasher.now).shape ≡ F.shape
-            → Serves F.shape digest self.now.siblings.now (map D.text self.now.digests.now)
-            → map D.text tops.now ≡ map digest
-            (top_sites self.now.start self.now.end (peaks_from F.shape rest.first rest.left) 0)
-            → IfOk result (λ r. (option_map D.text r ≡ right_of H.hash_of (λ p. eval H.hash_of
-            (given_values digest self.now.start (map E.items self.now.elements.now)
-            (H.chunk hasher.now)) (part (H.layout hasher.now) (apart self.now.start self.now.end)
-            p)) (digest back) self.now.end (peaks_from F.shape rest.first rest.left))
-            × (option_map (λ v. texts D.text v.items) found.new ≡ option_map
-            (λ v. texts D.text v.items ++ entries (H.layout hasher.now) (digest_at H.hash_of
-            (given_values digest self.now.start (map E.items self.now.elements.now)
-            (H.chunk hasher.now)) (H.layout hasher.now) (apart self.now.start self.now.end))
-            (nodes_in (apart self.now.start self.now.end) (overlapped self.now.start self.now.end
-            (peaks_from F.shape rest.first rest.left)))) found.old)) }
+        ensures { (digest : Site → List ℕ) → Serves F.shape digest self.now.siblings.now
+            (map D.text self.now.digests.now) → map D.text tops.now ≡ map digest (top_sites
+            self.now.start self.now.end (peaks_from F.shape rest.first rest.left) 0) → IfOk result
+            (λ r. (option_map D.text r ≡ right_of H.hash_of (λ p. eval H.hash_of (given_values
+            digest self.now.start (map E.items self.now.elements.now) (H.chunk hasher.now)) (part
+            (H.layout hasher.now) (apart self.now.start self.now.end) p)) (digest back) self.now.end
+            (peaks_from F.shape rest.first rest.left)) × (option_map (λ v. texts D.text v.items)
+            found.new ≡ option_map (λ v. texts D.text v.items ++ entries (H.layout hasher.now)
+            (digest_at H.hash_of (given_values digest self.now.start
+            (map E.items self.now.elements.now) (H.chunk hasher.now)) (H.layout hasher.now)
+            (apart self.now.start self.now.end)) (nodes_in (apart self.now.start self.now.end)
+            (overlapped self.now.start self.now.end (peaks_from F.shape rest.first rest.left))))
+            found.old)) }
     {
         if rest.left == 0 {
             return Ok(None);
@@ -243,7 +239,6 @@ impl<F: Family, D: Digest, E: AsSlice<u8>> Given<'_, F, D, E> {
         ensures left { IfOk result (λ r. r.1.now ≡ (if apart self.now.start self.now.end first
             height then drop 1 tops.now else tops.now)) }
         ensures exact { (digest : Site → List ℕ) (later : List Site)
-            → (H.layout hasher.now).shape ≡ F.shape
             → Serves F.shape digest self.now.siblings.now (map D.text self.now.digests.now)
             → (apart self.now.start self.now.end first height ≡ true
             → map D.text tops.now ≡ map digest (node first height ∷ later))
@@ -279,16 +274,16 @@ impl<F: Family, D: Digest, E: AsSlice<u8>> Given<'_, F, D, E> {
         requires takes { TakesTree (H.takes hasher.now) F.shape self.now.leaves }
         requires present { Present F.shape self.now.siblings.now (sites_of
             (node_calc (ungrafted F.shape) (apart self.now.start self.now.end) height first)) }
-        ensures { (digest : Site → List ℕ) → (H.layout hasher.now).shape ≡ F.shape
-            → Serves F.shape digest self.now.siblings.now (map D.text self.now.digests.now)
-            → IfOk result (λ d. (D.text d ≡ eval H.hash_of (given_values digest self.now.start
-            (map E.items self.now.elements.now) (H.chunk hasher.now))
-            (node_calc (H.layout hasher.now) (apart self.now.start self.now.end) height first))
-            × (option_map (λ v. texts D.text v.items) found.new ≡ option_map
-            (λ v. texts D.text v.items ++ entries (H.layout hasher.now) (digest_at H.hash_of
+        ensures { (digest : Site → List ℕ) → Serves F.shape digest self.now.siblings.now
+            (map D.text self.now.digests.now) → IfOk result (λ d. (D.text d ≡ eval H.hash_of
             (given_values digest self.now.start (map E.items self.now.elements.now)
-            (H.chunk hasher.now)) (H.layout hasher.now) (apart self.now.start self.now.end))
-            (nodes_under (apart self.now.start self.now.end) height first)) found.old)) }
+            (H.chunk hasher.now)) (node_calc (H.layout hasher.now)
+            (apart self.now.start self.now.end) height first)) × (option_map
+            (λ v. texts D.text v.items) found.new ≡ option_map (λ v. texts D.text v.items ++ entries
+            (H.layout hasher.now) (digest_at H.hash_of (given_values digest self.now.start
+            (map E.items self.now.elements.now) (H.chunk hasher.now)) (H.layout hasher.now)
+            (apart self.now.start self.now.end)) (nodes_under (apart self.now.start self.now.end)
+            height first)) found.old)) }
     {
         let position = node_position(first, height);
         if is_apart(self.start, self.end, first, height) {

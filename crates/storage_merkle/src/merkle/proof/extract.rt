@@ -33,21 +33,18 @@ impl<F: Family, D: Digest> Proof<F, D> {
         root: &D,
     ) -> Result<Vec<(Position<F>, D)>, Error<F>>
         requires { TakesTree (H.takes hasher.now) F.shape self.now.leaves }
-        ensures handed { (H.layout hasher.now).shape ≡ F.shape
-            → IfOk result (λ v.
-            AreHandedOut D.size H.hash_of (H.layout hasher.now) (H.bagging hasher.now)
+        ensures handed { IfOk result (λ v. AreHandedOut D.size H.hash_of (H.layout hasher.now)
+            (H.bagging hasher.now) (range_of D.text self.now) start (content_of
+            (map E.items elements.now) (H.chunk hasher.now)) (D.text root.now)
+            (texts D.text v.items)) }
+        ensures why { IfErr result (λ e. (e ≡ Error.Memory) ⊎ (((e ≡ Error.InvalidProof) × (Fits
+            H.hash_of (H.layout hasher.now) (H.bagging hasher.now) (range_of D.text self.now) start
+            (content_of (map E.items elements.now) (H.chunk hasher.now)) → ⊥)) ⊎ ((e
+            ≡ Error.RootMismatch) × (Fits H.hash_of (H.layout hasher.now) (H.bagging hasher.now)
             (range_of D.text self.now) start (content_of (map E.items elements.now)
-            (H.chunk hasher.now)) (D.text root.now) (texts D.text v.items)) }
-        ensures why { IfErr result (λ e.
-            (e ≡ Error.Memory) ⊎ (((e ≡ Error.InvalidProof) × ((H.layout hasher.now).shape ≡ F.shape
-            → Fits H.hash_of (H.layout hasher.now) (H.bagging hasher.now) (range_of D.text self.now)
-            start (content_of (map E.items elements.now) (H.chunk hasher.now)) → ⊥))
-            ⊎ ((e ≡ Error.RootMismatch) × ((H.layout hasher.now).shape ≡ F.shape
-            → Fits H.hash_of (H.layout hasher.now) (H.bagging hasher.now) (range_of D.text self.now)
-            start (content_of (map E.items elements.now) (H.chunk hasher.now))
-            × (IsAccepted H.hash_of (H.layout hasher.now) (H.bagging hasher.now)
-            (range_of D.text self.now) start (content_of (map E.items elements.now)
-            (H.chunk hasher.now)) (D.text root.now) → ⊥))))) }
+            (H.chunk hasher.now)) × (IsAccepted H.hash_of (H.layout hasher.now)
+            (H.bagging hasher.now) (range_of D.text self.now) start (content_of
+            (map E.items elements.now) (H.chunk hasher.now)) (D.text root.now) → ⊥))))) }
     {
         if elements.is_empty() {
             return match self.extract_nothing(hasher, start, root) {
@@ -76,14 +73,13 @@ impl<F: Family, D: Digest> Proof<F, D> {
         start: Location<F>,
     ) -> Result<Option<(D, Vec<(Position<F>, D)>)>, NoMemory>
         requires { TakesTree (H.takes hasher.now) F.shape self.now.leaves }
-        ensures root { (H.layout hasher.now).shape ≡ F.shape
-            → IfOk result (λ r. IsRecomputed H.hash_of (H.layout hasher.now) (H.bagging hasher.now)
+        ensures root { IfOk result (λ r. IsRecomputed H.hash_of (H.layout hasher.now)
+            (H.bagging hasher.now) (range_of D.text self.now) start (content_of
+            (map E.items elements.now) (H.chunk hasher.now)) (option_map (λ p. D.text p.0) r)) }
+        ensures digests { IfOk result (λ r. MatchOption r (Unit {0}) (λ p. texts D.text p.1.items
+            ≡ extracted H.hash_of (H.layout hasher.now) (H.bagging hasher.now)
             (range_of D.text self.now) start (content_of (map E.items elements.now)
-            (H.chunk hasher.now)) (option_map (λ p. D.text p.0) r)) }
-        ensures digests { (H.layout hasher.now).shape ≡ F.shape
-            → IfOk result (λ r. MatchOption r (Unit {0}) (λ p. texts D.text p.1.items ≡ extracted
-            H.hash_of (H.layout hasher.now) (H.bagging hasher.now) (range_of D.text self.now) start
-            (content_of (map E.items elements.now) (H.chunk hasher.now)))) }
+            (H.chunk hasher.now)))) }
     {
         let mut found = Some(Vec::new(alloc));
         let root = check::recompute(&self.lent(), alloc, hasher, elements, start, &mut found)?;

@@ -37,10 +37,9 @@ impl<F: Family, D: Digest> LentProof<'_, F, D> {
         start: Location<F>,
     ) -> Result<Option<D>, NoMemory>
         requires { TakesTree (H.takes hasher.now) F.shape self.now.leaves }
-        ensures { (H.layout hasher.now).shape ≡ F.shape
-            → IfOk result (λ root. IsRecomputed H.hash_of (H.layout hasher.now)
-            (H.bagging hasher.now) (lent_range_of D.text self.now) start
-            (content_of (map E.items elements.now) (H.chunk hasher.now)) (option_map D.text root)) }
+        ensures { IfOk result (λ root. IsRecomputed H.hash_of (H.layout hasher.now)
+            (H.bagging hasher.now) (lent_range_of D.text self.now) start (content_of
+            (map E.items elements.now) (H.chunk hasher.now)) (option_map D.text root)) }
     {
         check::recompute(self, alloc, hasher, elements, start, &mut None)
     }

@@ -36,11 +36,10 @@ impl<F: Family, D: Digest> Proof<F, D> {
         root: &D,
     ) -> Result<bool, NoMemory>
         requires { TakesTree (H.takes hasher.now) F.shape self.now.leaves }
-        ensures exact { (H.layout hasher.now).shape ≡ F.shape
-            → IfOk result (λ yes.
-            IsTrue yes ↔ IsPinnedAccepted H.hash_of (H.layout hasher.now) (H.bagging hasher.now)
-            (range_of D.text self.now) start (content_of (map E.items elements.now)
-            (H.chunk hasher.now)) (map D.text pinned.now) (D.text root.now)) }
+        ensures exact { IfOk result (λ yes. IsTrue yes ↔ IsPinnedAccepted H.hash_of
+            (H.layout hasher.now) (H.bagging hasher.now) (range_of D.text self.now) start
+            (content_of (map E.items elements.now) (H.chunk hasher.now)) (map D.text pinned.now)
+            (D.text root.now)) }
         ensures means { H.layout hasher.now ≡ ungrafted F.shape
             → H.chunk hasher.now ≡ (λ a. [])
             → IfOk result (λ yes. IsTrue yes
@@ -68,12 +67,10 @@ impl<F: Family, D: Digest> Proof<F, D> {
         pinned: &[D],
     ) -> Result<bool, NoMemory>
         requires { TakesTree (H.takes hasher.now) F.shape self.now.leaves }
-        ensures { (elements : List (List ℕ)) → (H.layout hasher.now).shape ≡ F.shape
-            → length elements ≡ count
-            → CountsFit H.hash_of (H.layout hasher.now) (H.bagging hasher.now)
-            (range_of D.text self.now) start (content_of elements (H.chunk hasher.now))
-            → IfOk result (λ yes. IsTrue yes ↔ AgreesWith H.hash_of (H.layout hasher.now)
-            (H.bagging hasher.now) (range_of D.text self.now) start
+        ensures { (elements : List (List ℕ)) → length elements ≡ count → CountsFit H.hash_of
+            (H.layout hasher.now) (H.bagging hasher.now) (range_of D.text self.now) start
+            (content_of elements (H.chunk hasher.now)) → IfOk result (λ yes. IsTrue yes ↔ AgreesWith
+            H.hash_of (H.layout hasher.now) (H.bagging hasher.now) (range_of D.text self.now) start
             (content_of elements (H.chunk hasher.now)) (map D.text pinned.now)) }
     {
         let leaves = self.leaves.as_u64();
@@ -137,11 +134,10 @@ impl<D: Digest> Pinned<'_, D> {
         requires pinned { ArePinned F.shape self.now.leaves self.now.start self.now.digests.now }
         requires takes { TakesTree (H.takes hasher.now) F.shape self.now.leaves }
         requires peaks { ArePeaks F.shape self.now.leaves peaks.first peaks.left }
-        ensures folded { (H.layout hasher.now).shape ≡ F.shape
-            → option_map D.text result.0 ≡ forward_of H.hash_of
-            (peaks_by (digest_before H.hash_of (H.layout hasher.now) self.now.start
-            (map D.text self.now.digests.now) (H.chunk hasher.now)) (leading self.now.start
-            (take peaks.folded (peaks_from F.shape peaks.first peaks.left)))) }
+        ensures folded { option_map D.text result.0 ≡ forward_of H.hash_of (peaks_by (digest_before
+            H.hash_of (H.layout hasher.now) self.now.start (map D.text self.now.digests.now)
+            (H.chunk hasher.now)) (leading self.now.start (take peaks.folded
+            (peaks_from F.shape peaks.first peaks.left)))) }
         ensures peaks { ArePeaks F.shape self.now.leaves result.1.first result.1.left }
         ensures after { AreAfterLeading F.shape self.now.start peaks.first peaks.left peaks.folded
             result.1.first result.1.left result.1.folded }
@@ -171,7 +167,6 @@ impl<D: Digest> Pinned<'_, D> {
         requires takes { TakesTree (H.takes hasher.now) F.shape self.now.leaves }
         requires peaks { ArePeaks F.shape self.now.leaves rest.first rest.left }
         ensures { (end : ℕ) (digest recomputed : Site → List ℕ)
-            → (H.layout hasher.now).shape ≡ F.shape
             → self.now.start < end
             → ((a k : ℕ) → recomputed (node a k) ≡ digest_before H.hash_of (H.layout hasher.now)
             self.now.start (map D.text self.now.digests.now) (H.chunk hasher.now) a k)
@@ -206,7 +201,6 @@ impl<D: Digest> Pinned<'_, D> {
         requires takes { TakesTree (H.takes hasher.now) F.shape self.now.leaves }
         requires within { All (λ p. p < size F.shape self.now.leaves) positions.now }
         ensures { (ss : List Site) (digest recomputed : Site → List ℕ)
-            → (H.layout hasher.now).shape ≡ F.shape
             → AreNodesAt F.shape self.now.leaves positions.now ss
             → ((a k : ℕ) → recomputed (node a k) ≡ digest_before H.hash_of (H.layout hasher.now)
             self.now.start (map D.text self.now.digests.now) (H.chunk hasher.now) a k)
@@ -229,8 +223,7 @@ impl<D: Digest> Pinned<'_, D> {
         requires takes { TakesTree (H.takes hasher.now) F.shape self.now.leaves }
         requires small { height ≤ 62 }
         requires within { InTree F.shape self.now.leaves first height }
-        ensures { (H.layout hasher.now).shape ≡ F.shape
-            → D.text result ≡ digest_before H.hash_of (H.layout hasher.now) self.now.start
+        ensures { D.text result ≡ digest_before H.hash_of (H.layout hasher.now) self.now.start
             (map D.text self.now.digests.now) (H.chunk hasher.now) first height }
     {
         if let Some(digest) = self.pinned::<F>(first, height) {

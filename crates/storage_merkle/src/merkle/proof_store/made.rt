@@ -37,20 +37,17 @@ impl<F: Family, D: Digest> ProofStore<F, D> {
         root: &D,
     ) -> Result<Self, Error<F>>
         requires { TakesTree (H.takes hasher.now) F.shape proof.now.leaves }
-        ensures made { (H.layout hasher.now).shape ≡ F.shape
-            → IfOk result (λ store. IsMadeOf D.size H.hash_of (H.layout hasher.now)
-            (H.bagging hasher.now) (range_of D.text proof.now) start
-            (content_of (map E.items elements.now) (H.chunk hasher.now)) (D.text root.now) store) }
-        ensures why { IfErr result (λ e. (e ≡ Error.Memory)
-            ⊎ (((e ≡ Error.InvalidProof) × ((H.layout hasher.now).shape ≡ F.shape → Fits H.hash_of
-            (H.layout hasher.now) (H.bagging hasher.now) (range_of D.text proof.now) start
-            (content_of (map E.items elements.now) (H.chunk hasher.now)) → ⊥))
-            ⊎ ((e ≡ Error.RootMismatch) × ((H.layout hasher.now).shape ≡ F.shape → Fits H.hash_of
-            (H.layout hasher.now) (H.bagging hasher.now) (range_of D.text proof.now) start
-            (content_of (map E.items elements.now) (H.chunk hasher.now))
-            × (IsAccepted H.hash_of (H.layout hasher.now) (H.bagging hasher.now)
+        ensures made { IfOk result (λ store. IsMadeOf D.size H.hash_of (H.layout hasher.now)
+            (H.bagging hasher.now) (range_of D.text proof.now) start (content_of
+            (map E.items elements.now) (H.chunk hasher.now)) (D.text root.now) store) }
+        ensures why { IfErr result (λ e. (e ≡ Error.Memory) ⊎ (((e ≡ Error.InvalidProof) × (Fits
+            H.hash_of (H.layout hasher.now) (H.bagging hasher.now) (range_of D.text proof.now) start
+            (content_of (map E.items elements.now) (H.chunk hasher.now)) → ⊥)) ⊎ ((e
+            ≡ Error.RootMismatch) × (Fits H.hash_of (H.layout hasher.now) (H.bagging hasher.now)
             (range_of D.text proof.now) start (content_of (map E.items elements.now)
-            (H.chunk hasher.now)) (D.text root.now) → ⊥))))) }
+            (H.chunk hasher.now)) × (IsAccepted H.hash_of (H.layout hasher.now)
+            (H.bagging hasher.now) (range_of D.text proof.now) start (content_of
+            (map E.items elements.now) (H.chunk hasher.now)) (D.text root.now) → ⊥))))) }
     {
         if elements.is_empty() {
             return match proof.extract_nothing(hasher, start, root) {

@@ -10,10 +10,11 @@ birth-requires g c =
 
 pub grafted_to_ops_pos-above-requires-clause-fits :
     goal.grafted_to_ops_pos-above-requires-clause-fits
-grafted_to_ops_pos-above-requires-clause-fits g c =
+grafted_to_ops_pos-above-requires-clause-fits g c p covers =
     covers_early g.F.Family.shape g.met.F.Family.laws (2 ^ 62) c.args.height c.args.position c.node_at-first.result.0
     c.node_at-first.result.1 c.node_at-first.ensures.node
     (let leaf : c.in-Some.first ≡ c.node_at-first.result.0 * 2 ^ c.args.height = grind (arith, c.in-Some.ensures, c.power.ensures) in rw (← leaf, ← c.birth.ensures) c.if-birth-gt-MAX_LEAVES.false)
+    p (rw c.new.ensures at covers)
 
 pub ops_to_grafted_pos-below-requires-clause-valid :
     goal.ops_to_grafted_pos-below-requires-clause-valid
@@ -21,4 +22,4 @@ ops_to_grafted_pos-below-requires-clause-valid g c =
     covers_early g.F.Family.shape g.met.F.Family.laws (2 ^ 62) c.args.height c.args.position c.node_at-first.result.0
     c.node_at-first.result.1 c.node_at-first.ensures.node
     (let leaf : c.in-Some.first ≡ c.node_at-first.result.0 * 2 ^ c.args.height = grind (arith, c.in-Some.ensures, c.power.ensures) in rw (← leaf, ← c.birth.ensures) c.if-birth-gt-MAX_LEAVES.false)
-    c.grafted_to_ops_pos-above.result c.grafted_to_ops_pos-above.ensures
+    c.grafted_to_ops_pos-above.result (rw c.new.ensures at c.grafted_to_ops_pos-above.ensures)

@@ -63,11 +63,11 @@ impl<F: Graftable, H: Hasher<F>> Hasher<F> for GraftedHasher<F, H> {
             (H.layout self.now.inner)) (λ a. H.chunk self.now.inner (a * 2 ^ self.now.height)) first
             height (H.Digest.text left.now) (H.Digest.text right.now) }
     {
-        let position = grafted_to_ops_pos::<F>(position.as_u64(), self.height);
-        self.inner.node_digest(Position::new(position), left, right)
+        let position = grafted_to_ops_pos::<F>(position, self.height);
+        self.inner.node_digest(position, left, right)
     }
 
     ghost sized = { H.sized };
 
-    ghost over = { λ s. record { byte = (H.over s.inner).byte; peaks = (H.over s.inner).peaks } };
+    ghost over = { λ s. H.over s.inner };
 }

@@ -1,9 +1,11 @@
 //! A tree over chunks and a tree over the operations, read as one.
 
 ghost use Rattle.std.specs.Prelude.{◌≡◌, ℕ, ◌+◌, ◌^◌, ◌<◌, ◌≤◌, ◌∷◌, ◌⊎◌, ◌↔◌, [], List, length, map, IfOk, MatchOption, MatchResult, Err, Some, None, Option};
-ghost use Rattle.storage_merkle.specs.Plans.{IsFirstAbsent};
-ghost use Rattle.storage_current.specs.Combined.{joined};
+ghost use Rattle.std.specs.List.{All};
+ghost use Rattle.storage_merkle.specs.Plans.{IsFirstAbsent, IsFirstFault};
+ghost use Rattle.storage_current.specs.Combined.{IsOfOperations, joined};
 ghost use Rattle.storage_current.specs.Splits.{IsLook, IsSplit, filled, gaps};
+ghost use Rattle.storage_current.specs.declared.qmdb.current.grafting.storage.Look.TheVariants.{Below};
 
 use crate::qmdb::current::grafting::ops_to_grafted_pos;
 use std::alloc::{AllocError, Global};
@@ -60,6 +62,9 @@ impl<
 
     ghost failed = { λ s. S.failed s.ops_tree.now };
 
+    ghost may_fail = { λ s p code. IsOfOperations F.shape s.height (S.nodes s.ops_tree.now) p
+        × S.may_fail s.ops_tree.now p code };
+
     fn size(&self) -> Position<F> {
         self.ops_tree.size()
     }
@@ -74,6 +79,9 @@ impl<
             (λ d. d ≡ joined F.shape self.old.height (S.nodes self.old.ops_tree.now)
             (R.node self.old.grafted_tree.now) (S.node self.old.ops_tree.now) position) (λ e.
             ((code : ℕ) × (e ≡ Error.Source code)) ⊎ (e ≡ Error.Memory)) }
+        ensures fault { (code : ℕ) → result ≡ Err (Error.Source code)
+            → IsOfOperations F.shape self.old.height (S.nodes self.old.ops_tree.now) position
+            × S.may_fail self.old.ops_tree.now position code }
         ensures failure { ((code : ℕ) × (result ≡ Err (Error.Source code)))
             ↔ (S.failed self.new.ops_tree.now ≡ S.failed self.old.ops_tree.now + 1) }
         ensures count { (S.failed self.new.ops_tree.now ≡ S.failed self.old.ops_tree.now)
@@ -108,6 +116,11 @@ impl<
             MatchResult result (λ v. map Some v.items ≡ map node positions.now) (λ e. ((p : ℕ)
             × (e ≡ Error.ElementPruned p) × IsFirstAbsent (λ q a. a ≡ node q) positions.now p)
             ⊎ (((code : ℕ) × (e ≡ Error.Source code)) ⊎ (e ≡ Error.Memory))) }
+        ensures fault { let node = joined F.shape self.old.height (S.nodes self.old.ops_tree.now)
+            (R.node self.old.grafted_tree.now) (S.node self.old.ops_tree.now) in
+            (code : ℕ) → result ≡ Err (Error.Source code) → IsFirstFault (λ q a. a ≡ node q)
+            (λ p c. IsOfOperations F.shape self.old.height (S.nodes self.old.ops_tree.now) p
+            × S.may_fail self.old.ops_tree.now p c) positions.now code }
         ensures failure { ((code : ℕ) × (result ≡ Err (Error.Source code)))
             ↔ (S.failed self.new.ops_tree.now ≡ S.failed self.old.ops_tree.now + 1) }
         ensures count { (S.failed self.new.ops_tree.now ≡ S.failed self.old.ops_tree.now)
@@ -151,8 +164,9 @@ fn look_up<F: Graftable, R: Readable<Family = F>>(
     position: Position<F>,
 ) -> Look<R::Digest>
     requires { 1 ≤ height }
-    ensures { (operations : ℕ → Option R.Digest) → IsLook (joined F.shape height nodes
+    ensures look { (operations : ℕ → Option R.Digest) → IsLook (joined F.shape height nodes
         (R.node grafted_tree.now) operations) operations position result }
+    ensures below { result ≡ Below → IsOfOperations F.shape height nodes position }
 {
     if position.as_u64() >= nodes.as_u64() || !position.is_valid() {
         return Look::Absent;
@@ -160,8 +174,7 @@ fn look_up<F: Graftable, R: Readable<Family = F>>(
     if F::pos_to_height(position) < height {
         return Look::Below;
     }
-    let lowered = Position::new(ops_to_grafted_pos::<F>(position.as_u64(), height));
-    match grafted_tree.get_node(lowered) {
+    match grafted_tree.get_node(ops_to_grafted_pos::<F>(position, height)) {
         None => Look::Absent,
         Some(digest) => Look::Found(digest),
     }
@@ -185,11 +198,13 @@ fn find_all<F: Graftable, R: Readable<Family = F>>(
     positions: &[Position<F>],
 ) -> Result<Finds<F, R::Digest>, AllocError>
     requires { 1 ≤ height }
-    ensures { IfOk result (λ finds. (operations : ℕ → Option R.Digest)
+    ensures found { IfOk result (λ finds. (operations : ℕ → Option R.Digest)
         → let node = joined F.shape height size (R.node grafted_tree.now) operations in
         (rest : List ℕ) × IsSplit node operations rest finds.nodes.items positions.now
         finds.below.items × MatchOption finds.missing (rest ≡ []) (λ p.
         (more : List ℕ) × (rest ≡ p ∷ more) × (node p ≡ None))) }
+    ensures below { IfOk result (λ finds. All (IsOfOperations F.shape height size)
+        finds.below.items) }
 {
     let mut nodes = Vec::with_capacity(alloc, positions.len())?;
     let mut below = Vec::new(alloc);
@@ -231,6 +246,8 @@ fn read_all<F: Graftable, S: merkle::Storage<F>>(
         ≡ map (S.node store.old) positions.now) (λ e. ((p : ℕ) × (e ≡ Error.ElementPruned p)
         × IsFirstAbsent (λ q a. a ≡ S.node store.old q) positions.now p)
         ⊎ (((code : ℕ) × (e ≡ Error.Source code)) ⊎ (e ≡ Error.Memory))) }
+    ensures fault { (code : ℕ) → result ≡ Err (Error.Source code)
+        → IsFirstFault (λ q a. a ≡ S.node store.old q) (S.may_fail store.old) positions.now code }
     ensures failure { ((code : ℕ) × (result ≡ Err (Error.Source code)))
         ↔ (S.failed store.new ≡ S.failed store.old + 1) }
     ensures count { (S.failed store.new ≡ S.failed store.old)

@@ -104,8 +104,11 @@ impl<F: Graftable, H: digest::Hasher> Hasher<F> for Verifier<'_, F, H> {
 
     ghost hash_of = { H.hash_of };
 
-    ghost layout = { λ v.
-        record { shape = F.shape; grafted = grafted_over v.height v.graftable_chunks } };
+    ghost layout = { λ v. record {
+      shape = F.shape;
+      position = F.shape.position;
+      grafted = grafted_over v.height v.graftable_chunks;
+    } };
 
     ghost chunk = { λ v a.
         supplied v.start_chunk_index (map (λ c. c.now) v.chunks.items) (a / 2 ^ v.height) };
@@ -127,6 +130,7 @@ impl<F: Graftable, H: digest::Hasher> Hasher<F> for Verifier<'_, F, H> {
         ensures { (first height : ℕ) → IsNode F.shape position first height
             → H.Digest.text result ≡ join_digest H.hash_of (record {
               shape = F.shape;
+              position = F.shape.position;
               grafted = grafted_over self.now.height self.now.graftable_chunks;
             })
             (λ a. supplied self.now.start_chunk_index (map (λ c. c.now) self.now.chunks.items)
@@ -142,5 +146,5 @@ impl<F: Graftable, H: digest::Hasher> Hasher<F> for Verifier<'_, F, H> {
 
     ghost sized = { H.sized };
 
-    ghost over = { λ _. record { byte = refl; peaks = λ _. refl } };
+    ghost over = { λ _. refl };
 }

@@ -43,8 +43,8 @@ impl<F: Graftable, D: Digest> RangeProof<F, D> {
     pub fn new_with_ops<
         H: Hasher<Digest = D>,
         R: Readable<N>,
-        S: Storage<F, Digest = D>,
         L: Contiguous,
+        S: Storage<F, Digest = D>,
         const N: usize,
     >(
         alloc: Global,

@@ -13,6 +13,6 @@ returns g c =
       c.byte.ensures,
       c.byte-2.ensures,
       c.root_bagging.ensures,
-      over.byte,
+      over,
       append_assoc,
     ) refl

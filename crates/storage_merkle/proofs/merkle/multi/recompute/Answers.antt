@@ -10,7 +10,8 @@ use Rattle.storage_merkle.proofs.merkle.multi.recompute.Goals as goal
 use Rattle.storage_merkle.proofs.merkle.multi.recompute.Goals.{then-leaves-gt-MAX_LEAVES-via-then-leaves-gt-MAX_LEAVES, then-leaves-gt-MAX_LEAVES-via-else-leaves-gt-MAX_LEAVES+then-not-ascend}
 
 pub returns-then-leaves-gt-MAX_LEAVES : goal.returns-then-leaves-gt-MAX_LEAVES
-returns-then-leaves-gt-MAX_LEAVES g c = λ same.
+returns-then-leaves-gt-MAX_LEAVES g c =
+    let same = g.met.H.Hasher.over c.args.hasher.now in
     elim c.then-leaves-gt-MAX_LEAVES.branch [
       | then-leaves-gt-MAX_LEAVES-via-then-leaves-gt-MAX_LEAVES w ↦
           let over : 2 ^ 62 < c.as_u64-leaves.result = w.if-leaves-gt-MAX_LEAVES.true in
@@ -29,7 +30,8 @@ returns-then-leaves-gt-MAX_LEAVES g c = λ same.
     ]
 
 pub returns-then-len : goal.returns-then-len
-returns-then-len g c = λ same.
+returns-then-len g c =
+    let same = g.met.H.Hasher.over c.args.hasher.now in
     let S = g.F.Family.shape in
     let U = ungrafted S in
     let ls = map (λ c. c.1) c.args.claims.now in
@@ -65,7 +67,8 @@ add_peaks-requires-clause-present g c =
     (locations (claims_of g.E.AsSlice.items cs)) c.as_u64-leaves.result c.deref.result.now found
 
 pub returns : goal.returns
-returns g c = λ same.
+returns g c =
+    let same = g.met.H.Hasher.over c.args.hasher.now in
     let S = g.F.Family.shape in
     let U = ungrafted S in
     let text = g.H.Digest.Write.text in
@@ -87,7 +90,7 @@ returns g c = λ same.
     c.in_ok-positions.positions.items found as_many in
     let serves' : Serves S values.digest c.deref.result.now (map text c.deref-2.result.now) =
     rw (c.deref.ensures.value, c.deref-2.ensures.value) serves in
-    let peaks = ap (map text) c.deref-3.ensures.value ∙ c.in_ok-add_peaks.ensures.exact values.digest same serves'
+    let peaks = ap (map text) c.deref-3.ensures.value ∙ c.in_ok-add_peaks.ensures.exact values.digest serves'
     ∙ ap (λ ds. map text ds
     ++ values_in g.E.AsSlice.items g.H.Hasher.hash_of (g.H.Hasher.layout c.args.hasher.now) values.digest
     (g.H.Hasher.chunk c.args.hasher.now) S c.args.claims.now 0 c.as_u64-leaves.result) c.new-peaks.ensures.items

@@ -1,14 +1,14 @@
-use Rattle.std.proofs.Common.{refl, arith}
+use Rattle.std.proofs.Common.{arith}
 use Rattle.std.proofs.lemmas.Grind.{common_steps}
 use Rattle.storage_ops.proofs.qmdb.verify.verify_proof.Goals as goal
 
 pub returns-clause-exact : goal.returns-clause-exact
 returns-clause-exact g c = rw (c.deref.ensures.value, c.in_ok-elements.ensures.all, c.hasher.ensures) at
-    (c.verify_range_inclusion.ensures.exact refl)
+    c.verify_range_inclusion.ensures.exact
 
 pub returns-clause-means : goal.returns-clause-means
 returns-clause-means g c = rw (c.deref.ensures.value, c.in_ok-elements.ensures.all, c.hasher.ensures) at
-    (c.verify_range_inclusion.ensures.means refl)
+    c.verify_range_inclusion.ensures.means
 
 pub returns-clause-none : goal.returns-clause-none
 returns-clause-none g c = grind (arith, common_steps)

@@ -1,15 +1,9 @@
-use Rattle.std.proofs.Common.{refl}
-use Rattle.storage_ops.proofs.Verify.{on_err, under}
 use Rattle.storage_ops.proofs.qmdb.verify.verify_proof_and_extract_digests.Goals as goal
 
 pub returns-clause-handed : goal.returns-clause-handed
 returns-clause-handed g c = rw (c.deref.ensures.value, c.in_ok-elements.ensures.all, c.hasher-hasher.ensures) at
-    (c.verify_range_inclusion_and_extract_digests.ensures.handed refl)
+    c.verify_range_inclusion_and_extract_digests.ensures.handed
 
 pub returns-clause-why : goal.returns-clause-why
-returns-clause-why g c =
-    on_err _ _ c.verify_range_inclusion_and_extract_digests.result (λ e w. under refl w) (rw (
-      c.deref.ensures.value,
-      c.in_ok-elements.ensures.all,
-      c.hasher-hasher.ensures,
-    ) at c.verify_range_inclusion_and_extract_digests.ensures.why)
+returns-clause-why g c = rw (c.deref.ensures.value, c.in_ok-elements.ensures.all, c.hasher-hasher.ensures) at
+    c.verify_range_inclusion_and_extract_digests.ensures.why

@@ -8,7 +8,7 @@ use Rattle.storage_ops.proofs.qmdb.verify.verify_proof_and_pinned_nodes.Goals as
 
 pub returns-clause-exact : goal.returns-clause-exact
 returns-clause-exact g c = rw (c.deref.ensures.value, c.in_ok-elements.ensures.all, c.hasher-hasher.ensures) at
-    (c.verify_proof_and_pinned_nodes.ensures.exact refl)
+    c.verify_proof_and_pinned_nodes.ensures.exact
 
 pub returns-clause-means : goal.returns-clause-means
 returns-clause-means g c =

@@ -1,6 +1,6 @@
-use Rattle.std.proofs.Common.{◌∷◌, [], ap, map}
+use Rattle.std.proofs.Common.{◌∷◌, [], map}
 use Rattle.storage_merkle.specs.Mmr.{mmr}
-use Rattle.storage_merkle.specs.Trees.{Layout, ungrafted}
+use Rattle.storage_merkle.specs.Trees.{ungrafted}
 use Rattle.storage_bitmap.proofs.BitPlain.{answered_at, answered_plain}
 use Rattle.storage_bitmap.proofs.bitmap.authenticated.inclusion.chunks_root.Goals as goal
 
@@ -13,4 +13,4 @@ returns g c = λ same.
     (record { leaves = c.new.result; inactive = 0; digests = map g.H.Digest.Write.text c.args.digests.now })
     c.new-2.result (c.args.chunk.now ∷ []) (g.H.Hasher.chunk c.args.hasher.now)
     g.H.Digest.Write.text c.recompute_root.result (g.H.Hasher.layout c.args.hasher.now) same
-    (c.recompute_root.ensures (ap (λ (t : Layout). t.shape) same)))
+    c.recompute_root.ensures)

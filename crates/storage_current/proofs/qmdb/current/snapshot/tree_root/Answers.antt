@@ -6,7 +6,7 @@ use Rattle.storage_current.proofs.qmdb.current.snapshot.tree_root.Goals as goal
 pub returns : goal.returns
 returns g c grafted content count all =
     let h = g.H.Hasher.hash_of in
-    let T : Layout = record { shape = g.F.Family.shape; grafted = grafted } in
+    let T : Layout = record { shape = g.F.Family.shape; position = g.F.Family.shape.position; grafted = grafted } in
     let peaks = c.in_ok-peaks.ensures.digests (tree_node h T content) all in
     root_from h T.shape grafted content c.args.leaves c.args.inactive c.hasher.result.bagging _ _ c.hasher.ensures count
     (ap (map g.H.Digest.Write.text) c.deref.ensures.value ∙ peaks) (rw c.new.ensures at c.root.ensures)

@@ -12,7 +12,7 @@ returns-then-left-eq0-clause-all g t c = omega (
 )
 
 pub returns-then-left-eq0-clause-exact : goal.returns-then-left-eq0-clause-exact
-returns-then-left-eq0-clause-exact g t c = λ digest same serves.
+returns-then-left-eq0-clause-exact g t c = λ digest serves.
     peaks_none g.E.AsSlice.items g.H.Hasher.hash_of (g.H.Hasher.layout c.args.hasher.now) digest
     (g.H.Hasher.chunk c.args.hasher.now) g.F.Family.shape c.args.claims.now c.args.first c.args.left _
     (no_peaks g.F.Family.shape g.met.F.Family.laws) c.if-left-eq0.true
@@ -54,11 +54,11 @@ add_peaks-requires g t c κs within =
 pub returns-clause-exact : goal.returns-clause-exact
 returns-clause-exact g t c =
     on_ok c.add_peaks.result
-    (λ f digest same serves.
+    (λ f digest serves.
     peaks_more g.E.AsSlice.items g.H.Hasher.hash_of (g.H.Hasher.layout c.args.hasher.now) digest
     (g.H.Hasher.chunk c.args.hasher.now) g.F.Family.shape g.D.Write.text c.args.claims.now c.split.result.0.now
     c.split.result.1.now c.args.first c.args.left c.first_peak-height.result (c.args.first + c.power.result)
     c.power-2.result c.node.result _ _ _ c.first_peak-height.ensures.first c.first_peak-height.ensures.within
     c.power-2.ensures (ap (λ n. c.args.first + n) c.power.ensures) c.split.ensures.whole c.split.ensures.parts
-    c.requires.rising c.in_ok-push.ensures.items (c.node.ensures digest same serves) (f digest same serves))
+    c.requires.rising c.in_ok-push.ensures.items (c.node.ensures digest serves) (f digest serves))
     c.add_peaks.ensures.exact

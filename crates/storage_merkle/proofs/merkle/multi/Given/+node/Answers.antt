@@ -17,14 +17,15 @@ digest-requires-clause-present g t c =
     c.args.first _ c.if-is_empty.ensures c.node_position-position.ensures c.requires.present
 
 pub returns-then-is_empty : goal.returns-then-is_empty
-returns-then-is_empty g t c = λ digest same serves.
+returns-then-is_empty g t c = λ digest serves.
     node_given g.E.AsSlice.items g.H.Hasher.hash_of (g.H.Hasher.layout c.args.hasher.now) digest
     (g.H.Hasher.chunk c.args.hasher.now) c.args.claims.now c.args.height c.args.first _ c.if-is_empty.ensures
     (c.digest.ensures digest c.args.first c.args.height serves
     (record { aligned = c.requires.within.aligned; at = sym c.node_position-position.ensures }))
 
 pub returns-then-height-eq0 : goal.returns-then-height-eq0
-returns-then-height-eq0 g t c = λ digest same serves.
+returns-then-height-eq0 g t c = λ digest serves.
+    let same = g.met.H.Hasher.over c.args.hasher.now in
     node_leaf g.E.AsSlice.items g.H.Hasher.hash_of (g.H.Hasher.layout c.args.hasher.now) digest
     (g.H.Hasher.chunk c.args.hasher.now) g.F.Family.shape c.args.claims.now c.index-claims-0.result c.args.height
     c.args.first _ _ _ same c.if-is_empty.ensures c.if-height-eq0.true c.requires.rising c.index-claims-0.is
@@ -71,12 +72,12 @@ node-right-requires g t c κs within =
     rw c.power.ensures (search rules)
 
 pub returns : goal.returns
-returns g t c = λ digest same serves.
+returns g t c = λ digest serves.
     let em = ap (λ n. c.args.first + n) c.power.ensures in
     node_halves g.E.AsSlice.items g.H.Hasher.hash_of (g.H.Hasher.layout c.args.hasher.now) digest
     (g.H.Hasher.chunk c.args.hasher.now) c.args.claims.now c.split.result.0.now c.split.result.1.now c.args.height
     c.args.first (c.args.first + c.power.result) _ _ _ c.if-is_empty.ensures c.if-height-eq0.false em
     c.split.ensures.whole c.split.ensures.parts c.requires.rising
-    (c.node-left.ensures digest same serves) (c.node-right.ensures digest same serves)
+    (c.node-left.ensures digest serves) (c.node-right.ensures digest serves)
     (c.node_digest.ensures c.args.first c.args.height
     (record { aligned = c.requires.within.aligned; at = sym c.node_position-position.ensures }))

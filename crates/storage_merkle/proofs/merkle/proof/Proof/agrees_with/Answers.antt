@@ -15,36 +15,38 @@ use Rattle.storage_merkle.proofs.merkle.proof.Proof.agrees_with.Goals as goal
 use Rattle.storage_merkle.proofs.merkle.proof.Proof.agrees_with.Goals.{then-end-leaves-via-then-end-leaves, then-end-leaves-via-else-end-leaves+then-leaves-gt-MAX_LEAVES, then-end-leaves-via-else-end-leaves+else-leaves-gt-MAX_LEAVES+then-pinned-peak_count, then-give_peaks, else-give_peaks}
 
 pub returns-then-end-leaves : goal.returns-then-end-leaves
-returns-then-end-leaves g c = λ elements same as_many fit. (
-  λ no. cc,
-  λ ok. absurd (elim c.then-end-leaves.branch [
-    | then-end-leaves-via-then-end-leaves w ↦ (let within = fit.within in
-        omega (arith, w.if-end-leaves.true, c.in-Some.ensures.1, c.as_u64-leaves.ensures, c.as_u64-start.ensures))
-    | then-end-leaves-via-else-end-leaves+then-leaves-gt-MAX_LEAVES w ↦
-        (let few = fit.few in omega (arith, w.if-leaves-gt-MAX_LEAVES.true, c.as_u64-leaves.ensures))
-    | then-end-leaves-via-else-end-leaves+else-leaves-gt-MAX_LEAVES+then-pinned-peak_count w ↦ (
-        let count = ok.count in
-        let peaks = pinned_counted g.F.Family.shape g.H.Hasher.hash_of (g.H.Hasher.layout c.args.hasher.now) same
-        (g.H.Hasher.bagging c.args.hasher.now) (record {
-          leaves = c.args.self.now.leaves;
-          inactive = c.args.self.now.inactive_peaks;
-          digests = map g.D.Write.text c.args.self.now.digests.items;
-        })
-        c.args.start (record { elements = elements; chunk = g.H.Hasher.chunk c.args.hasher.now })
-        (map g.D.Write.text c.args.pinned.now) in
-        w.if-pinned-peak_count.true (omega (
-          arith,
-          count,
-          peaks,
-          length-map c.args.pinned.now g.D.Write.text,
-          w.peak_count.ensures,
-          ap (λ s. length (g.F.Family.shape.peaks s)) c.as_u64-start.ensures,
-        )))
-  ]),
-)
+returns-then-end-leaves g c = λ elements as_many fit.
+    let same = g.met.H.Hasher.over c.args.hasher.now in (
+      λ no. cc,
+      λ ok. absurd (elim c.then-end-leaves.branch [
+        | then-end-leaves-via-then-end-leaves w ↦ (let within = fit.within in
+            omega (arith, w.if-end-leaves.true, c.in-Some.ensures.1, c.as_u64-leaves.ensures, c.as_u64-start.ensures))
+        | then-end-leaves-via-else-end-leaves+then-leaves-gt-MAX_LEAVES w ↦
+            (let few = fit.few in omega (arith, w.if-leaves-gt-MAX_LEAVES.true, c.as_u64-leaves.ensures))
+        | then-end-leaves-via-else-end-leaves+else-leaves-gt-MAX_LEAVES+then-pinned-peak_count w ↦ (
+            let count = ok.count in
+            let peaks = pinned_counted g.F.Family.shape g.H.Hasher.hash_of (g.H.Hasher.layout c.args.hasher.now) same
+            (g.H.Hasher.bagging c.args.hasher.now) (record {
+              leaves = c.args.self.now.leaves;
+              inactive = c.args.self.now.inactive_peaks;
+              digests = map g.D.Write.text c.args.self.now.digests.items;
+            })
+            c.args.start (record { elements = elements; chunk = g.H.Hasher.chunk c.args.hasher.now })
+            (map g.D.Write.text c.args.pinned.now) in
+            w.if-pinned-peak_count.true (omega (
+              arith,
+              count,
+              peaks,
+              length-map c.args.pinned.now g.D.Write.text,
+              w.peak_count.ensures,
+              ap (λ s. length (g.F.Family.shape.peaks s)) c.as_u64-start.ensures,
+            )))
+      ]),
+    )
 
 pub returns-in_default-checked_sub : goal.returns-in_default-checked_sub
-returns-in_default-checked_sub g c = λ elements same as_many.
+returns-in_default-checked_sub g c = λ elements as_many.
+    let same = g.met.H.Hasher.over c.args.hasher.now in
     let S = g.F.Family.shape in
     let L = g.met.F.Family.laws in
     let low = c.as_u64-start.result in
@@ -91,7 +93,8 @@ returns-in_default-checked_sub g c = λ elements same as_many.
     ))
 
 pub returns-in_default-after_fold : goal.returns-in_default-after_fold
-returns-in_default-after_fold g c = λ elements same as_many.
+returns-in_default-after_fold g c = λ elements as_many.
+    let same = g.met.H.Hasher.over c.args.hasher.now in
     let S = g.F.Family.shape in
     let L = g.met.F.Family.laws in
     let low = c.as_u64-start.result in
@@ -120,7 +123,7 @@ returns-in_default-after_fold g c = λ elements same as_many.
     let sum : c.in-Some-checked_sub.apart + c.len-2.result ≡ length items =
     omega (arith, c.in-Some-checked_sub.ensures, c.len.ensures) in
     let fold = option_map text c.fold_leading-fold.result.0 in
-    let folds = c.fold_leading-fold.ensures.folded same ∙ ap₂
+    let folds = c.fold_leading-fold.ensures.folded ∙ ap₂
     (λ s r. forward_of h (peaks_by (digest_before h T low pinned chunk) (leading low (take f (peaks_from S s r)))))
     c.all-peaks.ensures.first c.all-peaks.ensures.left in
     let front =
@@ -146,7 +149,8 @@ give_siblings-requires-clause-within g c =
     c.deref-then-give_peaks.result.now (c.deref-then-give_peaks.ensures.value ∙ c.in_ok-siblings.ensures)
 
 pub returns : goal.returns
-returns g c = λ elements same as_many.
+returns g c = λ elements as_many.
+    let same = g.met.H.Hasher.over c.args.hasher.now in
     let S = g.F.Family.shape in
     let L = g.met.F.Family.laws in
     let low = c.as_u64-start.result in
@@ -175,7 +179,7 @@ returns g c = λ elements same as_many.
     let sum : c.in-Some-checked_sub.apart + c.len-2.result ≡ length items =
     omega (arith, c.in-Some-checked_sub.ensures, c.len.ensures) in
     let fold = option_map text c.fold_leading-fold.result.0 in
-    let folds = c.fold_leading-fold.ensures.folded same ∙ ap₂
+    let folds = c.fold_leading-fold.ensures.folded ∙ ap₂
     (λ s r. forward_of h (peaks_by (digest_before h T low pinned chunk) (leading low (take f (peaks_from S s r)))))
     c.all-peaks.ensures.first c.all-peaks.ensures.left in
     let front =
@@ -200,7 +204,7 @@ returns g c = λ elements same as_many.
     let here = left_are S L h T same b n i low elements chunk text items high f rest.first rest.left rest.folded range
     c.all-peaks.ensures.folded after pinned fit c.in-Some-checked_sub.apart c.len-2.result beside sum fold folds
     left starts in
-    let peaks = c.give_peaks.ensures high values.digest again same some (λ a k. refl) here in
+    let peaks = c.give_peaks.ensures high values.digest again some (λ a k. refl) here in
     elim c.if-give_peaks.branch [
       | then-give_peaks w ↦
           let texts =
@@ -208,7 +212,7 @@ returns g c = λ elements same as_many.
           range c.all-peaks.ensures.folded after pinned fit c.in-Some-checked_sub.apart c.len-2.result beside sum in
           let places = siblings_at S L n low high w.deref-then-give_peaks.result.now
           (w.deref-then-give_peaks.ensures.value ∙ c.in_ok-siblings.ensures) in
-          let others = w.give_siblings.ensures (sibling_sites (ungrafted S) n low high) values.digest again same places
+          let others = w.give_siblings.ensures (sibling_sites (ungrafted S) n low high) values.digest again places
           (λ a k. refl) texts in (
             λ y. agree_where S L h T same b n i low elements chunk text items high f rest.first rest.left rest.folded
                 range c.all-peaks.ensures.folded after pinned fit c.in-Some-checked_sub.apart c.len-2.result beside sum

@@ -9,7 +9,7 @@ use Rattle.storage_merkle.proofs.Handed.{sorted_entries, taken, on_proof}
 use Rattle.storage_merkle.proofs.merkle.proof.Proof.recompute_digests.Goals as goal
 
 pub returns-clause-root : goal.returns-clause-root
-returns-clause-root g c = λ same.
+returns-clause-root g c =
     let r = subst (λ o. IsRecomputed g.H.Hasher.hash_of (g.H.Hasher.layout c.args.hasher.now)
     (g.H.Hasher.bagging c.args.hasher.now) (record {
       leaves = c.lent.result.leaves;
@@ -17,7 +17,7 @@ returns-clause-root g c = λ same.
       digests = map g.D.Write.text c.lent.result.digests.now;
     }) c.args.start
     (record { elements = map g.E.AsSlice.items c.args.elements.now; chunk = g.H.Hasher.chunk c.args.hasher.now })
-    (option_map g.D.Write.text o)) c.in-Some-Some.is-0 (c.in_ok-root.ensures.root same) in
+    (option_map g.D.Write.text o)) c.in-Some-Some.is-0 c.in_ok-root.ensures.root in
     on_proof (λ p. IsRecomputed g.H.Hasher.hash_of (g.H.Hasher.layout c.args.hasher.now)
     (g.H.Hasher.bagging c.args.hasher.now) p c.args.start (record {
       elements = map g.E.AsSlice.items
@@ -29,7 +29,8 @@ returns-clause-root g c = λ same.
     c.lent.ensures.leaves c.lent.ensures.inactive (ap (map g.D.Write.text) c.lent.ensures.digests) r
 
 pub returns-clause-digests : goal.returns-clause-digests
-returns-clause-digests g c = λ same.
+returns-clause-digests g c =
+    let same = g.met.H.Hasher.over c.args.hasher.now in
     let h = g.H.Hasher.hash_of in
     let T = g.H.Hasher.layout c.args.hasher.now in
     let high = c.args.start + length (map g.E.AsSlice.items c.args.elements.now) in
@@ -44,7 +45,7 @@ returns-clause-digests g c = λ same.
     let sites = checked_sites T c.lent.result.leaves c.args.start high in
     let found = taken _ c.new.result c.in-Some-Some.digests c.recompute.new.found c.in_ok-root.root c.in-Some-Some.root
     _ c.in-Some-Some.is-0 c.in-Some-Some.is-1 (ap (texts g.D.Write.text) c.new.ensures.items)
-    (c.in_ok-root.ensures.found same) in
+    c.in_ok-root.ensures.found in
     let up = IsNonDecreasingBy-from_sort_by_key (λ e. e.0) c.sort_unstable_by_key.new.self.items
     c.sort_unstable_by_key.ensures.sorted (λ a r q' k. search rules) in
     let all = sorted_entries T L (digest_at h values T (apart c.args.start high)) g.D.Write.text sites

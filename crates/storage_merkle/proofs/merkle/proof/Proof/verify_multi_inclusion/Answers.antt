@@ -9,7 +9,7 @@ use Rattle.storage_merkle.proofs.MultiSound.{multi_sound}
 use Rattle.storage_merkle.proofs.merkle.proof.Proof.verify_multi_inclusion.Goals as goal
 
 pub returns-then-is_empty-clause-exact : goal.returns-then-is_empty-clause-exact
-returns-then-is_empty-clause-exact g c = λ same. chained (c.verify_nothing.ensures (listed []) refl)
+returns-then-is_empty-clause-exact g c = chained (c.verify_nothing.ensures (listed []) refl)
     (accepted_none g.H.Hasher.hash_of (g.H.Hasher.layout c.args.hasher.now) (g.H.Hasher.bagging c.args.hasher.now)
     (record {
       leaves = c.args.self.now.leaves;
@@ -20,7 +20,8 @@ returns-then-is_empty-clause-exact g c = λ same. chained (c.verify_nothing.ensu
     g.E.AsSlice.items c.args.elements.now c.new.result c.new.ensures c.if-is_empty.ensures)
 
 pub returns-then-is_empty-clause-means : goal.returns-then-is_empty-clause-means
-returns-then-is_empty-clause-means g c = λ same accepted.
+returns-then-is_empty-clause-means g c = λ accepted.
+    let same = g.met.H.Hasher.over c.args.hasher.now in
     multi_sound g.D.FixedSize.size g.H.Hasher.hash_of g.met.H.Hasher.sized (g.H.Hasher.layout c.args.hasher.now)
     (subst Laws (sym same) g.met.F.Family.laws) (g.H.Hasher.bagging c.args.hasher.now)
     (record {
@@ -42,7 +43,7 @@ returns-then-is_empty-clause-means g c = λ same accepted.
 
 pub returns-clause-exact : goal.returns-clause-exact
 returns-clause-exact g c =
-    λ same. chained (same_option g.D.PartialEq.eq g.D.Write.text g.met.D.Digest.same c.in_ok-recomputed.recomputed
+    chained (same_option g.D.PartialEq.eq g.D.Write.text g.met.D.Digest.same c.in_ok-recomputed.recomputed
     c.args.root.now c.eq.result c.eq.ensures) (accepted_claims g.H.Hasher.hash_of (g.H.Hasher.layout c.args.hasher.now)
     (g.H.Hasher.bagging c.args.hasher.now) (record {
       leaves = c.args.self.now.leaves;
@@ -50,10 +51,11 @@ returns-clause-exact g c =
       digests = map g.D.Write.text c.args.self.now.digests.items;
     })
     (g.H.Hasher.chunk c.args.hasher.now) (g.D.Write.text c.args.root.now) g.E.AsSlice.items c.args.elements.now
-    c.if-is_empty.ensures (option_map g.D.Write.text c.in_ok-recomputed.recomputed) (c.in_ok-recomputed.ensures same))
+    c.if-is_empty.ensures (option_map g.D.Write.text c.in_ok-recomputed.recomputed) c.in_ok-recomputed.ensures)
 
 pub returns-clause-means : goal.returns-clause-means
-returns-clause-means g c = λ same accepted.
+returns-clause-means g c = λ accepted.
+    let same = g.met.H.Hasher.over c.args.hasher.now in
     multi_sound g.D.FixedSize.size g.H.Hasher.hash_of g.met.H.Hasher.sized (g.H.Hasher.layout c.args.hasher.now)
     (subst Laws (sym same) g.met.F.Family.laws) (g.H.Hasher.bagging c.args.hasher.now)
     (record {
@@ -72,4 +74,4 @@ returns-clause-means g c = λ same accepted.
       digests = map g.D.Write.text c.args.self.now.digests.items;
     }) (g.H.Hasher.chunk c.args.hasher.now)
     (g.D.Write.text c.args.root.now) g.E.AsSlice.items c.args.elements.now c.if-is_empty.ensures
-    (option_map g.D.Write.text c.in_ok-recomputed.recomputed) (c.in_ok-recomputed.ensures same))).0 accepted)
+    (option_map g.D.Write.text c.in_ok-recomputed.recomputed) c.in_ok-recomputed.ensures)).0 accepted)

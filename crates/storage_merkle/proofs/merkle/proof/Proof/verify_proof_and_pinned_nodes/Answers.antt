@@ -1,14 +1,14 @@
-use Rattle.std.proofs.Common.{◌≡◌, ◌==◌, ◌∙◌, map, ap, subst, sym}
+use Rattle.std.proofs.Common.{◌==◌, ◌∙◌, map, ap, subst, sym}
 use Rattle.std.proofs.lemmas.List.{length-map}
 use Rattle.storage_merkle.specs.ProofWireLaws.{all_digests}
 use Rattle.storage_merkle.specs.Shape.{Laws}
-use Rattle.storage_merkle.specs.Trees.{Layout}
 use Rattle.storage_merkle.proofs.Meaning.{no_elements, some_elements}
 use Rattle.storage_merkle.proofs.PinnedMeaning.{if_ok, nothing_pinned, counts_fit, agreeing_pinned, pinned_proved}
 use Rattle.storage_merkle.proofs.merkle.proof.Proof.verify_proof_and_pinned_nodes.Goals as goal
 
 pub returns-then-is_empty-clause-exact : goal.returns-then-is_empty-clause-exact
-returns-then-is_empty-clause-exact g c = λ same.
+returns-then-is_empty-clause-exact g c =
+    let same = g.met.H.Hasher.over c.args.hasher.now in
     nothing_pinned g.H.Hasher.hash_of (g.H.Hasher.layout c.args.hasher.now) (g.H.Hasher.bagging c.args.hasher.now)
     (record {
       leaves = c.args.self.now.leaves;
@@ -17,14 +17,14 @@ returns-then-is_empty-clause-exact g c = λ same.
     }) c.args.start
     (record { elements = map g.E.AsSlice.items c.args.elements.now; chunk = g.H.Hasher.chunk c.args.hasher.now })
     (map g.D.Write.text c.args.pinned.now) (g.D.Write.text c.args.root.now)
-    ((c.in_ok-verify_range_inclusion.ensures.exact same).0 c.if-not-branch.false)
+    ((c.in_ok-verify_range_inclusion.ensures.exact).0 c.if-not-branch.false)
     (subst Laws (sym same) g.met.F.Family.laws)
     (no_elements g.E.AsSlice.items c.args.elements.now c.if-is_empty.ensures) c.is_empty-then-is_empty.result
     (c.is_empty-then-is_empty.ensures ∙ ap (λ n. n == 0) (sym (length-map c.args.pinned.now g.D.Write.text)))
 
 pub returns-then-is_empty-clause-means : goal.returns-then-is_empty-clause-means
 returns-then-is_empty-clause-means g c = λ plain empty y.
-    let same : (g.H.Hasher.layout c.args.hasher.now).shape ≡ g.F.Family.shape = ap (λ (T : Layout). T.shape) plain in
+    let same = g.met.H.Hasher.over c.args.hasher.now in
     pinned_proved g.D.FixedSize.size g.H.Hasher.hash_of g.met.H.Hasher.sized g.F.Family.shape g.met.F.Family.laws
     (g.H.Hasher.layout c.args.hasher.now) plain (g.H.Hasher.chunk c.args.hasher.now) empty
     (g.H.Hasher.bagging c.args.hasher.now) (record {
@@ -47,14 +47,14 @@ returns-then-is_empty-clause-means g c = λ plain empty y.
           c.args.elements.now;
       chunk = g.H.Hasher.chunk c.args.hasher.now;
     }) (map g.D.Write.text c.args.pinned.now)
-    (g.D.Write.text c.args.root.now) ((c.in_ok-verify_range_inclusion.ensures.exact same).0 c.if-not-branch.false)
+    (g.D.Write.text c.args.root.now) ((c.in_ok-verify_range_inclusion.ensures.exact).0 c.if-not-branch.false)
     (subst Laws (sym same) g.met.F.Family.laws)
     (no_elements g.E.AsSlice.items c.args.elements.now c.if-is_empty.ensures) c.is_empty-then-is_empty.result
     (c.is_empty-then-is_empty.ensures ∙ ap (λ n. n == 0) (sym (length-map c.args.pinned.now g.D.Write.text)))).0 y)
 
 pub returns-clause-exact : goal.returns-clause-exact
-returns-clause-exact g c = λ same.
-    (let accepted = ((c.in_ok-verify_range_inclusion.ensures.exact same).0 c.if-not-branch.false) in
+returns-clause-exact g c =
+    (let accepted = ((c.in_ok-verify_range_inclusion.ensures.exact).0 c.if-not-branch.false) in
     if_ok _ _ c.agrees_with.result (λ answer i.
     agreeing_pinned g.H.Hasher.hash_of (g.H.Hasher.layout c.args.hasher.now) (g.H.Hasher.bagging c.args.hasher.now)
     (record {
@@ -64,7 +64,7 @@ returns-clause-exact g c = λ same.
     }) c.args.start
     (record { elements = map g.E.AsSlice.items c.args.elements.now; chunk = g.H.Hasher.chunk c.args.hasher.now })
     (map g.D.Write.text c.args.pinned.now) (g.D.Write.text c.args.root.now) accepted answer i)
-    (c.agrees_with.ensures (map g.E.AsSlice.items c.args.elements.now) same (length-map c.args.elements.now
+    (c.agrees_with.ensures (map g.E.AsSlice.items c.args.elements.now) (length-map c.args.elements.now
     g.E.AsSlice.items) (counts_fit g.H.Hasher.hash_of (g.H.Hasher.layout c.args.hasher.now)
     (g.H.Hasher.bagging c.args.hasher.now) (record {
       leaves = c.args.self.now.leaves;
@@ -78,7 +78,6 @@ returns-clause-exact g c = λ same.
 
 pub returns-clause-means : goal.returns-clause-means
 returns-clause-means g c = λ plain empty.
-    let same : (g.H.Hasher.layout c.args.hasher.now).shape ≡ g.F.Family.shape = ap (λ (T : Layout). T.shape) plain in
     if_ok _ _ c.agrees_with.result (λ answer i y. pinned_proved g.D.FixedSize.size g.H.Hasher.hash_of
     g.met.H.Hasher.sized g.F.Family.shape g.met.F.Family.laws (g.H.Hasher.layout c.args.hasher.now) plain
     (g.H.Hasher.chunk c.args.hasher.now) empty (g.H.Hasher.bagging c.args.hasher.now)
@@ -91,7 +90,7 @@ returns-clause-means g c = λ plain empty.
     (map g.D.Write.text c.args.pinned.now) (g.D.Write.text c.args.root.now)
     (all_digests g.D.Write.text g.D.FixedSize.size g.met.D.FixedSize.sized c.args.self.now.digests.items)
     (all_digests g.D.Write.text g.D.FixedSize.size g.met.D.FixedSize.sized c.args.pinned.now) (i.0 y))
-    (let accepted = ((c.in_ok-verify_range_inclusion.ensures.exact same).0 c.if-not-branch.false) in
+    (let accepted = ((c.in_ok-verify_range_inclusion.ensures.exact).0 c.if-not-branch.false) in
     if_ok _ _ c.agrees_with.result (λ answer i.
     agreeing_pinned g.H.Hasher.hash_of (g.H.Hasher.layout c.args.hasher.now) (g.H.Hasher.bagging c.args.hasher.now)
     (record {
@@ -101,7 +100,7 @@ returns-clause-means g c = λ plain empty.
     }) c.args.start
     (record { elements = map g.E.AsSlice.items c.args.elements.now; chunk = g.H.Hasher.chunk c.args.hasher.now })
     (map g.D.Write.text c.args.pinned.now) (g.D.Write.text c.args.root.now) accepted answer i)
-    (c.agrees_with.ensures (map g.E.AsSlice.items c.args.elements.now) same (length-map c.args.elements.now
+    (c.agrees_with.ensures (map g.E.AsSlice.items c.args.elements.now) (length-map c.args.elements.now
     g.E.AsSlice.items) (counts_fit g.H.Hasher.hash_of (g.H.Hasher.layout c.args.hasher.now)
     (g.H.Hasher.bagging c.args.hasher.now) (record {
       leaves = c.args.self.now.leaves;

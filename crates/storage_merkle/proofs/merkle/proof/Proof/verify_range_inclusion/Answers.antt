@@ -5,7 +5,7 @@ use Rattle.storage_merkle.proofs.Meaning.{accepted_proved, accepted_nothing, acc
 use Rattle.storage_merkle.proofs.merkle.proof.Proof.verify_range_inclusion.Goals as goal
 
 pub returns-then-is_empty-clause-exact : goal.returns-then-is_empty-clause-exact
-returns-then-is_empty-clause-exact g c = λ same.
+returns-then-is_empty-clause-exact g c =
     chained (c.verify_nothing.ensures
     (record { elements = map g.E.AsSlice.items c.args.elements.now; chunk = g.H.Hasher.chunk c.args.hasher.now })
     (no_elements g.E.AsSlice.items c.args.elements.now c.if-is_empty.ensures)) (accepted_nothing g.H.Hasher.hash_of
@@ -19,7 +19,8 @@ returns-then-is_empty-clause-exact g c = λ same.
     (g.D.Write.text c.args.root.now) (no_elements g.E.AsSlice.items c.args.elements.now c.if-is_empty.ensures))
 
 pub returns-then-is_empty-clause-means : goal.returns-then-is_empty-clause-means
-returns-then-is_empty-clause-means g c = λ same accepted.
+returns-then-is_empty-clause-means g c = λ accepted.
+    let same = g.met.H.Hasher.over c.args.hasher.now in
     accepted_proved g.H.Hasher.hash_of (g.H.Hasher.layout c.args.hasher.now) (g.H.Hasher.bagging c.args.hasher.now)
     (record {
       leaves = c.args.self.now.leaves;
@@ -48,7 +49,7 @@ returns-then-is_empty-clause-means g c = λ same accepted.
     (no_elements g.E.AsSlice.items c.args.elements.now c.if-is_empty.ensures))).0 accepted)
 
 pub returns-clause-exact : goal.returns-clause-exact
-returns-clause-exact g c = λ same.
+returns-clause-exact g c =
     chained (same_option g.D.PartialEq.eq g.D.Write.text g.met.D.Digest.same c.in_ok-computed.computed c.args.root.now
     c.eq.result c.eq.ensures) (accepted_some g.H.Hasher.hash_of (g.H.Hasher.layout c.args.hasher.now)
     (g.H.Hasher.bagging c.args.hasher.now) (record {
@@ -59,10 +60,11 @@ returns-clause-exact g c = λ same.
     }) c.args.start
     (record { elements = map g.E.AsSlice.items c.args.elements.now; chunk = g.H.Hasher.chunk c.args.hasher.now })
     (g.D.Write.text c.args.root.now) (some_elements g.E.AsSlice.items c.args.elements.now c.if-is_empty.ensures)
-    (option_map g.D.Write.text c.in_ok-computed.computed) (c.in_ok-computed.ensures same))
+    (option_map g.D.Write.text c.in_ok-computed.computed) c.in_ok-computed.ensures)
 
 pub returns-clause-means : goal.returns-clause-means
-returns-clause-means g c = λ same accepted.
+returns-clause-means g c = λ accepted.
+    let same = g.met.H.Hasher.over c.args.hasher.now in
     accepted_proved g.H.Hasher.hash_of (g.H.Hasher.layout c.args.hasher.now) (g.H.Hasher.bagging c.args.hasher.now)
     (record {
       leaves = c.args.self.now.leaves;
@@ -83,7 +85,7 @@ returns-clause-means g c = λ same accepted.
     }) c.args.start
     (record { elements = map g.E.AsSlice.items c.args.elements.now; chunk = g.H.Hasher.chunk c.args.hasher.now })
     (g.D.Write.text c.args.root.now) (some_elements g.E.AsSlice.items c.args.elements.now c.if-is_empty.ensures)
-    (option_map g.D.Write.text c.in_ok-computed.computed) (c.in_ok-computed.ensures same))).0 accepted)
+    (option_map g.D.Write.text c.in_ok-computed.computed) c.in_ok-computed.ensures)).0 accepted)
 
 pub returns-then-is_empty-clause-none : goal.returns-then-is_empty-clause-none
 returns-then-is_empty-clause-none g c = search rules

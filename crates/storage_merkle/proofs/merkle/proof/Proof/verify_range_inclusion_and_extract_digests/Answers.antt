@@ -9,7 +9,8 @@ use Rattle.std.proofs.lemmas.Grind.{common_steps}
 use Rattle.storage_merkle.proofs.merkle.proof.Proof.verify_range_inclusion_and_extract_digests.Goals as goal
 
 pub returns-in-Ok-clause-handed : goal.returns-in-Ok-clause-handed
-returns-in-Ok-clause-handed g c = λ same.
+returns-in-Ok-clause-handed g c =
+    let same = g.met.H.Hasher.over c.args.hasher.now in
     handed_none g.H.Hasher.hash_of (g.H.Hasher.layout c.args.hasher.now) (g.H.Hasher.bagging c.args.hasher.now)
     (record {
       leaves = c.args.self.now.leaves;
@@ -33,7 +34,7 @@ returns-in-Err-clause-why g c =
     }) none) [
       | inl e ↦ inr (inl (
         e.0,
-        λ same. misfit_none g.H.Hasher.hash_of (g.H.Hasher.layout c.args.hasher.now)
+        misfit_none g.H.Hasher.hash_of (g.H.Hasher.layout c.args.hasher.now)
             (g.H.Hasher.bagging c.args.hasher.now) (record {
               leaves = c.args.self.now.leaves;
               inactive = c.args.self.now.inactive_peaks;
@@ -46,7 +47,7 @@ returns-in-Err-clause-why g c =
       ))
       | inr e ↦ inr (inr (
         e.0,
-        λ same. other_root_none g.H.Hasher.hash_of (g.H.Hasher.layout c.args.hasher.now)
+        other_root_none g.H.Hasher.hash_of (g.H.Hasher.layout c.args.hasher.now)
             (g.H.Hasher.bagging c.args.hasher.now) (record {
               leaves = c.args.self.now.leaves;
               inactive = c.args.self.now.inactive_peaks;
@@ -62,8 +63,7 @@ returns-in-Err-clause-why g c =
 pub returns-then-ne-clause-why : goal.returns-then-ne-clause-why
 returns-then-ne-clause-why g c = inr (inr (
   refl,
-  λ same.
-      let r = subst (λ o. IsRecomputed g.H.Hasher.hash_of (g.H.Hasher.layout c.args.hasher.now)
+  let r = subst (λ o. IsRecomputed g.H.Hasher.hash_of (g.H.Hasher.layout c.args.hasher.now)
       (g.H.Hasher.bagging c.args.hasher.now) (record {
         leaves = c.args.self.now.leaves;
         inactive =
@@ -71,7 +71,7 @@ returns-then-ne-clause-why g c = inr (inr (
         digests = map g.D.Write.text c.args.self.now.digests.items;
       }) c.args.start
       (record { elements = map g.E.AsSlice.items c.args.elements.now; chunk = g.H.Hasher.chunk c.args.hasher.now })
-      (option_map (λ p. g.D.Write.text p.0) o)) c.in-Some.is (c.in_ok-given.ensures.root same) in
+      (option_map (λ p. g.D.Write.text p.0) o)) c.in-Some.is c.in_ok-given.ensures.root in
       other_root g.H.Hasher.hash_of (g.H.Hasher.layout c.args.hasher.now) (g.H.Hasher.bagging c.args.hasher.now)
       (record {
         leaves = c.args.self.now.leaves;
@@ -84,7 +84,8 @@ returns-then-ne-clause-why g c = inr (inr (
 ))
 
 pub returns-clause-handed : goal.returns-clause-handed
-returns-clause-handed g c = λ same.
+returns-clause-handed g c =
+    let same = g.met.H.Hasher.over c.args.hasher.now in
     let r = subst (λ o. IsRecomputed g.H.Hasher.hash_of (g.H.Hasher.layout c.args.hasher.now)
     (g.H.Hasher.bagging c.args.hasher.now) (record {
       leaves = c.args.self.now.leaves;
@@ -93,7 +94,7 @@ returns-clause-handed g c = λ same.
       digests = map g.D.Write.text c.args.self.now.digests.items;
     }) c.args.start
     (record { elements = map g.E.AsSlice.items c.args.elements.now; chunk = g.H.Hasher.chunk c.args.hasher.now })
-    (option_map (λ p. g.D.Write.text p.0) o)) c.in-Some.is (c.in_ok-given.ensures.root same) in
+    (option_map (λ p. g.D.Write.text p.0) o)) c.in-Some.is c.in_ok-given.ensures.root in
     let all = subst (λ o. MatchOption o (Unit {0}) (λ p. texts g.D.Write.text p.1.items
     ≡ extracted g.H.Hasher.hash_of (g.H.Hasher.layout c.args.hasher.now) (g.H.Hasher.bagging c.args.hasher.now)
     (record {
@@ -102,7 +103,7 @@ returns-clause-handed g c = λ same.
       digests = map g.D.Write.text c.args.self.now.digests.items;
     }) c.args.start
     (record { elements = map g.E.AsSlice.items c.args.elements.now; chunk = g.H.Hasher.chunk c.args.hasher.now })))
-    c.in-Some.is (c.in_ok-given.ensures.digests same) in
+    c.in-Some.is c.in_ok-given.ensures.digests in
     handed_some g.H.Hasher.hash_of (g.H.Hasher.layout c.args.hasher.now) (g.H.Hasher.bagging c.args.hasher.now)
     (record {
       leaves = c.args.self.now.leaves;

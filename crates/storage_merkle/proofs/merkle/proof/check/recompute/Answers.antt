@@ -13,7 +13,8 @@ use Rattle.std.proofs.lemmas.Grind.{common_steps}
 use Rattle.storage_merkle.proofs.merkle.proof.check.recompute.Goals as goal
 
 pub returns-then-proof-apart-clause-root : goal.returns-then-proof-apart-clause-root
-returns-then-proof-apart-clause-root g c = λ same.
+returns-then-proof-apart-clause-root g c =
+    let same = g.met.H.Hasher.over c.args.hasher.now in
     let after = after_all g.F.Family.shape c.as_u64-start.result c.as_u64-leaves.result c.all-all.result.folded
     c.all-all.result.first c.all-all.result.left c.after_leading-rest.result.first c.after_leading-rest.result.left
     c.after_leading-rest.result.folded c.all-all.ensures.first c.all-all.ensures.left
@@ -42,7 +43,8 @@ returns-then-proof-apart-clause-root g c = λ same.
     c.all-all.ensures.folded after (c.from.result + c.count_apart.result) tops (omega arith))
 
 pub returns-then-proof-apart-2-clause-root : goal.returns-then-proof-apart-2-clause-root
-returns-then-proof-apart-2-clause-root g c = λ same.
+returns-then-proof-apart-2-clause-root g c =
+    let same = g.met.H.Hasher.over c.args.hasher.now in
     let after = after_all g.F.Family.shape c.as_u64-start.result c.as_u64-leaves.result c.all-all.result.folded
     c.all-all.result.first c.all-all.result.left c.after_leading-rest.result.first c.after_leading-rest.result.left
     c.after_leading-rest.result.folded c.all-all.ensures.first c.all-all.ensures.left
@@ -102,7 +104,8 @@ bag-requires-clause-present g c =
     c.after_leading-rest.result.folded (c.deref.ensures.value ∙ c.in_ok-siblings.ensures) after
 
 pub returns-clause-root : goal.returns-clause-root
-returns-clause-root g c = λ same.
+returns-clause-root g c =
+    let same = g.met.H.Hasher.over c.args.hasher.now in
     let after = after_all g.F.Family.shape c.as_u64-start.result c.as_u64-leaves.result c.all-all.result.folded
     c.all-all.result.first c.all-all.result.left c.after_leading-rest.result.first c.after_leading-rest.result.left
     c.after_leading-rest.result.folded c.all-all.ensures.first c.all-all.ensures.left
@@ -138,14 +141,14 @@ returns-clause-root g c = λ same.
           (map g.E.AsSlice.items c.args.elements.now);
       chunk = g.H.Hasher.chunk c.args.hasher.now;
     }) in
-    let top = ap (map g.H.Digest.Write.text) (c.split_at.ensures.front) ∙ tops_read g.F.Family.shape g.H.Hasher.hash_of
+    let top = ap (map g.H.Digest.Write.text) c.split_at.ensures.front ∙ tops_read g.F.Family.shape g.H.Hasher.hash_of
     (g.H.Hasher.layout c.args.hasher.now) same (g.H.Hasher.bagging c.args.hasher.now) c.as_u64-leaves.result
     c.args.proof.now.inactive_peaks c.as_u64-start.result (map g.E.AsSlice.items c.args.elements.now)
     (g.H.Hasher.chunk c.args.hasher.now) g.H.Digest.Write.text c.args.proof.now.digests.now c.in-Some.end
     c.all-all.result.folded c.after_leading-rest.result.first c.after_leading-rest.result.left
     c.after_leading-rest.result.folded range c.all-all.ensures.folded after
     (c.from.result + c.count_apart.result) c.len.result tops siblings enough as_many c.if-start-end.false in
-    let beside = ap (map g.H.Digest.Write.text) (c.split_at.ensures.back) ∙ siblings_read g.F.Family.shape
+    let beside = ap (map g.H.Digest.Write.text) c.split_at.ensures.back ∙ siblings_read g.F.Family.shape
     g.H.Hasher.hash_of (g.H.Hasher.layout c.args.hasher.now) same (g.H.Hasher.bagging c.args.hasher.now)
     c.as_u64-leaves.result c.args.proof.now.inactive_peaks c.as_u64-start.result
     (map g.E.AsSlice.items c.args.elements.now) (g.H.Hasher.chunk c.args.hasher.now) g.H.Digest.Write.text
@@ -189,11 +192,12 @@ returns-clause-root g c = λ same.
           c.after_leading-rest.result.folded range c.all-all.ensures.folded after
           (c.from.result + c.count_apart.result) c.len.result tops siblings enough as_many c.if-start-end.false
           (g.H.Digest.Write.text c.bagged_root.result) (option_map g.H.Digest.Write.text c.in_ok-bag.bag)
-          (c.in_ok-bag.ensures values.digest same serves top).0 c.bagged_root.ensures,
+          (c.in_ok-bag.ensures values.digest serves top).0 c.bagged_root.ensures,
     )
 
 pub returns-clause-found : goal.returns-clause-found
-returns-clause-found g c = λ same.
+returns-clause-found g c =
+    let same = g.met.H.Hasher.over c.args.hasher.now in
     let after = after_all g.F.Family.shape c.as_u64-start.result c.as_u64-leaves.result c.all-all.result.folded
     c.all-all.result.first c.all-all.result.left c.after_leading-rest.result.first c.after_leading-rest.result.left
     c.after_leading-rest.result.folded c.all-all.ensures.first c.all-all.ensures.left
@@ -229,14 +233,14 @@ returns-clause-found g c = λ same.
           (map g.E.AsSlice.items c.args.elements.now);
       chunk = g.H.Hasher.chunk c.args.hasher.now;
     }) in
-    let top = ap (map g.H.Digest.Write.text) (c.split_at.ensures.front) ∙ tops_read g.F.Family.shape g.H.Hasher.hash_of
+    let top = ap (map g.H.Digest.Write.text) c.split_at.ensures.front ∙ tops_read g.F.Family.shape g.H.Hasher.hash_of
     (g.H.Hasher.layout c.args.hasher.now) same (g.H.Hasher.bagging c.args.hasher.now) c.as_u64-leaves.result
     c.args.proof.now.inactive_peaks c.as_u64-start.result (map g.E.AsSlice.items c.args.elements.now)
     (g.H.Hasher.chunk c.args.hasher.now) g.H.Digest.Write.text c.args.proof.now.digests.now c.in-Some.end
     c.all-all.result.folded c.after_leading-rest.result.first c.after_leading-rest.result.left
     c.after_leading-rest.result.folded range c.all-all.ensures.folded after
     (c.from.result + c.count_apart.result) c.len.result tops siblings enough as_many c.if-start-end.false in
-    let beside = ap (map g.H.Digest.Write.text) (c.split_at.ensures.back) ∙ siblings_read g.F.Family.shape
+    let beside = ap (map g.H.Digest.Write.text) c.split_at.ensures.back ∙ siblings_read g.F.Family.shape
     g.H.Hasher.hash_of (g.H.Hasher.layout c.args.hasher.now) same (g.H.Hasher.bagging c.args.hasher.now)
     c.as_u64-leaves.result c.args.proof.now.inactive_peaks c.as_u64-start.result
     (map g.E.AsSlice.items c.args.elements.now) (g.H.Hasher.chunk c.args.hasher.now) g.H.Digest.Write.text
@@ -249,7 +253,7 @@ returns-clause-found g c = λ same.
     let h = g.H.Hasher.hash_of in
     let T = g.H.Hasher.layout c.args.hasher.now in
     let low = c.as_u64-start.result in
-    let kept = (c.in_ok-bag.ensures values.digest same serves top).1 in
+    let kept = (c.in_ok-bag.ensures values.digest serves top).1 in
     let all = found_rest h T low c.in-Some.end values g.F.Family.shape c.as_u64-leaves.result c.all-all.result.folded
     c.after_leading-rest.result.first c.after_leading-rest.result.left
     c.after_leading-rest.result.folded same after in

@@ -15,7 +15,8 @@ use Rattle.std.proofs.lemmas.Grind.{common_steps}
 use Rattle.storage_merkle.proofs.merkle.proof_store.ProofStore.new.Goals as goal
 
 pub returns-in-Ok-clause-made : goal.returns-in-Ok-clause-made
-returns-in-Ok-clause-made g c = λ same.
+returns-in-Ok-clause-made g c =
+    let same = g.met.H.Hasher.over c.args.hasher.now in
     let claim : Content =
     record { elements = map g.E.AsSlice.items c.args.elements.now; chunk = g.H.Hasher.chunk c.args.hasher.now } in
     let proof : RangeProof = record {
@@ -42,12 +43,12 @@ returns-in-Err-clause-why g c =
     elim (c.in-Err.ensures claim none) [
       | inl e ↦ inr (inl (
         e.0,
-        λ same. misfit_none g.H.Hasher.hash_of (g.H.Hasher.layout c.args.hasher.now)
+        misfit_none g.H.Hasher.hash_of (g.H.Hasher.layout c.args.hasher.now)
             (g.H.Hasher.bagging c.args.hasher.now) proof c.args.start claim (g.D.Write.text c.args.root.now) none e.1,
       ))
       | inr e ↦ inr (inr (
         e.0,
-        λ same. other_root_none g.H.Hasher.hash_of (g.H.Hasher.layout c.args.hasher.now)
+        other_root_none g.H.Hasher.hash_of (g.H.Hasher.layout c.args.hasher.now)
             (g.H.Hasher.bagging c.args.hasher.now) proof c.args.start claim
             (g.D.Write.text c.args.root.now) none e.1 e.2,
       ))
@@ -56,8 +57,7 @@ returns-in-Err-clause-why g c =
 pub returns-in_default-clause-why : goal.returns-in_default-clause-why
 returns-in_default-clause-why g c = inr (inl (
   refl,
-  λ same.
-      let claim : Content =
+  let claim : Content =
       record { elements = map g.E.AsSlice.items c.args.elements.now; chunk = g.H.Hasher.chunk c.args.hasher.now } in
       let proof : RangeProof = record {
         leaves = c.args.proof.now.leaves;
@@ -69,7 +69,7 @@ returns-in_default-clause-why g c = inr (inl (
       (some_elements g.E.AsSlice.items c.args.elements.now c.if-is_empty.ensures) (elim c.in_default.branch [
         | in_default-via-in-Some+in_default w ↦ absurd (not_lost (λ v. texts g.D.Write.text v.items) c.new.result
             c.recompute.new.found c.in_ok-computed.computed w.in_default.field-0-0 _ w.in_default.is-0 w.in_default.is-1
-            (c.in_ok-computed.ensures.found same))
+            c.in_ok-computed.ensures.found)
         | in_default-via-in_default w ↦ on_proof (λ p. IsRecomputed g.H.Hasher.hash_of
             (g.H.Hasher.layout c.args.hasher.now) (g.H.Hasher.bagging c.args.hasher.now) p c.args.start claim None)
             c.lent.result.leaves c.args.proof.now.leaves c.lent.result.inactive_peaks c.args.proof.now.inactive_peaks
@@ -82,15 +82,14 @@ returns-in_default-clause-why g c = inr (inl (
                   c.lent.result.inactive_peaks;
               digests = map g.D.Write.text c.lent.result.digests.now;
             }) c.args.start
-            claim (option_map g.D.Write.text o)) w.in_default.is-0 (c.in_ok-computed.ensures.root same))
+            claim (option_map g.D.Write.text o)) w.in_default.is-0 c.in_ok-computed.ensures.root)
       ]),
 ))
 
 pub returns-then-ne-clause-why : goal.returns-then-ne-clause-why
 returns-then-ne-clause-why g c = inr (inr (
   refl,
-  λ same.
-      let h = g.H.Hasher.hash_of in
+  let h = g.H.Hasher.hash_of in
       let T = g.H.Hasher.layout c.args.hasher.now in
       let b = g.H.Hasher.bagging c.args.hasher.now in
       let text = g.D.Write.text in
@@ -110,14 +109,15 @@ returns-then-ne-clause-why g c = inr (inr (
         inactive = c.lent.result.inactive_peaks;
         digests = map text c.lent.result.digests.now;
       }) c.args.start claim (option_map text o)) c.in-Some-Some.is-0
-      (c.in_ok-computed.ensures.root same)) in
+      c.in_ok-computed.ensures.root) in
       other_root h T b proof c.args.start claim (text c.args.root.now)
       (some_elements g.E.AsSlice.items c.args.elements.now c.if-is_empty.ensures) (text c.in-Some-Some.computed) r
       (differ g.D.PartialEq.eq text g.met.D.Digest.same c.in-Some-Some.computed c.args.root.now c.if-ne.ensures),
 ))
 
 pub returns-clause-made : goal.returns-clause-made
-returns-clause-made g c = λ same.
+returns-clause-made g c =
+    let same = g.met.H.Hasher.over c.args.hasher.now in
     let h = g.H.Hasher.hash_of in
     let T = g.H.Hasher.layout c.args.hasher.now in
     let b = g.H.Hasher.bagging c.args.hasher.now in
@@ -144,11 +144,11 @@ returns-clause-made g c = λ same.
       inactive = c.lent.result.inactive_peaks;
       digests = map text c.lent.result.digests.now;
     }) c.args.start claim (option_map text o)) c.in-Some-Some.is-0
-    (c.in_ok-computed.ensures.root same)) in
+    c.in_ok-computed.ensures.root) in
     let found = moved (λ p. texts text c.in-Some-Some.kept.items ≡ checked h T b p c.args.start claim
     (checked_sites T p.leaves c.args.start high)) (taken (λ v. texts text v.items) c.new.result c.in-Some-Some.kept
     c.recompute.new.found c.in_ok-computed.computed c.in-Some-Some.computed _ c.in-Some-Some.is-0
-    c.in-Some-Some.is-1 (ap (texts text) c.new.ensures.items) (c.in_ok-computed.ensures.found same)) in
+    c.in-Some-Some.is-1 (ap (texts text) c.new.ensures.items) c.in_ok-computed.ensures.found) in
     made_some h T b proof c.args.start claim (text c.args.root.now) g.D.FixedSize.size g.met.H.Hasher.sized
     (subst Laws (sym same) g.met.F.Family.laws) (all_digests text g.D.FixedSize.size g.met.D.FixedSize.sized
     c.args.proof.now.digests.items) c.in_ok-of_checked.field-0 (text c.in-Some-Some.computed) r

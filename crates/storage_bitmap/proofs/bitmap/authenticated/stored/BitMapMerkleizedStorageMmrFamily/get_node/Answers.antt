@@ -3,3 +3,6 @@ use Rattle.storage_bitmap.proofs.bitmap.authenticated.stored.BitMapMerkleizedSto
 
 pub returns-clause-answer : goal.returns-clause-answer
 returns-clause-answer g c = search rules
+
+pub returns-clause-fault : goal.returns-clause-fault
+returns-clause-fault g c code same = absurd (cc)

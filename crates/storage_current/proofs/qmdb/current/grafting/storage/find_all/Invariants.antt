@@ -1,5 +1,6 @@
 use Rattle.std.proofs.Common.{◌≡◌, ℕ, length, Option, None}
-use Rattle.storage_current.specs.Combined.{joined}
+use Rattle.std.specs.List.{All}
+use Rattle.storage_current.specs.Combined.{IsOfOperations, joined}
 use Rattle.storage_current.specs.Splits.{IsSplit}
 use Rattle.storage_current.proofs.qmdb.current.grafting.storage.find_all.Given as goal
 
@@ -8,6 +9,7 @@ invariant-loop-position g l = record {
   split : (operations : ℕ → Option g.row.R-Digest.Denot) → IsSplit (joined g.F.Family.shape l.height l.size
       (g.R.Readable.node l.grafted_tree) operations) operations l.left l.nodes.items l.positions l.below.items;
   none : l.missing ≡ None;
+  below : All (IsOfOperations g.F.Family.shape l.height l.size) l.below.items;
 }
 
 abbrev pub decreases-loop-position : goal.decreases-loop-position

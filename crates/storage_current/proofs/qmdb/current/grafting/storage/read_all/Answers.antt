@@ -4,3 +4,6 @@ use Rattle.storage_current.proofs.qmdb.current.grafting.storage.read_all.Goals a
 
 pub returns-then-is_empty-clause-answers : goal.returns-then-is_empty-clause-answers
 returns-then-is_empty-clause-answers g c = grind (arith, common_steps)
+
+pub returns-then-is_empty-clause-fault : goal.returns-then-is_empty-clause-fault
+returns-then-is_empty-clause-fault g c code same = absurd (cc)

@@ -1,4 +1,4 @@
-use Rattle.std.proofs.Common.{◌^◌, ◌∙◌, arith, map, refl}
+use Rattle.std.proofs.Common.{◌^◌, ◌∙◌, arith, map}
 use Rattle.storage_merkle.specs.ShapeLaws.{size_order}
 use Rattle.storage_current.specs.Held.{current_of}
 use Rattle.storage_current.specs.Snapshots.{Grafting}
@@ -35,7 +35,7 @@ returns-in_default g c = λ n of sized.
           (map g.C.Chunk.text c.args.chunks.now) c.args.window.now seen
           v.height v.start_chunk_index v.graftable_chunks (map (λ b. b.now) v.chunks.items) e.height e.start e.graftable
           (e.chunks ∙ c.in_ok-lent.ensures)
-          (rw c.in_default.is at (c.in_ok-computed.ensures refl)) current,
+          (rw c.in_default.is at c.in_ok-computed.ensures) current,
     )
 
 pub returns : goal.returns
@@ -50,7 +50,7 @@ returns g c = λ n of sized.
     (map g.C.Chunk.text c.args.chunks.now) c.args.window.now seen
     v.height v.start_chunk_index v.graftable_chunks (map (λ b. b.now) v.chunks.items) e.height e.start e.graftable
     (e.chunks ∙ c.in_ok-lent.ensures)
-    (g.D.Write.text c.in-Some.grafted_root) (rw c.in-Some.is at (c.in_ok-computed.ensures refl)) sized
+    (g.D.Write.text c.in-Some.grafted_root) (rw c.in-Some.is at c.in_ok-computed.ensures) sized
     (c.match_chunks.ensures.0 c.if-not-match_chunks.false)
     (g.D.Write.text c.canonical.result) (g.D.Write.text c.args.root.now) c.canonical.ensures c.eq.result
     (rw c.eq.ensures (g.met.D.Digest.same c.canonical.result c.args.root.now))

@@ -40,7 +40,7 @@ returns-in_default g c = λ n of sized.
           (map g.C.Chunk.text c.args.chunks.now) c.args.window.now seen
           v.height v.start_chunk_index v.graftable_chunks (map (λ b. b.now) v.chunks.items) e.height e.start e.graftable
           (e.chunks ∙ c.in_ok-lent.ensures)
-          (rw c.in_default.is at (c.in_ok-computed.ensures.root refl)) computes.1 in cc,
+          (rw c.in_default.is at c.in_ok-computed.ensures.root) computes.1 in cc,
     ))
 
 pub returns-then-ne : goal.returns-then-ne
@@ -56,7 +56,7 @@ returns-then-ne g c = λ n of sized.
     (map g.C.Chunk.text c.args.chunks.now) c.args.window.now seen
     v.height v.start_chunk_index v.graftable_chunks (map (λ b. b.now) v.chunks.items) e.height e.start e.graftable
     (e.chunks ∙ c.in_ok-lent.ensures)
-    (text c.in-Some.computed.0) (rw c.in-Some.is at (c.in_ok-computed.ensures.root refl)) sized
+    (text c.in-Some.computed.0) (rw c.in-Some.is at c.in_ok-computed.ensures.root) sized
     (c.match_chunks.ensures.0 c.if-not-match_chunks.false) (text c.canonical.result) in
     inr (inr (
       refl,
@@ -82,7 +82,7 @@ returns g c = λ n of sized.
     (map g.C.Chunk.text c.args.chunks.now) c.args.window.now seen
     v.height v.start_chunk_index v.graftable_chunks (map (λ b. b.now) v.chunks.items) e.height e.start e.graftable
     (e.chunks ∙ c.in_ok-lent.ensures)
-    (text c.in-Some.computed.0) (rw c.in-Some.is at (c.in_ok-computed.ensures.root refl)) sized
+    (text c.in-Some.computed.0) (rw c.in-Some.is at c.in_ok-computed.ensures.root) sized
     (c.match_chunks.ensures.0 c.if-not-match_chunks.false) (text c.canonical.result) in (
       (says (text c.args.root.now) c.canonical.ensures (g.H.Digest.PartialEq.eq c.canonical.result c.args.root.now)
           (g.met.H.Digest.Digest.same c.canonical.result c.args.root.now)).0 (equal _ c.if-ne.ensures),
@@ -92,5 +92,5 @@ returns g c = λ n of sized.
           (e.chunks ∙ c.in_ok-lent.ensures)
           (λ T claim. texts text c.in-Some.computed.1.items
           ≡ extracted g.H.Hasher.hash_of T BackwardFold P.range c.args.start claim)
-          (rw c.in-Some.is at (c.in_ok-computed.ensures.digests refl)),
+          (rw c.in-Some.is at c.in_ok-computed.ensures.digests),
     )

@@ -27,7 +27,8 @@ sibling-requires-clause-present g t c =
     c.args.first _ c.if-is_apart.ensures c.node_position-position.ensures c.requires.present
 
 pub returns-then-is_apart : goal.returns-then-is_apart
-returns-then-is_apart g t c = λ digest same serves.
+returns-then-is_apart g t c = λ digest serves.
+    let same = g.met.H.Hasher.over c.args.hasher.now in
     let v = given_values digest c.args.self.now.start (map g.E.AsSlice.items c.args.self.now.elements.now)
     (g.H.Hasher.chunk c.args.hasher.now) in
     let is =
@@ -42,7 +43,8 @@ returns-then-is_apart g t c = λ digest same serves.
     (adds_nothing _ c.args.found.now [] refl) c.keep.ensures.same c.keep.ensures.kept
 
 pub returns-then-height-eq0 : goal.returns-then-height-eq0
-returns-then-height-eq0 g t c = λ digest same serves.
+returns-then-height-eq0 g t c = λ digest serves.
+    let same = g.met.H.Hasher.over c.args.hasher.now in
     let v = given_values digest c.args.self.now.start (map g.E.AsSlice.items c.args.self.now.elements.now)
     (g.H.Hasher.chunk c.args.hasher.now) in
     let is = node_leaf g.H.Hasher.hash_of (g.H.Hasher.layout c.args.hasher.now) c.args.self.now.start
@@ -87,11 +89,12 @@ node-requires-2 g t c κs within =
     rw c.power.ensures (search rules)
 
 pub returns : goal.returns
-returns g t c = λ digest same serves.
+returns g t c = λ digest serves.
+    let same = g.met.H.Hasher.over c.args.hasher.now in
     let v = given_values digest c.args.self.now.start (map g.E.AsSlice.items c.args.self.now.elements.now)
     (g.H.Hasher.chunk c.args.hasher.now) in
-    let left = c.in_ok-left.ensures digest same serves in
-    let right = rw c.power.ensures at c.in_ok-right.ensures digest same serves in
+    let left = c.in_ok-left.ensures digest serves in
+    let right = rw c.power.ensures at c.in_ok-right.ensures digest serves in
     let is =
     node_halves g.H.Hasher.hash_of (g.H.Hasher.layout c.args.hasher.now) c.args.self.now.start c.args.self.now.end v
     c.args.height c.args.first _ _ _ c.if-is_apart.ensures c.if-height-eq0.false left.0 right.0

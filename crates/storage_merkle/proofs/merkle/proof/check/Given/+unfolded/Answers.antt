@@ -13,7 +13,7 @@ use Rattle.storage_merkle.proofs.Found.{adds_nothing, adds_then, found_none, fou
 use Rattle.storage_merkle.proofs.merkle.proof.check.Given.+unfolded.Goals as goal
 
 pub returns-then-rest-eq0 : goal.returns-then-rest-eq0
-returns-then-rest-eq0 g t c = λ digest same serves is. (
+returns-then-rest-eq0 g t c = λ digest serves is. (
   right_end g.F.Family.shape g.met.F.Family.laws g.H.Hasher.hash_of
       (λ p. eval g.H.Hasher.hash_of (given_values digest c.args.self.now.start
       (map g.E.AsSlice.items c.args.self.now.elements.now) (g.H.Hasher.chunk c.args.hasher.now))
@@ -33,7 +33,7 @@ bounds-tops-0 g t c =
     search rules
 
 pub returns-then-self-rest : goal.returns-then-self-rest
-returns-then-self-rest g t c = λ digest same serves is.
+returns-then-self-rest g t c = λ digest serves is.
     let fold = tops_fold g.F.Family.shape c.args.self.now.start c.args.self.now.end g.met.F.Family.laws
     c.args.rest.first c.args.rest.left 0 (omega arith) (omega arith) c.if-self-rest.true in (
       right_fold g.F.Family.shape g.met.F.Family.laws g.H.Hasher.hash_of
@@ -83,15 +83,15 @@ unfolded-requires g t c κs within =
     search rules
 
 pub returns : goal.returns
-returns g t c = λ digest same serves is.
+returns g t c = λ digest serves is.
     let later =
     tops g.F.Family.shape c.args.self.now.start c.args.self.now.end c.next.result.first c.next.result.left 0 in
-    let item = c.in_ok-item.ensures.exact digest later same serves
+    let item = c.in_ok-item.ensures.exact digest later serves
     (top_here g.F.Family.shape c.args.self.now.start c.args.self.now.end c.args.rest.first c.args.rest.left 0
     c.first_peak-height.result _ _ 0 c.first_peak-height.ensures.first c.next.ensures.first c.next.ensures.left refl
     (inr (omega arith, c.if-self-rest.false)) g.D.Write.text digest c.args.tops.now is) in
     let onto =
-    c.in_ok-onto.ensures digest same serves (tops_after g.F.Family.shape c.args.self.now.start c.args.self.now.end
+    c.in_ok-onto.ensures digest serves (tops_after g.F.Family.shape c.args.self.now.start c.args.self.now.end
     c.args.rest.first c.args.rest.left 0 c.first_peak-height.result _ _ 0 c.first_peak-height.ensures.first
     c.next.ensures.first c.next.ensures.left refl (inr (omega arith, c.if-self-rest.false)) g.D.Write.text digest
     c.args.tops.now c.in_ok-item.tops.now is c.in_ok-item.ensures.left) in

@@ -39,11 +39,11 @@ loop-rest-preserved g c = record {
       c.loop-rest.rest.left c.loop-rest.rest.folded c.first_peak-height.result _ _ _ c.first_peak-height.ensures.first
       c.next-rest.ensures.first c.next-rest.ensures.left c.next-rest.ensures.folded (inl c.if-rest-gt0-2.true)
       c.loop-rest.tops.now c.in_ok-item.after.now c.loop-rest.invariant.count c.in_ok-item.ensures.left;
-  exact = λ digest same serves is.
-      let invariant = c.loop-rest.invariant.exact digest same serves is in
+  exact = λ digest serves is.
+      let invariant = c.loop-rest.invariant.exact digest serves is in
       let later = tops g.F.Family.shape c.args.self.now.start c.args.self.now.end c.next-rest.result.first
       c.next-rest.result.left c.next-rest.result.folded in
-      let item = c.in_ok-item.ensures.exact digest later same serves (top_here g.F.Family.shape c.args.self.now.start
+      let item = c.in_ok-item.ensures.exact digest later serves (top_here g.F.Family.shape c.args.self.now.start
       c.args.self.now.end c.loop-rest.rest.first c.loop-rest.rest.left c.loop-rest.rest.folded
       c.first_peak-height.result _ _ _ c.first_peak-height.ensures.first c.next-rest.ensures.first
       c.next-rest.ensures.left c.next-rest.ensures.folded
@@ -84,15 +84,15 @@ unfolded-requires-clause-tops g c =
     c.args.self.now.end c.loop-rest.rest.first c.loop-rest.rest.left c.loop-rest.rest.folded over)
 
 pub returns-in-None : goal.returns-in-None
-returns-in-None g c = λ digest same serves is.
+returns-in-None g c = λ digest serves is.
     let over : (c.loop-rest.rest.left ≤ 0) ⊎ (c.loop-rest.rest.folded ≤ 0) =
     elim c.loop-rest-test.branch [
       | then-loop-rest-test+else-rest-gt0-2 w ↦
           inr w.if-rest-gt0-2.false
       | else-loop-rest-test w ↦ inl w.loop-rest-test.false
     ] in
-    let invariant = c.loop-rest.invariant.exact digest same serves is in
-    let onto = c.in_ok-onto.ensures digest same serves (invariant.0
+    let invariant = c.loop-rest.invariant.exact digest serves is in
+    let onto = c.in_ok-onto.ensures digest serves (invariant.0
     ∙ ap (map digest) (tops_unfolded g.F.Family.shape g.met.F.Family.laws c.args.self.now.start c.args.self.now.end
     c.loop-rest.rest.first c.loop-rest.rest.left c.loop-rest.rest.folded over)) in (
       bag_none g.F.Family.shape g.met.F.Family.laws g.H.Hasher.hash_of (λ p. eval g.H.Hasher.hash_of (given_values digest
@@ -104,15 +104,15 @@ returns-in-None g c = λ digest same serves is.
     )
 
 pub returns-in-Some : goal.returns-in-Some
-returns-in-Some g c = λ digest same serves is.
+returns-in-Some g c = λ digest serves is.
     let over : (c.loop-rest.rest.left ≤ 0) ⊎ (c.loop-rest.rest.folded ≤ 0) =
     elim c.loop-rest-test.branch [
       | then-loop-rest-test+else-rest-gt0-2 w ↦
           inr w.if-rest-gt0-2.false
       | else-loop-rest-test w ↦ inl w.loop-rest-test.false
     ] in
-    let invariant = c.loop-rest.invariant.exact digest same serves is in
-    let onto = c.in_ok-onto.ensures digest same serves (invariant.0
+    let invariant = c.loop-rest.invariant.exact digest serves is in
+    let onto = c.in_ok-onto.ensures digest serves (invariant.0
     ∙ ap (map digest) (tops_unfolded g.F.Family.shape g.met.F.Family.laws c.args.self.now.start c.args.self.now.end
     c.loop-rest.rest.first c.loop-rest.rest.left c.loop-rest.rest.folded over)) in (
       bag_some g.F.Family.shape g.met.F.Family.laws g.H.Hasher.hash_of (λ p. eval g.H.Hasher.hash_of (given_values digest

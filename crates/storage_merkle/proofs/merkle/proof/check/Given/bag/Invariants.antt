@@ -16,7 +16,7 @@ invariant-loop-rest g l = record {
   present : PresentIn g.F.Family.shape l.self.start l.self.end l.self.siblings.now
       (peaks_from g.F.Family.shape l.rest.first l.rest.left);
   count : length l.tops ≡ length (tops g.F.Family.shape l.self.start l.self.end l.rest.first l.rest.left l.rest.folded);
-  exact : (digest : Site → List ℕ) → (g.H.Hasher.layout l.hasher).shape ≡ g.F.Family.shape
+  exact : (digest : Site → List ℕ)
       → Serves g.F.Family.shape digest l.self.siblings.now (map g.D.Write.text l.self.digests.now)
       → map g.D.Write.text l.fn.tops ≡ map digest (front_before l.fn.rest.first ++ top_sites l.self.start l.self.end
       (peaks_from g.F.Family.shape l.fn.rest.first l.fn.rest.left) l.fn.rest.folded)

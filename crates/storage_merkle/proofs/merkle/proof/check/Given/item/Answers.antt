@@ -16,7 +16,7 @@ is_apart-requires-clause-within g c = omega (
 )
 
 pub returns-then-is_apart-clause-exact : goal.returns-then-is_apart-clause-exact
-returns-then-is_apart-clause-exact g c = λ digest later same serves tops. (
+returns-then-is_apart-clause-exact g c = λ digest later serves tops. (
   node_sibling g.H.Hasher.hash_of (g.H.Hasher.layout c.args.hasher.now) c.args.self.now.start c.args.self.now.end
       (given_values digest c.args.self.now.start (map g.E.AsSlice.items c.args.self.now.elements.now)
       (g.H.Hasher.chunk c.args.hasher.now))
@@ -30,8 +30,8 @@ returns-then-is_apart-clause-exact g c = λ digest later same serves tops. (
 )
 
 pub returns-in_ok-node-clause-exact : goal.returns-in_ok-node-clause-exact
-returns-in_ok-node-clause-exact g c = λ digest later same serves tops.
-    let is = c.in_ok-node.ensures digest same serves in (
+returns-in_ok-node-clause-exact g c = λ digest later serves tops.
+    let is = c.in_ok-node.ensures digest serves in (
       is.0,
       adds_then _ c.args.found.now c.args.found.now c.node.new.found [] _ _ (found_not_apart g.H.Hasher.hash_of
           (g.H.Hasher.layout c.args.hasher.now) c.args.self.now.start c.args.self.now.end (given_values digest

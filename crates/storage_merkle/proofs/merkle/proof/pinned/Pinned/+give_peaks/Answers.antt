@@ -4,14 +4,14 @@ use Rattle.storage_merkle.proofs.PinnedMatch.{match_none, match_past, none_missi
 use Rattle.storage_merkle.proofs.merkle.proof.pinned.Pinned.+give_peaks.Goals as goal
 
 pub returns-then-rest-eq0 : goal.returns-then-rest-eq0
-returns-then-rest-eq0 g t c = λ end digest recomputed same some nodes texts. (
+returns-then-rest-eq0 g t c = λ end digest recomputed some nodes texts. (
   λ y. match_none c.args.self.now.start end digest recomputed g.F.Family.shape g.met.F.Family.laws c.args.rest.first
       c.args.rest.left c.args.rest.folded (omega arith),
   λ m. refl,
 )
 
 pub returns-then-rest-power : goal.returns-then-rest-power
-returns-then-rest-power g t c = λ end digest recomputed same some nodes texts. (
+returns-then-rest-power g t c = λ end digest recomputed some nodes texts. (
   λ y. match_past c.args.self.now.start end digest recomputed g.F.Family.shape c.args.rest.first c.args.rest.left
       c.first_peak-height.result c.first_peak-height.ensures.first c.args.rest.folded
       (omega (arith, c.power.ensures)),
@@ -19,7 +19,7 @@ returns-then-rest-power g t c = λ end digest recomputed same some nodes texts. 
 )
 
 pub returns-in_default : goal.returns-in_default
-returns-in_default g t c = λ end digest recomputed same some nodes texts.
+returns-in_default g t c = λ end digest recomputed some nodes texts.
     let ends : c.args.rest.first + 2 ^ c.first_peak-height.result ≤ c.args.self.now.start =
     omega (arith, c.power.ensures, c.if-rest-power.false) in
     absurd (none_missing c.args.self.now.start end digest recomputed g.F.Family.shape c.args.rest.first c.args.rest.left
@@ -38,7 +38,7 @@ give_peaks-requires g t c κs within =
     rw (c.next.ensures.first, c.next.ensures.left) (search rules)
 
 pub returns-then-eq : goal.returns-then-eq
-returns-then-eq g t c = λ end digest recomputed same some nodes texts.
+returns-then-eq g t c = λ end digest recomputed some nodes texts.
     let ends : c.args.rest.first + 2 ^ c.first_peak-height.result ≤ c.args.self.now.start =
     omega (arith, c.power.ensures, c.if-rest-power.false) in
     let left =
@@ -51,5 +51,5 @@ returns-then-eq g t c = λ end digest recomputed same some nodes texts.
     c.next.result.left c.next.result.folded c.next.ensures.first c.next.ensures.left c.next.ensures.folded
     g.D.Write.text c.in-Some.digest.now c.args.digests.now c.in-Some.later.now c.in-Some.ensures.cases.0 texts
     (g.D.Write.text c.node.result) (nodes c.args.rest.first c.first_peak-height.result
-    ∙ sym (c.node.ensures same)) ((g.met.D.Digest.same _ _).0 (sym c.if-eq.ensures)) c.give_peaks.result
-    (c.give_peaks.ensures end digest recomputed same some nodes left)
+    ∙ sym c.node.ensures) ((g.met.D.Digest.same _ _).0 (sym c.if-eq.ensures)) c.give_peaks.result
+    (c.give_peaks.ensures end digest recomputed some nodes left)

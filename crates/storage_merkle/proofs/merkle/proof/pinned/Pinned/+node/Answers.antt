@@ -4,13 +4,15 @@ use Rattle.storage_merkle.proofs.PinnedNodes.{node_pinned, node_empty, node_join
 use Rattle.storage_merkle.proofs.merkle.proof.pinned.Pinned.+node.Goals as goal
 
 pub returns-in-Some : goal.returns-in-Some
-returns-in-Some g t c = λ same.
+returns-in-Some g t c =
+    let same = g.met.H.Hasher.over c.args.hasher.now in
     node_pinned g.H.Hasher.hash_of (g.H.Hasher.layout c.args.hasher.now) g.F.Family.shape same c.args.self.now.start
     (map g.D.Write.text c.args.self.now.digests.now) (g.H.Hasher.chunk c.args.hasher.now) c.args.height c.args.first
     _ c.in-Some.ensures.0 (c.in-Some.ensures.1 (g.H.Hasher.hash_of []))
 
 pub returns-then-height-eq0 : goal.returns-then-height-eq0
-returns-then-height-eq0 g t c = λ same.
+returns-then-height-eq0 g t c =
+    let same = g.met.H.Hasher.over c.args.hasher.now in
     node_empty g.H.Hasher.hash_of (g.H.Hasher.layout c.args.hasher.now) g.F.Family.shape same c.args.self.now.start
     (map g.D.Write.text c.args.self.now.digests.now) (g.H.Hasher.chunk c.args.hasher.now) c.args.height c.args.first
     _ c.in_default.ensures c.if-height-eq0.true c.digest.ensures
@@ -48,10 +50,11 @@ node_position-requires-clause-within g t c = omega (
 )
 
 pub returns : goal.returns
-returns g t c = λ same.
+returns g t c =
+    let same = g.met.H.Hasher.over c.args.hasher.now in
     node_joined g.H.Hasher.hash_of (g.H.Hasher.layout c.args.hasher.now) g.F.Family.shape same c.args.self.now.start
     (map g.D.Write.text c.args.self.now.digests.now)
     (g.H.Hasher.chunk c.args.hasher.now) c.args.height c.args.first _ _ _ c.in_default.ensures c.if-height-eq0.false
-    (c.node-left.ensures same) (rw c.power.ensures at (c.node-right.ensures same))
+    c.node-left.ensures (rw c.power.ensures at c.node-right.ensures)
     (c.node_digest.ensures c.args.first c.args.height
     (record { aligned = c.requires.within.aligned; at = sym c.node_position.ensures }))

@@ -14,7 +14,7 @@ loop-rest-init g c = record {
   peaks = c.requires.peaks;
   passing = passing_starts g.F.Family.shape c.args.self.now.start
       c.args.peaks.first c.args.peaks.left c.args.peaks.folded;
-  folds = λ same. refl;
+  folds = refl;
 }
 
 pub node-requires-clause-within : goal.node-requires-clause-within
@@ -33,16 +33,16 @@ loop-rest-preserved g c =
           g.F.Family.shape c.args.self.now.start c.args.peaks.first c.args.peaks.left c.args.peaks.folded
           c.loop-rest.rest.first c.loop-rest.rest.left c.loop-rest.rest.folded c.first_peak-height.result
           c.if-rest-gt0.true c.first_peak-height.ensures.first ends c.loop-rest.invariant.passing);
-      folds = λ same. rw (c.next-rest.ensures.first, c.next-rest.ensures.left, c.next-rest.ensures.folded)
+      folds = rw (c.next-rest.ensures.first, c.next-rest.ensures.left, c.next-rest.ensures.folded)
           (forward_leads g.F.Family.shape c.loop-rest.rest.first c.loop-rest.rest.left c.first_peak-height.result
           c.first_peak-height.ensures.first c.args.self.now.start c.loop-rest.rest.folded c.if-rest-gt0.true ends
           g.H.Hasher.hash_of (digest_before g.H.Hasher.hash_of (g.H.Hasher.layout c.args.hasher.now)
           c.args.self.now.start (map g.D.Write.text c.args.self.now.digests.now) (g.H.Hasher.chunk c.args.hasher.now)) _
-          _ _ _ (c.node.ensures same) c.append.ensures (c.loop-rest.invariant.folds same));
+          _ _ _ c.node.ensures c.append.ensures c.loop-rest.invariant.folds);
     }
 
 pub returns-clause-folded : goal.returns-clause-folded
-returns-clause-folded g c = λ same.
+returns-clause-folded g c =
     let S = g.F.Family.shape in
     let r = c.loop-rest.rest in
     let start = c.args.self.now.start in
@@ -55,7 +55,7 @@ returns-clause-folded g c = λ same.
           (omega (arith, w.if-rest-power.true, w.power.ensures))
     ] in
     forward_ends g.H.Hasher.hash_of _ (option_map g.D.Write.text c.loop-rest.folded) _ _ none
-    (c.loop-rest.invariant.folds same)
+    c.loop-rest.invariant.folds
 
 pub returns-clause-after : goal.returns-clause-after
 returns-clause-after g c =

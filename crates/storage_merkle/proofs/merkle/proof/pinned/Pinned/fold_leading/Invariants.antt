@@ -14,8 +14,7 @@ invariant-loop-rest g l = record {
   peaks : ArePeaks g.F.Family.shape l.self.leaves l.rest.first l.rest.left;
   passing : Passing g.F.Family.shape l.self.start l.fn.peaks.first l.fn.peaks.left l.fn.peaks.folded l.rest.first
       l.rest.left l.rest.folded;
-  folds : (g.H.Hasher.layout l.hasher).shape ≡ g.F.Family.shape →
-      forward_from g.H.Hasher.hash_of (option_map g.D.Write.text l.folded) (peaks_by (digest_before g.H.Hasher.hash_of
+  folds : forward_from g.H.Hasher.hash_of (option_map g.D.Write.text l.folded) (peaks_by (digest_before g.H.Hasher.hash_of
       (g.H.Hasher.layout l.hasher) l.self.start (map g.D.Write.text l.self.digests.now) (g.H.Hasher.chunk l.hasher))
       (leading l.self.start (take l.rest.folded (peaks_from g.F.Family.shape l.rest.first l.rest.left))))
       ≡ forward_of g.H.Hasher.hash_of (peaks_by (digest_before g.H.Hasher.hash_of (g.H.Hasher.layout l.hasher)

@@ -30,9 +30,9 @@ node-requires-clause-within g c =
     }
 
 pub returns-then-ne : goal.returns-then-ne
-returns-then-ne g c = λ ss digest recomputed same are nodes texts.
+returns-then-ne g c = λ ss digest recomputed are nodes texts.
     let S = g.F.Family.shape in
-    let left = c.loop-position.invariant.so_far ss digest recomputed same are nodes texts in
+    let left = c.loop-position.invariant.so_far ss digest recomputed are nodes texts in
     let here = rw (c.in-Some.ensures.steps.0, c.in-Some.ensures.steps.1) at left in
     let at = rw c.as_u64.ensures at c.node_at-first.ensures.node in
     let ends : c.node_at-first.result.0 + 2 ^ c.node_at-first.result.1 ≤ c.args.self.now.start =
@@ -42,7 +42,7 @@ returns-then-ne g c = λ ss digest recomputed same are nodes texts.
           recomputed ss c.in-Some.position.now c.node_at-first.result.0 c.node_at-first.result.1
           c.next.new.self.a.rest.now c.in-Some.digest.now c.next.new.self.b.rest.now at ends
           (λ e. differs g.D.PartialEq.eq g.D.Write.text g.met.D.Digest.same _ _ c.if-ne.ensures
-          (c.node.ensures same ∙ sym (nodes _ _) ∙ e)) here m),
+          (c.node.ensures ∙ sym (nodes _ _) ∙ e)) here m),
     )
 
 pub loop-position-preserved : goal.loop-position-preserved
@@ -53,8 +53,8 @@ loop-position-preserved g c =
       ends = tt;
       within = All-tail (λ p. p < size S c.args.self.now.leaves) _ _ (subst
           (All (λ p. p < size S c.args.self.now.leaves)) c.in-Some.ensures.steps.0 c.loop-position.invariant.within);
-      so_far = λ ss digest recomputed same are nodes texts.
-          let left = c.loop-position.invariant.so_far ss digest recomputed same are nodes texts in
+      so_far = λ ss digest recomputed are nodes texts.
+          let left = c.loop-position.invariant.so_far ss digest recomputed are nodes texts in
           let here = rw (c.in-Some.ensures.steps.0, c.in-Some.ensures.steps.1) at left in
           let at = rw c.as_u64.ensures at c.node_at-first.ensures.node in
           passes S g.met.F.Family.laws c.args.self.now.leaves c.args.self.now.start g.D.Write.text digest recomputed ss
@@ -63,16 +63,16 @@ loop-position-preserved g c =
           (elim c.else-first-power.branch [
             | else-first-power-via-then-first-power+else-ne w ↦
                 inr (sym (agrees g.D.PartialEq.eq g.D.Write.text g.met.D.Digest.same _ _ w.if-ne.ensures)
-                ∙ w.node.ensures same ∙ sym (nodes _ _))
+                ∙ w.node.ensures ∙ sym (nodes _ _))
             | else-first-power-via-else-first-power w ↦ inl (omega (arith, c.power.ensures, w.if-first-power.false))
           ]) here;
     }
 
 pub returns : goal.returns
-returns g c = λ ss digest recomputed same are nodes texts. (
+returns g c = λ ss digest recomputed are nodes texts. (
   λ yes. none_left g.F.Family.shape g.met.F.Family.laws c.args.self.now.leaves c.args.self.now.start g.D.Write.text
       digest recomputed ss c.loop-position.position-iterator.a.rest.now c.loop-position.position-iterator.b.rest.now
       (elim c.in-None.ensures.steps [ inl w ↦ inl w.1.0 | inr w ↦ inr w.1.0 ])
-      (c.loop-position.invariant.so_far ss digest recomputed same are nodes texts),
+      (c.loop-position.invariant.so_far ss digest recomputed are nodes texts),
   λ m. refl,
 )

@@ -10,7 +10,7 @@ invariant-loop-position g l = record {
   next : (goal.iterator-loop-position g).can_next l.position-iterator;
   ends : (goal.iterator-loop-position g).is_finite l.position-iterator;
   within : All (λ p. p < size g.F.Family.shape l.self.leaves) l.position-iterator.a.rest.now;
-  so_far : (ss : List Site) (digest recomputed : Site → List ℕ) → (g.H.Hasher.layout l.hasher).shape ≡ g.F.Family.shape
+  so_far : (ss : List Site) (digest recomputed : Site → List ℕ)
       → AreNodesAt g.F.Family.shape l.self.leaves l.positions ss
       → ((a k : ℕ) → recomputed (node a k) ≡ digest_before g.H.Hasher.hash_of (g.H.Hasher.layout l.hasher) l.self.start
       (map g.D.Write.text l.self.digests.now) (g.H.Hasher.chunk l.hasher) a k)

@@ -1,0 +1,102 @@
+//! The lists whose digests may be those of any digest function.
+
+ghost use Rattle.std.specs.Prelude.{◌≤◌};
+
+use crate::columns::Fault;
+use crate::lists::{
+    bitmaps, both_chunks, codecs, combined, constant, extracted, fetched, keyed, keys, mems, multi,
+    operation_checks, pinned, program, proofs, recomputed, snapshots, stores, witnesses,
+};
+use commonware_storage::codec::FixedBytes;
+use commonware_storage::digest::{Digest, Hasher};
+use commonware_storage::merkle::{Countable, Graftable, mmb, mmr};
+use reference::shape::Digits;
+use std::alloc::Global;
+
+/// Whether a list of that name is one of them.
+pub fn has(list: &str) -> bool {
+    match list {
+        "golden_hash" | "program_checks" | "key_values" | "exclusions" | "golden_keys" => true,
+        "bitmaps" | "bitmaps_checks" | "bitmaps_init" | "bitmaps_stages" => true,
+        "bitmaps_verified" | "bitmaps_read" | "bitmaps_served" | "bit_proofs" => true,
+        "combined" | "golden" | "ranges" | "ranges_checks" | "ranges_extracted" => true,
+        "both_chunks" | "combined_asked" | "constant_checks" | "tree_roots" | "texts" => true,
+        "active" | "keyed" | "fetched_operations" | "fetched_ranges" => true,
+        "mem_init" | "mems" | "plain_checks" | "multi_checks" | "extracted" => true,
+        "pinned_checks" | "recomputed" | "stores" | "witnesses" => true,
+        _ => false,
+    }
+}
+
+/// The answer of a list of that name, with the digests of `H`, which have `D` bytes.
+pub fn answer<H: Hasher<Digest = FixedBytes<D>>, const D: usize>(
+    alloc: Global,
+    list: &str,
+    columns: &[&str],
+) -> Result<String, Fault>
+where
+    FixedBytes<D>: Digest,
+    requires small { D ≤ 64 }
+{
+    match list {
+        "bitmaps" | "bitmaps_checks" | "bitmaps_init" | "bitmaps_stages" => {
+            bitmaps::answer::<H, D>(alloc, list, columns)
+        }
+        "bitmaps_verified" | "bitmaps_read" | "bitmaps_served" | "bit_proofs" => {
+            bitmaps::answer::<H, D>(alloc, list, columns)
+        }
+        "active" => keyed::active::<H, D>(alloc, columns),
+        "keyed" => keyed::keyed::<H, D>(alloc, columns),
+        "combined" => combined::combined::<H, D>(alloc, columns),
+        "combined_asked" => combined::combined_asked::<H, D>(alloc, columns),
+        "constant_checks" | "tree_roots" => constant::answer::<H, D>(alloc, list, columns),
+        "fetched_operations" => fetched::fetched_operations::<H, D>(alloc, columns),
+        "fetched_ranges" => fetched::fetched_ranges::<H, D>(alloc, columns),
+        "golden" | "ranges" | "ranges_checks" => snapshots::answer::<H, D>(alloc, list, columns),
+        _ => of_any::<H>(alloc, list, columns),
+    }
+}
+
+/// The answer of a list that takes digests of any size.
+fn of_any<H: Hasher>(alloc: Global, list: &str, columns: &[&str]) -> Result<String, Fault> {
+    match list {
+        "both_chunks" => both_chunks::both_chunks::<H>(alloc, columns),
+        "exclusions" | "golden_keys" | "key_values" => keys::answer::<H>(alloc, list, columns),
+        "golden_hash" => codecs::golden_hash::<H>(alloc, columns),
+        "program_checks" => program::program_checks::<H>(alloc, columns),
+        _ => of_family::<H>(alloc, list, columns),
+    }
+}
+
+/// The answer of a list whose first column is the family.
+fn of_family<H: Hasher>(alloc: Global, list: &str, columns: &[&str]) -> Result<String, Fault> {
+    let Some((family, columns)) = columns.split_first() else {
+        return Err(Fault::Malformed);
+    };
+    match *family {
+        "mmr" => over::<mmr::Family, H>(alloc, list, columns),
+        "mmb" => over::<mmb::Family, H>(alloc, list, columns),
+        _ => Err(Fault::Malformed),
+    }
+}
+
+fn over<F: Graftable + Digits + Countable, H: Hasher>(
+    alloc: Global,
+    list: &str,
+    columns: &[&str],
+) -> Result<String, Fault> {
+    match list {
+        "mem_init" => mems::mem_init::<F, H>(alloc, columns),
+        "mems" => mems::mems::<F, H>(alloc, columns),
+        "plain_checks" => proofs::plain_checks::<F, H>(alloc, columns),
+        "multi_checks" => multi::multi_checks::<F, H>(alloc, columns),
+        "extracted" => extracted::extracted::<F, H>(alloc, columns),
+        "ranges_extracted" => extracted::current::ranges_extracted::<F, H>(alloc, columns),
+        "pinned_checks" => pinned::pinned_checks::<F, H>(alloc, columns),
+        "recomputed" => recomputed::recomputed::<F, H>(alloc, columns),
+        "stores" => stores::stores::<F, H>(alloc, columns),
+        "texts" => operation_checks::texts::<F, H>(alloc, columns),
+        "witnesses" => witnesses::witnesses::<F, H>(alloc, columns),
+        _ => Err(Fault::Malformed),
+    }
+}

@@ -1,0 +1,32 @@
+//! SHA-256, as FIPS 180-4 defines it.
+
+ghost use Rattle.sha2.specs.Sha256.{sha256};
+ghost use Rattle.storage_codec.specs.DigestLaws.{sha256_sized};
+
+use crate::codec::FixedBytes;
+use crate::digest::Hasher;
+use sha2::Digest as _;
+
+/// SHA-256, as FIPS 180-4 defines it: digests of 32 bytes.
+pub struct Sha256;
+
+impl Hasher for Sha256 {
+    type Digest = FixedBytes<32>;
+
+    ghost hash_of = { sha256 };
+
+    fn hash(parts: &[&[u8]]) -> FixedBytes<32> {
+        let mut hasher = sha2::Sha256::new();
+        for part in parts {
+            hasher.update(*part);
+        }
+        let bytes = hasher.finalize();
+        FixedBytes { bytes }
+    }
+
+    fn fill(byte: u8) -> FixedBytes<32> {
+        FixedBytes { bytes: [byte; 32] }
+    }
+
+    ghost sized = { sha256_sized };
+}
