@@ -45,7 +45,7 @@ import time
 ROOT = pathlib.Path(__file__).resolve().parent.parent
 
 # What the check says of a goal that it leaves, and of a function.
-GOAL = re.compile(r"note: (?:\./)?(src/\S+?\.rt):(\d+):\d+: (it is not proved .*)")
+GOAL = re.compile(r"note: (?:\./)?(src/\S+?\.rt):(\d+):\d+: (it is not proved .*|`search` found no proof .*)")
 FUNCTION = re.compile(r"fn (\S+): (.*)")
 WAITS = re.compile(r"no proof: it |not proved; it waits")
 BLOCK = re.compile(r"impl (\S+): not proved")
@@ -334,6 +334,7 @@ class Crate:
             words += ["--extern", f"{it}={folder_of(it) / it}.rlib" if it in own else f"{it}={kit}/rlibs/{it}.rlib"]
         for folder in [kit / "rlibs", *map(folder_of, below)]:
             words += ["-L", f"dependency={folder}"]
+        words += ["--crate-type", "staticlib"] if name in static_libraries() else []
         words += ["--antt-project", f"{kit}/rattle/logic/antt-project.json", "--logic-built", f"{kit}/logic_built"]
         self.command = [f"{kit}/bin/rattle", "check", *words, "--links", f"{name}=", "--jobs", "1"]
 
@@ -546,14 +547,22 @@ class Trial:
                     self.say(f"{edit.name}: {why_not(edit, alone)}", False)
 
 
-def uses_of_crates():
-    """The libraries that each crate of the repository uses, by its name."""
-    uses = {}
+def lines_of_crates():
+    """The words before the colon and behind it of each line of crates.txt that names a crate."""
     for line in (ROOT / "crates.txt").read_text().splitlines():
         head, _, deps = line.partition("#")[0].partition(":")
         if head.strip():
-            uses[head.split()[0]] = deps.split()
-    return uses
+            yield head.split(), deps.split()
+
+
+def uses_of_crates():
+    """The libraries that each crate of the repository uses, by its name."""
+    return {head[0]: deps for head, deps in lines_of_crates()}
+
+
+def static_libraries():
+    """The crates of the repository that are static libraries."""
+    return {head[0] for head, _ in lines_of_crates() if "staticlib" in head[1:]}
 
 
 def kit_folder():

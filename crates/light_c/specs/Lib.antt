@@ -1,0 +1,3 @@
+pub mod Agreed
+pub mod Answers
+pub mod ByteStrings

@@ -1,0 +1,16 @@
+//! Checks for programs in C, and in each language that calls C, that trust one digest: thin over `light` of `commonware_storage`.
+//!
+//! ```text
+//! pointers and lengths --> byte strings --> family, digest function, root and sizes that there are? --> the check --> yes, no
+//!                                                no: a refusal of its own                                 or out of memory
+//! ```
+//!
+//! A slice crosses as a pointer and a length. Nothing is kept between calls, and all memory that a call takes is given back
+//! before it answers.
+#![tactic(auto)]
+
+pub mod agreed;
+pub mod answer;
+mod byte_strings;
+pub mod operation;
+pub mod range;

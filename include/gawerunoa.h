@@ -1,0 +1,71 @@
+/*
+ * Checks for a light client that trusts one digest, the canonical root of a snapshot of an authenticated database. Anybody may
+ * have made the bytes of a proof. Licence: Apache License 2.0.
+ *
+ * Of every pointer and length: `length` readable bytes (or numbers) stand at the pointer, and nothing writes to them during the
+ * call. With a length of 0 the pointer is not read and may be null. Pointers to bytes may have any alignment. Nothing is kept
+ * after a call, so calls may run side by side in several threads. Memory is taken by malloc and realloc and given back by free
+ * before the call answers; so no call is made from a signal handler.
+ *
+ * A yes says: of each snapshot with that root, made with that family, digest function and chunk size, what is claimed is true; or
+ * two different byte strings have one digest, one hashed by the check, the other by the calculation of the root. Whether the root
+ * is recent the caller has to know.
+ */
+#ifndef GAWERUNOA_H
+#define GAWERUNOA_H
+
+#include <stddef.h>
+#include <stdint.h>
+
+#ifdef __cplusplus
+extern "C" {
+#endif
+
+/* What a call answers. The first of the refusals that holds, in this order: of the family, the digest function, the root, the
+   lengths of lists. A refusal takes no memory. */
+enum gawerunoa_answer {
+    GAWERUNOA_YES = 1,
+    GAWERUNOA_NO = 0,
+    GAWERUNOA_NO_MEMORY = -1,     /* memory ran out: this says nothing of what is claimed */
+    GAWERUNOA_OTHER_ROOT = -2,    /* the root has another length than a digest: 32 or 64 bytes */
+    GAWERUNOA_OTHER_FAMILY = -3,  /* no such family */
+    GAWERUNOA_OTHER_HASH = -4,    /* no such digest function */
+    GAWERUNOA_OTHER_LENGTHS = -5  /* the lengths of a list of byte strings do not add up to its bytes */
+};
+
+/* The family of the trees: mountain ranges or mountain belts. */
+enum gawerunoa_family { GAWERUNOA_MMR = 0, GAWERUNOA_MMB = 1 };
+
+/* The digest function. Digests of SHA-256 have 32 bytes, those of SHA-512 have 64. */
+enum gawerunoa_hash { GAWERUNOA_SHA256 = 0, GAWERUNOA_SHA512 = 1 };
+
+/*
+ * Whether `operation` stands at `location` and is active. `proof` is an operation proof over a chunk of activity bits of
+ * `chunk_size` bytes; more than 128 digests in it are a no, and so is a size that no chunk has: sizes are the powers of two up
+ * to 2^59.
+ */
+int32_t gawerunoa_check_operation(
+    uint32_t family, uint32_t hash, size_t chunk_size, uint64_t location,
+    const uint8_t *proof, size_t proof_length,
+    const uint8_t *operation, size_t operation_length,
+    const uint8_t *root, size_t root_length);
+
+/*
+ * Whether the given operations stand at the locations from `start` on, and the given chunks are all those with the activity bit
+ * of one of them. Operations are one string of bytes, and the length of each, `operations_count` of them; so are chunks. `proof`
+ * is a range proof; more than `max_digests` digests in it are a no.
+ */
+int32_t gawerunoa_check_range(
+    uint32_t family, uint32_t hash, size_t chunk_size, size_t max_digests, uint64_t start,
+    const uint8_t *proof, size_t proof_length,
+    const uint8_t *operations, size_t operations_length,
+    const size_t *operation_lengths, size_t operations_count,
+    const uint8_t *chunks, size_t chunks_length,
+    const size_t *chunk_lengths, size_t chunks_count,
+    const uint8_t *root, size_t root_length);
+
+#ifdef __cplusplus
+}
+#endif
+
+#endif

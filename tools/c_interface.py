@@ -1,0 +1,174 @@
+#!/usr/bin/env python3
+"""Tests the library for C, from C, over what `rt lib` built of the crate light_c.
+
+    tools/c_interface.py [--built TREE] [--calls N] [--seed S]
+
+With --built the crate is built here, over the libraries that a gate left in TREE. Each of these is a part:
+
+1. The header compiles alone, as C11 and as C++17, with all warnings.
+2. Its functions are those that the sources export, and those whose names the archive has; its numbers are the sources' constants.
+3. The cases of the lists `program_checks` and `ranges_checks` of conformance/ are answered from C as they say.
+4. N hostile calls over each digest function (200,000 where nothing is said), under the address sanitizer of the caller:
+   tools/c_hostile.c says which.
+5. The examples.
+
+A part that fails says why. The last line is 'N passed, M failed'; the status is 0 where none failed, and 77 where there is no gcc.
+"""
+import argparse
+import json
+import pathlib
+import re
+import shutil
+import subprocess
+import sys
+import tempfile
+
+import c_library
+
+ROOT = pathlib.Path(__file__).resolve().parent.parent
+HEADER = ROOT / "include/gawerunoa.h"
+SOURCES = ROOT / "crates/light_c/src"
+NOT_RUN = 77
+WARNINGS = ["-Wall", "-Wextra", "-Wpedantic", "-Wconversion", "-Wshadow", "-Werror"]
+LANGUAGES = [("gcc", "c", "c11"), ("g++", "c++", "c++17")]
+FAMILIES = {"mmr": 0, "mmb": 1}
+HASHES = {"sha256": 0, "sha512": 1}
+ANSWERS = {"yes": 1, "no": 0}
+
+
+def run(*words, text=None):
+    """What a command printed, or why it failed."""
+    ended = subprocess.run(list(map(str, words)), input=text, text=True, stdout=subprocess.PIPE, stderr=subprocess.STDOUT)
+    if ended.returncode:
+        raise AssertionError(f"{words[0]} ended with {ended.returncode}: {ended.stdout[-2000:]}")
+    return ended.stdout
+
+
+def same(what, first, second):
+    if first != second:
+        raise AssertionError(f"{what}: {first} and {second}")
+
+
+def compiles(folder):
+    """The header alone, in each language whose compiler is there."""
+    for compiler, language, standard in LANGUAGES:
+        if shutil.which(compiler):
+            run(compiler, f"-std={standard}", *WARNINGS, "-fsyntax-only", "-x", language, HEADER)
+
+
+def names(folder):
+    """The functions and the numbers of the header."""
+    header = HEADER.read_text()
+    sources = "\n".join(path.read_text() for path in sorted(SOURCES.rglob("*.rt")))
+    declared = sorted(re.findall(r"^int32_t (gawerunoa_\w+)\(", header, re.M))
+    same("functions of the header and of the sources", declared, sorted(re.findall(r'extern "C" fn (\w+)', sources)))
+    symbols = run("nm", "--defined-only", "--extern-only", "--format=posix", folder / "libgawerunoa.a")
+    same("functions of the header and of the archive", declared, sorted(re.findall(r"^(\w+) T ", symbols, re.M)))
+    numbers = {name: int(value) for name, value in re.findall(r"GAWERUNOA_(\w+) = (-?\d+)", header)}
+    constants = {name: int(value) for name, value in re.findall(r"pub const (\w+): [ui]32 = (-?\d+);", sources)}
+    same("numbers of the header and of the sources", numbers, constants)
+
+
+def bytes_or_none(text):
+    return text or "-"
+
+
+def strings(texts):
+    if texts == [""]:
+        raise AssertionError("a list of one empty string has no word of its own")
+    return ",".join(texts) or "-"
+
+
+def hash_of(case):
+    """The number of a case's digest function."""
+    return HASHES[case.get("hash", "sha256")]
+
+
+def question(name, hash_, case):
+    """The line for tools/c_answers.c that asks what a case asks."""
+    head = f"{FAMILIES[case['family']]} {hash_} {case['chunk']}"
+    proof, root = bytes_or_none(case["proof"]), case["root"]
+    if name == "program_checks":
+        return f"operation {head} {case['location']} {proof} {bytes_or_none(case['operation'])} {root}"
+    lists = f"{strings(case['operations'])} {strings(case['chunks'])}"
+    return f"range {head} {case['most']} {case['start']} {proof} {lists} {root}"
+
+
+def cases_of(name):
+    """The cases of a list."""
+    return json.loads((ROOT / f"conformance/{name}.json").read_text())["cases"]
+
+
+def answers(folder):
+    """The cases of two lists."""
+    program = folder / "c_answers"
+    sanitizer = ["-fsanitize=address,undefined", "-fno-sanitize-recover=all", "-g"]
+    source = [ROOT / "tools/c_answers.c", folder / "libgawerunoa.a"]
+    run("gcc", "-std=c11", *WARNINGS, *sanitizer, f"-I{HEADER.parent}", *source, "-o", program)
+    for name in ("program_checks", "ranges_checks"):
+        cases = cases_of(name)
+        asked = [question(name, hash_of(case), case["in"]) for case in cases]
+        said = run(program, text="\n".join(asked) + "\n").split()
+        same(f"{name}: how many answers", len(said), len(cases))
+        for line, answer, case in zip(asked, said, cases):
+            same(f"{name}: {line}", int(answer), ANSWERS[case["out"]])
+        longer = sum(map(hash_of, cases))
+        print(f"c_interface: {name}: {len(cases)} cases answered from C, {longer} of them over SHA-512", flush=True)
+
+
+def hostile(folder, calls, seed):
+    """Calls that nobody means."""
+    program = folder / "c_hostile"
+    sanitizer = ["-fsanitize=address,undefined", "-fno-sanitize-recover=all", "-g", "-O1"]
+    source = [ROOT / "tools/c_hostile.c", folder / "libgawerunoa.a"]
+    run("gcc", "-std=c11", *WARNINGS, *sanitizer, f"-I{HEADER.parent}", *source, "-o", program)
+    for name, hash_ in HASHES.items():
+        seen = run(program, calls, seed, right_proof(folder, hash_), hash_)
+        print(f"c_interface: {calls} hostile calls, {name}, answers and how often: {', '.join(seen.splitlines())}", flush=True)
+
+
+def right_proof(folder, hash_):
+    """A folder with the files of a proof over a digest function: a case of conformance/ that is answered yes, at location 3."""
+    wanted = {"family": "mmr", "chunk": "1", "location": "3"}
+    is_wanted = lambda it: hash_of(it) == hash_ and it["out"] == "yes" and wanted.items() <= it["in"].items()
+    case = next(it["in"] for it in cases_of("program_checks") if is_wanted(it))
+    room = folder / f"proof{hash_}"
+    room.mkdir()
+    for name in ("root", "operation", "proof"):
+        (room / f"{name}.bin").write_bytes(bytes.fromhex(case[name]))
+    return room
+
+
+def main():
+    words = argparse.ArgumentParser(usage="c_interface.py [--built TREE] [--calls N] [--seed S]")
+    words.add_argument("--built", type=pathlib.Path)
+    words.add_argument("--calls", type=int, default=200_000)
+    words.add_argument("--seed", type=int, default=1)
+    given = words.parse_args()
+    if not shutil.which("gcc"):
+        print("c_interface: there is no gcc: not run")
+        return NOT_RUN
+    failed = 0
+    with tempfile.TemporaryDirectory() as work:
+        folder = pathlib.Path(work)
+        c_library.make(folder, given.built)
+        parts = [
+            ("the header compiles", lambda: compiles(folder)),
+            ("its names and numbers", lambda: names(folder)),
+            ("the cases of conformance/", lambda: answers(folder)),
+            ("hostile calls", lambda: hostile(folder, given.calls, given.seed)),
+            ("the examples", lambda: print(run(ROOT / "examples/run", folder), end="")),
+        ]
+        for name, part in parts:
+            try:
+                part()
+                print(f"c_interface: {name}: passed", flush=True)
+            except AssertionError as error:
+                failed += 1
+                print(f"c_interface: {name}: failed: {error}", flush=True)
+    print(f"{len(parts) - failed} passed, {failed} failed")
+    return int(failed > 0)
+
+
+if __name__ == "__main__":
+    sys.exit(main())

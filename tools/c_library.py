@@ -1,0 +1,64 @@
+#!/usr/bin/env python3
+"""Makes the library for C from what `rt lib` built of the crate light_c.
+
+    tools/c_library.py FOLDER [--built TREE]
+
+Into the folder go `libgawerunoa.a` and `libgawerunoa.so`. Both have the code of the crate and the kit's three functions over malloc,
+realloc and free, and no names but those that begin with `gawerunoa_`. With --built the crate is proved and built here, over the
+libraries that a gate left in TREE. It wants gcc with its binutils.
+"""
+import argparse
+import pathlib
+import shutil
+import subprocess
+import tempfile
+
+from wrong_bodies import Crate, kit_folder, uses_of_crates
+
+ROOT = pathlib.Path(__file__).resolve().parent.parent
+CRATE = "light_c"
+BUILT = ROOT / f"crates/{CRATE}/out/lib{CRATE}.a"
+NAMES = "gawerunoa_*"
+
+
+def called(*words, folder=None):
+    """Runs a command, and shows what it printed where it fails."""
+    ran = subprocess.run(list(map(str, words)), cwd=folder, stdout=subprocess.PIPE, stderr=subprocess.STDOUT, text=True)
+    if ran.returncode:
+        raise SystemExit(f"{words[0]} ended with {ran.returncode}: {ran.stdout[-3000:]}")
+
+
+def archive_over(built, kit, work):
+    """The crate's archive, proved and built over the libraries of a tree."""
+    crate = Crate(CRATE, uses_of_crates(), built.resolve(), kit)
+    archive = pathlib.Path(work, f"lib{CRATE}.a")
+    rattle, _, *words = crate.command
+    called(rattle, "build", *words, "--toolchain", kit / "toolchain", "--backend", "llvm", "-o", archive, folder=crate.folder)
+    return archive
+
+
+def make(folder, built=None):
+    """Makes both, and answers the path of the archive."""
+    if built is None and not BUILT.is_file():
+        raise SystemExit(f"crates/{CRATE} is not built: run `rt lib` in crates/{CRATE} first")
+    kit = kit_folder()
+    with tempfile.TemporaryDirectory() as room, tempfile.TemporaryDirectory() as work:
+        for archive in (BUILT if built is None else archive_over(built, kit, room), kit / "c/liblibc_c.a"):
+            called("ar", "x", archive, folder=work)
+        joined = pathlib.Path(work, "gawerunoa.o")
+        called("ld", "-r", "-o", joined, *sorted(pathlib.Path(work).glob("*.o")))
+        called("objcopy", "--wildcard", f"--keep-global-symbol={NAMES}", joined)
+        called("ar", "rcsD", "libgawerunoa.a", joined.name, folder=work)
+        called("gcc", "-shared", "-o", "libgawerunoa.so", "-Wl,-soname,libgawerunoa.so", "-Wl,-z,defs", joined.name, folder=work)
+        folder.mkdir(parents=True, exist_ok=True)
+        for name in ("libgawerunoa.a", "libgawerunoa.so"):
+            shutil.copy(pathlib.Path(work, name), folder / name)
+    return folder / "libgawerunoa.a"
+
+
+if __name__ == "__main__":
+    asked = argparse.ArgumentParser(usage="c_library.py FOLDER [--built TREE]")
+    asked.add_argument("folder", type=pathlib.Path)
+    asked.add_argument("--built", type=pathlib.Path)
+    asked = asked.parse_args()
+    make(asked.folder, asked.built)
