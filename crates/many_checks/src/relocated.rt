@@ -4,13 +4,14 @@ ghost use Rattle.storage_bitmap.specs.Chunks.{IsChunkSize};
 
 use crate::tally::Tally;
 use anyhow::{Result, bail};
+use commonware_storage::NoMemory;
 use commonware_storage::bitmap::authenticated::{
     BitMap, MerkleizedBitMap, PrunedState, UnmerkleizedBitMap,
 };
 use commonware_storage::codec::FixedBytes;
 use commonware_storage::digest::Sha256;
 use commonware_storage::merkle::hasher::Standard;
-use commonware_storage::merkle::{Bagging, Location, MAX_LEAVES, Proof, mmr};
+use commonware_storage::merkle::{Bagging, Error, Location, MAX_LEAVES, Proof, mmr};
 use std::alloc::Global;
 
 type Digest = FixedBytes<32>;
@@ -48,6 +49,7 @@ fn empty<const N: usize>(
     };
     match BitMap::init(alloc, hasher, state) {
         Ok(bitmap) => Ok(bitmap.into_dirty()),
+        Err(Error::Memory) => Err(NoMemory.into()),
         Err(_) => bail!("no bitmap"),
     }
 }
@@ -62,13 +64,16 @@ fn pushed<const N: usize>(
 {
     let mut bitmap = empty::<N>(alloc, hasher)?;
     for bit in 0..count {
-        if bitmap.len() >= MAX_LEAVES || bitmap.push(bit % 3 == 0).is_err() {
-            bail!("not pushed");
+        if bitmap.len() >= MAX_LEAVES {
+            bail!("too many bits");
+        }
+        if bitmap.push(bit % 3 == 0).is_err() {
+            return Err(NoMemory.into());
         }
     }
     match bitmap.merkleize(hasher) {
         Ok(bitmap) => Ok(bitmap),
-        Err(_) => bail!("no root"),
+        Err(_) => Err(NoMemory.into()),
     }
 }
 
@@ -84,7 +89,7 @@ fn shaped<const N: usize>(
     let mut bitmap = pushed::<N>(alloc, hasher, bit_at(shape.full, bits, shape.tail)?)?;
     let tail = bit_at(shape.full, bits, 0)?;
     if shape.is_pruned && tail <= bitmap.len() && bitmap.prune_to_bit(tail).is_err() {
-        bail!("not pruned");
+        return Err(NoMemory.into());
     }
     Ok(bitmap)
 }
@@ -169,6 +174,7 @@ fn over<const N: usize>(alloc: Global, hasher: &Standard<Sha256>, shape: Shape) 
     }
     let (mut proof, chunk) = match bitmap.proof(hasher, tail) {
         Ok(pair) => pair,
+        Err(Error::Memory) => return Err(NoMemory.into()),
         Err(_) => bail!("no proof"),
     };
     let root = bitmap.root();
