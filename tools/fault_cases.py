@@ -1,5 +1,5 @@
-"""What tools/faults.py is told, since text does not tell it: by which function a call is run, which lists fail a store or a log at
-each call, and which calls have no case."""
+"""What tools/faults.py is told, since text does not tell it: by which function a call is run, and which lists fail a store or a log
+at each call."""
 
 # What text does not tell: the case of a call is one that reaches this function, in whose body this text makes the call, by a line of
 # its list that fits the pattern, where there is one.
@@ -48,6 +48,7 @@ HINTS = {
     "<unordered::Update<K, V> as Update>::clone": ("spelling.rt::copied", "self.clone()?", "equal unordered-\\S+ update:"),
     "<ordered::Update<K, V> as Update>::cached": ("bounds.rt::next_key_kept", "as Update>::cached(", ""),
     "<ordered::Update<K, V> as Update>::fmt": ("spelling.rt::show", "self.display(alloc).to_string", "written ordered-\\S+ update:"),
+    "<unordered::Update<K, V> as Update>::cached": ("bounds.rt::nothing_kept", "as Update>::cached(", ""),
     "<unordered::Update<K, V> as Update>::fmt": ("spelling.rt::show", "self.display(alloc).to_string", "written unordered-\\S+ update:"),
     "<ordered::Update<K, V> as Write>::write": ("operations.rt::encoded", "operation.encode(alloc)", "written ordered-\\S+ update:"),
     "<unordered::Update<K, V> as Write>::write": ("operations.rt::encoded", "operation.encode(alloc)", "written unordered-\\S+ update:"),
@@ -57,8 +58,11 @@ HINTS = {
     "<operation::Operation<F, S> as Write>::write": ("operations.rt::encoded", "operation.encode(alloc)", "written "),
     "<operation::Operation<F, S> as Read>::read_cfg": ("operations.rt::read", "O::decode_cfg(alloc", ""),
     "operation::Operation::clone": ("spelling.rt::copied", "self.clone()?", "equal "),
-    "<storage::Storage<'_, F, R, S> as Storage>::get_node": ("whole.rt::node", "store.get_node(position)", ""),
-    "<storage::Storage<'_, F, R, S> as Storage>::get_nodes": ("combined.rt::proved", "OperationProof::new::<", ""),
+    "<storage::Storage<'_, F, H, R, S> as Storage>::get_node": ("failing.rt::is_answered", "store.get_node(position)", ""),
+    "<storage::Storage<'_, F, H, R, S> as Storage>::get_nodes": ("failing.rt::range", "RangeProof::new::<", ""),
+    "operation::Proof::new": ("failing.rt::operation", "OperationProof::<", ""),
+    "proof::RangeProof::new": ("failing.rt::range", "RangeProof::new::<", ""),
+    "proof::RangeProof::new_with_ops": ("failing.rt::logged", "RangeProof::new_with_ops::<", ""),
     "log::Contiguous::read_many": ("with_operations.rt::read_range", "log.read_many(", ""),
     "key_value::KeyValueProof::clone": ("keyed.rt::copy_shows", "key_value.clone()?", " [0-9]+$"),
     "exclusion::ExclusionProof::clone": ("keyed.rt::copy_excludes", "exclusion.clone()?", " absent$"),
@@ -76,6 +80,7 @@ HINTS = {
     "<operation::Proof<F, D, [u8; N]> as Read>::read_cfg": ("constant.rt::constant_checks", "OperationProof::<", ""),
     "<operation::Proof<F, D, Bytes> as Read>::read_cfg": ("light.rt::operation_from", "OperationProof::<", ""),
     "proof::RangeProof::verify": ("snapshots.rt::shown", "proof.verify::<", ""),
+    "<witness::OpsRootWitness<F, D> as Write>::write": ("witnesses.rt::witnesses", "copy.encode(alloc)?", ""),
     "<witness::OpsRootWitness<F, D> as Read>::read_cfg": ("witnesses.rt::witnesses", "OpsRootWitness::<", ""),
     "mem::Mem::range_proof": ("own.rt::is_given", "self.proof(start, end)", ""),
     "digest::Digest::read_option": ("sweeps.rt::compare_range_copies", "decoded::<RangeProof", ""),
@@ -88,16 +93,9 @@ FAILING = {
     "fetched_ranges": ("fetched.rt::marks", "for nodes in 0..ENOUGH"),
     "fetched_operations": ("fetched.rt::marks_of_operation", "for nodes in 0..ENOUGH"),
     "combined_asked": ("combined.rt::combined_asked", "number(*left)?"),
+    "combined_reads": ("failing.rt::combined_reads", "for left in 0..MANY"),
+    "combined_marks": ("failing.rt::logged_marks", "for items in 0..ENOUGH"),
 }
 
 # Calls that answer want of memory in other words than an error of their result's type.
 OTHERWISE = {"stateproof::run": "status 2"}
-
-# Calls without a case, by what they are without: any case at all, one with requests for memory refused, or a store or log that fails.
-OPEN = {
-    "<unordered::Update<K, V> as Update>::cached": ("any", "it keeps nothing of an update, and asks for no memory"),
-    "<unordered::Update<K, VariableEncoding<V>> as Read>::read_cfg": ("refused", "none of the lines of `operations` is one of those whose memory is refused"),
-    "storage::Storage::get_node": ("failing", "stores fail where several nodes are asked for at once"),
-    "<storage::Storage<'_, F, R, S> as Storage>::get_node": ("failing", "both trees are read node by node only from a store that answers"),
-    "<witness::OpsRootWitness<F, D> as Write>::write": ("any", "witnesses are read, copied and checked, and not written"),
-}

@@ -4,8 +4,8 @@
     tools/faults.py [--write]
 
 Compares docs/FAULTS.md with the table made anew from the sources, or writes it with --write. The page says what the table has and
-how a case is found. A line for each difference, for each call without a case that OPEN does not name, and for each line of the tables
-below that fits nothing. The last line is 'N calls, M without a case or not told'; the status is 1 where M is not 0 or the page differs.
+how a case is found. A line for each difference, for each call without a case, and for each line of tools/fault_cases.py that fits
+nothing. The last line is 'N calls, M without a case or not told'; the status is 1 where M is not 0 or the page differs.
 """
 import collections
 import difflib
@@ -13,7 +13,7 @@ import re
 import sys
 
 import refused_memory
-from fault_cases import FAILING, HINTS, OPEN, OTHERWISE
+from fault_cases import FAILING, HINTS, OTHERWISE
 from source_calls import LIBRARIES, ROOT, Sources
 
 PAGE = ROOT / "docs/FAULTS.md"
@@ -114,7 +114,7 @@ class Table:
         self.sources = Sources()
         self.cases = Cases(self.sources)
         self.rows, self.faults, self.count = collections.defaultdict(list), [], 0
-        seen, self.missing = set(), {}
+        seen = set()
         for call in filter(self.is_listed, self.sources.functions):
             label = self.sources.label_of(call)
             if label in seen:
@@ -134,16 +134,15 @@ class Table:
         failing = [it for it in found if it[1] in FAILING]
         cells = [self.cases.told(found, self.cases.lines), self.cases.told(found, self.cases.sampled)]
         cells.append(self.cases.told(failing, self.cases.lines) if takes_store(call) else "-")
-        lacks = "any" if not cells[0] else "refused" if not cells[1] else "failing" if not cells[2] else None
-        if lacks:
-            self.missing[label] = lacks
-        if lacks != OPEN.get(label, (None,))[0]:
-            self.faults.append(f"{call.crate}/{call.file}: {label} lacks {lacks}, and OPEN has {OPEN.get(label, (None,))[0]}")
+        for cell, kind in zip(cells, ("any case", "one with memory refused", "one with a failing store or log")):
+            if not cell:
+                self.faults.append(f"{call.crate}/{call.file}: {label} lacks {kind}")
+                break
         self.rows[call.crate].append([f"`{label}`", memory_of(call, label), *(it or "none" for it in cells)])
 
     def check_data(self, labels):
         """Notes each line of the data that fits nothing."""
-        self.faults += [f"no call is named {it}" for it in {*HINTS, *OPEN, *OTHERWISE} - labels]
+        self.faults += [f"no call is named {it}" for it in {*HINTS, *OTHERWISE} - labels]
         self.faults += [f"{it} is no list" for it in FAILING if it not in self.cases.lists]
         for name, (site, text, *_) in {**HINTS, **FAILING}.items():
             if not any(text in it.raw for it in self.cases.sites(site)):
@@ -154,9 +153,6 @@ class Table:
         for crate, rows in self.rows.items():
             parts.append(f"## {crate}\n\n| Call | Want of memory | With memory | Refused | Failing store or log |\n|---|---|---|---|---|")
             parts[-1] += "".join(f"\n| {' | '.join(row)} |" for row in rows)
-        kinds = {"any": "any case", "refused": "one with memory refused", "failing": "one with a failing store or log"}
-        open_ones = [f"| `{label}` | {kinds[kind]} | {OPEN[label][1]} |" for label, kind in self.missing.items() if label in OPEN]
-        parts.append("## Calls without a case\n\n| Call | It lacks | What is run in its place |\n|---|---|---|\n" + "\n".join(open_ones))
         return "\n\n".join(parts) + "\n"
 
 
@@ -177,7 +173,7 @@ HEAD_OF_PAGE = """# Want of memory, and stores and logs that fail
 
 Each public call of the libraries whose result can say that memory is lacking, or that asks a store or a log that it is given, and the
 case that runs it. `tools/faults.py --write` makes this page from the sources; without the word it compares the page with them, and
-fails where a call has no case and is not among the last ones here.
+fails where a call has no case.
 
 - **Call**: the module that declares the type, the type, and the method; a method of a trait with the trait, or as the trait declares
   it; else the module and the function. What is derived is left out: a derived clone is that of a type which is copied bit by bit. So
@@ -186,9 +182,10 @@ fails where a call has no case and is not among the last ones here.
 - **With memory**: the case that runs the call with all memory that it asks for: a list of `crates/replay`, with how many of its lines
   fit, a test, or the program `stateproof`.
 - **Refused**: the same with the requests for memory refused in turn by `tools/refused_memory.py`, with how many lines of the list that
-  script takes: eight at most of each list, and of each list in each row. It refuses the first 250 requests of a case and 50 of the
-  later ones.
-- **Failing store or log**: the list whose store or log fails at each call in turn; `-` where the call is given none.
+  script takes: of each list in each worked row all where they are at most 24, else some nine, and so of each list outside the rows. It
+  refuses each request of a test and of a line of a worked row, up to 1,500 of them, and of any other case up to 250; where they are
+  more the first 250 and 50 of the later ones.
+- **Failing store or log**: the list whose store or log fails after each number of answers in turn; `-` where the call is given none.
 
 A case is found by text: a function of the list, or of a library below it, calls one of that name and type. That a line takes the branch
 with the call is not told by that. Where text leaves it open which call is meant, `tools/fault_cases.py` names the function and the text

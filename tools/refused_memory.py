@@ -4,18 +4,21 @@
     tools/refused_memory.py [CRATE..]
 
 Takes what `rt ci` left: the tests of each crate that has some, and the programs `stateproof`, `replay` and `many_checks`; or of
-the named crates alone. A case is a test, a command of `stateproof`, or a line for `replay`, LINES of them of each list, and of each
-list in each worked row, whose lines begin with its name and a colon, or for `many_checks` the shortest line of each kind. It is run
-once with all memory that it asks for, and must give the right answer. Then each of its requests for memory is refused in turn: once alone,
-and once with all that come after it. Such a run must give the right answer too, or name want of memory, and write nothing else.
+the named crates alone. A case is a test, a command of `stateproof`, a line for `replay`, or for `many_checks` the shortest line of each
+kind. Of the lines for `replay` that are of a worked row, which begin with its name and a colon, all of each list are taken where they
+are at most LINES_OF_ROW, else LINES of them and those that ALSO names; of the others LINES of each list. A case is run once with all
+memory that it asks for, and must give the right answer. Then each of its requests for memory is refused in turn: once alone, and once
+with all that come after it. Such a run must give the right answer too, or name want of memory, and write nothing else.
 
-Of a case with more than EACH requests the first EACH are refused, and SPREAD of the others, spread evenly up to the last; the line
-of the crate says of how many cases. The last line is 'N cases, M refusals, F faults'. A fault has a line of its own. The status is 0
-where there is no fault, 1 where there is one, and 77 where nothing could be refused here, since there is no C compiler or a program
-is not given the shim.
+So each request is refused of a test or a line of a worked row that makes at most EACH_OF_ROW, and of any other case that makes at
+most EACH. Where they are more the first EACH are refused, and SPREAD of the others, spread evenly up to the last; the line of the crate
+says of how many cases. The last line is 'N cases, M refusals, F faults'. A fault has a line of its own. The status is 0 where there is
+no fault, 1 where there is one, and 77 where nothing could be refused here, since there is no C compiler or a program is not given the
+shim.
 """
 import collections
 import concurrent.futures
+import functools
 import os
 import pathlib
 import re
@@ -28,8 +31,12 @@ import tempfile
 ROOT = pathlib.Path(__file__).resolve().parent.parent
 
 EACH = 250
+EACH_OF_ROW = 1500
 SPREAD = 50
 LINES = 8
+LINES_OF_ROW = 24
+# Further lines of rows with more than so many: a bitmap of 20 bits.
+ALSO = {"bitmap_every_length:": re.compile(r",p:[01]{20},")}
 # The word before the list of a line whose digests are not those of SHA-256.
 OTHER_HASH = "sha512"
 SECONDS = 60
@@ -45,7 +52,7 @@ ANSWERED = re.compile(rf"assertion `left == right` failed(: .*)?\n  left: {WANT}
 STOPPED = re.compile(r"\ntest stopped at .*\n")
 
 Ending = collections.namedtuple("Ending", "status output errors requests")
-Case = collections.namedtuple("Case", "name words given right is_want")
+Case = collections.namedtuple("Case", "name words given right is_want each", defaults=[EACH])
 
 
 def built(crate, end=""):
@@ -57,22 +64,24 @@ def built(crate, end=""):
 
 
 def ended(shim, words, given="", first=0, last=0):
-    """How a program ends whose requests for memory from `first` to `last`, counted from 1, are refused."""
-    with tempfile.TemporaryDirectory() as folder:
-        account = pathlib.Path(folder, "account")
-        account.write_bytes(struct.pack("=QQQ", 0, first, last))
-        # from a file, since how much comes at once from a pipe is not always the same
-        standard_input = pathlib.Path(folder, "input")
-        standard_input.write_text(given)
-        env = {"PATH": "/usr/bin:/bin", "LANG": "C.UTF-8", "LD_PRELOAD": str(shim), "REFUSED_MEMORY": str(account)}
-        how = {"cwd": folder, "env": env, "capture_output": True, "timeout": SECONDS}
-        try:
-            with standard_input.open() as source:
-                run = subprocess.run(words, stdin=source, **how)
-        except subprocess.TimeoutExpired:
-            return Ending(None, "", f"no end after {SECONDS} seconds", 0)
-        output, errors = run.stdout.decode(errors="replace"), run.stderr.decode(errors="replace")
-        return Ending(run.returncode, output, errors, struct.unpack("=QQQ", account.read_bytes())[0])
+    """How a program ends whose requests for memory from `first` to `last`, counted from 1, are refused. It runs in a folder of this
+    process, beside the shim."""
+    folder = shim.parent / f"{os.getpid()}"
+    folder.mkdir(exist_ok=True)
+    account = folder / "account"
+    account.write_bytes(struct.pack("=QQQ", 0, first, last))
+    # from a file, since how much comes at once from a pipe is not always the same
+    standard_input = folder / "input"
+    standard_input.write_text(given)
+    env = {"PATH": "/usr/bin:/bin", "LANG": "C.UTF-8", "LD_PRELOAD": str(shim), "REFUSED_MEMORY": str(account)}
+    how = {"cwd": folder, "env": env, "capture_output": True, "timeout": SECONDS}
+    try:
+        with standard_input.open() as source:
+            run = subprocess.run(words, stdin=source, **how)
+    except subprocess.TimeoutExpired:
+        return Ending(None, "", f"no end after {SECONDS} seconds", 0)
+    output, errors = run.stdout.decode(errors="replace"), run.stderr.decode(errors="replace")
+    return Ending(run.returncode, output, errors, struct.unpack("=QQQ", account.read_bytes())[0])
 
 
 def is_want_of_test(ending):
@@ -91,7 +100,7 @@ def tests(shim, crate):
     if listed[-1:] != [f"tests: {len(names)}"]:
         raise SystemExit(f"{crate} did not list its tests")
     for name in names:
-        yield Case(name, [program, name], "", (0, "\ntest result: ok\n", ""), is_want_of_test)
+        yield Case(name, [program, name], "", (0, "\ntest result: ok\n", ""), is_want_of_test, EACH_OF_ROW)
 
 
 def is_want_of_command(ending):
@@ -132,20 +141,26 @@ def list_of(line):
 
 
 def sampled():
-    """Lines of each list that `replay` answers, and of each list in each row, evenly spread, and the longest one, with their answers."""
+    """Lines of each list that `replay` answers, and of each list in each row, with their answers: all where they are few, else ones that
+    are evenly spread, the longest one, and those that are named."""
     folder = ROOT / "crates/replay"
     lists = collections.defaultdict(list)
     for given, answer in zip((folder / "stdin").open(), (folder / "stdout").open()):
         lists[list_of(given), f" {OTHER_HASH} " in f" {given}"].append((given, answer))
-    for cases in lists.values():
+    for ((row, _), _), cases in lists.items():
+        if row and len(cases) <= LINES_OF_ROW:
+            yield from cases
+            continue
         step = -(-len(cases) // (LINES - 1))
-        yield from dict.fromkeys([*cases[::step], max(cases, key=lambda it: len(it[0]))])
+        named = [it for it in cases if row in ALSO and ALSO[row].search(it[0])]
+        yield from dict.fromkeys([*cases[::step], max(cases, key=lambda it: len(it[0])), *named])
 
 
 def lines():
     """A case for each of these lines."""
     for given, answer in sampled():
-        yield Case(given.strip(), [built("replay")], given, (0, answer, ""), is_want_of_line)
+        each = EACH_OF_ROW if list_of(given)[0] else EACH
+        yield Case(given.strip(), [built("replay")], given, (0, answer, ""), is_want_of_line, each)
 
 
 def is_want_of_check(ending):
@@ -166,11 +181,11 @@ def shortest_checks():
         yield Case(given.strip(), [built("many_checks"), "altered"], given, (0, answer, ""), is_want_of_check)
 
 
-def refused(requests):
-    """The requests that are refused of so many."""
-    others = max(requests - EACH, 0)
+def refused(requests, each):
+    """The requests that are refused of so many, where of `each` at most all are."""
+    others = max(requests - EACH, 0) if requests > each else 0
     spread = min(others, SPREAD)
-    return [*range(1, min(requests, EACH) + 1), *(EACH + others * (i + 1) // spread for i in range(spread))]
+    return [*range(1, requests - others + 1), *(EACH + others * (i + 1) // spread for i in range(spread))]
 
 
 def fault(case, ending, first):
@@ -181,12 +196,13 @@ def fault(case, ending, first):
 
 
 def sweep(shim, case):
-    """How many requests a case makes, how many refusals there were, how many of them ended in want of memory, and the faults."""
+    """How many requests a case makes, how many refusals there were, how many of them ended in want of memory, the faults, and whether
+    not each request was refused."""
     whole = ended(shim, case.words, case.given)
     wrong = fault(case, whole, 0)
     if wrong:
-        return 0, 0, 0, [f"{case.name[:100]}: nothing refused: {wrong}"]
-    wants, faults, places = 0, [], refused(whole.requests)
+        return 0, 0, 0, [f"{case.name[:100]}: nothing refused: {wrong}"], False
+    wants, faults, places = 0, [], refused(whole.requests, case.each)
     for first in places:
         for last, what in ((first, "refused"), (LAST, "and all later ones refused")):
             ending = ended(shim, case.words, case.given, first, last)
@@ -194,13 +210,13 @@ def sweep(shim, case):
             wrong = fault(case, ending, first)
             if wrong:
                 faults.append(f"{case.name[:100]}: request {first} {what}: {wrong}")
-    return whole.requests, 2 * len(places), wants, faults
+    return whole.requests, 2 * len(places), wants, faults, len(places) < whole.requests
 
 
 def told(crate, swept):
     """The line of a crate: its cases, requests, refusals and answers."""
     requests, refusals, wants = (sum(column) for column in list(zip(*swept))[:3])
-    cut = sum(it[0] > EACH for it in swept)
+    cut = sum(it[4] for it in swept)
     some = f" (of {cut} cases not each request)" if cut else ""
     return f"{crate}: {len(swept)} cases, {requests} requests, {refusals} refusals{some}: {wants} wanted memory"
 
@@ -236,7 +252,8 @@ def made_shim(room):
 def main():
     resource.setrlimit(resource.RLIMIT_CORE, (0, 0))
     total = [0, 0, 0]
-    with tempfile.TemporaryDirectory() as room, concurrent.futures.ThreadPoolExecutor(os.cpu_count()) as pool:
+    processors = len(os.sched_getaffinity(0))
+    with tempfile.TemporaryDirectory() as room, concurrent.futures.ProcessPoolExecutor(processors) as pool:
         shim = made_shim(room)
         if shim is None:
             return NOT_RUN
@@ -244,7 +261,7 @@ def main():
             cases = cases_of(shim, crate)
             if not cases:
                 continue
-            swept = [*pool.map(lambda case: sweep(shim, case), cases)]
+            swept = [*pool.map(functools.partial(sweep, shim), cases, chunksize=4)]
             faults = [fault for it in swept for fault in it[3]]
             if not any(it[0] for it in swept):
                 faults.append("no request for memory was seen")

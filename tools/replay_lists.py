@@ -6,14 +6,17 @@
 LISTS is a folder of lists, one case a line, columns with blanks between them, the first line their names. They were
 made by an independent program that computes the definitions over whole lists. A line of stdin is the name of a list
 and the columns that are given, a line of stdout the columns that are asked for. The cases over SHA-512 come last, with that word
-before the list's name. Left out are the list `db`, for databases stand above these crates, and cases of `combined` whose tree over
-chunks is pruned.
+before the list's name. Left out is the list `db`, for databases stand above these crates.
 
-Lines of stdin that begin with the name of a worked row and a colon are kept with their answers, before the lists.
+Lines of stdin that begin with the name of a worked row and a colon are kept with their answers, before the lists; but those over
+SHA-512 of the lists that tools/sha512_rows.py knows are made anew by it, after the others of their rows, from the definitions.
 """
 
+import itertools
 import pathlib
 import sys
+
+import sha512_rows
 
 
 class Lists:
@@ -132,9 +135,8 @@ def cases(lists):
         if asked != "E9":
             yield "recomputed", given, [asked] if asked == "E8" else [root, asked]
     for family, chunk, _, bits, floor, operations, location, pruned, grafted, absent, answer in lists.rows("combined"):
-        # no chunk of the tree over chunks is pruned, or it has none; the stage says how the tree was made
-        if grafted in ("0", "empty"):
-            yield "combined", [family, chunk, bits, floor, operations, location, pruned, grafted, absent], [answer]
+        # the stage says how the tree over chunks was made, which the answer does not depend on
+        yield "combined", [family, chunk, bits, floor, operations, location, pruned, grafted, absent], [answer]
     for given, asked in lists.cut("pinned_checks", 10):
         yield "pinned_checks", given, asked
     for columns in lists.rows("stores"):
@@ -150,11 +152,32 @@ def worked(crate):
         return [pair for pair in zip(stdin, stdout) if pair[0].split(" ", 1)[0].endswith(":")]
 
 
+def key_proofs(lists):
+    """The proofs about keys of the MMR with chunks of one byte, and what they claim."""
+    rows = [it[1:] for it in lists.rows("golden_keys")]
+    claims = {proof: value for family, chunk, _, _, value, proof in rows if (family, chunk) == ("mmr", "1")}
+    return [("absence" if value == "absent" else "value", bytes.fromhex(proof)) for proof, value in claims.items()]
+
+
+def with_sha512(pairs, proofs):
+    """The worked cases and their answers, with those over SHA-512 that are made from the definitions."""
+    kept = [it for it in pairs if not sha512_rows.is_made(it[0])]
+    if wrong := sha512_rows.wrong(kept):
+        sys.exit(f"not the answer of the definitions: {wrong[:100]}")
+    made = sha512_rows.lines([it[0] for it in kept], proofs)
+    rows = {row: [*cases] for row, cases in itertools.groupby(kept, lambda it: it[0].partition(":")[0])}
+    names = [*rows]
+    for row in made.keys() - rows.keys():
+        # a new row stands at its place by the alphabet
+        names.insert(next((place for place, it in enumerate(names) if it > row), len(names)), row)
+    return [it for row in names for it in [*rows.get(row, []), *made.get(row, [])]]
+
+
 def main():
     folder = pathlib.Path(sys.argv[1])
     here = pathlib.Path(__file__).resolve().parent.parent
     crate = pathlib.Path(sys.argv[2]) if len(sys.argv) > 2 else here / "crates" / "replay"
-    rows_by_hand = worked(crate)
+    rows_by_hand = with_sha512(worked(crate), key_proofs(Lists(folder, "sha512")))
     given = [line for line, _ in rows_by_hand]
     asked = [answer for _, answer in rows_by_hand]
     for hash, before in (("sha256", []), ("sha512", ["sha512"])):

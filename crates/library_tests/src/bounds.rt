@@ -63,6 +63,14 @@ fn next_key_kept(rt: HostRuntime) -> Result<(), Fail> {
 }
 
 #[test]
+fn nothing_kept(rt: HostRuntime) -> Result<(), Fail> {
+    let value = vec![in rt.alloc(); 5u8]?;
+    let update = update::Unordered::<U64, VariableEncoding<Vec<u8>>>(U64::new(7), value);
+    let () = <update::Unordered<U64, VariableEncoding<Vec<u8>>> as Update>::cached(|| &update)?;
+    Ok(())
+}
+
+#[test]
 fn too_many_digests_refused(rt: HostRuntime) {
     // eight leaves, no inactive peaks, four digests
     let mut bytes = [0x08, 0x00, 0x04].as_slice();

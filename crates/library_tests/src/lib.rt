@@ -5,4 +5,8 @@
 #[cfg(test)]
 mod bounds;
 #[cfg(test)]
+mod grafted;
+#[cfg(test)]
 mod refused;
+#[cfg(test)]
+mod seen;

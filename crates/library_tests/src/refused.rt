@@ -2,6 +2,7 @@
 //! gives what the first would have given. Where memory is found none is made again; `tools/refused_memory.py` refuses each
 //! request of these tests in turn.
 
+use crate::seen::{chunks_of, has_chunks, has_nodes, nodes_of};
 use std::alloc::Global;
 use std::fmt::Debug;
 use std::test::Fail;
@@ -23,14 +24,15 @@ fn told<E: Debug>(refusal: &E) -> Fail {
 }
 
 /// Appends `bit` to `bits`.
-fn push(bits: &mut Prunable<1>, bit: bool) -> Result<(), Fail> {
+fn push(alloc: Global, bits: &mut Prunable<1>, bit: bool) -> Result<(), Fail> {
     let len = bits.len();
     if len >= MAX_LEAVES {
         return Err(Fail::new("too many bits"));
     }
+    let chunks = chunks_of(alloc, bits)?;
     if bits.push(bit).is_err() {
-        if bits.len() != len {
-            return Err(Fail::new("a refused push left a bit"));
+        if !has_chunks(bits, len, &chunks) {
+            return Err(Fail::new("a refused push changed the bits"));
         }
         bits.push(bit)?;
     }
@@ -45,7 +47,7 @@ fn push_made_again(rt: HostRuntime) -> Result<(), Fail> {
     ];
     let mut bits = Prunable::new(rt.alloc());
     for (place, byte) in last.into_iter().enumerate() {
-        push(&mut bits, place % 3 == 0)?;
+        push(rt.alloc(), &mut bits, place % 3 == 0)?;
         assert_eq!(rt; bits.last_chunk(), Some(&[byte]));
     }
     assert_eq!(rt; bits.len(), 20);
@@ -65,14 +67,23 @@ fn restored(
 }
 
 /// Appends a bit to `bitmap` for each of `digits`.
-fn push_all(bitmap: &mut UnmerkleizedBitMap<Digest, 1>, digits: &[u8]) -> Result<(), Fail> {
+fn push_all(
+    alloc: Global,
+    bitmap: &mut UnmerkleizedBitMap<Digest, 1>,
+    digits: &[u8],
+) -> Result<(), Fail> {
     for digit in digits {
         let bit = *digit == b'1';
-        if bitmap.len() >= MAX_LEAVES {
+        let len = bitmap.len();
+        if len >= MAX_LEAVES {
             return Err(Fail::new("too many bits"));
         }
+        let chunks = chunks_of(alloc, bitmap)?;
         if bitmap.push(bit).is_ok() {
             continue;
+        }
+        if !has_chunks(bitmap, len, &chunks) {
+            return Err(Fail::new("a refused push changed the bits"));
         }
         if let Err(refusal) = bitmap.push(bit) {
             return Err(told(&refusal));
@@ -82,16 +93,22 @@ fn push_all(bitmap: &mut UnmerkleizedBitMap<Digest, 1>, digits: &[u8]) -> Result
 }
 
 /// Sets the bit number `bit` of `bitmap` to `value`.
-fn set(bitmap: &mut UnmerkleizedBitMap<Digest, 1>, bit: u64, value: bool) -> Result<(), Fail> {
-    if bit < bitmap.pruned_bits() || bit >= bitmap.len() {
+fn set(
+    alloc: Global,
+    bitmap: &mut UnmerkleizedBitMap<Digest, 1>,
+    bit: u64,
+    value: bool,
+) -> Result<(), Fail> {
+    let len = bitmap.len();
+    if bit < bitmap.pruned_bits() || bit >= len {
         return Err(Fail::new("no such bit"));
     }
-    let before = bitmap.get_bit(bit);
+    let chunks = chunks_of(alloc, bitmap)?;
     if bitmap.set_bit(bit, value).is_ok() {
         return Ok(());
     }
-    if bitmap.get_bit(bit) != before {
-        return Err(Fail::new("a refused change changed the bit"));
+    if !has_chunks(bitmap, len, &chunks) {
+        return Err(Fail::new("a refused change changed the bits"));
     }
     match bitmap.set_bit(bit, value) {
         Ok(()) => Ok(()),
@@ -110,16 +127,41 @@ fn merkleized(
     }
 }
 
+/// The digests of the nodes of `bitmap`.
+fn bitmap_nodes(
+    alloc: Global,
+    bitmap: &MerkleizedBitMap<Digest, 1>,
+) -> Result<Vec<Option<Digest>>, Fail> {
+    let mut nodes = Vec::new(alloc);
+    for place in 0..bitmap.size().as_u64() {
+        nodes.push(bitmap.get_node(Position::new(place)))?;
+    }
+    Ok(nodes)
+}
+
+/// Whether `bitmap` has the digests `nodes` at its first positions.
+fn has_bitmap_nodes(bitmap: &MerkleizedBitMap<Digest, 1>, nodes: &[Option<Digest>]) -> bool {
+    let mut same = true;
+    for (place, node) in nodes.iter().enumerate() {
+        same = same && bitmap.get_node(Position::new(place as u64)) == *node;
+    }
+    same
+}
+
 /// Forgets the chunks of `bitmap` below that of the bit number `bit`.
-fn prune(bitmap: &mut MerkleizedBitMap<Digest, 1>, bit: u64) -> Result<(), Fail> {
-    if bit > bitmap.len() {
+fn prune(alloc: Global, bitmap: &mut MerkleizedBitMap<Digest, 1>, bit: u64) -> Result<(), Fail> {
+    let len = bitmap.len();
+    if bit > len {
         return Err(Fail::new("no such bit"));
     }
     let before = (bitmap.pruned_bits(), bitmap.root());
+    let chunks = chunks_of(alloc, bitmap)?;
+    let nodes = bitmap_nodes(alloc, bitmap)?;
     if bitmap.prune_to_bit(bit).is_ok() {
         return Ok(());
     }
-    if (bitmap.pruned_bits(), bitmap.root()) != before {
+    let same = (bitmap.pruned_bits(), bitmap.root()) == before;
+    if !same || !has_chunks(bitmap, len, &chunks) || !has_bitmap_nodes(bitmap, &nodes) {
         return Err(Fail::new("a refused pruning pruned"));
     }
     match bitmap.prune_to_bit(bit) {
@@ -135,33 +177,35 @@ fn ten_bits(alloc: Global, hasher: &Standard<Sha256>) -> Result<MerkleizedBitMap
         pinned: Vec::new(alloc),
     };
     let mut bitmap = restored(alloc, hasher, none)?.into_dirty();
-    push_all(&mut bitmap, b"0100000001")?;
+    push_all(alloc, &mut bitmap, b"0100000001")?;
     merkleized(bitmap, hasher)
 }
 
 /// The bitmap with six bits more, of which two are changed then.
 fn sixteen_bits(
+    alloc: Global,
     bitmap: MerkleizedBitMap<Digest, 1>,
     hasher: &Standard<Sha256>,
 ) -> Result<MerkleizedBitMap<Digest, 1>, Fail> {
     let mut bitmap = bitmap.into_dirty();
-    push_all(&mut bitmap, b"011011")?;
-    set(&mut bitmap, 11, true)?;
-    set(&mut bitmap, 14, false)?;
+    push_all(alloc, &mut bitmap, b"011011")?;
+    set(alloc, &mut bitmap, 11, true)?;
+    set(alloc, &mut bitmap, 14, false)?;
     merkleized(bitmap, hasher)
 }
 
 /// The bitmap with fifteen bits more, an old one changed and the first three chunks forgotten.
 fn thirty_one_bits(
+    alloc: Global,
     bitmap: MerkleizedBitMap<Digest, 1>,
     hasher: &Standard<Sha256>,
 ) -> Result<MerkleizedBitMap<Digest, 1>, Fail> {
     let mut bitmap = bitmap.into_dirty();
-    push_all(&mut bitmap, b"01011110")?;
-    push_all(&mut bitmap, b"0000011")?;
-    set(&mut bitmap, 12, false)?;
+    push_all(alloc, &mut bitmap, b"01011110")?;
+    push_all(alloc, &mut bitmap, b"0000011")?;
+    set(alloc, &mut bitmap, 12, false)?;
     let mut bitmap = merkleized(bitmap, hasher)?;
-    prune(&mut bitmap, 29)?;
+    prune(alloc, &mut bitmap, 29)?;
     Ok(bitmap)
 }
 
@@ -174,9 +218,10 @@ fn counts(bitmap: &MerkleizedBitMap<Digest, 1>) -> (u64, u64, u64) {
 #[test]
 fn bitmap_calls_made_again(rt: HostRuntime) -> Result<(), Fail> {
     let hasher = Standard::<Sha256>::new(Bagging::BackwardFold);
-    let bitmap = ten_bits(rt.alloc(), &hasher)?;
-    let bitmap = sixteen_bits(bitmap, &hasher)?;
-    let bitmap = thirty_one_bits(bitmap, &hasher)?;
+    let alloc = rt.alloc();
+    let bitmap = ten_bits(alloc, &hasher)?;
+    let bitmap = sixteen_bits(alloc, bitmap, &hasher)?;
+    let bitmap = thirty_one_bits(alloc, bitmap, &hasher)?;
     assert_eq!(rt; counts(&bitmap), (31, 24, 4));
     assert_eq!(rt; bitmap.last_chunk(), (&[0x60], 7));
     assert_eq!(rt;
@@ -192,17 +237,22 @@ fn bitmap_calls_made_again(rt: HostRuntime) -> Result<(), Fail> {
     Ok(())
 }
 
+/// More positions than a tree of 14 leaves has.
+const POSITIONS: u64 = 28;
+
 /// Appends to `tree` the leaf of `element`.
 fn add(
+    alloc: Global,
     tree: &mut Mem<mmb::Family, Digest>,
     hasher: &Standard<Sha256>,
     element: &[u8],
 ) -> Result<(), Fail> {
     let before = (tree.leaves(), tree.root(hasher, 0));
+    let nodes = nodes_of(alloc, tree, POSITIONS)?;
     if tree.add(hasher, element).is_ok() {
         return Ok(());
     }
-    if (tree.leaves(), tree.root(hasher, 0)) != before {
+    if (tree.leaves(), tree.root(hasher, 0)) != before || !has_nodes(tree, &nodes) {
         return Err(Fail::new("a refused leaf was added"));
     }
     match tree.add(hasher, element) {
@@ -222,15 +272,17 @@ fn write_once(
 
 /// Gives the leaves of `updates` their new digests.
 fn update(
+    alloc: Global,
     tree: &mut Mem<mmb::Family, Digest>,
     hasher: &Standard<Sha256>,
     updates: &[(Location<mmb::Family>, Digest)],
 ) -> Result<(), Fail> {
-    let before = tree.root(hasher, 0);
+    let before = (tree.leaves(), tree.root(hasher, 0));
+    let nodes = nodes_of(alloc, tree, POSITIONS)?;
     if write_once(tree, hasher, updates).is_ok() {
         return Ok(());
     }
-    if tree.root(hasher, 0) != before {
+    if (tree.leaves(), tree.root(hasher, 0)) != before || !has_nodes(tree, &nodes) {
         return Err(Fail::new("a refused leaf was written"));
     }
     match write_once(tree, hasher, updates) {
@@ -240,13 +292,19 @@ fn update(
 }
 
 /// Forgets the leaves of `tree` below `location`.
-fn forget(tree: &mut Mem<mmb::Family, Digest>, location: u64) -> Result<(), Fail> {
-    let first = tree.get_node(Position::new(0));
+fn forget(
+    alloc: Global,
+    tree: &mut Mem<mmb::Family, Digest>,
+    hasher: &Standard<Sha256>,
+    location: u64,
+) -> Result<(), Fail> {
+    let before = (tree.leaves(), tree.root(hasher, 0));
+    let nodes = nodes_of(alloc, tree, POSITIONS)?;
     if tree.prune(Location::new(location)).is_ok() {
         return Ok(());
     }
-    if tree.get_node(Position::new(0)) != first {
-        return Err(Fail::new("a refused pruning forgot a leaf"));
+    if (tree.leaves(), tree.root(hasher, 0)) != before || !has_nodes(tree, &nodes) {
+        return Err(Fail::new("a refused pruning forgot a node"));
     }
     match tree.prune(Location::new(location)) {
         Ok(()) => Ok(()),
@@ -257,8 +315,9 @@ fn forget(tree: &mut Mem<mmb::Family, Digest>, location: u64) -> Result<(), Fail
 // what is expected is from an independent program over the whole list of leaves
 #[test]
 fn tree_calls_made_again(rt: HostRuntime) -> Result<(), Fail> {
+    let alloc = rt.alloc();
     let hasher = Standard::<Sha256>::new(Bagging::ForwardFold);
-    let mut tree = Mem::new(rt.alloc());
+    let mut tree = Mem::new(alloc);
     let elements: [&[u8]; 14] = [
         &[0x8e, 0x1c, 0x71],
         &[0xf1, 0x21],
@@ -276,7 +335,7 @@ fn tree_calls_made_again(rt: HostRuntime) -> Result<(), Fail> {
         &[],
     ];
     for element in elements {
-        add(&mut tree, &hasher, element)?;
+        add(alloc, &mut tree, &hasher, element)?;
     }
     let leaf = FixedBytes {
         bytes: [
@@ -285,9 +344,9 @@ fn tree_calls_made_again(rt: HostRuntime) -> Result<(), Fail> {
             0xd6, 0xfd, 0x58, 0x1d,
         ],
     };
-    update(&mut tree, &hasher, &[(Location::new(0), leaf)])?;
+    update(alloc, &mut tree, &hasher, &[(Location::new(0), leaf)])?;
     assert_eq!(rt; tree.get_node(Position::new(0)), Some(leaf));
-    forget(&mut tree, 9)?;
+    forget(alloc, &mut tree, &hasher, 9)?;
     assert_eq!(rt; tree.leaves(), Location::new(14));
     assert_eq!(rt; tree.get_node(Position::new(0)), None);
     let root = FixedBytes {

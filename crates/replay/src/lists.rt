@@ -12,6 +12,7 @@ mod errors;
 mod extracted;
 mod faulty;
 mod fetched;
+mod grafted_trees;
 mod hashed;
 mod key_proofs;
 mod keyed;

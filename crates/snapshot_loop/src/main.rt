@@ -1,6 +1,6 @@
-//! A snapshot of many operations under SHA-512, and a proof from it. The arguments are what is made (`root` or `prove`) and the
-//! number of operations, which have 18 bytes each. Their tree is an MMR, chunks have 32 bytes, two in three are active, and the
-//! floor is half their number.
+//! A snapshot of many operations under SHA-512, and a proof from it. The arguments are what is made (`root` or `prove`), the
+//! number of operations, and how many bytes each has, at least 8; 18 where that is not said. Their tree is an MMR, chunks have
+//! 32 bytes, two in three are active, and the floor is half their number.
 //!
 //! It prints the canonical root, and with `prove` the bytes of the proof of the last operation.
 #![tactic(auto)]
@@ -16,18 +16,19 @@ use commonware_storage::qmdb::current::{OperationTree, Snapshot};
 use std::alloc::Global;
 use std::env;
 
-/// The operation with the number `index`: that number, and a byte that fills it up.
-fn operation(index: u64) -> [u8; 18] {
-    let mut operation = [0xd2; 18];
-    operation[..8].copy_from_slice(&index.to_be_bytes());
-    operation
-}
+/// The bytes of an operation where their number is not said.
+const LENGTH: usize = 18;
 
-/// The tree over `count` operations.
-fn tree(alloc: Global, count: u64) -> Result<OperationTree<Family, Sha512>> {
+/// The tree over `count` operations of `length` bytes: the number of each, and a byte that fills it up.
+fn tree(alloc: Global, count: u64, length: usize) -> Result<OperationTree<Family, Sha512>> {
+    let mut operation = vec![in alloc; 0xd2u8; length]?;
     let mut tree = OperationTree::new(alloc);
     for index in 0..count {
-        if tree.add(&operation(index)).is_err() {
+        let Some(number) = operation.first_chunk_mut::<8>() else {
+            bail!("an operation has at least 8 bytes");
+        };
+        *number = index.to_be_bytes();
+        if tree.add(&operation).is_err() {
             bail!("no tree");
         }
     }
@@ -46,9 +47,14 @@ fn bits(alloc: Global, count: u64) -> Result<Prunable<32>> {
     Ok(bits)
 }
 
-/// The snapshot of `count` operations with the floor `floor`.
-fn snapshot(alloc: Global, count: u64, floor: u64) -> Result<Snapshot<Family, Sha512, 32>> {
-    let tree = tree(alloc, count)?;
+/// The snapshot of `count` operations of `length` bytes, with the floor `floor`.
+fn snapshot(
+    alloc: Global,
+    count: u64,
+    length: usize,
+    floor: u64,
+) -> Result<Snapshot<Family, Sha512, 32>> {
+    let tree = tree(alloc, count, length)?;
     match Snapshot::of_tree(alloc, tree, bits(alloc, count)?, Location::new(floor)) {
         Ok(snapshot) => Ok(snapshot),
         Err(_) => bail!("no snapshot"),
@@ -81,10 +87,10 @@ fn proof(
     }
 }
 
-/// The lines to print for `count` operations.
-fn report(alloc: Global, work: &str, count: u64) -> Result<String> {
+/// The lines to print for `count` operations of `length` bytes.
+fn report(alloc: Global, work: &str, count: u64, length: usize) -> Result<String> {
     let floor = count / 2;
-    let snapshot = snapshot(alloc, count, floor)?;
+    let snapshot = snapshot(alloc, count, length, floor)?;
     let root = hex::encode(alloc, snapshot.root().bytes)?;
     match work {
         "root" => Ok(root),
@@ -98,11 +104,13 @@ fn report(alloc: Global, work: &str, count: u64) -> Result<String> {
 
 fn main(rt: HostRuntime) -> Result<()> {
     let words: Vec<String> = env::args(&rt)?.skip(1).collect(rt.alloc())?;
-    let [work, count] = words.as_slice() else {
-        bail!("root or prove, and how many operations");
+    let (work, count, length) = match words.as_slice() {
+        [work, count] => (work, count, LENGTH),
+        [work, count, length] => (work, count, length.as_str().parse::<usize>()?),
+        _ => bail!("root or prove, how many operations, and their bytes"),
     };
     let count = count.as_str().parse::<u64>()?;
-    let lines = report(rt.alloc(), work, count)?;
+    let lines = report(rt.alloc(), work, count, length)?;
     println!(rt; "{lines}")?;
     Ok(())
 }

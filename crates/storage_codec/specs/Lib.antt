@@ -9,3 +9,4 @@ pub mod SpellingLaws
 pub mod OrderLaws
 pub mod CodecLaws
 pub mod DigestLaws
+pub mod DigestValues

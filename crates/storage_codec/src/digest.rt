@@ -7,6 +7,7 @@ ghost use Rattle.std.proofs.lemmas.Slice.Eq.{bytes_eq-Decides};
 ghost use Rattle.storage_codec.specs.Codec.{Gives, front_at, option_at};
 ghost use Rattle.storage_codec.specs.Digests.{HashFunction, IsPlain, IsSized};
 ghost use Rattle.storage_codec.specs.DigestLaws.{fixed_plain};
+ghost use Rattle.storage_codec.specs.DigestValues.{one_digest};
 ghost use Rattle.storage_codec.specs.Parts.{IsEnding};
 
 use crate::codec::{Buf, Canonical, EncodeSize, Error, FixedBytes, Read, Small};
@@ -60,6 +61,9 @@ pub trait Digest: Copy + Eq + Canonical + EncodeSize + Small + Read<Cfg = ()> {
     /// Digests are equal exactly where their bytes are.
     ghost same: { (x y : Self) → Self.PartialEq.eq x y ≡ true ↔ Self.text x ≡ Self.text y };
 
+    /// A digest is nothing but its bytes.
+    ghost one: { (x y : Self) → Self.text x ≡ Self.text y → x ≡ y };
+
     /// Reading takes the bytes of one digest from the front, whatever they are.
     ghost plain: { IsPlain Self.text Self.view (Self.parse tt) Self.size };
 
@@ -75,6 +79,9 @@ pub trait Hasher {
     /// The bytes of the digest of a byte string.
     ghost hash_of: { HashFunction };
 
+    /// The digest of each byte string as a value.
+    ghost digest_of: { List ℕ → Self.Digest };
+
     /// The digest of `parts`, joined one after the other. Takes no memory.
     fn hash(parts: &[&[u8]]) -> Self::Digest
         ensures { Self.Digest.text result ≡ hash_of (flat_map (λ part. part.now) parts.now) };
@@ -85,6 +92,9 @@ pub trait Hasher {
 
     /// Each answer has as many bytes as a digest.
     ghost sized: { IsSized Self.Digest.size hash_of };
+
+    /// The bytes of `digest_of` are those of `hash_of`.
+    ghost told: { (bytes : List ℕ) → Self.Digest.text (digest_of bytes) ≡ hash_of bytes };
 }
 
 impl Digest for FixedBytes<32> {
@@ -93,6 +103,8 @@ impl Digest for FixedBytes<32> {
     }
 
     ghost same = { λ x y. bytes_eq-Decides x.bytes y.bytes };
+
+    ghost one = { one_digest 32 };
 
     ghost plain = { fixed_plain 32 (λ x. x.bytes) refl };
 
@@ -105,6 +117,8 @@ impl Digest for FixedBytes<64> {
     }
 
     ghost same = { λ x y. bytes_eq-Decides x.bytes y.bytes };
+
+    ghost one = { one_digest 64 };
 
     ghost plain = { fixed_plain 64 (λ x. x.bytes) refl };
 

@@ -1,5 +1,5 @@
 -- The length of supplied chunks, over the nodes that a check hashes.
-use Rattle.std.proofs.Common.{◌≡◌, ◌≢◌, ℕ, suc, ◌+◌, ◌-◌, ◌*◌, ◌/◌, ◌%◌, ◌^◌, ◌<◌, ◌≤◌, List, [], ◌∷◌, length, Bool, true, false, ◌&&◌, ◌||◌, not, leb, leb-true, leb-false, ltb, eqb, eqb-true, ◌⊎◌, inl, inr, refl, sym, ap, ◌∙◌, subst, arith, suc-mul, lt_of_mul-lt-mul_right}
+use Rattle.std.proofs.Common.{◌≡◌, ◌≢◌, ℕ, suc, ◌+◌, ◌*◌, ◌/◌, ◌%◌, ◌^◌, ◌<◌, ◌≤◌, List, [], ◌∷◌, length, Bool, true, ◌&&◌, leb, leb-true, leb-false, ltb, eqb, eqb-true, inl, inr, ap, arith, suc-mul, lt_of_mul-lt-mul_right}
 use Rattle.std.specs.List.{All}
 use Rattle.std.proofs.lemmas.Bool.{ltb-true, not-false}
 use Rattle.std.proofs.lemmas.List.Elements.{All-head, All-tail}

@@ -4,7 +4,7 @@ use Rattle.std.proofs.lemmas.Bool.{cases_lt}
 use Rattle.std.proofs.lemmas.Nat.{pow-add}
 use Rattle.std.proofs.Math.Nat.{add-mul}
 use Rattle.storage_codec.specs.Digests.{HashFunction}
-use Rattle.storage_merkle.specs.Shape.{size}
+use Rattle.storage_merkle.specs.Shape.{Shape, Laws, size}
 use Rattle.storage_merkle.specs.Nodes.{IsNode, CoversSame}
 use Rattle.storage_merkle.specs.Multiples.{pow_two, in_units}
 use Rattle.storage_merkle.specs.Pace.{ChunksKeepPace}
@@ -55,6 +55,46 @@ pub record IsAbove {D : Type 0} (h : HashFunction) (g : Grafting) (s : Snapshot)
   pub read : both g s chunks operations p ≡ chunks position
   pub same : chunk_node h g leaves first over ≡ view_node h g s a k
 
+-- the node over chunks that covers the operations of a node at least as high as theirs
+pub record Cover (S : Shape) (g count p a k : ℕ) : Type 0 where
+  pub position : ℕ
+  pub first : ℕ
+  pub over : ℕ
+  pub node : IsNode S position first over
+  pub covers : CoversSame S g position p
+  pub within : position < size S count
+  pub ends : first + 2 ^ over ≤ count
+  pub starts : first * 2 ^ g ≡ a
+  pub high : over + g ≡ k
+
+-- where its operations have it, so have their graftable chunks
+pub cover : (S : Shape) → Laws S → (g n count : ℕ) → ChunksKeepPace S g → count ≡ graftable_at S g n → (p a k : ℕ)
+    → IsNode S p a k → p < size S n → g ≤ k → Cover S g count p a k
+cover S L g n count pace all p a k node within m =
+    let u = in_units a k g m node.aligned in
+    let e : k - g + g ≡ k = omega arith in
+    let here : S.position a k < size S n = omega (arith, node.at) in
+    let born : S.birth a k ≤ n = (L.born n a k node.aligned).0 here in
+    let early : S.birth (a / 2 ^ g) (k - g) ≤ graftable_at S g n =
+    pace n (graftable_at S g n) (a / 2 ^ g) (k - g) (graftable_by_birth S L g n) (rw (u.0, e) born) in
+    let early' : S.birth (a / 2 ^ g) (k - g) ≤ count = omega arith in
+    record {
+      position = S.position (a / 2 ^ g) (k - g);
+      first = a / 2 ^ g;
+      over = k - g;
+      node = record { aligned = u.1; at = refl };
+      covers = record {
+        first = a / 2 ^ g;
+        height = k - g;
+        grafted = record { aligned = u.1; at = refl };
+        node = rw (u.0, e) node;
+      };
+      within = (L.born count (a / 2 ^ g) (k - g) u.1).1 early';
+      ends = omega (arith, L.late (a / 2 ^ g) (k - g));
+      starts = u.0;
+      high = e;
+    }
+
 module _ (h : HashFunction) (g : Grafting) (pace : ChunksKeepPace g.shape (height g)) (grafting : IsGrafting g)
     (s : Snapshot) (snapshot : IsSnapshot s) (leaves : List (List ℕ)) (grafted : AreGraftedLeaves h g s leaves)
     {D : Type 0} (chunks operations : ℕ → Option D) where
@@ -63,32 +103,17 @@ module _ (h : HashFunction) (g : Grafting) (pace : ChunksKeepPace g.shape (heigh
   above p a k within valid node m =
       let S = g.shape in
       let L = grafting.laws in
-      let G = height g in
       let n = length s.operations in
-      let u = in_units a k G m node.aligned in
-      let e : k - G + G ≡ k = omega arith in
-      let covers : CoversSame S G (S.position (a / 2 ^ G) (k - G)) p = record {
-        first = a / 2 ^ G;
-        height = k - G;
-        grafted = record { aligned = u.1; at = refl };
-        node = rw (u.0, e) node;
-      } in
-      let here : S.position a k < size S n = omega (arith, node.at) in
-      let born : S.birth a k ≤ n = (L.born n a k node.aligned).0 here in
-      let early : S.birth (a / 2 ^ G) (k - G) ≤ graftable_at S G n =
-      pace n (graftable_at S G n) (a / 2 ^ G) (k - G) (graftable_by_birth S L G n) (rw (u.0, e) born) in
-      let count : length leaves ≡ graftable_at S G n = grafted.count in
-      let early' : S.birth (a / 2 ^ G) (k - G) ≤ length leaves = omega arith in
-      let late : a / 2 ^ G + 2 ^ (k - G) ≤ length leaves = omega (arith, L.late (a / 2 ^ G) (k - G)) in
+      let c = cover S L (height g) n (length leaves) pace grafted.count p a k node within m in
       record {
-        position = S.position (a / 2 ^ G) (k - G);
-        first = a / 2 ^ G;
-        over = k - G;
-        node = record { aligned = u.1; at = refl };
-        covers = covers;
-        within = (L.born (length leaves) (a / 2 ^ G) (k - G) u.1).1 early';
-        read = joined_above S L G (size S n) chunks operations p (S.position (a / 2 ^ G) (k - G)) within valid covers;
-        same = over_view h g grafting s leaves grafted (k - G) (a / 2 ^ G) late ∙ ap₂ (view_node h g s) u.0 e;
+        position = c.position;
+        first = c.first;
+        over = c.over;
+        node = c.node;
+        covers = c.covers;
+        within = c.within;
+        read = joined_above S L (height g) (size S n) chunks operations p c.position within valid c.covers;
+        same = over_view h g grafting s leaves grafted c.over c.first c.ends ∙ ap₂ (view_node h g s) c.starts c.high;
       }
 
   pub joined_at : (p a k : ℕ) → p < size g.shape (length s.operations) → IsNode g.shape p a k

@@ -1,7 +1,7 @@
 -- Which chunk is grafted over a node.
 use Rattle.std.proofs.Common.{◌≡◌, ℕ, ◌-◌, ◌/◌, ◌%◌, ◌^◌, ◌<◌, ◌≤◌, true, List, [], length, map, get_or, refl, sym, ap, ◌∙◌}
 use Rattle.std.proofs.lemmas.Bool.{eq-eqb, lt-ltb, le-ltb}
-use Rattle.std.proofs.lemmas.List.{get_or-map, get_or_past, length-map}
+use Rattle.std.proofs.lemmas.List.{get_or-map}
 use Rattle.storage_current.specs.Grafted.{grafted_over, supplied}
 
 pub over_yes : (h r a k : ℕ) → k ≡ h → a % 2 ^ k ≡ 0 → a / 2 ^ k < r → grafted_over h r a k ≡ true

@@ -1,5 +1,5 @@
 -- Powers of two as numbers of bytes.
-use Rattle.std.proofs.Common.{◌≡◌, ℕ, zero, suc, ◌+◌, ◌*◌, ◌/◌, ◌%◌, ◌^◌, ◌<◌, ◌≤◌, ◌&&◌, ◌||◌, eqb, leb, Bool, true, false, inl, inr, arith, refl, eq-eqb, leb-true, le-leb}
+use Rattle.std.proofs.Common.{◌≡◌, ℕ, zero, suc, ◌+◌, ◌*◌, ◌/◌, ◌%◌, ◌^◌, ◌<◌, ◌≤◌, ◌&&◌, ◌||◌, eqb, Bool, true, false, inl, inr, arith, refl, eq-eqb}
 use Rattle.std.proofs.lemmas.Bool.{eqb-true, or_cases, and_parts}
 use Rattle.std.proofs.lemmas.Nat.{pow_pos, pow-add, mul-le, shr_split, div-add-mod'}
 use Rattle.std.proofs.Math.Nat.{div-mul-le_self}

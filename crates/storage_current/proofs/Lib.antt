@@ -15,8 +15,13 @@ mod Grafts
 mod ChunkLengths
 mod Raised
 mod Joined
+mod Rebuilt
+mod Pinned
+mod Pruning
 mod CombinedViews
 mod StoresOfViews
+mod PrunedViews
+mod Regrafting
 mod Exclusions
 mod Splitting
 pub mod Windows
@@ -24,7 +29,7 @@ mod Checks
 mod Extracting
 mod NodeSteps
 mod NodeLists
-mod Turning
+mod MemViews
 mod Roots
 mod Written
 mod Failing

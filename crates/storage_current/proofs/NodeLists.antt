@@ -1,73 +1,65 @@
--- Lists of the digests of nodes: what is read from one, and how one grows.
-use Rattle.std.proofs.Common.{◌≡◌, ℕ, ◌+◌, ◌-◌, ◌%◌, ◌^◌, ◌<◌, ◌≤◌, ◌++◌, List, [], ◌∷◌, length, map, get_or, refl, sym, ap, ap₂, ◌∙◌, subst, arith, length-append, append_assoc, append-nil, inl, inr}
-use Rattle.std.proofs.lemmas.Bool.{cases_lt}
-use Rattle.std.proofs.lemmas.List.{get_or-map, length-map, map-append, get_or_append_left, get_or-append-add}
+-- Lists of the digests of nodes: what two trees as one have at each position, and what is read at the peaks.
+use Rattle.std.proofs.Common.{◌≡◌, ℕ, zero, suc, ◌+◌, ◌^◌, ◌<◌, ◌++◌, List, [], ◌∷◌, length, map, get_or, Option, Some, None, option_map, IsSome, refl, sym, ap, ap₂, ◌∙◌, arith, length-append, append_assoc, append-nil, inl, inr}
+use Rattle.std.specs.List.{slice_get}
+use Rattle.std.proofs.lemmas.List.{map-append}
+use Rattle.std.proofs.lemmas.Option.{get_or_from_slice_get}
 use Rattle.storage_merkle.specs.Shape.{Shape, Laws, size, Inside, AreAligned}
-use Rattle.storage_merkle.specs.Nodes.{IsNode, placed}
-use Rattle.storage_merkle.specs.ShapeLaws.{child_nodes, same_node, brought, inside_before}
+use Rattle.storage_merkle.specs.Nodes.{placed}
+use Rattle.storage_merkle.specs.ShapeLaws.{inside_before}
 use Rattle.storage_merkle.specs.Trees.{places}
-use Rattle.storage_current.specs.NodeLists.{AreNodes}
+use Rattle.storage_current.specs.CombinedViews.{AreAnswersOf, AnswersAreTrue}
+use Rattle.storage_current.specs.NodeLists.{AreHad, AreNodes, text_of, texts_from}
 use Rattle.storage_current.proofs.Places.{AreBelow, peaks_below, length-placed}
 
--- the digest that is read at a node's place is the node's
-pub read_node : {D : Type 0} (text : D → List ℕ) (S : Shape) (digest_of : ℕ → ℕ → List ℕ) (ds : List D) (p a k : ℕ)
-    (d : D) → AreNodes S digest_of (map text ds) → IsNode S p a k → p < length ds → d ≡ get_or ds p d
-    → text d ≡ digest_of a k
-read_node text S digest_of ds p a k d all node within is =
-    ap text is ∙ sym (get_or-map text ds p d [] within) ∙ all.are p a k node (rw length-map within)
+-- ---- what is had at each position
 
--- the places of a node's children, in a list that reaches up to the node
-pub record AreChildren (S : Shape) (a k l r reach : ℕ) : Type 0 where
-  pub inner : 1 ≤ k
-  pub aligned : a % 2 ^ k ≡ 0
-  pub left : l ≡ S.position a (k - 1)
-  pub right : r ≡ S.position (a + 2 ^ (k - 1)) (k - 1)
-  pub left_before : l < reach
-  pub right_before : r < reach
+module _ {D : Type 0} (text : D → List ℕ) (answers : ℕ → Option D) where
+  pub length-texts : (n p : ℕ) → length (texts_from text answers p n) ≡ n
+  length-texts zero p = refl
+  length-texts (suc n) p = ap suc (length-texts n (p + 1))
 
-pub read_left : {D : Type 0} (text : D → List ℕ) (S : Shape) → Laws S
-    → (digest_of : ℕ → ℕ → List ℕ) (ds : List D) (a k l r : ℕ) (d : D) → AreNodes S digest_of (map text ds)
-    → AreChildren S a k l r (length ds) → d ≡ get_or ds l d → text d ≡ digest_of a (k - 1)
-read_left text S L digest_of ds a k l r d all c is =
-    read_node text S digest_of ds l a (k - 1) d all (rw c.left
-    (child_nodes S L a k (S.position a k) (record { aligned = c.aligned; at = refl }) c.inner).0) c.left_before is
+  get-texts : (n p i : ℕ) → i < n → slice_get (texts_from text answers p n) i ≡ Some (text_of text (answers (p + i)))
+  get-texts zero p i l = absurd (omega arith)
+  get-texts (suc n) p zero l = let e : p ≡ p + 0 = omega arith in ap (λ q. Some (text_of text (answers q))) e
+  get-texts (suc n) p (suc i) l = let e : p + 1 + i ≡ p + suc i = omega arith in
+      get-texts n (p + 1) i (omega arith) ∙ ap (λ q. Some (text_of text (answers q))) e
 
-pub read_right : {D : Type 0} (text : D → List ℕ) (S : Shape) → Laws S
-    → (digest_of : ℕ → ℕ → List ℕ) (ds : List D) (a k l r : ℕ) (d : D) → AreNodes S digest_of (map text ds)
-    → AreChildren S a k l r (length ds) → d ≡ get_or ds r d → text d ≡ digest_of (a + 2 ^ (k - 1)) (k - 1)
-read_right text S L digest_of ds a k l r d all c is =
-    read_node text S digest_of ds r (a + 2 ^ (k - 1)) (k - 1) d all (rw c.right
-    (child_nodes S L a k (S.position a k) (record { aligned = c.aligned; at = refl }) c.inner).1) c.right_before is
+  some_text : (o : Option D) → IsSome o → Some (text_of text o) ≡ option_map text o
+  some_text None e = absurd (cc)
+  some_text (Some d) e = refl
 
--- the digest of the node that stands next is put behind the others
-pub push_node : {D : Type 0} (text : D → List ℕ) (S : Shape) → Laws S
-    → (digest_of : ℕ → ℕ → List ℕ) (ds : List D) (d : D) (a k : ℕ) → AreNodes S digest_of (map text ds)
-    → IsNode S (length ds) a k → text d ≡ digest_of a k → AreNodes S digest_of (map text (ds ++ d ∷ []))
-push_node text S L digest_of ds d a k all node is = record {
-  are = λ p b j there within.
-      let e = map-append text ds (d ∷ []) in
-      let l : length (map text ds) ≡ length ds = length-map ds text in
-      let total : length (map text (ds ++ d ∷ [])) ≡ length ds + 1 =
-      length-map (ds ++ d ∷ []) text ∙ length-append ds (d ∷ []) in
-      elim (cases_lt p (length ds)) [
-        | inl less ↦ ap (λ xs. get_or xs p []) e ∙ get_or_append_left (map text ds) (text d ∷ []) [] p (omega arith)
-            ∙ all.are p b j there (omega arith)
-        | inr more ↦
-            let last : p ≡ length (map text ds) + 0 = omega arith in
-            let here : IsNode S p a k = rw (last, l) (record { aligned = node.aligned; at = node.at ∙ omega arith }) in
-            let same = same_node S L p a k b j here there in
-            ap (λ xs. get_or xs p []) e ∙ ap (λ i. get_or (map text ds ++ text d ∷ []) i []) last
-            ∙ get_or-append-add (map text ds) (text d ∷ []) 0 [] ∙ is ∙ rw (same.0, same.1) refl
-      ];
-}
+  -- a digest that is had stands in the list
+  pub had_text : (n p : ℕ) → AreHad answers n → p < n
+      → slice_get (texts_from text answers 0 n) p ≡ option_map text (answers p)
+  had_text n p had l = let e : 0 + p ≡ p = omega arith in
+      get-texts n 0 p l ∙ ap (λ q. Some (text_of text (answers q))) e ∙ some_text (answers p) (had p l)
 
--- the leaf that comes behind so many leaves is that leaf
-pub leaf_next : (S : Shape) → Laws S → (n o a k : ℕ) → IsNode S (size S n + o) a k → size S n + o < size S (n + 1)
-    → k ≡ 0 → a ≡ n
-leaf_next S L n o a k node within bottom =
-    let b = brought S L n (size S n + o) a k node (omega arith) within in
-    let c : S.birth a 0 ≡ n + 1 = subst (λ (i : ℕ). S.birth a i ≡ n + 1) bottom b in
-    omega (arith, (L.leaf a).1)
+  pub read_had : (n p : ℕ) (o : Option D) (d : D) → AreHad answers n → p < n → o ≡ answers p → o ≡ Some d
+      → get_or (texts_from text answers 0 n) p [] ≡ text d
+  read_had n p o d had l eo ed =
+      get_or_from_slice_get (texts_from text answers 0 n) p (text d) []
+      (had_text n p had l ∙ ap (option_map text) (sym eo ∙ ed))
+
+  -- where each is had and what is had is true, each digest is answered
+  pub all_answers : (S : Shape) (n : ℕ) (node : ℕ → ℕ → List ℕ) → AreHad answers (size S n)
+      → AnswersAreTrue text S n node answers → AreAnswersOf text S n node answers
+  all_answers S n node had true_of p a k within at =
+      go (answers p) (had p within) (λ d is. true_of p a k d within at is)
+    where
+      go : (o : Option D) → IsSome o → ((d : D) → o ≡ Some d → text d ≡ node a k) → option_map text o ≡ Some (node a k)
+      go None e t = absurd (cc)
+      go (Some d) e t = ap Some (t d refl)
+
+  -- and the list is that of the nodes
+  pub are_nodes : (S : Shape) (n : ℕ) (node : ℕ → ℕ → List ℕ) → AreHad answers (size S n)
+      → AreAnswersOf text S n node answers → AreNodes S node (texts_from text answers 0 (size S n))
+  are_nodes S n node had are = record {
+    are = λ p a k at within.
+        let l : p < size S n = rw (length-texts (size S n) 0) at within in
+        let e : slice_get (texts_from text answers 0 (size S n)) p ≡ Some (node a k) =
+        had_text (size S n) p had l ∙ are p a k l at in
+        get_or_from_slice_get (texts_from text answers 0 (size S n)) p (node a k) [] e;
+  }
 
 -- ---- peaks
 
@@ -89,46 +81,44 @@ peaks_read S L digest_of n digests count all = read 0 (S.peaks n) (L.aligned n) 
       (omega (arith, count, below))) (read (s + 2 ^ h) hs al.1 (λ a k i. within a k (inr i)))
 
 -- the peaks that are read so far, and those that are left
-pub record AreRead {D : Type 0} (text : D → List ℕ) (S : Shape) (n : ℕ) (nodes read : List D)
+pub record AreRead {D : Type 0} (text : D → List ℕ) (S : Shape) (n : ℕ) (digests : List (List ℕ)) (read : List D)
     (left : List (ℕ × ℕ)) : Type 0 where
-  pub below : AreBelow (length nodes) left
+  pub below : AreBelow (size S n) left
   pub count : length read + length left ≡ length (S.peaks n)
-  pub texts : map text read ++ read_at (map text nodes) left ≡ read_at (map text nodes) (placed S 0 (S.peaks n))
+  pub texts : map text read ++ read_at digests left ≡ read_at digests (placed S 0 (S.peaks n))
 
 pub none_read : {D : Type 0} (text : D → List ℕ) (S : Shape) → Laws S
-    → (n : ℕ) (nodes read : List D) (left : List (ℕ × ℕ)) → length nodes ≡ size S n → read ≡ []
-    → left ≡ placed S 0 (S.peaks n) → AreRead text S n nodes read left
-none_read text S L n nodes read left count none all =
+    → (n : ℕ) (digests : List (List ℕ)) (read : List D) (left : List (ℕ × ℕ)) → read ≡ []
+    → left ≡ placed S 0 (S.peaks n) → AreRead text S n digests read left
+none_read text S L n digests read left none all =
     rw (none, all) (record {
-      below = rw count (peaks_below S L n);
+      below = peaks_below S L n;
       count = omega (arith, length-placed S 0 (S.peaks n));
       texts = refl;
     })
 
-pub read_more : {D : Type 0} (text : D → List ℕ) (S : Shape) (n : ℕ) (nodes read : List D) (p : ℕ × ℕ)
-    (left all : List (ℕ × ℕ)) (d : D) → AreRead text S n nodes read all → all ≡ p ∷ left → d ≡ get_or nodes p.0 d
-    → AreRead text S n nodes (read ++ d ∷ []) left
-read_more text S n nodes read p left all d so_far step is =
+pub read_more : {D : Type 0} (text : D → List ℕ) (S : Shape) (n : ℕ) (digests : List (List ℕ)) (read : List D) (p : ℕ × ℕ)
+    (left all : List (ℕ × ℕ)) (d : D) → AreRead text S n digests read all → all ≡ p ∷ left
+    → get_or digests p.0 [] ≡ text d → AreRead text S n digests (read ++ d ∷ []) left
+read_more text S n digests read p left all d so_far step same =
     let b = rw step at so_far.below in
     let k = rw step at so_far.count in
     let t = rw step at so_far.texts in
-    let same : get_or (map text nodes) p.0 [] ≡ text d = get_or-map text nodes p.0 d [] b.0 ∙ ap text (sym is) in
     record {
       below = b.1;
       count = rw length-append (omega (arith, k));
       texts = rw (
         map-append text read (d ∷ []),
-        append_assoc (map text read) (text d ∷ []) (read_at (map text nodes) left),
+        append_assoc (map text read) (text d ∷ []) (read_at digests left),
         ← same,
       ) t;
     }
 
 -- once none is left, the peaks' digests are read
 pub all_read : {D : Type 0} (text : D → List ℕ) (S : Shape) → Laws S
-    → (digest_of : ℕ → ℕ → List ℕ) (n : ℕ) (nodes read : List D) (left : List (ℕ × ℕ)) → length nodes ≡ size S n
-    → AreRead text S n nodes read left → left ≡ [] → AreNodes S digest_of (map text nodes)
+    → (digest_of : ℕ → ℕ → List ℕ) (n : ℕ) (digests : List (List ℕ)) (read : List D) (left : List (ℕ × ℕ))
+    → length digests ≡ size S n → AreRead text S n digests read left → left ≡ [] → AreNodes S digest_of digests
     → map text read ≡ map (λ p. digest_of p.first p.height) (places 0 (S.peaks n))
-all_read text S L digest_of n nodes read left count r none all =
+all_read text S L digest_of n digests read left count r none all =
     let t = rw none at r.texts in
-    sym (append-nil (map text read)) ∙ t
-    ∙ peaks_read S L digest_of n (map text nodes) (length-map nodes text ∙ count) all
+    sym (append-nil (map text read)) ∙ t ∙ peaks_read S L digest_of n digests count all

@@ -1,7 +1,7 @@
 -- The digests of nodes, plain and as the grafted view has them, from those of their children.
 use Rattle.std.proofs.Common.{◌≡◌, ℕ, zero, suc, ◌+◌, ◌-◌, ◌*◌, ◌/◌, ◌%◌, ◌^◌, ◌<◌, ◌≤◌, ◌++◌, List, length, true, false, ◌&&◌, eqb, ltb, refl, sym, ap, ap₂, ◌∙◌, subst, arith, eq-eqb, ne_eqb, lt-ltb}
 use Rattle.storage_codec.specs.Digests.{HashFunction}
-use Rattle.storage_merkle.specs.Shape.{Shape, Laws, Inside}
+use Rattle.storage_merkle.specs.Shape.{Laws, Inside}
 use Rattle.storage_merkle.specs.Multiples.{quotient}
 use Rattle.storage_merkle.specs.Calc.{be8, grafted_digest}
 use Rattle.storage_merkle.specs.Trees.{Layout, ungrafted, Content, listed, node_calc, never, plain, tree_node}
@@ -64,12 +64,6 @@ module _ (h : HashFunction) (g : Grafting) (s : Snapshot) where
       let other : eqb k (height g) ≡ false = ne_eqb k (height g) (λ e. omega arith) in
       tree_pair h (view g (length s.operations)) (content h g s) a k (omega arith) (rw other refl)
 
-  -- where its children are plain there, so is it
-  pub view_same : (a k : ℕ) → height g < k → view_node h g s a (k - 1) ≡ bare a (k - 1)
-      → view_node h g s (a + 2 ^ (k - 1)) (k - 1) ≡ bare (a + 2 ^ (k - 1)) (k - 1) → view_node h g s a k ≡ bare a k
-  view_same a k high l r = view_above a k high
-      ∙ rw (l, r) (sym (tree_pair h (ungrafted g.shape) (listed s.operations) a k (omega arith) refl))
-
 -- a node of the height of chunks that is in the tree has its chunk grafted
 pub chunk_there : (g : Grafting) → Laws g.shape → (n a : ℕ) → a % 2 ^ height g ≡ 0 → g.shape.birth a (height g) ≤ n
     → a / 2 ^ height g < graftable g n
@@ -79,24 +73,6 @@ chunk_there g L n a aligned born =
     let inside : Inside (g.shape.peaks n) 0 (a / P * P) (height g) =
     rw whole ((L.inside n a (height g) aligned).1 born) in
     (graftable_by_birth g.shape L (height g) n (a / P)).0 inside
-
--- a node that is hashed from its children's digests
-pub hashed_pair : (h : HashFunction) (S : Shape) (elements : List (List ℕ)) (a k p : ℕ) (out l r : List ℕ) → 1 ≤ k
-    → p ≡ S.position a k
-    → out ≡ h (be8 p ++ (l ++ r))
-    → l ≡ tree_node h (ungrafted S) (listed elements) a (k - 1)
-    → r ≡ tree_node h (ungrafted S) (listed elements) (a + 2 ^ (k - 1)) (k - 1)
-    → out ≡ tree_node h (ungrafted S) (listed elements) a k
-hashed_pair h S elements a k p out l r one at e el er =
-    e ∙ rw (at, el, er) (sym (tree_pair h (ungrafted S) (listed elements) a k one refl))
-
-pub hashed_view : (h : HashFunction) (g : Grafting) (s : Snapshot) (a k p : ℕ) (out l r : List ℕ) → height g < k
-    → p ≡ g.shape.position a k
-    → out ≡ h (be8 p ++ (l ++ r))
-    → l ≡ view_node h g s a (k - 1) → r ≡ view_node h g s (a + 2 ^ (k - 1)) (k - 1)
-    → out ≡ view_node h g s a k
-hashed_view h g s a k p out l r high at e el er =
-    e ∙ rw (at, el, er) (sym (view_above h g s a k high))
 
 pub hashed_graft : (h : HashFunction) (g : Grafting) → Laws g.shape → (s : Snapshot) (a k j : ℕ)
     (bytes out inner : List ℕ) → k ≡ height g → 1 ≤ k → a % 2 ^ k ≡ 0 → g.shape.birth a k ≤ length s.operations

@@ -1,5 +1,5 @@
--- Positions of peaks and of children in a tree.
-use Rattle.std.proofs.Common.{◌≡◌, ℕ, zero, suc, ◌+◌, ◌-◌, ◌%◌, ◌^◌, ◌<◌, ◌≤◌, List, [], ◌∷◌, length, refl, ap, arith, inl, inr}
+-- Positions of peaks in a tree.
+use Rattle.std.proofs.Common.{◌≡◌, ℕ, suc, ◌+◌, ◌^◌, ◌<◌, List, [], ◌∷◌, length, refl, ap, arith, inl, inr}
 use Rattle.storage_merkle.specs.Shape.{Shape, Laws, size, Inside, AreAligned}
 use Rattle.storage_merkle.specs.Nodes.{placed}
 use Rattle.storage_merkle.specs.ShapeLaws.{inside_before}
@@ -24,8 +24,3 @@ peaks_below S L n = below S L n 0 (S.peaks n) (L.aligned n) (λ a k i. i) where
     inside_before S L n s h al.0 (within s h (inl (omega arith, omega arith))),
     below S L n (s + 2 ^ h) hs al.1 (λ a k i. within a k (inr i)),
   )
-
-pub child_before : (S : Shape) (L : Laws S) (a k : ℕ) → 1 ≤ k → a % 2 ^ k ≡ 0
-    → (S.position a (k - 1) < S.position a k) × (S.position (a + 2 ^ (k - 1)) (k - 1) < S.position a k)
-child_before S L a zero one al = absurd (omega arith)
-child_before S L a (suc k) one al = let e : suc k - 1 ≡ k = omega arith in rw e (L.children a k al)

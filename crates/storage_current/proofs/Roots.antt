@@ -10,12 +10,12 @@ use Rattle.std.proofs.Math.Nat.{add-mul, zero-mul}
 use Rattle.storage_codec.specs.Digests.{HashFunction}
 use Rattle.storage_merkle.specs.declared.merkle.bagging.Bagging.{Bagging}
 use Rattle.storage_merkle.specs.declared.merkle.bagging.Bagging.TheVariants.{BackwardFold}
-use Rattle.storage_merkle.specs.Shape.{Shape}
+use Rattle.storage_merkle.specs.Shape.{Shape, Laws}
 use Rattle.storage_merkle.specs.Nodes.{IsNode}
 use Rattle.storage_merkle.specs.Inactive.{IsExact, IsAligned}
-use Rattle.storage_merkle.specs.Trees.{Layout, ungrafted, Content, places, tree_node, tree_root}
-use Rattle.storage_merkle.specs.Hashing.{root_of}
-use Rattle.storage_merkle.specs.HashingLaws.{tree_root-peaks}
+use Rattle.storage_merkle.specs.Trees.{Layout, ungrafted, Content, listed, places, tree_node, tree_root}
+use Rattle.storage_merkle.specs.Hashing.{leaf_digests, peak_digests, root_of}
+use Rattle.storage_merkle.specs.HashingLaws.{length-leaf_digests, tree_root-leaves, tree_root-peaks}
 use Rattle.storage_bitmap.specs.Chunks.{Retained, IsRest, bytes_of, chunk}
 use Rattle.storage_current.specs.GraftingLaws.{exact_is, aligned_is}
 use Rattle.storage_current.specs.NodeLists.{AreNodes}
@@ -36,6 +36,19 @@ root_from h S grafted content leaves i b ds out backward count digests e =
     ∙ ap (λ n. root_of h T BackwardFold n i
     (map (λ p. tree_node h T content p.first p.height) (places 0 (S.peaks n)))) (sym count)
     ∙ sym (tree_root-peaks h T BackwardFold content i)
+
+-- the root from a tree in memory over a list of operations
+pub root_kept : (h : HashFunction) (S : Shape) → Laws S → (operations : List (List ℕ)) (i : ℕ) (b : Bagging) (out : List ℕ)
+    → b ≡ BackwardFold → out ≡ root_of h (ungrafted S) b (length (leaf_digests h (ungrafted S) 0 operations)) i
+    (peak_digests h (ungrafted S) (λ a. []) (leaf_digests h (ungrafted S) 0 operations)
+    (length (leaf_digests h (ungrafted S) 0 operations)))
+    → out ≡ tree_root h (ungrafted S) BackwardFold (listed operations) i
+root_kept h S L operations i b out backward e =
+    let T : Layout = ungrafted S in
+    let ds = leaf_digests h T 0 operations in
+    e ∙ ap (λ c. root_of h T c (length ds) i (peak_digests h T (λ a. []) ds (length ds))) backward
+    ∙ ap (λ n. root_of h T BackwardFold n i (peak_digests h T (λ a. []) ds n)) (length-leaf_digests h T 0 operations)
+    ∙ sym (tree_root-leaves h T L BackwardFold (listed operations) i)
 
 -- a chunk that is kept
 pub kept_chunk : (n : ℕ) (r : Retained) (bits : List Bool) → IsRest n r bits → (j : ℕ) → r.pruned ≤ j

@@ -1,5 +1,5 @@
 -- A store of each digest of a snapshot's grafted view serves each proof of its operations.
-use Rattle.std.proofs.Common.{◌≡◌, ℕ, ◌<◌, List, length, Option, Some, None, IsSome, option_map, refl, sym, arith, inl, inr}
+use Rattle.std.proofs.Common.{◌≡◌, ℕ, ◌<◌, List, length, Option, Some, None, IsSome, option_map, min, refl, sym, arith, inl, inr}
 use Rattle.std.specs.List.{Contains}
 use Rattle.std.proofs.lemmas.List.Elements.{All-weaker, All-contains_itself}
 use Rattle.storage_codec.specs.Digests.{HashFunction}
@@ -7,9 +7,10 @@ use Rattle.storage_merkle.specs.Shape.{Laws, size}
 use Rattle.storage_merkle.specs.Nodes.{IsNode, CoversSame}
 use Rattle.storage_merkle.specs.Pace.{ChunksKeepPace}
 use Rattle.storage_merkle.specs.Plans.{GreatestNodesArePlanned, planned}
+use Rattle.storage_bitmap.specs.Chunks.{Retained, IsRest}
 use Rattle.storage_current.specs.CombinedViews.{AnswersAreTrue, AreAnswersOf, AreGraftedLeaves, IsStoreOf, ServesRange, both}
-use Rattle.storage_current.specs.Served.{held_at}
-use Rattle.storage_current.specs.Snapshots.{Grafting, IsGrafting, Snapshot, IsSnapshot, height, view_node}
+use Rattle.storage_current.specs.Served.{AreServedOf, held_at}
+use Rattle.storage_current.specs.Snapshots.{Grafting, IsGrafting, Snapshot, IsSnapshot, height, ops_root_of, view_node}
 use Rattle.storage_current.proofs.CombinedViews.{joined_at}
 
 -- where a digest is answered there is one
@@ -37,6 +38,22 @@ module _ {D : Type 0} (text : D → List ℕ) (h : HashFunction) (g : Grafting) 
       let at = site.2.at in
       (site.0, site.1, site.2, omega (arith, within, at))
 
+  -- true answers are a snapshot's, whichever of its nodes are answered
+  pub served_true : AnswersAreTrue text g.shape (length s.operations) (view_node h g s) node
+      → (low high floor : ℕ) (status : Retained) (ops_root : List ℕ) → IsRest g.bytes status s.bits
+      → s.floor ≡ min floor (length s.operations) → ops_root ≡ ops_root_of h g s
+      → AreServedOf (size g.shape (length s.operations)) node g low high status text h floor ops_root s
+  served_true true_of low high floor status ops_root rest floor_is root_is = record {
+    tree = refl;
+    parts = record {
+      count = refl;
+      bits = rest;
+      floor_is = floor_is;
+      ops_root_is = root_is;
+      nodes = λ p a k d has is at. true_of p a k d (inside low high p has).3 is (sym at);
+    };
+  }
+
   -- true answers at the planned positions serve a range
   serves : (low high : ℕ) → AnswersAreTrue text g.shape (length s.operations) (view_node h g s) node
       → ((p : ℕ) → Contains (planned g.shape (length s.operations) low high) p → IsSome (node p))
@@ -45,16 +62,7 @@ module _ {D : Type 0} (text : D → List ℕ) (h : HashFunction) (g : Grafting) 
       let ps = planned g.shape (length s.operations) low high in (
         All-weaker (Contains ps) (λ p. (d : D) × held_at node p (Some d)) (λ p has. held (node p) (there p has)) ps
             (All-contains_itself ps),
-        record {
-          tree = refl;
-          parts = record {
-            count = refl;
-            bits = rest;
-            floor_is = floor_is;
-            ops_root_is = root_is;
-            nodes = λ p a k d has is at. true_of p a k d (inside low high p has).3 is (sym at);
-          };
-        },
+        served_true true_of low high floor status ops_root rest floor_is root_is,
       )
 
   pub store_of_view : AreAnswersOf text g.shape (length s.operations) (view_node h g s) node

@@ -11,7 +11,9 @@ pub mod CurrentSoundness
 pub mod ExtractedCurrent
 pub mod Grafted
 pub mod Combined
+pub mod GraftedTrees
 pub mod CombinedViews
+pub mod PrunedViews
 pub mod Splits
 pub mod Windows
 pub mod Held

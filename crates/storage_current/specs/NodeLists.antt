@@ -1,43 +1,67 @@
--- Digests of nodes, listed by position.
-use Rattle.std.specs.Prelude.{◌≡◌, ℕ, ◌^◌, ◌<◌, ◌≤◌, ◌++◌, List, [], length, get_or, Bool, false}
+-- Digests of nodes, listed by position, and trees over operations that have such a list.
+use Rattle.std.specs.Prelude.{◌≡◌, ℕ, zero, suc, ◌+◌, ◌^◌, ◌<◌, ◌≤◌, List, [], ◌∷◌, length, get_or, Option, Some, None, IsSome}
 use Rattle.storage_codec.specs.Digests.{HashFunction}
-use Rattle.storage_merkle.specs.Shape.{Shape, size}
+use Rattle.storage_merkle.specs.Hashing.{leaf_digests, node_over}
+use Rattle.storage_merkle.specs.Kept.{Kept, NodesOver, Holds, StandsFor, kept_at}
 use Rattle.storage_merkle.specs.Nodes.{IsNode}
-use Rattle.storage_merkle.specs.Trees.{listed, tree_node, ungrafted}
-use Rattle.storage_current.specs.Snapshots.{Grafting, view_node}
+use Rattle.storage_merkle.specs.Shape.{Shape, size}
+use Rattle.storage_merkle.specs.Trees.{ungrafted}
+use Rattle.storage_current.specs.Combined.{joined}
+use Rattle.storage_current.specs.GraftedTrees.{KeptChunks, regrafted, tree_at}
 
 -- the digest at each position of the list is that of the node there, by its first leaf and height
 pub record AreNodes (S : Shape) (digest_of : ℕ → ℕ → List ℕ) (digests : List (List ℕ)) : Type 0 where
   pub are : (p a k : ℕ) → IsNode S p a k → p < length digests → get_or digests p [] ≡ digest_of a k
 
--- the digest of a node of the tree over operations, and of the same node in the grafted view, for which the floor is nothing
-abbrev pub plain_node : HashFunction → Shape → List (List ℕ) → ℕ → ℕ → List ℕ
-plain_node h S operations a k = tree_node h (ungrafted S) (listed operations) a k
+-- ---- trees over operations
 
-abbrev pub seen_node : HashFunction → Grafting → List (List ℕ) → List Bool → ℕ → ℕ → List ℕ
-seen_node h g operations bits a k = view_node h g (record { operations = operations; bits = bits; floor = 0 }) a k
+-- the digests of the nodes of a tree over operations, from those of its leaves
+abbrev pub plain_over : HashFunction → Shape → NodesOver
+plain_over h S = node_over h (ungrafted S) (λ a. [])
 
--- the nodes at the positions of the flags are as the grafted view has them, and the others plain; a clear flag says that the view has the plain digest
-pub record AreTurned (h : HashFunction) (g : Grafting) (operations : List (List ℕ)) (bits : List Bool)
-    (digests : List (List ℕ)) (flags : List Bool) : Type 0 where
-  pub seen : (p a k : ℕ) → IsNode g.shape p a k → p < length flags
-      → get_or digests p [] ≡ seen_node h g operations bits a k
-  pub same : (p a k : ℕ) → IsNode g.shape p a k → p < length flags → get_or flags p false ≡ false
-      → seen_node h g operations bits a k ≡ plain_node h g.shape operations a k
-  pub plain : (p a k : ℕ) → IsNode g.shape p a k → length flags ≤ p → p < length digests
-      → get_or digests p [] ≡ plain_node h g.shape operations a k
+-- nothing of the tree in memory is forgotten, and it is over some leaves
+pub record IsGrown {D : Type 0} (text : D → List ℕ) (h : HashFunction) (S : Shape) (m : Kept D) : Type 0 where
+  pub few : m.leaves ≤ 2 ^ 62
+  pub unpruned : m.boundary ≡ 0
+  pub unpinned : m.pinned ≡ []
+  pub list : List (List ℕ)
+  pub stands : StandsFor text S (plain_over h S) m list
+
+-- it is over these operations
+abbrev pub IsOver : {D : Type 0} → (D → List ℕ) → HashFunction → Shape → Kept D → List (List ℕ) → Type 0
+IsOver text h S m operations = StandsFor text S (plain_over h S) m (leaf_digests h (ungrafted S) 0 operations)
 
 -- a tree over operations in memory: how many there are, and the digests of its nodes by position
 pub record KeptTree : Type 0 where
   pub leaves : ℕ
   pub nodes : List (List ℕ)
 
--- true of every tree in memory, also of one that is over no list
-pub record IsWhole (S : Shape) (leaves nodes : ℕ) : Type 0 where
-  pub few : leaves ≤ 2 ^ 62
-  pub count : nodes ≡ size S leaves
-
--- it is the tree over these operations, whatever operations follow them
+-- it is the tree over these operations
 pub record IsTreeOver (h : HashFunction) (S : Shape) (tree : KeptTree) (operations : List (List ℕ)) : Type 0 where
   pub leaves : tree.leaves ≡ length operations
-  pub nodes : (more : List (List ℕ)) → AreNodes S (plain_node h S (operations ++ more)) tree.nodes
+  pub holds : Holds S (plain_over h S (leaf_digests h (ungrafted S) 0 operations)) [] 0 (size S tree.leaves) [] tree.nodes
+
+-- ---- what a tree over operations and one over their chunks have as one, by position
+
+-- the digest at a position, where chunks are over nodes of the height g
+abbrev pub seen_in : {D : Type 0} → (List ℕ → D) → (D → List ℕ) → Shape → ℕ → Kept D → KeptChunks D → ℕ → Option D
+seen_in digest text S g m t = joined S g (size S m.leaves)
+    (regrafted digest text S g (tree_at S t.pruned t.pinned t.leaves)) (kept_at S m.boundary m.pinned m.nodes)
+
+-- each position of so many has a digest
+abbrev pub AreHad : {D : Type 0} → (ℕ → Option D) → ℕ → Type 0
+AreHad answers n = (p : ℕ) → p < n → IsSome (answers p)
+
+-- a digest by its bytes: no bytes for none
+abbrev pub text_of : {D : Type 0} → (D → List ℕ) → Option D → List ℕ
+text_of text None = []
+text_of text (Some digest) = text digest
+
+-- the digests at so many positions from p on
+abbrev pub texts_from : {D : Type 0} → (D → List ℕ) → (ℕ → Option D) → ℕ → ℕ → List (List ℕ)
+texts_from text answers p zero = []
+texts_from text answers p (suc n) = text_of text (answers p) ∷ texts_from text answers (p + 1) n
+
+-- all that both as one have
+abbrev pub seen_list : {D : Type 0} → (List ℕ → D) → (D → List ℕ) → Shape → ℕ → Kept D → KeptChunks D → List (List ℕ)
+seen_list digest text S g m t = texts_from text (seen_in digest text S g m t) 0 (size S m.leaves)

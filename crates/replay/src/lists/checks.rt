@@ -10,7 +10,7 @@ use crate::lists::unframed::operations;
 use commonware_storage::qmdb::verify::verify_proof;
 use std::alloc::Global;
 use std::cell::Cell;
-use storage_codec::digest::{self, Sha256};
+use storage_codec::digest::{self, Digest};
 use storage_merkle::merkle::hasher::{Hasher, Standard};
 use storage_merkle::merkle::{Bagging, Family, Location, Position};
 
@@ -56,7 +56,7 @@ impl<F: Family, H: digest::Hasher> Hasher<F> for Counting<H> {
     ghost takes = { λ _ _. Unit {0} };
 
     fn hash(&self, parts: &[&[u8]]) -> H::Digest {
-        if parts.len() == 2 && parts[0].len() == 32 {
+        if parts.len() == 2 && parts[0].len() == H::Digest::size() {
             self.folds.set(self.folds.get().saturating_add(1));
         }
         H::hash(parts)
@@ -81,7 +81,10 @@ impl<F: Family, H: digest::Hasher> Hasher<F> for Counting<H> {
 
 /// `bagging leaves inactive digests location element root label`: whether the proof of one element is accepted, and how many digests of
 /// nodes and how many folds the check takes. The label says how the case was made.
-pub fn element_checks<F: Family>(alloc: Global, columns: &[&str]) -> Result<String, Fault> {
+pub fn element_checks<F: Family, H: digest::Hasher>(
+    alloc: Global,
+    columns: &[&str],
+) -> Result<String, Fault> {
     let [
         direction,
         leaves,
@@ -100,14 +103,17 @@ pub fn element_checks<F: Family>(alloc: Global, columns: &[&str]) -> Result<Stri
     let root = digest(alloc, *root)?;
     let proof = proof_of::<F, _>(alloc, *leaves, *inactive, *nodes)?;
     let element = bytes(alloc, *element)?;
-    let hasher = Counting::<Sha256>::new(bagging);
+    let hasher = Counting::<H>::new(bagging);
     let yes = proof.verify_element_inclusion(alloc, &hasher, &element, location, &root)?;
     hasher.told(alloc, yes)
 }
 
 /// `leaves inactive digests start operations root label`: whether the proof of operations is accepted. The label says how the case was
 /// made.
-pub fn plain_operations<F: Family>(alloc: Global, columns: &[&str]) -> Result<String, Fault> {
+pub fn plain_operations<F: Family, H: digest::Hasher>(
+    alloc: Global,
+    columns: &[&str],
+) -> Result<String, Fault> {
     let [leaves, inactive, nodes, start, items, root, _] = columns else {
         return Err(Fault::Malformed);
     };
@@ -115,6 +121,6 @@ pub fn plain_operations<F: Family>(alloc: Global, columns: &[&str]) -> Result<St
     let root = digest(alloc, *root)?;
     let proof = proof_of::<F, _>(alloc, *leaves, *inactive, *nodes)?;
     let operations = operations(alloc, *items)?;
-    let yes = verify_proof::<Sha256, F, _>(alloc, &proof, start, &operations, &root)?;
+    let yes = verify_proof::<H, F, _>(alloc, &proof, start, &operations, &root)?;
     verdict(alloc, yes)
 }

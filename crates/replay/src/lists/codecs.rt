@@ -1,6 +1,6 @@
 //! Lists on codecs and digests.
 
-use crate::columns::{Fault, bytes, lent, spaced_three, spelled, strings};
+use crate::columns::{Fault, bytes, lent, number, spaced_three, spaced_two, spelled, strings};
 use crate::lists::refusals::codec_refusal;
 use std::alloc::Global;
 use storage_codec::codec::{Read, UInt};
@@ -46,4 +46,18 @@ pub fn golden_hash<H: Hasher>(alloc: Global, columns: &[&str]) -> Result<String,
     let lent = lent(alloc, &parts)?;
     let digest = H::hash(&lent);
     Ok(hex::encode(alloc, digest.bytes())?)
+}
+
+/// `byte`: the digest whose bytes all are this one, and how many bytes a digest has.
+pub fn filled<H: Hasher>(alloc: Global, columns: &[&str]) -> Result<String, Fault> {
+    let [byte] = columns else {
+        return Err(Fault::Malformed);
+    };
+    let Ok(byte) = u8::try_from(number(*byte)?) else {
+        return Err(Fault::Malformed);
+    };
+    let digest = H::fill(byte);
+    let written = hex::encode(alloc, digest.bytes())?;
+    let size = H::Digest::size();
+    spaced_two(alloc, &written, &size)
 }

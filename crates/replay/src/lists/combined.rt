@@ -1,12 +1,13 @@
 //! Lists on a tree over chunks and a tree over the operations, read as one.
 
-ghost use Rattle.std.specs.Prelude.{◌≡◌, ◌%◌, ◌^◌, ◌≤◌};
+ghost use Rattle.std.specs.Prelude.{◌≡◌, ◌+◌, ◌%◌, ◌^◌, ◌<◌, ◌≤◌};
 ghost use Rattle.storage_bitmap.specs.Chunks.{IsChunkSize};
 
+pub mod failing;
 pub mod whole;
 
 use crate::columns::{Fault, number, spaced_three, strings};
-use crate::lists::faulty::{ALWAYS, Faulty, NONE};
+use crate::lists::faulty::{ALWAYS, Faulty, NONE, STORE_FAULT};
 use crate::lists::refusals::{database_refusal, merkle_fault};
 use crate::lists::served;
 use crate::lists::snapshots::bits_of;
@@ -16,11 +17,14 @@ use commonware_storage::digest::{Digest, Hasher};
 use commonware_storage::laws::current::combined::nodes_over_chunks_are_taken;
 use commonware_storage::merkle::hasher::Standard;
 use commonware_storage::merkle::{
-    Bagging, Countable, Graftable, Location, MAX_LEAVES, Mem, Position, mmb, mmr,
+    self, Bagging, Countable, Graftable, Location, MAX_LEAVES, Mem, Position, Readable as Nodes,
+    mmb, mmr,
 };
 use commonware_storage::qmdb;
 use commonware_storage::qmdb::current::Snapshot;
-use commonware_storage::qmdb::current::grafting::{self, GraftedHasher, Storage, graftable_chunks};
+use commonware_storage::qmdb::current::grafting::{
+    self, GraftedHasher, GraftedTree, Storage, graftable_chunks,
+};
 use commonware_storage::qmdb::current::proof::constant::OperationProof;
 use std::alloc::Global;
 
@@ -36,8 +40,8 @@ struct Case<'a> {
     location: u64,
     /// How many chunks of the status are pruned.
     pruned: u64,
-    /// Whether the tree over chunks has nodes.
-    whole: bool,
+    /// How many chunks of the tree over chunks are pruned; none where it has no nodes.
+    grafted: Option<u64>,
     /// The position that the tree over the operations lacks.
     absent: u64,
     /// How many digests the tree over the operations answers.
@@ -53,8 +57,9 @@ struct Asked {
 }
 
 /// `family chunk_size bits floor operations location pruned grafted absent`: the proof of the operation at the location, or the
-/// refusal. `pruned` chunks of the status are pruned, the tree over chunks is whole or `empty`, and the one over the operations
-/// lacks a position or `none`.
+/// refusal. `pruned` chunks of the status and `grafted` chunks of the tree over chunks are pruned, or that tree is `empty`, and
+/// the one over the operations lacks a position or `none`. Where no chunk of the tree over chunks is pruned, one with each node
+/// answers the same.
 pub fn combined<H: Hasher<Digest = FixedBytes<D>>, const D: usize>(
     alloc: Global,
     columns: &[&str],
@@ -113,7 +118,11 @@ where
         operations: strings(alloc, *operations)?,
         location: number(*location)?,
         pruned: number(*pruned)?,
-        whole: *grafted != "empty",
+        grafted: if *grafted == "empty" {
+            None
+        } else {
+            Some(number(*grafted)?)
+        },
         absent: if *absent == "none" {
             NONE
         } else {
@@ -145,35 +154,91 @@ where
     if height > 8 {
         return Err(Fault::Malformed);
     }
-    let floor = Location::new(case.floor);
     let snapshot = served::snapshot::<F, H, N>(alloc, &case.operations, case.bits, case.floor)?;
-    let grafted = if case.whole {
-        grafted_tree(alloc, &snapshot, height)?
-    } else {
-        Mem::new(alloc)
+    let Some(pruned) = case.grafted else {
+        let none = Mem::new(alloc);
+        return proved_over::<F, H, Mem<F, H::Digest>, D, N>(alloc, case, &snapshot, &none);
     };
+    let grafted = pruned_tree::<F, H, N>(alloc, &snapshot, height, pruned)?;
+    let asked = proved_over::<F, H, GraftedTree<F, H::Digest>, D, N>(
+        alloc, case, &snapshot, &grafted,
+    )?;
+    if pruned == 0 {
+        let whole = grafted_tree(alloc, &snapshot, height)?;
+        let other = proved_over::<F, H, Mem<F, H::Digest>, D, N>(alloc, case, &snapshot, &whole)?;
+        if !is_same(&asked, &other) {
+            return Err(Fault::Differs);
+        }
+    }
+    Ok(asked)
+}
+
+/// Whether two stores were asked alike and answered alike.
+fn is_same(one: &Asked, other: &Asked) -> bool {
+    one.answer.as_str() == other.answer.as_str()
+        && one.calls == other.calls
+        && one.failures == other.failures
+}
+
+/// What is answered over a tree over chunks.
+fn proved_over<
+    F: Graftable + Countable,
+    H: Hasher<Digest = FixedBytes<D>>,
+    R: Nodes<Family = F, Digest = H::Digest>,
+    const D: usize,
+    const N: usize,
+>(alloc: Global, case: &Case<'_>, snapshot: &Snapshot<F, H, N>, grafted: &R) -> Result<Asked, Fault>
+where
+    FixedBytes<D>: Digest,
+    requires chunk { IsChunkSize N }
+    requires small { D ≤ 64 }
+{
     let status = status_of::<N>(alloc, case.bits, case.pruned)?;
     let nodes = operations_nodes::<F, H>(alloc, &case.operations)?;
     let size = nodes.len() as u64;
-    let mut operations = Faulty::new(nodes, size, case.absent, case.left);
-    let mut both = Storage::new(&grafted, height, &mut operations);
-    let answer = OperationProof::new::<H, Prunable<N>, _>(
-        alloc,
-        &status,
-        &mut both,
-        floor,
-        Location::new(case.location),
-        snapshot.ops_root(),
-    );
-    let answer = match answer {
-        Ok(proof) => hex::encode(alloc, proof.encode(alloc)?)?,
-        Err(error) => database_refusal(alloc, &error)?,
-    };
+    let mut operations = Faulty::new(nodes, size, case.absent, case.left, STORE_FAULT);
+    let height = grafting::height::<N>();
+    let mut both = Storage::<F, H, R, Faulty<H::Digest>>::new(grafted, height, &mut operations);
+    let answer = proof_told::<F, H, _, D, N>(alloc, case, &status, &mut both, snapshot.ops_root())?;
     Ok(Asked {
         answer,
         calls: operations.calls(),
         failures: operations.failed(),
     })
+}
+
+/// The proof of the case's location from a store, or the refusal.
+fn proof_told<
+    F: Graftable,
+    H: Hasher<Digest = FixedBytes<D>>,
+    S: merkle::Storage<F, Digest = FixedBytes<D>>,
+    const D: usize,
+    const N: usize,
+>(
+    alloc: Global,
+    case: &Case<'_>,
+    status: &Prunable<N>,
+    store: &mut S,
+    ops_root: FixedBytes<D>,
+) -> Result<String, Fault>
+where
+    FixedBytes<D>: Digest,
+    requires chunk { IsChunkSize N }
+    requires small { D ≤ 64 }
+    requires fails { S.failed store.old + 1 < 2 ^ 64 }
+{
+    let proof = OperationProof::new::<H, Prunable<N>, S>(
+        alloc,
+        status,
+        store,
+        Location::new(case.floor),
+        Location::new(case.location),
+        ops_root,
+    );
+    match proof {
+        Ok(proof) => Ok(hex::encode(alloc, proof.encode(alloc)?)?),
+        Err(error) => database_refusal(alloc, &error),
+    }
 }
 
 /// A bit for each digit, with the first `pruned` chunks pruned; zeros fill up the last of these.
@@ -237,6 +302,31 @@ fn grafted_tree<F: Graftable, H: Hasher, const N: usize>(
     }
     put::<F, H>(&mut tree, &digests, height)?;
     Ok(tree)
+}
+
+/// The tree over the graftable chunks of a snapshot, the first `pruned` of them pruned.
+fn pruned_tree<F: Graftable, H: Hasher, const N: usize>(
+    alloc: Global,
+    snapshot: &Snapshot<F, H, N>,
+    height: u32,
+    pruned: u64,
+) -> Result<GraftedTree<F, H::Digest>, Fault>
+    requires low { 1 ≤ height }
+    requires high { height ≤ 8 }
+{
+    let mut digests = Vec::new(alloc);
+    for chunk in 0..graftable_chunks::<F>(snapshot.status().len(), height) {
+        digests.push(chunk_digest(snapshot, chunk, height)?)?;
+    }
+    let mut tree = GraftedTree::new(alloc, digests);
+    nodes_over_chunks_are_taken::<F, Standard<H>>();
+    if tree.leaves().as_u64() >= MANY {
+        return Err(Fault::Malformed);
+    }
+    match tree.prune(&hasher::<F, H>(height), pruned) {
+        Ok(()) => Ok(tree),
+        Err(error) => Err(merkle_fault(&error)),
+    }
 }
 
 fn hasher<F: Graftable, H: Hasher>(height: u32) -> GraftedHasher<F, Standard<H>>

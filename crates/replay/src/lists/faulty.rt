@@ -10,10 +10,10 @@ use commonware_storage::qmdb::current::{Contiguous, LogError};
 use std::alloc::Global;
 use std::ops::Range;
 
-/// The code that a store fails with.
+/// The code that a store fails with where a case tells none.
 pub const STORE_FAULT: u32 = 7;
 
-/// The code that a log fails with.
+/// The code that a log fails with where a case tells none.
 pub const LOG_FAULT: u32 = 9;
 
 /// A position that no tree has.
@@ -22,20 +22,22 @@ pub const NONE: u64 = u64::MAX;
 /// More answers than anyone asks for.
 pub const ALWAYS: u64 = u64::MAX;
 
-/// Digests at positions, but for the one that is lacking. Once all answers that it has left are given it fails.
+/// Digests at positions, but for the one that is lacking. Once all answers that it has left are given it fails with a code.
 #[derive(Drop)]
 pub struct Faulty<D> {
     nodes: Vec<D>,
     size: u64,
     lacks: u64,
     left: u64,
+    code: u32,
     calls: u64,
     failures: u64,
 }
 
 impl<D: Digest> Faulty<D> {
-    /// The store of `nodes`, which says to have `size` of them, lacks the one at `lacks`, and answers `left` of them.
-    pub fn new(nodes: Vec<D>, size: u64, lacks: u64, left: u64) -> Self
+    /// The store of `nodes`, which says to have `size` of them, lacks the one at `lacks`, and answers `left` of them; then it
+    /// fails with `code`.
+    pub fn new(nodes: Vec<D>, size: u64, lacks: u64, left: u64, code: u32) -> Self
         ensures { result.failures ≡ 0 }
     {
         Faulty {
@@ -43,6 +45,7 @@ impl<D: Digest> Faulty<D> {
             size,
             lacks,
             left,
+            code,
             calls: 0,
             failures: 0,
         }
@@ -63,6 +66,7 @@ impl<D: Digest> Faulty<D> {
         ensures nodes { self.new.nodes ≡ self.old.nodes }
         ensures size { self.new.size ≡ self.old.size }
         ensures lacks { self.new.lacks ≡ self.old.lacks }
+        ensures code { self.new.code ≡ self.old.code }
         ensures failures { self.new.failures ≡ self.old.failures }
         ensures refused { result ≡ false → self.old.left < count }
     {
@@ -122,7 +126,7 @@ impl<F: Family, D: Digest> Storage<F> for Faulty<D> {
 
     ghost failed = { λ s. s.failures };
 
-    ghost may_fail = { λ _ _ code. code ≡ 7 };
+    ghost may_fail = { λ s _ code. code ≡ s.code };
 
     fn size(&self) -> Position<F> {
         Position::new(self.size)
@@ -137,7 +141,7 @@ impl<F: Family, D: Digest> Storage<F> for Faulty<D> {
         ensures answer { MatchResult result (λ d. d ≡ (if eqb position self.old.lacks then None
             else slice_get self.old.nodes.items position)) (λ e.
             ((code : ℕ) × (e ≡ Error.Source code)) ⊎ (e ≡ Error.Memory)) }
-        ensures fault { (code : ℕ) → result ≡ Err (Error.Source code) → code ≡ 7 }
+        ensures fault { (code : ℕ) → result ≡ Err (Error.Source code) → code ≡ self.old.code }
         ensures failure { ((code : ℕ) × (result ≡ Err (Error.Source code)))
             ↔ (self.new.failures ≡ self.old.failures + 1) }
         ensures count { (self.new.failures ≡ self.old.failures)
@@ -149,7 +153,7 @@ impl<F: Family, D: Digest> Storage<F> for Faulty<D> {
     {
         if !self.takes(1) {
             self.failures += 1;
-            return Err(Error::Source(STORE_FAULT));
+            return Err(Error::Source(self.code));
         }
         Ok(self.look_up(position))
     }
@@ -164,7 +168,7 @@ impl<F: Family, D: Digest> Storage<F> for Faulty<D> {
         ensures fault { let node = λ (p : ℕ). (if eqb p self.old.lacks then None
             else slice_get self.old.nodes.items p) in
             (code : ℕ) → result ≡ Err (Error.Source code) → IsFirstFault (λ q a. a ≡ node q)
-            (λ _ c. c ≡ 7) positions.now code }
+            (λ _ c. c ≡ self.old.code) positions.now code }
         ensures failure { ((code : ℕ) × (result ≡ Err (Error.Source code)))
             ↔ (self.new.failures ≡ self.old.failures + 1) }
         ensures count { (self.new.failures ≡ self.old.failures)
@@ -176,7 +180,7 @@ impl<F: Family, D: Digest> Storage<F> for Faulty<D> {
     {
         if !self.takes(positions.len() as u64) {
             self.failures += 1;
-            return Err(Error::Source(STORE_FAULT));
+            return Err(Error::Source(self.code));
         }
         match self.look_up_all(alloc, positions) {
             Ok(digests) => Ok(digests),
@@ -185,24 +189,26 @@ impl<F: Family, D: Digest> Storage<F> for Faulty<D> {
     }
 }
 
-/// A log whose item at each location is the location. Once all answers that it has left are given it fails.
+/// A log whose item at each location is the location. Once all answers that it has left are given it fails with a code.
 #[derive(Drop)]
 pub struct Log {
     first: u64,
     past: u64,
     left: u64,
+    code: u32,
     failures: u64,
 }
 
 impl Log {
-    /// The log of the locations from `first` to before `past`, which answers `left` of them.
-    pub fn new(first: u64, past: u64, left: u64) -> Self
+    /// The log of the locations from `first` to before `past`, which answers `left` of them; then it fails with `code`.
+    pub fn new(first: u64, past: u64, left: u64, code: u32) -> Self
         ensures { result.failures ≡ 0 }
     {
         Log {
             first,
             past,
             left,
+            code,
             failures: 0,
         }
     }
@@ -233,7 +239,7 @@ impl Contiguous for Log {
         let count = locations.len() as u64;
         if self.left < count {
             self.failures += 1;
-            return Err(LogError::Fault(LOG_FAULT));
+            return Err(LogError::Fault(self.code));
         }
         self.left -= count;
         let mut items = Vec::new(alloc);

@@ -11,7 +11,7 @@ use crate::lists::served;
 use commonware_storage::bitmap::{Prunable, Readable};
 use commonware_storage::codec::{Encode, FixedBytes};
 use commonware_storage::digest::{Digest, Hasher};
-use commonware_storage::merkle::{self, Location, Position, mmr};
+use commonware_storage::merkle::{self, Family, Location, Position, mmr};
 use commonware_storage::qmdb::Error;
 use commonware_storage::qmdb::current::proof::constant::OperationProof;
 use commonware_storage::qmdb::current::proof::{RangeProof, RangeProofSpec};
@@ -20,10 +20,11 @@ use std::alloc::Global;
 
 type Rows<H> = Snapshot<mmr::Family, H, 1>;
 
-type Answer<D> = Result<(RangeProof<mmr::Family, D>, Vec<u64>, Vec<[u8; 1]>), Error<mmr::Family>>;
+/// The proof of some operations, the operations and their chunks, or the refusal.
+pub type Answer<F, D> = Result<(RangeProof<F, D>, Vec<u64>, Vec<[u8; 1]>), Error<F>>;
 
 /// More answers of a store, or of a log, than a case asks for.
-const ENOUGH: u64 = 8;
+pub const ENOUGH: u64 = 8;
 
 /// The digests of a snapshot's grafted view.
 fn view<H: Hasher<Digest = FixedBytes<D>>, const D: usize>(
@@ -131,15 +132,15 @@ fn answered<H: Hasher<Digest = FixedBytes<D>>, const D: usize>(
     call: &Call<'_, H>,
     nodes: u64,
     items: u64,
-) -> Result<(Answer<FixedBytes<D>>, (u64, u64)), Fault>
+) -> Result<(Answer<mmr::Family, FixedBytes<D>>, (u64, u64)), Fault>
 where
     FixedBytes<D>: Digest,
     requires small { D ≤ 64 }
 {
     let view = view(alloc, call.snapshot)?;
     let size = call.size.unwrap_or(view.len() as u64);
-    let mut store = Faulty::new(view, size, NONE, nodes);
-    let mut log = Log::new(call.first, call.snapshot.status().len(), items);
+    let mut store = Faulty::new(view, size, NONE, nodes, STORE_FAULT);
+    let mut log = Log::new(call.first, call.snapshot.status().len(), items, LOG_FAULT);
     let spec = RangeProofSpec {
         start_loc: Location::new(call.start),
         max_ops: call.max_ops,
@@ -153,15 +154,21 @@ where
         &mut log,
         spec,
     );
-    let failures = (store.failed(), log.failures());
+    Ok((remembered(answer)?, (store.failed(), log.failures())))
+}
+
+/// An answer, where it is not that memory is lacking.
+pub fn remembered<F: Family, T: Drop>(
+    answer: Result<T, Error<F>>,
+) -> Result<Result<T, Error<F>>, Fault> {
     match answer {
         Err(Error::Memory) => Err(Fault::Memory),
-        answer => Ok((answer, failures)),
+        answer => Ok(answer),
     }
 }
 
 /// The proof, the operations and their chunks, or the refusal.
-fn told<D: Digest>(alloc: Global, answer: &Answer<D>) -> Result<String, Fault> {
+fn told<D: Digest>(alloc: Global, answer: &Answer<mmr::Family, D>) -> Result<String, Fault> {
     match answer {
         Ok((proof, items, chunks)) => {
             let proof = hex::encode(alloc, proof.encode(alloc)?)?;
@@ -196,7 +203,7 @@ fn chunks_told(alloc: Global, chunks: &[[u8; 1]]) -> Result<String, Fault> {
 fn marks<H: Hasher<Digest = FixedBytes<D>>, const D: usize>(
     alloc: Global,
     call: &Call<'_, H>,
-    own: &Answer<FixedBytes<D>>,
+    own: &Answer<mmr::Family, FixedBytes<D>>,
 ) -> Result<String, Fault>
 where
     FixedBytes<D>: Digest,
@@ -207,24 +214,24 @@ where
         let mut row = String::new(alloc);
         for items in 0..ENOUGH {
             let (answer, failures) = answered(alloc, call, nodes, items)?;
-            row.push(mark(&answer, own, failures)?)?;
+            row.push(mark(&answer, own, failures, (STORE_FAULT, LOG_FAULT))?)?;
         }
         rows.push_text(row.as_str())?;
     }
     Ok(rows.finish()?)
 }
 
-/// `s` where the store's one fault is told, `l` where the log's is, `=` where neither failed and the answer is the same.
-fn mark<D: Digest>(
-    answer: &Answer<D>,
-    own: &Answer<D>,
+/// `s` where the store's one fault is told, `l` where the log's is, with their codes, `=` where neither failed and the answer is
+/// the same.
+pub fn mark<F: Family, T: PartialEq>(
+    answer: &Result<T, Error<F>>,
+    own: &Result<T, Error<F>>,
     failures: (u64, u64),
+    codes: (u32, u32),
 ) -> Result<char, Fault> {
     match (answer, failures) {
-        (Err(Error::Merkle(merkle::Error::Source(code))), (1, 0)) if *code == STORE_FAULT => {
-            Ok('s')
-        }
-        (Err(Error::Log(code)), (0, 1)) if *code == LOG_FAULT => Ok('l'),
+        (Err(Error::Merkle(merkle::Error::Source(code))), (1, 0)) if *code == codes.0 => Ok('s'),
+        (Err(Error::Log(code)), (0, 1)) if *code == codes.1 => Ok('l'),
         (answer, (0, 0)) if answer == own => Ok('='),
         _ => Err(Fault::Differs),
     }
@@ -283,7 +290,7 @@ where
 {
     let view = view(alloc, snapshot)?;
     let size = view.len() as u64;
-    let mut store = Faulty::new(view, size, NONE, nodes);
+    let mut store = Faulty::new(view, size, NONE, nodes, STORE_FAULT);
     let answer = OperationProof::<mmr::Family, FixedBytes<D>, 1>::new::<H, Prunable<1>, _>(
         alloc,
         snapshot.status(),

@@ -3,9 +3,11 @@
 ghost use Rattle.std.specs.Prelude.{◌≤◌};
 
 use crate::columns::Fault;
+use crate::lists::combined::whole;
 use crate::lists::{
-    bitmaps, both_chunks, codecs, combined, constant, extracted, fetched, keyed, keys, mems, multi,
-    operation_checks, pinned, program, proofs, recomputed, snapshots, stores, witnesses,
+    bitmaps, both_chunks, checks, codecs, combined, constant, extracted, fetched, grafted_trees,
+    key_proofs, keyed, keys, mems, multi, operation_checks, own, pinned, places, program, proofs,
+    recomputed, snapshots, stores, sweeps, verifiers, witnesses,
 };
 use commonware_storage::codec::FixedBytes;
 use commonware_storage::digest::{Digest, Hasher};
@@ -21,9 +23,13 @@ pub fn has(list: &str) -> bool {
         "bitmaps_verified" | "bitmaps_read" | "bitmaps_served" | "bit_proofs" => true,
         "combined" | "golden" | "ranges" | "ranges_checks" | "ranges_extracted" => true,
         "both_chunks" | "combined_asked" | "constant_checks" | "tree_roots" | "texts" => true,
-        "active" | "keyed" | "fetched_operations" | "fetched_ranges" => true,
+        "active" | "keyed" | "fetched_operations" | "fetched_ranges" | "grafted_trees" => true,
         "mem_init" | "mems" | "plain_checks" | "multi_checks" | "extracted" => true,
         "pinned_checks" | "recomputed" | "stores" | "witnesses" => true,
+        "built" | "element_checks" | "filled" | "key_proofs" | "multi_proofs" => true,
+        "operation_checks" | "parts" | "plain_operations" | "served" => true,
+        "combined_ranges" | "combined_views" | "each_operation" | "each_range" => true,
+        "slots" | "slots_read" | "verifiers" => true,
         _ => false,
     }
 }
@@ -53,7 +59,48 @@ where
         "fetched_operations" => fetched::fetched_operations::<H, D>(alloc, columns),
         "fetched_ranges" => fetched::fetched_ranges::<H, D>(alloc, columns),
         "golden" | "ranges" | "ranges_checks" => snapshots::answer::<H, D>(alloc, list, columns),
+        "combined_ranges" | "combined_views" | "each_operation" | "each_range" => {
+            of_snapshots::<H, D>(alloc, list, columns)
+        }
         _ => of_any::<H>(alloc, list, columns),
+    }
+}
+
+/// The answer of a list on all places of snapshots.
+fn of_snapshots<H: Hasher<Digest = FixedBytes<D>>, const D: usize>(
+    alloc: Global,
+    list: &str,
+    columns: &[&str],
+) -> Result<String, Fault>
+where
+    FixedBytes<D>: Digest,
+    requires small { D ≤ 64 }
+{
+    let Some((family, columns)) = columns.split_first() else {
+        return Err(Fault::Malformed);
+    };
+    match *family {
+        "mmr" => of_snapshot::<mmr::Family, H, D>(alloc, list, columns),
+        "mmb" => of_snapshot::<mmb::Family, H, D>(alloc, list, columns),
+        _ => Err(Fault::Malformed),
+    }
+}
+
+fn of_snapshot<F: Graftable + Countable, H: Hasher<Digest = FixedBytes<D>>, const D: usize>(
+    alloc: Global,
+    list: &str,
+    columns: &[&str],
+) -> Result<String, Fault>
+where
+    FixedBytes<D>: Digest,
+    requires small { D ≤ 64 }
+{
+    match list {
+        "combined_ranges" => whole::combined_ranges::<F, H, D>(alloc, columns),
+        "combined_views" => whole::combined_views::<F, H, D>(alloc, columns),
+        "each_operation" => sweeps::each_operation::<F, H, D>(alloc, columns),
+        "each_range" => sweeps::each_range::<F, H, D>(alloc, columns),
+        _ => Err(Fault::Malformed),
     }
 }
 
@@ -63,6 +110,7 @@ fn of_any<H: Hasher>(alloc: Global, list: &str, columns: &[&str]) -> Result<Stri
         "both_chunks" => both_chunks::both_chunks::<H>(alloc, columns),
         "exclusions" | "golden_keys" | "key_values" => keys::answer::<H>(alloc, list, columns),
         "golden_hash" => codecs::golden_hash::<H>(alloc, columns),
+        "filled" => codecs::filled::<H>(alloc, columns),
         "program_checks" => program::program_checks::<H>(alloc, columns),
         _ => of_family::<H>(alloc, list, columns),
     }
@@ -96,7 +144,30 @@ fn over<F: Graftable + Digits + Countable, H: Hasher>(
         "recomputed" => recomputed::recomputed::<F, H>(alloc, columns),
         "stores" => stores::stores::<F, H>(alloc, columns),
         "texts" => operation_checks::texts::<F, H>(alloc, columns),
+        "grafted_trees" => grafted_trees::grafted_trees::<F, H>(alloc, columns),
         "witnesses" => witnesses::witnesses::<F, H>(alloc, columns),
+        _ => of_plain::<F, H>(alloc, list, columns),
+    }
+}
+
+/// The answer of a list on plain trees and their proofs, on single digests, or on reading.
+fn of_plain<F: Graftable + Digits, H: Hasher>(
+    alloc: Global,
+    list: &str,
+    columns: &[&str],
+) -> Result<String, Fault> {
+    match list {
+        "built" => own::built::<F, H>(alloc, columns),
+        "element_checks" => checks::element_checks::<F, H>(alloc, columns),
+        "key_proofs" => key_proofs::key_proofs::<F, H>(alloc, columns),
+        "multi_proofs" => multi::own::multi_proofs::<F, H>(alloc, columns),
+        "operation_checks" => operation_checks::operation_checks::<F, H>(alloc, columns),
+        "parts" => own::parts::<F, H>(alloc, columns),
+        "plain_operations" => checks::plain_operations::<F, H>(alloc, columns),
+        "served" => own::served::<F, H>(alloc, columns),
+        "slots" => places::slots::<F, H>(alloc, columns),
+        "slots_read" => places::slots_read::<F, H>(alloc, columns),
+        "verifiers" => verifiers::verifiers::<F, H>(alloc, columns),
         _ => Err(Fault::Malformed),
     }
 }

@@ -4,6 +4,7 @@ use crate::columns::{Fault, bytes as bytes_of, number, owned, spaced_two};
 use crate::lists::refusals::codec_refusal;
 use bytes::Bytes;
 use commonware_storage::codec::{Decode, Encode, EncodeSize, FixedBytes, Read};
+use commonware_storage::digest::{Digest, Hasher};
 use commonware_storage::merkle::Graftable;
 use commonware_storage::qmdb::any::FixedEncoding;
 use commonware_storage::qmdb::current::ordered::{ExclusionProof, KeyValueProof};
@@ -12,11 +13,9 @@ use std::alloc::Global;
 
 type Key = FixedBytes<4>;
 
-type Digest = FixedBytes<32>;
+type Value<F, D, C> = KeyValueProof<F, Key, D, C>;
 
-type Value<F, C> = KeyValueProof<F, Key, Digest, C>;
-
-type Absence<F, C> = ExclusionProof<F, Key, FixedEncoding<u64>, Digest, C>;
+type Absence<F, D, C> = ExclusionProof<F, Key, FixedEncoding<u64>, D, C>;
 
 /// A proof that gives a copy of itself.
 trait OwnCopy: Sized {
@@ -24,13 +23,13 @@ trait OwnCopy: Sized {
     fn own_copy(&self) -> Result<Self, Fault>;
 }
 
-impl<F: Graftable, C: Chunk + Clone> OwnCopy for Value<F, C> {
+impl<F: Graftable, D: Digest, C: Chunk + Clone> OwnCopy for Value<F, D, C> {
     fn own_copy(&self) -> Result<Self, Fault> {
         Ok(self.clone()?)
     }
 }
 
-impl<F: Graftable, C: Chunk + Clone> OwnCopy for Absence<F, C> {
+impl<F: Graftable, D: Digest, C: Chunk + Clone> OwnCopy for Absence<F, D, C> {
     fn own_copy(&self) -> Result<Self, Fault> {
         Ok(self.clone()?)
     }
@@ -39,41 +38,44 @@ impl<F: Graftable, C: Chunk + Clone> OwnCopy for Absence<F, C> {
 /// `claim reader most bytes`: the proof in front, written again by a copy, how many bytes are left, and whether all bytes are a
 /// proof that is written as they are, or the refusals. The claim is a `value` or an `absence`; the reader takes an `array` of one
 /// byte as the chunk, or that number of shared bytes; it takes at most `most` digests.
-pub fn key_proofs<F: Graftable>(alloc: Global, columns: &[&str]) -> Result<String, Fault> {
+pub fn key_proofs<F: Graftable, H: Hasher>(
+    alloc: Global,
+    columns: &[&str],
+) -> Result<String, Fault> {
     let [claim, reader, most, text] = columns else {
         return Err(Fault::Malformed);
     };
     let most = number(*most)? as usize;
     let input = bytes_of(alloc, *text)?;
     if *reader == "array" {
-        return by_array::<F>(alloc, *claim, most, &input);
+        return by_array::<F, H::Digest>(alloc, *claim, most, &input);
     }
-    by_size::<F>(alloc, *claim, (number(*reader)? as usize, most), &input)
+    by_size::<F, H::Digest>(alloc, *claim, (number(*reader)? as usize, most), &input)
 }
 
 /// The answer of the readers whose chunk is an array.
-fn by_array<F: Graftable>(
+fn by_array<F: Graftable, D: Digest>(
     alloc: Global,
     claim: &str,
     most: usize,
     input: &[u8],
 ) -> Result<String, Fault> {
     match claim {
-        "value" => read::<Value<F, [u8; 1]>>(alloc, input, &(most, ())),
-        _ => read::<Absence<F, [u8; 1]>>(alloc, input, &(most, (), ())),
+        "value" => read::<Value<F, D, [u8; 1]>>(alloc, input, &(most, ())),
+        _ => read::<Absence<F, D, [u8; 1]>>(alloc, input, &(most, (), ())),
     }
 }
 
 /// The answer of the readers whose chunk is shared bytes.
-fn by_size<F: Graftable>(
+fn by_size<F: Graftable, D: Digest>(
     alloc: Global,
     claim: &str,
     proof: (usize, usize),
     input: &[u8],
 ) -> Result<String, Fault> {
     match claim {
-        "value" => read::<Value<F, Bytes>>(alloc, input, &(proof, ())),
-        _ => read::<Absence<F, Bytes>>(alloc, input, &(proof, (), ())),
+        "value" => read::<Value<F, D, Bytes>>(alloc, input, &(proof, ())),
+        _ => read::<Absence<F, D, Bytes>>(alloc, input, &(proof, (), ())),
     }
 }
 

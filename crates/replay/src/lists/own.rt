@@ -6,8 +6,7 @@ use crate::lists::refusals::{merkle_fault, merkle_refusal};
 use crate::lists::snapshots::places;
 use crate::lists::stores::{peaks, series};
 use std::alloc::Global;
-use storage_codec::codec::FixedBytes;
-use storage_codec::digest::Sha256;
+use storage_codec::digest::{Digest, Hasher};
 use storage_merkle::merkle::hasher::Standard;
 use storage_merkle::merkle::mem::Mem;
 use storage_merkle::merkle::{
@@ -16,13 +15,13 @@ use storage_merkle::merkle::{
 
 /// A tree over some elements.
 #[derive(Drop)]
-pub struct Grown<F: Family> {
-    pub hasher: Standard<Sha256>,
-    mem: Mem<F, FixedBytes<32>>,
+pub struct Grown<F: Family, H: Hasher> {
+    pub hasher: Standard<H>,
+    mem: Mem<F, H::Digest>,
     inactive: usize,
 }
 
-impl<F: Family> Grown<F> {
+impl<F: Family, H: Hasher> Grown<F, H> {
     fn new(alloc: Global, direction: &str, elements: &[Vec<u8>]) -> Result<Self, Fault> {
         let hasher = Standard::new(bagging(direction)?);
         let mut mem = Mem::new(alloc);
@@ -51,7 +50,7 @@ impl<F: Family> Grown<F> {
     }
 
     /// The tree's own proof of a range.
-    fn proof(&self, start: u64, end: u64) -> Result<Proof<F, FixedBytes<32>>, Fault> {
+    fn proof(&self, start: u64, end: u64) -> Result<Proof<F, H::Digest>, Fault> {
         let range = Location::new(start)..Location::new(end);
         match self.mem.range_proof(&self.hasher, range, self.inactive) {
             Ok(proof) => Ok(proof),
@@ -66,7 +65,7 @@ impl<F: Family> Grown<F> {
         elements: &[Vec<u8>],
         start: u64,
         end: u64,
-    ) -> Result<ProofStore<F, FixedBytes<32>>, Fault> {
+    ) -> Result<ProofStore<F, H::Digest>, Fault> {
         let claimed = places(elements, start, end)?;
         let root = self.root()?;
         let proof = self.proof(start, end)?;
@@ -78,7 +77,7 @@ impl<F: Family> Grown<F> {
     }
 
     /// The root.
-    pub fn root(&self) -> Result<FixedBytes<32>, Fault> {
+    pub fn root(&self) -> Result<H::Digest, Fault> {
         match self.mem.root(&self.hasher, self.inactive) {
             Ok(root) => Ok(root),
             Err(error) => Err(merkle_fault(&error)),
@@ -89,7 +88,7 @@ impl<F: Family> Grown<F> {
     fn is_given(
         &self,
         alloc: Global,
-        store: &ProofStore<F, FixedBytes<32>>,
+        store: &ProofStore<F, H::Digest>,
         start: u64,
         end: u64,
     ) -> Result<bool, Fault> {
@@ -104,7 +103,7 @@ impl<F: Family> Grown<F> {
     fn given(
         &self,
         alloc: Global,
-        store: &ProofStore<F, FixedBytes<32>>,
+        store: &ProofStore<F, H::Digest>,
         start: u64,
         end: u64,
     ) -> Result<(u64, u64), Fault> {
@@ -124,7 +123,7 @@ impl<F: Family> Grown<F> {
 
 /// `bagging inactive elements start end`: how many ranges there are among these locations, and of how many of them the store of the
 /// tree's proof of the whole gives the tree's own proof.
-pub fn parts<F: Family>(alloc: Global, columns: &[&str]) -> Result<String, Fault> {
+pub fn parts<F: Family, H: Hasher>(alloc: Global, columns: &[&str]) -> Result<String, Fault> {
     let [direction, inactive, elements, start, end] = columns else {
         return Err(Fault::Malformed);
     };
@@ -132,29 +131,29 @@ pub fn parts<F: Family>(alloc: Global, columns: &[&str]) -> Result<String, Fault
     let start = number(*start)?;
     let end = number(*end)?;
     let elements = strings(alloc, *elements)?;
-    let tree = Grown::<F>::with(alloc, *direction, inactive, &elements)?;
+    let tree = Grown::<F, H>::with(alloc, *direction, inactive, &elements)?;
     let store = tree.store(alloc, &elements, start, end)?;
     let (ranges, own) = tree.given(alloc, &store, start, end)?;
     spaced_two(alloc, &ranges, &own)
 }
 
 /// The digests at positions.
-fn digests_at<F: Family>(
+fn digests_at<F: Family, D: Digest>(
     alloc: Global,
-    mem: &mut Mem<F, FixedBytes<32>>,
+    mem: &mut Mem<F, D>,
     positions: &[Position<F>],
-) -> Result<Vec<FixedBytes<32>>, Error<F>> {
+) -> Result<Vec<D>, Error<F>> {
     mem.get_nodes(alloc, positions)
 }
 
 /// `bagging elements positions`: the digests that the tree serves at these positions, or the refusal.
-pub fn served<F: Family>(alloc: Global, columns: &[&str]) -> Result<String, Fault> {
+pub fn served<F: Family, H: Hasher>(alloc: Global, columns: &[&str]) -> Result<String, Fault> {
     let [direction, elements, places] = columns else {
         return Err(Fault::Malformed);
     };
     let positions = positions(alloc, *places)?;
     let elements = strings(alloc, *elements)?;
-    let mut tree = Grown::<F>::new(alloc, *direction, &elements)?;
+    let mut tree = Grown::<F, H>::new(alloc, *direction, &elements)?;
     match digests_at(alloc, &mut tree.mem, &positions) {
         Ok(digests) => {
             compare_each(&mut tree.mem, &positions, &digests)?;
@@ -165,10 +164,10 @@ pub fn served<F: Family>(alloc: Global, columns: &[&str]) -> Result<String, Faul
 }
 
 /// Whether a tree serves these digests one by one too.
-fn compare_each<F: Family>(
-    mem: &mut Mem<F, FixedBytes<32>>,
+fn compare_each<F: Family, D: Digest>(
+    mem: &mut Mem<F, D>,
     positions: &[Position<F>],
-    digests: &[FixedBytes<32>],
+    digests: &[D],
 ) -> Result<(), Fault> {
     for (position, digest) in positions.iter().zip(digests) {
         let node = match Storage::<F>::get_node(mem, *position) {
@@ -192,7 +191,7 @@ pub fn positions<F>(alloc: Global, column: &str) -> Result<Vec<Position<F>>, Fau
 }
 
 /// The digest at a position among some.
-fn at<F: Family>(nodes: &[(Position<F>, FixedBytes<32>)], position: u64) -> Option<FixedBytes<32>> {
+fn at<F: Family, D: Digest>(nodes: &[(Position<F>, D)], position: u64) -> Option<D> {
     for node in nodes {
         if node.0.as_u64() == position {
             return Some(node.1);
@@ -203,15 +202,15 @@ fn at<F: Family>(nodes: &[(Position<F>, FixedBytes<32>)], position: u64) -> Opti
 
 /// `bagging leaves location inactive nodes`: the digests of the proof of one element that is built from these nodes, `POSITION=DIGEST`
 /// with slashes between them or `-` for none, or the refusal.
-pub fn built<F: Family>(alloc: Global, columns: &[&str]) -> Result<String, Fault> {
+pub fn built<F: Family, H: Hasher>(alloc: Global, columns: &[&str]) -> Result<String, Fault> {
     let [direction, leaves, location, inactive, nodes] = columns else {
         return Err(Fault::Malformed);
     };
-    let hasher = Standard::<Sha256>::new(bagging(*direction)?);
+    let hasher = Standard::<H>::new(bagging(*direction)?);
     let leaves = Location::new(number(*leaves)?);
     let location = Location::new(number(*location)?);
     let inactive = number(*inactive)? as usize;
-    let nodes = peaks::<F, _>(alloc, *nodes)?;
+    let nodes = peaks::<F, H::Digest>(alloc, *nodes)?;
     let plan: RangePlan<F> = match ElementPlan::new(alloc, leaves, location) {
         Ok(plan) => plan.into(),
         Err(error) => return merkle_refusal(alloc, &error),

@@ -6,7 +6,8 @@ use crate::columns::{
 use crate::lists::refusals::codec_refusal;
 use crate::lists::spelling::spell_bytes;
 use std::alloc::Global;
-use storage_codec::codec::{Encode, EncodeSize, FixedBytes};
+use storage_codec::codec::{Encode, EncodeSize};
+use storage_codec::digest::Hasher;
 use storage_merkle::merkle::family::{aligned_inactive, exact_inactive, node_at};
 use storage_merkle::merkle::{Graftable, Location, MAX_LEAVES, Position};
 
@@ -16,8 +17,6 @@ pub fn answer<F: Graftable>(alloc: Global, list: &str, columns: &[&str]) -> Resu
         "around" => around::<F>(alloc, columns),
         "inactive" => inactive::<F>(alloc, columns),
         "places" => places::<F>(alloc, columns),
-        "slots" => slots::<F>(alloc, columns),
-        "slots_read" => slots_read::<F>(alloc, columns),
         _ => Err(Fault::Malformed),
     }
 }
@@ -79,8 +78,8 @@ fn aligned<F>(alloc: Global, position: Position<F>) -> Result<String, Fault> {
 }
 
 /// `digest`: what the slot of a pending chunk is written as that has this digest, or none for `-`, and how many bytes these are.
-fn slots<F: Graftable>(alloc: Global, columns: &[&str]) -> Result<String, Fault> {
-    let slot: Option<FixedBytes<32>> = match columns {
+pub fn slots<F: Graftable, H: Hasher>(alloc: Global, columns: &[&str]) -> Result<String, Fault> {
+    let slot: Option<H::Digest> = match columns {
         ["-"] => None,
         [column] => Some(digest(alloc, *column)?),
         _ => return Err(Fault::Malformed),
@@ -93,13 +92,16 @@ fn slots<F: Graftable>(alloc: Global, columns: &[&str]) -> Result<String, Fault>
 }
 
 /// `bytes`: the digest in the slot in front, or `-` for none, and how many bytes are left; or the refusal.
-fn slots_read<F: Graftable>(alloc: Global, columns: &[&str]) -> Result<String, Fault> {
+pub fn slots_read<F: Graftable, H: Hasher>(
+    alloc: Global,
+    columns: &[&str],
+) -> Result<String, Fault> {
     let [column] = columns else {
         return Err(Fault::Malformed);
     };
     let input = bytes(alloc, *column)?;
     let mut left = input.as_slice();
-    let slot: Option<FixedBytes<32>> = match F::read_pending(alloc, &mut left) {
+    let slot: Option<H::Digest> = match F::read_pending(alloc, &mut left) {
         Ok(slot) => slot,
         Err(error) => return codec_refusal(alloc, error),
     };

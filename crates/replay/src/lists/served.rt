@@ -30,7 +30,7 @@ pub fn snapshot<F: Graftable, H: Hasher, const N: usize>(
 }
 
 /// The digests of a snapshot's grafted view, by position; none past its nodes.
-fn nodes_of<F: Graftable, H: Hasher, const N: usize>(
+pub fn nodes_of<F: Graftable, H: Hasher, const N: usize>(
     alloc: Global,
     snapshot: &Snapshot<F, H, N>,
 ) -> Result<Vec<Option<H::Digest>>, Fault> {
@@ -42,7 +42,7 @@ fn nodes_of<F: Graftable, H: Hasher, const N: usize>(
 }
 
 /// The digest at a position.
-fn digest_at<F: Graftable, D: Digest>(nodes: &[Option<D>], position: Position<F>) -> Option<D> {
+pub fn digest_at<F: Graftable, D: Digest>(nodes: &[Option<D>], position: Position<F>) -> Option<D> {
     match nodes.get(position.as_u64() as usize) {
         Some(node) => *node,
         None => None,

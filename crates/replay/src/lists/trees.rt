@@ -5,11 +5,8 @@ ghost use Rattle.storage_merkle.specs.Nodes.{IsNode, CoversSame};
 ghost use Rattle.storage_merkle.specs.Shape.{size};
 
 use crate::columns::{Fault, Series, number, spaced_four, spaced_three, spaced_two, spelled};
-use crate::lists::combined::whole;
-use crate::lists::{
-    checks, key_proofs, multi, operation_checks, own, places, plain, proofs, required, sweeps,
-    verifiers,
-};
+use crate::lists::combined::failing;
+use crate::lists::{places, plain, proofs, required};
 use reference::shape::Digits;
 use std::alloc::Global;
 use storage_merkle::merkle::family::{
@@ -42,30 +39,9 @@ fn over<F: Graftable + Digits + Countable>(
         "maps" => maps::<F>(alloc, columns),
         "elements" => proofs::elements::<F>(alloc, columns),
         "plans" => proofs::plans::<F>(alloc, columns),
-        "multi_proofs" => multi::own::multi_proofs::<F>(alloc, columns),
         "required" => required::required::<F>(alloc, columns),
-        "element_checks" => checks::element_checks::<F>(alloc, columns),
-        "plain_operations" => checks::plain_operations::<F>(alloc, columns),
-        "parts" => own::parts::<F>(alloc, columns),
-        "served" => own::served::<F>(alloc, columns),
-        "built" => own::built::<F>(alloc, columns),
-        _ => rows::<F>(alloc, list, columns),
-    }
-}
-
-fn rows<F: Graftable + Countable>(
-    alloc: Global,
-    list: &str,
-    columns: &[&str],
-) -> Result<String, Fault> {
-    match list {
-        "each_operation" => sweeps::each_operation::<F>(alloc, columns),
-        "each_range" => sweeps::each_range::<F>(alloc, columns),
-        "operation_checks" => operation_checks::operation_checks::<F>(alloc, columns),
-        "verifiers" => verifiers::verifiers::<F>(alloc, columns),
-        "key_proofs" => key_proofs::key_proofs::<F>(alloc, columns),
-        "combined_views" => whole::combined_views::<F>(alloc, columns),
-        "combined_ranges" => whole::combined_ranges::<F>(alloc, columns),
+        "combined_reads" => failing::combined_reads::<F>(alloc, columns),
+        "combined_marks" => failing::combined_marks::<F>(alloc, columns),
         _ => places::answer::<F>(alloc, list, columns),
     }
 }

@@ -1,7 +1,9 @@
 //! SHA-256, as FIPS 180-4 defines it.
 
+ghost use Rattle.std.proofs.Common.{refl};
 ghost use Rattle.sha2.specs.Sha256.{sha256};
 ghost use Rattle.storage_codec.specs.DigestLaws.{sha256_sized};
+ghost use Rattle.storage_codec.specs.DigestValues.{digest_32};
 
 use crate::codec::FixedBytes;
 use crate::digest::Hasher;
@@ -14,6 +16,8 @@ impl Hasher for Sha256 {
     type Digest = FixedBytes<32>;
 
     ghost hash_of = { sha256 };
+
+    ghost digest_of = { digest_32 };
 
     fn hash(parts: &[&[u8]]) -> FixedBytes<32> {
         let mut hasher = sha2::Sha256::new();
@@ -29,4 +33,6 @@ impl Hasher for Sha256 {
     }
 
     ghost sized = { sha256_sized };
+
+    ghost told = { λ _. refl };
 }

@@ -1,7 +1,9 @@
 //! SHA-512, as FIPS 180-4 defines it.
 
+ghost use Rattle.std.proofs.Common.{refl};
 ghost use Rattle.sha2.specs.Sha512.{sha512};
 ghost use Rattle.storage_codec.specs.DigestLaws.{sha512_sized};
+ghost use Rattle.storage_codec.specs.DigestValues.{digest_64};
 
 use crate::codec::FixedBytes;
 use crate::digest::Hasher;
@@ -14,6 +16,8 @@ impl Hasher for Sha512 {
     type Digest = FixedBytes<64>;
 
     ghost hash_of = { sha512 };
+
+    ghost digest_of = { digest_64 };
 
     fn hash(parts: &[&[u8]]) -> FixedBytes<64> {
         let mut hasher = sha2::Sha512::new();
@@ -29,4 +33,6 @@ impl Hasher for Sha512 {
     }
 
     ghost sized = { sha512_sized };
+
+    ghost told = { λ _. refl };
 }

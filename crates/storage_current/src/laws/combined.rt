@@ -5,6 +5,7 @@ ghost use Rattle.storage_merkle.specs.Nodes.{CoversSame, IsNode};
 ghost use Rattle.storage_merkle.specs.Shape.{size};
 ghost use Rattle.storage_current.specs.Combined.{IsRaised, joined};
 ghost use Rattle.storage_current.specs.CombinedViews.{JoinedTreesAnswerTheView, JoinedTreesAreTheView, JoinedTreesServeTheView, PlannedNodesServeARange};
+ghost use Rattle.storage_current.specs.PrunedViews.{CoverableNodesAreHad, PrunedTreesServeTheView};
 ghost use Rattle.storage_current.specs.Snapshots.{grafting_of};
 
 use storage_codec::digest::{self, Digest};
@@ -72,6 +73,20 @@ pub fn planned_nodes_serve_a_range<F: Graftable, H: digest::Hasher, const N: usi
 /// digest, and what is proved is the snapshot's own.
 pub fn combined_stores_serve_the_view<F: Graftable, H: digest::Hasher, const N: usize>()
     ensures { JoinedTreesServeTheView H.Digest.text H.hash_of (grafting_of F.shape N) }
+{
+    greatest_nodes_are_planned();
+}
+
+/// Of a tree over chunks and a tree over the operations, read as one, a node of the view can be had just where it is coverable: it
+/// is kept, or it is above the chunks' nodes and both its children are coverable.
+pub fn coverable_nodes_are_had<F: Graftable, H: digest::Hasher>()
+    ensures { CoverableNodesAreHad H.digest_of H.Digest.text F.shape }
+{}
+
+/// A proof from a tree over chunks that keeps pins and leaves alone, where it is built, is the one from the tree with nothing
+/// pruned: what can be had is of the grafted view, and what is proved from that is the snapshot's own.
+pub fn pruned_trees_serve_the_view<F: Graftable, H: digest::Hasher, const N: usize>()
+    ensures { PrunedTreesServeTheView H.digest_of H.Digest.text H.hash_of (grafting_of F.shape N) }
 {
     greatest_nodes_are_planned();
 }

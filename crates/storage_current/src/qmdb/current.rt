@@ -3,13 +3,13 @@
 mod chunks;
 pub mod grafting;
 mod log;
-mod nodes;
 pub mod ordered;
 pub mod proof;
 mod required;
 mod root;
 mod snapshot;
 mod tree;
+mod view;
 
 pub use log::{Contiguous, LogError};
 pub use required::{RequiredChunks, required_chunks};

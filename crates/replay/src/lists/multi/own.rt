@@ -9,22 +9,24 @@ use reference::multi::own_multi_proof;
 use reference::node::Ungrafted;
 use reference::shape::Digits;
 use std::alloc::Global;
-use storage_codec::codec::FixedBytes;
-use storage_codec::digest::Sha256;
+use storage_codec::digest::Hasher;
 use storage_merkle::merkle::{Family, Location, MAX_LEAVES, Proof};
 
 /// `bagging inactive elements locations`: the digests of the proof of the elements at these locations that the store of a proof of
 /// all elements gives, which is the plain program's own one, and whether it is accepted.
-pub fn multi_proofs<F: Digits>(alloc: Global, columns: &[&str]) -> Result<String, Fault> {
+pub fn multi_proofs<F: Digits, H: Hasher>(
+    alloc: Global,
+    columns: &[&str],
+) -> Result<String, Fault> {
     let [direction, inactive, elements, places] = columns else {
         return Err(Fault::Malformed);
     };
     let elements = strings(alloc, *elements)?;
     let locations = locations(alloc, *places)?;
     let inactive = number(*inactive)? as usize;
-    let tree = Grown::<F>::with(alloc, *direction, inactive, &elements)?;
+    let tree = Grown::<F, H>::with(alloc, *direction, inactive, &elements)?;
     let proof = given(alloc, &tree, &elements, &locations)?;
-    if proof != plain_proof(alloc, &elements, inactive, &locations)? {
+    if proof != plain_proof::<F, H>(alloc, &elements, inactive, &locations)? {
         return Err(Fault::Differs);
     }
     let yes = is_shown(alloc, &tree, &proof, &elements, &locations)?;
@@ -33,12 +35,12 @@ pub fn multi_proofs<F: Digits>(alloc: Global, columns: &[&str]) -> Result<String
 }
 
 /// The proof that the store of a proof of all elements gives.
-fn given<F: Family>(
+fn given<F: Family, H: Hasher>(
     alloc: Global,
-    tree: &Grown<F>,
+    tree: &Grown<F, H>,
     elements: &[Vec<u8>],
     locations: &[Location<F>],
-) -> Result<Proof<F, FixedBytes<32>>, Fault> {
+) -> Result<Proof<F, H::Digest>, Fault> {
     let store = tree.store(alloc, elements, 0, elements.len() as u64)?;
     let peaks = Vec::new(alloc);
     match create_multi_proof(alloc, &store, locations, &peaks) {
@@ -48,12 +50,12 @@ fn given<F: Family>(
 }
 
 /// The plain program's own proof.
-fn plain_proof<F: Digits>(
+fn plain_proof<F: Digits, H: Hasher>(
     alloc: Global,
     elements: &[Vec<u8>],
     inactive: usize,
     locations: &[Location<F>],
-) -> Result<Proof<F, FixedBytes<32>>, Fault> {
+) -> Result<Proof<F, H::Digest>, Fault> {
     if elements.len() as u64 > MAX_LEAVES {
         return Err(Fault::Malformed);
     }
@@ -61,16 +63,14 @@ fn plain_proof<F: Digits>(
     for location in locations {
         places.push(location.as_u64())?;
     }
-    Ok(own_multi_proof::<F, Sha256, Ungrafted, Vec<u8>>(
-        alloc, &Ungrafted, elements, inactive, &places,
-    )?)
+    Ok(own_multi_proof::<F, H, Ungrafted, Vec<u8>>(alloc, &Ungrafted, elements, inactive, &places)?)
 }
 
 /// Whether a proof shows the elements at these locations.
-fn is_shown<F: Family>(
+fn is_shown<F: Family, H: Hasher>(
     alloc: Global,
-    tree: &Grown<F>,
-    proof: &Proof<F, FixedBytes<32>>,
+    tree: &Grown<F, H>,
+    proof: &Proof<F, H::Digest>,
     elements: &[Vec<u8>],
     locations: &[Location<F>],
 ) -> Result<String, Fault> {

@@ -5,15 +5,19 @@ ghost use Rattle.storage_merkle.specs.Calc.{grafted_digest, is_zero as all_zero}
 ghost use Rattle.storage_bitmap.specs.Chunks.{IsChunkSize};
 
 mod hasher;
+mod rebuild;
 mod storage;
+mod tree;
 mod verifier;
 
 pub use hasher::GraftedHasher;
 pub use storage::Storage;
+pub(crate) use storage::{Look, look_up};
 use storage_codec::digest::{Digest, Hasher};
 pub use storage_merkle::merkle::family::{
     aligned_inactive, exact_inactive, graftable_chunks, grafted_to_ops_pos, ops_to_grafted_pos,
 };
+pub use tree::GraftedTree;
 pub use verifier::Verifier;
 
 /// The height of the node over the operations of one chunk of `N` bytes: the base-2 logarithm of `8N`.

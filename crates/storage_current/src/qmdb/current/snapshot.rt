@@ -1,56 +1,62 @@
 //! Snapshots in memory, with their roots and the nodes of their grafted view.
 
-ghost use Rattle.std.specs.Prelude.{◌≡◌, ℕ, ◌<◌, ◌≤◌, ◌^◌, List, length, map, option_map, None, Bool, IfOk, IfErr, MatchOption};
+ghost use Rattle.std.specs.Prelude.{◌≡◌, ℕ, ◌<◌, ◌≤◌, ◌^◌, List, length, map, option_map, None, IfOk, IfErr, MatchOption};
 ghost use Rattle.std.specs.List.{slice_get};
 ghost use Rattle.storage_merkle.specs.Shape.{size};
-ghost use Rattle.storage_merkle.specs.Trees.{Content, Layout, tree_node, tree_root};
-ghost use Rattle.storage_merkle.specs.declared.merkle.bagging.Bagging.TheVariants.{BackwardFold};
 ghost use Rattle.storage_bitmap.specs.Chunks.{IsChunkSize, bit_count};
 ghost use Rattle.storage_current.specs.KeptSnapshots.{HasEachBit, IsRefused, StandsFor};
-ghost use Rattle.storage_current.specs.NodeLists.{AreNodes, IsTreeOver, plain_node};
+ghost use Rattle.storage_current.specs.NodeLists.{IsGrown, IsOver, IsTreeOver};
 ghost use Rattle.storage_current.specs.Snapshots.{IsServed, IsSnapshot, Snapshot as SnapshotOf, canonical_root, ops_root_of, own_witness, grafting_of};
 ghost use Rattle.storage_current.specs.WitnessWire.{witness_of};
 
 use crate::qmdb::current::chunks::{ChunkCounts, chunk_digest};
-use crate::qmdb::current::grafting::{self, aligned_inactive, exact_inactive};
-use crate::qmdb::current::nodes::{graft_nodes, grow, peak_digests};
+use crate::qmdb::current::grafting::{self, GraftedTree, aligned_inactive, exact_inactive};
 use crate::qmdb::current::proof::OpsRootWitness;
 use crate::qmdb::current::root::canonical_root;
 use crate::qmdb::current::tree::OperationTree;
+use crate::qmdb::current::view::{graft_chunks, view_digest, view_root};
 use std::alloc::{AllocError, Global};
 use std::convert::AsSlice;
 use std::marker::Model;
 use storage_bitmap::bitmap::{Prunable, Readable};
 use storage_codec::digest::Hasher;
-use storage_merkle::merkle::hasher::Hasher as _;
+use storage_merkle::laws::kept::trees_keep_the_nodes_of_their_list;
+use storage_merkle::merkle::mem::Mem;
 use storage_merkle::merkle::{self, Graftable, Location, MAX_LEAVES, Position};
 use storage_ops::qmdb::{self, Error};
 
-/// Operations, a bit for each that says whether it is active, and an inactivity floor, with their roots and the digests
-/// of the grafted view.
+/// Operations, a bit for each that says whether it is active, and an inactivity floor, with their roots. It keeps no
+/// operation: it has the tree over them, and the digests of their graftable chunks, from which it hashes again what else
+/// is asked for of the grafted view.
 #[derive(Drop)]
-pub struct Snapshot<F, H: Hasher, const N: usize> {
-    nodes: Vec<H::Digest>,
+pub struct Snapshot<F: Graftable, H: Hasher, const N: usize> {
+    operations: Mem<F, H::Digest>,
+    chunks: GraftedTree<F, H::Digest>,
     status: Prunable<N>,
     ops_root: H::Digest,
     root: H::Digest,
     witness: OpsRootWitness<F, H::Digest>,
 }
 
-impl<F, H: Hasher, const N: usize> Model for Snapshot<F, H, N> {
-    ghost use Rattle.std.specs.Prelude.{map};
-    ghost use Rattle.storage_current.specs.KeptSnapshots.{KeptSnapshot};
+impl<F: Graftable, H: Hasher, const N: usize> Model for Snapshot<F, H, N> {
+    ghost use Rattle.storage_current.specs.KeptSnapshots.{HasEachNode, KeptSnapshot};
+    ghost use Rattle.storage_current.specs.NodeLists.{seen_list};
+    ghost use Rattle.storage_current.specs.Snapshots.{grafting_of, height};
     ghost use Rattle.storage_current.specs.WitnessWire.{witness_of};
 
     ghost Value = { KeptSnapshot };
 
     ghost view = { λ s. record {
-      nodes = map H.Digest.text s.nodes.items;
+      nodes = seen_list H.digest_of H.Digest.text F.shape (height (grafting_of F.shape N))
+          s.operations s.chunks;
       status = s.status;
       ops_root = H.Digest.text s.ops_root;
       root = H.Digest.text s.root;
       witness = witness_of H.Digest.text s.witness;
     } };
+
+    ghost invariant = { λ s. HasEachNode H.digest_of H.Digest.text (grafting_of F.shape N)
+        s.operations s.chunks };
 }
 
 impl<F: Graftable, H: Hasher, const N: usize> Snapshot<F, H, N> {
@@ -82,11 +88,14 @@ impl<F: Graftable, H: Hasher, const N: usize> Snapshot<F, H, N> {
         if let Some(error) = refusal::<F, N>(leaves, &bits, floor) {
             return Err(error);
         }
-        let mut nodes = Vec::with_capacity(alloc, F::nodes_over(leaves) as usize)?;
-        for (leaf, operation) in operations.iter().enumerate() {
-            grow::<F, H>(&mut nodes, leaf as u64, operation.as_slice())?;
+        let mut tree = OperationTree::<F, H>::new(alloc);
+        for operation in operations {
+            // there are no more than fit, so that only memory may be wanting
+            if tree.add(operation.as_slice()).is_err() {
+                return Err(Error::Memory);
+            }
         }
-        match Snapshot::over(alloc, nodes, bits, floor) {
+        match Snapshot::over(alloc, tree.into_operations(), bits, floor) {
             Ok(snapshot) => Ok(snapshot),
             Err(_) => Err(Error::Memory),
         }
@@ -116,33 +125,32 @@ impl<F: Graftable, H: Hasher, const N: usize> Snapshot<F, H, N> {
             IsSnapshot s × StandsFor H.hash_of g kept s) }
         ensures why { IfErr result (IsRefused N tree.leaves bits.entry floor) }
     {
-        let (count, nodes) = tree.into_nodes();
-        if let Some(error) = refusal::<F, N>(count, &bits, floor) {
+        let operations = tree.into_operations();
+        if let Some(error) = refusal::<F, N>(operations.leaves().as_u64(), &bits, floor) {
             return Err(error);
         }
-        match Snapshot::over(alloc, nodes, bits, floor) {
+        match Snapshot::over(alloc, operations, bits, floor) {
             Ok(snapshot) => Ok(snapshot),
             Err(_) => Err(Error::Memory),
         }
     }
 
-    /// The snapshot of the operations of the tree whose digests are `nodes`, by position, with the bits `bits` and the
-    /// floor `floor`.
+    /// The snapshot of the operations that `operations` is over, with the bits `bits` and the floor `floor`.
     fn over(
         alloc: Global,
-        mut nodes: Vec<H::Digest>,
+        operations: Mem<F, H::Digest>,
         bits: Prunable<N>,
         floor: Location<F>,
     ) -> Result<Self, AllocError>
         requires chunks { IsChunkSize N }
+        requires grown { IsGrown H.Digest.text H.hash_of F.shape operations }
         requires unpruned { bits.pruned ≡ 0 }
-        requires few { bit_count N bits ≤ 2 ^ 62 }
-        requires whole { length nodes.items ≡ size F.shape (bit_count N bits) }
+        requires each { bit_count N bits ≡ operations.leaves }
         requires floor { floor ≤ bit_count N bits }
         ensures status { IfOk result (λ kept. kept.status ≡ bits.entry) }
         ensures stands { let g = grafting_of F.shape N in
-            IfOk result (λ kept. (list : List (List ℕ)) → length list ≡ bit_count N bits.entry
-            → AreNodes F.shape (plain_node H.hash_of F.shape list) (map H.Digest.text nodes.items)
+            IfOk result (λ kept. (list : List (List ℕ))
+            → IsOver H.Digest.text H.hash_of F.shape operations list
             → let s : SnapshotOf = record {
               operations = list;
               bits = bits.entry.bits;
@@ -150,14 +158,21 @@ impl<F: Graftable, H: Hasher, const N: usize> Snapshot<F, H, N> {
             } in
             IsSnapshot s × StandsFor H.hash_of g kept s) }
     {
+        trees_keep_the_nodes_of_their_list(&operations);
         let leaves = bits.len();
         let height = grafting::height::<N>();
         let exact = exact_inactive::<F>(leaves, floor.as_u64());
-        let ops_root = tree_root::<F, H>(alloc, &nodes, leaves, exact)?;
-        graft_nodes::<F, H, Prunable<N>, N>(alloc, &mut nodes, leaves, &bits)?;
-        let aligned = aligned_inactive::<F>(leaves, floor.as_u64(), height);
-        let grafted_root = tree_root::<F, H>(alloc, &nodes, leaves, aligned)?;
+        let ops_root = operations.root(&qmdb::hasher::<H>(), exact).unwrap();
         let counts = ChunkCounts::over::<F>(leaves, height);
+        let grafted = graft_chunks::<F, H, Prunable<N>, N>(
+            alloc,
+            &operations,
+            &bits,
+            counts.graftable,
+        )?;
+        let chunks = GraftedTree::new(alloc, grafted);
+        let aligned = aligned_inactive::<F>(leaves, floor.as_u64(), height);
+        let grafted_root = view_root::<F, H>(alloc, &operations, &chunks, height, aligned)?;
         let pending = chunk_digest::<H, N>(counts.pending::<Prunable<N>, N>(&bits));
         let partial = chunk_digest::<H, N>(counts.partial::<Prunable<N>, N>(&bits));
         let root = canonical_root::<H>(
@@ -168,7 +183,8 @@ impl<F: Graftable, H: Hasher, const N: usize> Snapshot<F, H, N> {
             &partial,
         );
         Ok(Snapshot {
-            nodes,
+            operations,
+            chunks,
             status: bits,
             ops_root,
             root,
@@ -214,7 +230,9 @@ impl<F: Graftable, H: Hasher, const N: usize> Snapshot<F, H, N> {
             → size F.shape (length s.operations) ≤ position
             → result ≡ None }
     {
-        self.nodes.get(position.as_u64() as usize).copied()
+        let operations = &self.operations;
+        let height = grafting::height::<N>();
+        view_digest::<F, H>(operations, &self.chunks, height, position)
     }
 
     /// The activity bits. Takes no memory.
@@ -246,25 +264,4 @@ fn refusal<F: Graftable, const N: usize>(
         return Some(Error::Merkle(merkle::Error::LocationOverflow(leaves)));
     }
     None
-}
-
-/// The root of the tree over `leaves` leaves with the first `inactive` peaks inactive, folded backwards, from `nodes`,
-/// the digests of its nodes by position.
-fn tree_root<F: Graftable, H: Hasher>(
-    alloc: Global,
-    nodes: &[H::Digest],
-    leaves: u64,
-    inactive: usize,
-) -> Result<H::Digest, AllocError>
-    requires few { leaves ≤ 2 ^ 62 }
-    requires whole { length nodes.now ≡ size F.shape leaves }
-    requires inactive { inactive ≤ length (F.shape.peaks leaves) }
-    ensures { IfOk result (λ root. (grafted : ℕ → ℕ → Bool) (content : Content)
-        → let T : Layout = record { shape = F.shape; position = F.shape.position; grafted = grafted } in
-        length content.elements ≡ leaves
-        → AreNodes F.shape (tree_node H.hash_of T content) (map H.Digest.text nodes.now)
-        → H.Digest.text root ≡ tree_root H.hash_of T BackwardFold content inactive) }
-{
-    let peaks = peak_digests::<F, H::Digest>(alloc, nodes, leaves)?;
-    Ok(qmdb::hasher::<H>().root(Location::<F>::new(leaves), inactive, &peaks))
 }

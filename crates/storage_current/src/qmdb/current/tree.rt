@@ -1,35 +1,35 @@
 //! A tree over operations, as it grows.
 
-ghost use Rattle.std.specs.Prelude.{◌≡◌, ℕ, ◌+◌, ◌^◌, ◌<◌, ◌≤◌, ◌∷◌, ◌++◌, ◌⊎◌, List, [], length, map, IfErr, OnOk, OnErr};
+ghost use Rattle.std.specs.Prelude.{◌≡◌, ℕ, ◌+◌, ◌^◌, ◌<◌, ◌∷◌, ◌++◌, ◌⊎◌, List, [], map, IfErr, OnOk, OnErr};
 ghost use Rattle.storage_merkle.specs.declared.merkle.error.Error.TheVariants.{LocationOverflow};
-ghost use Rattle.storage_merkle.specs.Shape.{size};
 ghost use Rattle.storage_ops.specs.declared.qmdb.error.Error.TheVariants.{Merkle, Memory};
-ghost use Rattle.storage_current.specs.NodeLists.{IsTreeOver};
+ghost use Rattle.storage_current.specs.NodeLists.{IsGrown, IsTreeOver};
 
-use crate::qmdb::current::nodes::grow;
 use std::alloc::Global;
-use std::marker::{Model, PhantomData};
+use std::marker::Model;
 use storage_codec::digest::Hasher;
-use storage_merkle::merkle::{self, Graftable, Location, MAX_LEAVES};
-use storage_ops::qmdb::Error;
+use storage_merkle::merkle::mem::Mem;
+use storage_merkle::merkle::{self, Graftable, MAX_LEAVES};
+use storage_ops::qmdb::{self, Error};
 
 /// A tree over operations, which it does not keep: it has their number, and the digests of its nodes by position.
 #[derive(Drop)]
 pub struct OperationTree<F: Graftable, H: Hasher> {
-    leaves: u64,
-    nodes: Vec<H::Digest>,
-    family: PhantomData<F>,
+    operations: Mem<F, H::Digest>,
 }
 
 impl<F: Graftable, H: Hasher> Model for OperationTree<F, H> {
-    ghost use Rattle.std.specs.Prelude.{map, vec_len};
-    ghost use Rattle.storage_current.specs.NodeLists.{KeptTree, IsWhole};
+    ghost use Rattle.std.specs.Prelude.{map};
+    ghost use Rattle.storage_current.specs.NodeLists.{IsGrown, KeptTree};
 
     ghost Value = { KeptTree };
 
-    ghost view = { λ t. record { leaves = t.leaves; nodes = map H.Digest.text t.nodes.items } };
+    ghost view = { λ t. record {
+      leaves = t.operations.leaves;
+      nodes = map H.Digest.text t.operations.nodes;
+    } };
 
-    ghost invariant = { λ t. IsWhole F.shape t.leaves (vec_len t.nodes) };
+    ghost invariant = { λ t. IsGrown H.Digest.text H.hash_of F.shape t.operations };
 }
 
 impl<F: Graftable, H: Hasher> OperationTree<F, H> {
@@ -37,11 +37,8 @@ impl<F: Graftable, H: Hasher> OperationTree<F, H> {
     pub fn new(alloc: Global) -> Self
         ensures { IsTreeOver H.hash_of F.shape result [] }
     {
-        OperationTree {
-            leaves: 0,
-            nodes: Vec::new(alloc),
-            family: PhantomData,
-        }
+        let operations = Mem::new(alloc);
+        OperationTree { operations }
     }
 
     /// Appends `operation`, and the nodes that are added with it.
@@ -61,24 +58,26 @@ impl<F: Graftable, H: Hasher> OperationTree<F, H> {
             ((self.old.leaves ≡ 2 ^ 62) × (e ≡ Merkle (LocationOverflow self.old.leaves)))
             ⊎ ((self.old.leaves < 2 ^ 62) × (e ≡ Memory))) }
     {
-        if self.leaves >= MAX_LEAVES {
-            let leaves = Location::new(self.leaves);
+        let leaves = self.operations.leaves();
+        if leaves.as_u64() >= MAX_LEAVES {
             return Err(Error::Merkle(merkle::Error::LocationOverflow(leaves)));
         }
-        if grow::<F, H>(&mut self.nodes, self.leaves, operation).is_err() {
+        if self
+            .operations
+            .add(&qmdb::hasher::<H>(), operation)
+            .is_err()
+        {
             return Err(Error::Memory);
         }
-        self.leaves += 1;
         Ok(())
     }
 
-    /// How many operations there are, and the digests of the nodes by position.
-    pub(crate) fn into_nodes(self) -> (u64, Vec<H::Digest>)
-        ensures leaves { result.0 ≡ self.leaves }
-        ensures nodes { map H.Digest.text result.1.items ≡ self.nodes }
-        ensures few { result.0 ≤ 2 ^ 62 }
-        ensures whole { length result.1.items ≡ size F.shape result.0 }
+    /// The tree itself.
+    pub(crate) fn into_operations(self) -> Mem<F, H::Digest>
+        ensures leaves { result.leaves ≡ self.leaves }
+        ensures nodes { map H.Digest.text result.nodes ≡ self.nodes }
+        ensures grown { IsGrown H.Digest.text H.hash_of F.shape result }
     {
-        (self.leaves, self.nodes)
+        self.operations
     }
 }

@@ -1,35 +1,44 @@
 //! A tree over chunks and a tree over the operations, read as one.
 
-ghost use Rattle.std.specs.Prelude.{◌≡◌, ℕ, ◌+◌, ◌^◌, ◌<◌, ◌≤◌, ◌∷◌, ◌⊎◌, ◌↔◌, [], List, length, map, IfOk, MatchOption, MatchResult, Err, Some, None, Option};
+ghost use Rattle.std.specs.Prelude.{◌≡◌, ℕ, ◌+◌, ◌%◌, ◌^◌, ◌<◌, ◌≤◌, ◌∷◌, ◌⊎◌, ◌↔◌, [], List, length, map, IfOk, MatchOption, MatchResult, Err, Some, None, Option};
 ghost use Rattle.std.specs.List.{All};
 ghost use Rattle.storage_merkle.specs.Plans.{IsFirstAbsent, IsFirstFault};
+ghost use Rattle.storage_merkle.specs.Nodes.{CoversSame};
+ghost use Rattle.storage_merkle.specs.Shape.{size};
 ghost use Rattle.storage_current.specs.Combined.{IsOfOperations, joined};
+ghost use Rattle.storage_current.specs.GraftedTrees.{regrafted};
 ghost use Rattle.storage_current.specs.Splits.{IsLook, IsSplit, filled, gaps};
 ghost use Rattle.storage_current.specs.declared.qmdb.current.grafting.storage.Look.TheVariants.{Below};
 
-use crate::qmdb::current::grafting::ops_to_grafted_pos;
+use crate::qmdb::current::grafting::GraftedHasher;
+use crate::qmdb::current::grafting::rebuild::node_of;
 use std::alloc::{AllocError, Global};
 use std::marker::PhantomData;
-use storage_codec::digest::Digest;
-use storage_merkle::merkle::{self, Error, Graftable, Position, Readable};
+use storage_codec::digest::{Digest, Hasher};
+use storage_merkle::merkle::family::node_at;
+use storage_merkle::merkle::hasher::Standard;
+use storage_merkle::merkle::{self, Bagging, Error, Graftable, Position, Readable};
 
 /// A tree over the operations and a tree over their chunks as one tree: below the height of a chunk's node it has the
-/// operations' nodes, at and above it those of the tree over chunks.
+/// operations' nodes, at and above it those of the tree over chunks. A node above that height which the tree over chunks
+/// does not keep is hashed from its children, where both can be had.
 #[derive(Drop)]
-pub struct Storage<'a, F, R, S> {
+pub struct Storage<'a, F, H, R, S> {
     grafted_tree: &'a R,
     height: u32,
     ops_tree: &'a mut S,
     family: PhantomData<F>,
+    function: PhantomData<H>,
     ghost low: { 1 ≤ height },
 }
 
-impl<'a, F: Graftable, S: merkle::Storage<F>, R: Readable<Family = F, Digest = S::Digest>> Storage<
+impl<
     'a,
-    F,
-    R,
-    S,
-> {
+    F: Graftable,
+    H: Hasher,
+    R: Readable<Family = F, Digest = H::Digest>,
+    S: merkle::Storage<F, Digest = H::Digest>,
+> Storage<'a, F, H, R, S> {
     /// `grafted_tree`, a tree over chunks whose leaves are nodes of height `height` in the tree over the operations, and
     /// `ops_tree`, that tree, as one.
     pub fn new(grafted_tree: &'a R, height: u32, ops_tree: &'a mut S) -> Self
@@ -44,20 +53,24 @@ impl<'a, F: Graftable, S: merkle::Storage<F>, R: Readable<Family = F, Digest = S
             height,
             ops_tree,
             family: PhantomData,
+            function: PhantomData,
         }
     }
 }
 
 impl<
     F: Graftable,
-    S: merkle::Storage<F>,
-    R: Readable<Family = F, Digest = S::Digest>,
-> merkle::Storage<F> for Storage<'_, F, R, S> {
-    type Digest = S::Digest;
+    H: Hasher,
+    R: Readable<Family = F, Digest = H::Digest>,
+    S: merkle::Storage<F, Digest = H::Digest>,
+> merkle::Storage<F> for Storage<'_, F, H, R, S> {
+    type Digest = H::Digest;
 
     ghost nodes = { λ s. S.nodes s.ops_tree.now };
 
-    ghost node = { λ s. joined F.shape s.height (S.nodes s.ops_tree.now) (R.node s.grafted_tree.now)
+    ghost node = { λ s. joined F.shape s.height (S.nodes s.ops_tree.now)
+        (regrafted H.digest_of H.Digest.text F.shape s.height
+        (R.node s.grafted_tree.now))
         (S.node s.ops_tree.now) };
 
     ghost failed = { λ s. S.failed s.ops_tree.now };
@@ -73,11 +86,12 @@ impl<
         self.ops_tree.failures()
     }
 
-    fn get_node(&mut self, position: Position<F>) -> Result<Option<S::Digest>, Error<F>>
+    fn get_node(&mut self, position: Position<F>) -> Result<Option<H::Digest>, Error<F>>
         requires { S.failed self.old.ops_tree.now + 1 < 2 ^ 64 }
         ensures answer { MatchResult result
             (λ d. d ≡ joined F.shape self.old.height (S.nodes self.old.ops_tree.now)
-            (R.node self.old.grafted_tree.now) (S.node self.old.ops_tree.now) position) (λ e.
+            (regrafted H.digest_of H.Digest.text F.shape self.old.height
+            (R.node self.old.grafted_tree.now)) (S.node self.old.ops_tree.now) position) (λ e.
             ((code : ℕ) × (e ≡ Error.Source code)) ⊎ (e ≡ Error.Memory)) }
         ensures fault { (code : ℕ) → result ≡ Err (Error.Source code)
             → IsOfOperations F.shape self.old.height (S.nodes self.old.ops_tree.now) position
@@ -88,12 +102,14 @@ impl<
             ⊎ (S.failed self.new.ops_tree.now ≡ S.failed self.old.ops_tree.now + 1) }
         ensures same_size { S.nodes self.new.ops_tree.now ≡ S.nodes self.old.ops_tree.now }
         ensures same { (p : ℕ) → joined F.shape self.new.height (S.nodes self.new.ops_tree.now)
-            (R.node self.new.grafted_tree.now) (S.node self.new.ops_tree.now) p
+            (regrafted H.digest_of H.Digest.text F.shape self.new.height
+            (R.node self.new.grafted_tree.now)) (S.node self.new.ops_tree.now) p
             ≡ joined F.shape self.old.height (S.nodes self.old.ops_tree.now)
-            (R.node self.old.grafted_tree.now) (S.node self.old.ops_tree.now) p }
+            (regrafted H.digest_of H.Digest.text F.shape self.old.height
+            (R.node self.old.grafted_tree.now)) (S.node self.old.ops_tree.now) p }
         ensures same_reference { self.new.ops_tree.ghost_name ≡ self.old.ops_tree.ghost_name }
     {
-        match look_up::<F, R>(
+        match look_up::<F, H, R>(
             self.grafted_tree,
             self.height,
             self.ops_tree.size(),
@@ -109,15 +125,17 @@ impl<
         &mut self,
         alloc: Global,
         positions: &[Position<F>],
-    ) -> Result<Vec<S::Digest>, Error<F>>
+    ) -> Result<Vec<H::Digest>, Error<F>>
         requires { S.failed self.old.ops_tree.now + 1 < 2 ^ 64 }
         ensures answers { let node = joined F.shape self.old.height (S.nodes self.old.ops_tree.now)
-            (R.node self.old.grafted_tree.now) (S.node self.old.ops_tree.now) in
+            (regrafted H.digest_of H.Digest.text F.shape self.old.height
+            (R.node self.old.grafted_tree.now)) (S.node self.old.ops_tree.now) in
             MatchResult result (λ v. map Some v.items ≡ map node positions.now) (λ e. ((p : ℕ)
             × (e ≡ Error.ElementPruned p) × IsFirstAbsent (λ q a. a ≡ node q) positions.now p)
             ⊎ (((code : ℕ) × (e ≡ Error.Source code)) ⊎ (e ≡ Error.Memory))) }
         ensures fault { let node = joined F.shape self.old.height (S.nodes self.old.ops_tree.now)
-            (R.node self.old.grafted_tree.now) (S.node self.old.ops_tree.now) in
+            (regrafted H.digest_of H.Digest.text F.shape self.old.height
+            (R.node self.old.grafted_tree.now)) (S.node self.old.ops_tree.now) in
             (code : ℕ) → result ≡ Err (Error.Source code) → IsFirstFault (λ q a. a ≡ node q)
             (λ p c. IsOfOperations F.shape self.old.height (S.nodes self.old.ops_tree.now) p
             × S.may_fail self.old.ops_tree.now p c) positions.now code }
@@ -127,13 +145,15 @@ impl<
             ⊎ (S.failed self.new.ops_tree.now ≡ S.failed self.old.ops_tree.now + 1) }
         ensures same_size { S.nodes self.new.ops_tree.now ≡ S.nodes self.old.ops_tree.now }
         ensures same { (p : ℕ) → joined F.shape self.new.height (S.nodes self.new.ops_tree.now)
-            (R.node self.new.grafted_tree.now) (S.node self.new.ops_tree.now) p
+            (regrafted H.digest_of H.Digest.text F.shape self.new.height
+            (R.node self.new.grafted_tree.now)) (S.node self.new.ops_tree.now) p
             ≡ joined F.shape self.old.height (S.nodes self.old.ops_tree.now)
-            (R.node self.old.grafted_tree.now) (S.node self.old.ops_tree.now) p }
+            (regrafted H.digest_of H.Digest.text F.shape self.old.height
+            (R.node self.old.grafted_tree.now)) (S.node self.old.ops_tree.now) p }
         ensures same_reference { self.new.ops_tree.ghost_name ≡ self.old.ops_tree.ghost_name }
     {
         let size = self.ops_tree.size();
-        let found = find_all::<F, R>(alloc, self.grafted_tree, self.height, size, positions)?;
+        let found = find_all::<F, H, R>(alloc, self.grafted_tree, self.height, size, positions)?;
         let read = match read_all::<F, S>(alloc, self.ops_tree, &found.below) {
             Ok(read) => read,
             Err(error) => return Err(error),
@@ -147,7 +167,7 @@ impl<
 
 /// What the combined tree has at a position, as far as it is known without a read of the operations' nodes.
 #[derive(Clone, Copy, Drop)]
-enum Look<D> {
+pub(crate) enum Look<D> {
     /// No node.
     Absent,
     /// A node of the tree over the operations, which has to be read.
@@ -157,27 +177,48 @@ enum Look<D> {
 }
 
 /// What the combined tree of `nodes` nodes has at `position`.
-fn look_up<F: Graftable, R: Readable<Family = F>>(
+pub(crate) fn look_up<F: Graftable, H: Hasher, R: Readable<Family = F, Digest = H::Digest>>(
     grafted_tree: &R,
     height: u32,
     nodes: Position<F>,
     position: Position<F>,
-) -> Look<R::Digest>
+) -> Look<H::Digest>
     requires { 1 ≤ height }
-    ensures look { (operations : ℕ → Option R.Digest) → IsLook (joined F.shape height nodes
-        (R.node grafted_tree.now) operations) operations position result }
+    ensures look { (operations : ℕ → Option H.Digest) → IsLook (joined F.shape height nodes
+        (regrafted H.digest_of H.Digest.text F.shape height
+        (R.node grafted_tree.now)) operations) operations position result }
     ensures below { result ≡ Below → IsOfOperations F.shape height nodes position }
 {
     if position.as_u64() >= nodes.as_u64() || !position.is_valid() {
         return Look::Absent;
     }
-    if F::pos_to_height(position) < height {
+    let (first, own) = node_at::<F>(position.as_u64());
+    if own < height {
         return Look::Below;
     }
-    match grafted_tree.get_node(ops_to_grafted_pos::<F>(position, height)) {
+    match grafted_digest::<F, H, R>(grafted_tree, height, first, own) {
         None => Look::Absent,
         Some(digest) => Look::Found(digest),
     }
+}
+
+/// The digest that can be had, from those that `grafted_tree` keeps, of the node of height `own` over the operations from
+/// `first` on, where the chunks' nodes have the height `height`.
+fn grafted_digest<F: Graftable, H: Hasher, R: Readable<Family = F, Digest = H::Digest>>(
+    grafted_tree: &R,
+    height: u32,
+    first: u64,
+    own: u32,
+) -> Option<H::Digest>
+    requires low { 1 ≤ height }
+    requires above { height ≤ own }
+    requires aligned { first % 2 ^ own ≡ 0 }
+    requires valid { F.shape.position first own ≤ size F.shape (2 ^ 62) }
+    ensures { (q : ℕ) → CoversSame F.shape height q (F.shape.position first own)
+        → result ≡ regrafted H.digest_of H.Digest.text F.shape height (R.node grafted_tree.now) q }
+{
+    let hasher = GraftedHasher::<F, Standard<H>>::new(Standard::new(Bagging::BackwardFold), height);
+    node_of(grafted_tree, &hasher, first >> height, own - height)
 }
 
 /// What the tree over chunks has at some positions: the digests, with none in the places of the operations' nodes, whose
@@ -190,16 +231,18 @@ struct Finds<F, D> {
 }
 
 /// What the combined tree of `size` nodes has at `positions`, up to the first one that has no node.
-fn find_all<F: Graftable, R: Readable<Family = F>>(
+fn find_all<F: Graftable, H: Hasher, R: Readable<Family = F, Digest = H::Digest>>(
     alloc: Global,
     grafted_tree: &R,
     height: u32,
     size: Position<F>,
     positions: &[Position<F>],
-) -> Result<Finds<F, R::Digest>, AllocError>
+) -> Result<Finds<F, H::Digest>, AllocError>
     requires { 1 ≤ height }
-    ensures found { IfOk result (λ finds. (operations : ℕ → Option R.Digest)
-        → let node = joined F.shape height size (R.node grafted_tree.now) operations in
+    ensures found { IfOk result (λ finds. (operations : ℕ → Option H.Digest)
+        → let node = joined F.shape height size
+        (regrafted H.digest_of H.Digest.text F.shape height
+        (R.node grafted_tree.now)) operations in
         (rest : List ℕ) × IsSplit node operations rest finds.nodes.items positions.now
         finds.below.items × MatchOption finds.missing (rest ≡ []) (λ p.
         (more : List ℕ) × (rest ≡ p ∷ more) × (node p ≡ None))) }
@@ -211,7 +254,7 @@ fn find_all<F: Graftable, R: Readable<Family = F>>(
     let mut missing = None;
     let mut left = positions;
     while let Some((position, rest)) = left.split_first() {
-        match look_up::<F, R>(grafted_tree, height, size, *position) {
+        match look_up::<F, H, R>(grafted_tree, height, size, *position) {
             Look::Absent => {
                 missing = Some(*position);
                 break;

@@ -4,15 +4,15 @@ use Rattle.storage_merkle.specs.Plans.{IsFirstAbsent, IsFirstFault}
 use Rattle.storage_merkle.specs.declared.merkle.error.Error.TheVariants.{ElementPruned, Memory}
 use Rattle.replay.proofs.lists.faulty.FaultyStorage.get_nodes.Goals as goal
 
-at_once : {D : Type 0} (answers : ℕ → Option D → Type 0) (positions : List ℕ) (code : ℕ) → 0 < length positions
-    → code ≡ 7 → IsFirstFault answers (λ _ c. c ≡ 7) positions code
-at_once answers [] code some is = absurd (omega arith)
-at_once answers (q ∷ qs) code some is = inl is
+at_once : {D : Type 0} (answers : ℕ → Option D → Type 0) (own : ℕ) (positions : List ℕ) (code : ℕ) → 0 < length positions
+    → code ≡ own → IsFirstFault answers (λ _ c. c ≡ own) positions code
+at_once answers own [] code some is = absurd (omega arith)
+at_once answers own (q ∷ qs) code some is = inl is
 
 pub returns-then-not-takes-clause-fault : goal.returns-then-not-takes-clause-fault
 returns-then-not-takes-clause-fault g c code same =
     at_once (λ q a. a ≡ (if eqb q c.args.self.now.lacks then None else slice_get c.args.self.now.nodes.items q))
-    c.args.positions.now code (let few = c.takes.ensures.refused c.if-not-takes.true in omega (arith, few)) (cc)
+    c.args.self.now.code c.args.positions.now code (let few = c.takes.ensures.refused c.if-not-takes.true in omega (arith, few)) (cc)
 
 pub returns-in-Err-clause-answers : goal.returns-in-Err-clause-answers
 returns-in-Err-clause-answers g c =

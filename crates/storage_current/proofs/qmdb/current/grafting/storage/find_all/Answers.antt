@@ -1,6 +1,7 @@
 use Rattle.std.proofs.Common.{arith, ◌≡◌, ◌∷◌, [], List, ℕ, length, refl}
 use Rattle.std.proofs.lemmas.List.Elements.{All-push}
 use Rattle.storage_current.specs.Combined.{IsOfOperations, joined}
+use Rattle.storage_current.specs.GraftedTrees.{regrafted}
 use Rattle.storage_current.proofs.Splitting.{more_found, more_below}
 use Rattle.storage_current.proofs.qmdb.current.grafting.storage.find_all.Goals.{in-Some+in-Absent, in_default}
 use Rattle.storage_current.proofs.qmdb.current.grafting.storage.find_all.Goals as goal
@@ -13,7 +14,8 @@ pub loop-position-preserved-in_ok-push-in-Below-2 : goal.loop-position-preserved
 loop-position-preserved-in_ok-push-in-Below-2 g c = record {
   split = λ operations.
       let node =
-      joined g.F.Family.shape c.args.height c.args.size (g.R.Readable.node c.args.grafted_tree.now) operations in
+      joined g.F.Family.shape c.args.height c.args.size (regrafted g.H.Hasher.digest_of g.H.Digest.Write.text g.F.Family.shape
+      c.args.height (g.R.Readable.node c.args.grafted_tree.now)) operations in
       let here = rw c.in-Some.ensures.cases.0 at (c.loop-position.invariant.split operations) in
       rw (c.in_ok-push-in-Below-2.ensures.items, c.in_ok-push-in-Below.ensures.items)
       (more_below node operations c.in-Some.position.now c.in-Some.rest.now c.loop-position.nodes.items
@@ -28,7 +30,8 @@ pub loop-position-preserved : goal.loop-position-preserved
 loop-position-preserved g c = record {
   split = λ operations.
       let node =
-      joined g.F.Family.shape c.args.height c.args.size (g.R.Readable.node c.args.grafted_tree.now) operations in
+      joined g.F.Family.shape c.args.height c.args.size (regrafted g.H.Hasher.digest_of g.H.Digest.Write.text g.F.Family.shape
+      c.args.height (g.R.Readable.node c.args.grafted_tree.now)) operations in
       let here = rw c.in-Some.ensures.cases.0 at (c.loop-position.invariant.split operations) in
       rw c.in_ok-push-in-Found.ensures.items (more_found node operations c.in-Some.position.now c.in-Found.digest
       c.in-Some.rest.now c.loop-position.nodes.items c.args.positions.now c.loop-position.below.items
@@ -40,7 +43,8 @@ loop-position-preserved g c = record {
 pub returns-clause-found : goal.returns-clause-found
 returns-clause-found g c operations =
     let node =
-    joined g.F.Family.shape c.args.height c.args.size (g.R.Readable.node c.args.grafted_tree.now) operations in
+    joined g.F.Family.shape c.args.height c.args.size (regrafted g.H.Hasher.digest_of g.H.Digest.Write.text g.F.Family.shape
+    c.args.height (g.R.Readable.node c.args.grafted_tree.now)) operations in
     let here = c.loop-position.invariant.split operations in
     elim c.match-split_first.branch [
       | in-Some+in-Absent w ↦ (

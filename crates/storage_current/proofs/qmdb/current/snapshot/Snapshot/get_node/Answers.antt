@@ -1,23 +1,29 @@
-use Rattle.std.proofs.Common.{◌≡◌, ◌≤◌, length, arith, ap, sym, refl, ◌∙◌}
+use Rattle.std.proofs.Common.{◌≡◌, ◌≤◌, length, arith, ap, ◌∙◌}
 use Rattle.std.specs.List.{slice_get}
 use Rattle.std.specs.Option.{option_map}
-use Rattle.std.proofs.lemmas.Option.{slice_get_past, slice_get-map}
-use Rattle.storage_current.specs.Snapshots.{Grafting, view_node}
-use Rattle.storage_current.proofs.Roots.{get_copied, looked_up, none_there}
+use Rattle.std.proofs.lemmas.Option.{slice_get_past}
+use Rattle.storage_current.specs.GraftingLaws.{height_of_power}
+use Rattle.storage_current.specs.Snapshots.{Grafting, height, view_node}
+use Rattle.storage_current.proofs.MemViews.{seen_value}
+use Rattle.storage_current.proofs.Roots.{looked_up, none_there}
 use Rattle.storage_current.proofs.qmdb.current.snapshot.Snapshot.get_node.Goals as goal
+
+pub height-height-requires : goal.height-height-requires
+height-height-requires g c = c.self.invariant.sized
 
 pub returns-clause-value : goal.returns-clause-value
 returns-clause-value g c =
-    let found : c.copied.result ≡ slice_get c.self.inside.nodes.items c.args.position =
-    c.copied.ensures
-    ∙ get_copied c.deref.result.now c.as_u64.result c.get.result c.get.ensures.lookup.0 c.get.ensures.lookup.1
-    ∙ rw (c.deref.ensures.value, c.as_u64.ensures) refl in
-    rw (← c.self.view_is) (ap (option_map g.H.Digest.Write.text) found
-    ∙ sym (slice_get-map g.H.Digest.Write.text c.self.inside.nodes.items c.args.position))
+    let S = g.F.Family.shape in
+    let text = g.H.Digest.Write.text in
+    let G : Grafting = record { shape = S; bytes = g.row.N } in
+    let level : height G ≡ c.height-height.result = height_of_power S g.row.N _ c.height-height.ensures.power in
+    rw (← c.self.view_is) (ap (option_map text) (rw (← level) at c.view_digest.ensures)
+    ∙ seen_value S g.met.F.Family.laws g.H.Hasher.digest_of text (height G) c.self.inside.operations
+    c.self.inside.chunks c.args.position c.self.invariant.had)
 
 pub returns-clause-there : goal.returns-clause-there
 returns-clause-there g c s stands below =
-    let value : option_map g.H.Digest.Write.text c.copied.result ≡ slice_get c.args.self.now.nodes c.args.position =
+    let value : option_map g.H.Digest.Write.text c.view_digest.result ≡ slice_get c.args.self.now.nodes c.args.position =
     returns-clause-value g c in
     let G : Grafting = record { shape = g.F.Family.shape; bytes = g.row.N } in
     looked_up G.shape (view_node g.H.Hasher.hash_of G s) c.args.self.now.nodes _ c.args.position _ stands.nodes
@@ -25,8 +31,8 @@ returns-clause-there g c s stands below =
 
 pub returns-clause-past : goal.returns-clause-past
 returns-clause-past g c s stands past =
-    let value : option_map g.H.Digest.Write.text c.copied.result ≡ slice_get c.args.self.now.nodes c.args.position =
+    let value : option_map g.H.Digest.Write.text c.view_digest.result ≡ slice_get c.args.self.now.nodes c.args.position =
     returns-clause-value g c in
     let beyond : length c.args.self.now.nodes ≤ c.args.position = omega (arith, stands.count, past) in
-    none_there g.H.Digest.Write.text c.copied.result (value
+    none_there g.H.Digest.Write.text c.view_digest.result (value
     ∙ slice_get_past c.args.self.now.nodes c.args.position beyond)

@@ -1,5 +1,6 @@
 use Rattle.std.proofs.Common.{arith, ◌≡◌, length, ap, refl, inl, inr}
 use Rattle.storage_current.specs.Combined.{joined}
+use Rattle.storage_current.specs.GraftedTrees.{regrafted}
 use Rattle.storage_current.specs.Splits.{gaps}
 use Rattle.storage_current.proofs.Splitting.{absent_below, absent_missing, fault_below, gaps_are, served_length, filled_are}
 use Rattle.std.proofs.lemmas.Grind.{common_steps}
@@ -39,7 +40,8 @@ fill-requires g c =
     let none : gaps c.deref-2.result.now ≡ length c.deref.result.now = gaps_are _ later s.0 _ _ _ s.1 in
     let read : length c.in-Ok.read.items ≡ length c.deref.result.now =
     served_length (joined g.F.Family.shape c.args.self.now.height (g.S.Storage.nodes c.args.self.now.ops_tree.now)
-    (g.R.Readable.node c.args.self.now.grafted_tree.now) later) later _ _ c.in-Ok.ensures.answers in
+    (regrafted g.H.Hasher.digest_of g.H.Digest.Write.text g.F.Family.shape c.args.self.now.height
+    (g.R.Readable.node c.args.self.now.grafted_tree.now)) later) later _ _ c.in-Ok.ensures.answers in
     omega (arith, none, read, ap length c.deref-3.ensures.value)
 
 pub returns-clause-answers : goal.returns-clause-answers

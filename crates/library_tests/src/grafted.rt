@@ -1,0 +1,118 @@
+//! A tree over chunks whose pruning is made again where memory is refused to it.
+
+ghost use Rattle.std.specs.Prelude.{◌≤◌};
+
+use crate::seen::{has_nodes, nodes_of};
+use std::alloc::Global;
+use std::test::Fail;
+use storage_codec::codec::FixedBytes;
+use storage_codec::digest::{Hasher, Sha256};
+use storage_current::laws::combined::nodes_over_chunks_are_taken;
+use storage_current::qmdb::current::grafting::{GraftedHasher, GraftedTree};
+use storage_merkle::merkle::hasher::Standard;
+use storage_merkle::merkle::{Bagging, Error, Graftable, Location, mmb};
+
+type Digest = FixedBytes<32>;
+
+type Tree = GraftedTree<mmb::Family, Digest>;
+
+/// More chunks than a case has.
+const MANY: u64 = 1000;
+
+/// The height of a node over as many operations as a chunk of one byte has bits.
+const HEIGHT: u32 = 3;
+
+/// How many positions a tree over five chunks has.
+const POSITIONS: u64 = 8;
+
+/// Forgets the first `chunks` chunks of `tree`, which are over nodes of height `height`, once.
+fn prune_once<F: Graftable, H: Hasher>(
+    tree: &mut GraftedTree<F, H::Digest>,
+    height: u32,
+    chunks: u64,
+) -> Result<(), Error<F>>
+    requires low { 1 ≤ height }
+    requires high { height ≤ 8 }
+{
+    nodes_over_chunks_are_taken::<F, Standard<H>>();
+    if tree.leaves().as_u64() >= MANY {
+        return Err(Error::DataCorrupted("too many chunks"));
+    }
+    let hasher = GraftedHasher::new(Standard::<H>::new(Bagging::BackwardFold), height);
+    tree.prune(&hasher, chunks)
+}
+
+/// Forgets the first `chunks` chunks of `tree`.
+fn prune(alloc: Global, tree: &mut Tree, chunks: u64) -> Result<(), Fail> {
+    let before = (tree.leaves(), tree.pruned_chunks());
+    let nodes = nodes_of(alloc, tree, POSITIONS)?;
+    if prune_once::<mmb::Family, Sha256>(tree, HEIGHT, chunks).is_ok() {
+        return Ok(());
+    }
+    if (tree.leaves(), tree.pruned_chunks()) != before || !has_nodes(tree, &nodes) {
+        return Err(Fail::new("a refused pruning pruned"));
+    }
+    match prune_once::<mmb::Family, Sha256>(tree, HEIGHT, chunks) {
+        Ok(()) => Ok(()),
+        Err(refusal) => Err(Fail::new(format_args!("error: {refusal:?}"))),
+    }
+}
+
+/// The digest of a leaf.
+fn leaf(byte: u8) -> Digest {
+    FixedBytes { bytes: [byte; 32] }
+}
+
+// what is expected is from an independent program, which hashes each node with its position over the operations
+#[test]
+fn grafted_pruning_made_again(rt: HostRuntime) -> Result<(), Fail> {
+    let alloc = rt.alloc();
+    let mut leaves = Vec::new(alloc);
+    for byte in 1..6 {
+        leaves.push(leaf(byte))?;
+    }
+    let mut tree = Tree::new(alloc, leaves);
+    let first = FixedBytes {
+        bytes: [
+            0x40, 0x16, 0xb8, 0x4f, 0xbc, 0xb3, 0x41, 0x48, 0x0b, 0x06, 0x2b, 0x2d, 0x09, 0xdf,
+            0x34, 0x71, 0xe1, 0xaf, 0x9e, 0xb0, 0x80, 0xac, 0x54, 0x6d, 0x68, 0x23, 0x6f, 0x40,
+            0x5a, 0xa3, 0xfc, 0xd2,
+        ],
+    };
+    let second = FixedBytes {
+        bytes: [
+            0x2a, 0x11, 0xda, 0x4f, 0x3b, 0x21, 0x4c, 0x06, 0x59, 0xa8, 0xd5, 0xdf, 0xe7, 0x4a,
+            0x06, 0x62, 0x53, 0xfd, 0x63, 0xdf, 0xc4, 0x5a, 0x7c, 0x1f, 0xd2, 0xe8, 0x75, 0xce,
+            0x04, 0x67, 0x13, 0xac,
+        ],
+    };
+    let four = FixedBytes {
+        bytes: [
+            0xc5, 0xae, 0xeb, 0x7f, 0x31, 0x43, 0x7e, 0x08, 0xd5, 0xba, 0xe2, 0xbc, 0x8c, 0x61,
+            0x41, 0xc6, 0xdb, 0x68, 0x8f, 0x4b, 0x27, 0x84, 0x96, 0x6a, 0xb6, 0x4b, 0xf1, 0x42,
+            0xfa, 0x91, 0x05, 0xb6,
+        ],
+    };
+    let [third, fourth, fifth] = [Some(leaf(3)), Some(leaf(4)), Some(leaf(5))];
+
+    prune(alloc, &mut tree, 2)?;
+    let kept = [None, None, Some(first), third, fourth, None, fifth, None];
+    assert!(rt; has_nodes(&tree, &kept));
+    prune(alloc, &mut tree, 4)?;
+    let kept = [
+        None,
+        None,
+        Some(first),
+        None,
+        None,
+        Some(second),
+        fifth,
+        None,
+    ];
+    assert!(rt; has_nodes(&tree, &kept));
+    prune(alloc, &mut tree, 5)?;
+    let kept = [None, None, None, None, None, None, fifth, Some(four)];
+    assert!(rt; has_nodes(&tree, &kept));
+    assert_eq!(rt; tree.leaves(), Location::new(5));
+    Ok(())
+}

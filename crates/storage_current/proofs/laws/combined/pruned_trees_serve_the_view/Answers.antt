@@ -1,0 +1,22 @@
+use Rattle.storage_current.specs.Snapshots.{Grafting, height}
+use Rattle.storage_current.specs.GraftedTrees.{regrafted, tree_at}
+use Rattle.storage_current.specs.PrunedViews.{had_of_both}
+use Rattle.storage_current.proofs.CombinedViews.{joined_true}
+use Rattle.storage_current.proofs.PrunedViews.{had_true}
+use Rattle.storage_current.proofs.StoresOfViews.{served_true}
+use Rattle.storage_current.proofs.laws.combined.pruned_trees_serve_the_view.Goals as goal
+
+pub returns : goal.returns
+returns g c grafting s snapshot leaves grafted t keeps operations below =
+    let text = g.H.Digest.Write.text in
+    let hash = g.H.Hasher.hash_of in
+    let digest = g.H.Hasher.digest_of in
+    let G : Grafting = record { shape = g.F.Family.shape; bytes = g.row.N } in
+    let pace = g.met.F.Graftable.keeps_pace (height G) in
+    let chunks = regrafted digest text G.shape (height G) (tree_at G.shape t.pruned t.pinned t.leaves) in
+    let true_of = joined_true hash G pace grafting s snapshot leaves grafted chunks operations text
+    (had_true digest text hash g.met.H.Hasher.told G grafting.laws leaves t keeps) below in (
+      true_of,
+      served_true text hash G grafting.laws c.greatest_nodes_are_planned.ensures s
+          (had_of_both digest text G s t operations) true_of,
+    )

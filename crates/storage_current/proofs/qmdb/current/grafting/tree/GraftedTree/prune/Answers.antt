@@ -1,0 +1,36 @@
+use Rattle.std.proofs.Common.{arith, ◌≡◌, ◌+◌, ◌-◌, ◌≤◌, length, drop, take, ap, ◌∙◌}
+use Rattle.storage_merkle.specs.Shape.{size}
+use Rattle.storage_merkle.specs.ShapeLaws.{grows_at_most}
+use Rattle.storage_current.proofs.Pruning.{kept_pruned, rotated}
+use Rattle.storage_current.proofs.qmdb.current.grafting.tree.GraftedTree.prune.Goals as goal
+
+pub peaks_over-requires-clause-whole : goal.peaks_over-requires-clause-whole
+peaks_over-requires-clause-whole g c = rw (← c.self.view_is) (record {
+  few = omega (arith, c.self.invariant.few, c.self.inside.leaves.ok);
+  pins = omega (arith, c.self.invariant.pins, c.self.inside.pinned.ok);
+})
+
+pub peaks_over-requires-clause-takes : goal.peaks_over-requires-clause-takes
+peaks_over-requires-clause-takes g c p low =
+    let S = g.F.Family.shape in
+    let up : size S c.args.chunks ≤ size S (c.args.self.now.pruned + length c.args.self.now.leaves) =
+    grows_at_most (size S) g.met.F.Family.laws.grows _ _
+    (omega (arith, c.if-chunks-as_u64.false, c.as_u64.ensures, c.leaves.ensures)) in
+    c.requires p (omega arith)
+
+pub returns-clause-stands : goal.returns-clause-stands
+returns-clause-stands g c list keeps =
+    let gone = c.args.chunks - c.self.inside.pruned in
+    let vp : c.self.inside.pruned ≡ c.args.self.now.pruned = ap (λ t. t.pruned) c.self.view_is in
+    let vl : length c.self.inside.leaves.items ≡ length c.args.self.now.leaves = ap (λ t. length t.leaves) c.self.view_is in
+    let top : c.args.chunks ≤ c.self.inside.pruned + length c.self.inside.leaves.items =
+    omega (arith, c.if-chunks-as_u64.false, c.as_u64.ensures, c.leaves.ensures, vp, vl) in
+    let leaves : c.truncate.new.self.items ≡ drop gone c.self.inside.leaves.items =
+    c.truncate.ensures.items
+    ∙ ap (λ xs. take (c.len.result - gone) xs) c.rotate_left.ensures.items
+    ∙ rotated c.self.inside.leaves.items gone (c.len.result - gone)
+    (omega (arith, c.len.ensures, c.self.inside.leaves.ok, top, c.if-chunks-self.false)) in
+    let keeps' = rw (← c.self.view_is) at keeps in
+    kept_pruned g.D.Write.text g.F.Family.shape _ _ c.args.chunks _ _ list
+    (omega (arith, c.if-chunks-self.false)) top keeps'
+    (c.in-Ok.ensures.digests list keeps) leaves

@@ -1,0 +1,275 @@
+"""Trees, proofs, bitmaps and snapshots as the definitions have them: by recursion over whole lists, over any digest function.
+
+Nothing here is made for speed, and nothing is taken from the sources of the crates. A node is the pair of its first leaf and its
+height, a range that of its first location and the one past its last; docs/DEFINITIONS.md and docs/FORMAT.md say the same in words.
+"""
+import functools
+import hashlib
+
+MAX_LEAVES = 2**62
+
+
+def be8(number):
+    return number.to_bytes(8, "big")
+
+
+def varint(number):
+    """A number in groups of seven bits, the low one first."""
+    return bytes([number]) if number < 128 else bytes([number % 128 + 128]) + varint(number // 128)
+
+
+class Digests:
+    """A digest function of hashlib."""
+
+    def __init__(self, name):
+        self.name, self.size = name, hashlib.new(name).digest_size
+
+    def of(self, *parts):
+        return hashlib.new(self.name, b"".join(parts)).digest()
+
+    def filled(self, byte):
+        return bytes([byte]) * self.size
+
+    def fold_left(self, items):
+        return functools.reduce(self.of, items)
+
+    def fold_right(self, items):
+        return functools.reduce(lambda right, left: self.of(left, right), reversed(items))
+
+
+class Family:
+    """The shape of the trees of a family."""
+
+    def __init__(self, name):
+        self.name, self.byte = name, ["mmr", "mmb"].index(name)
+
+    def heights(self, leaves):
+        count = leaves + self.byte
+        digits = [count >> place & 1 for place in range(count.bit_length())]
+        if self.name == "mmr":
+            return [place for place in reversed(range(len(digits))) if digits[place]]
+        return [place + digits[place] for place in reversed(range(len(digits) - 1))]
+
+    def peaks(self, leaves):
+        first, peaks = 0, []
+        for height in self.heights(leaves):
+            peaks.append((first, height))
+            first += 2**height
+        return peaks
+
+    def size(self, leaves):
+        return 2 * leaves - len(self.heights(leaves))
+
+    def birth(self, node):
+        """From how many leaves on the tree has a node."""
+        first, height = node
+        return first + (2**height if self.name == "mmr" or not height else 3 * 2 ** (height - 1) - 1)
+
+    def position(self, node):
+        first, height = node
+        if not height:
+            return self.size(first)
+        return self.size(first) + 2 ** (height + 1) - 2 if self.name == "mmr" else self.size(self.birth(node)) - 1
+
+    def nodes(self, leaves):
+        """The nodes of a tree, by position."""
+        heights = range(leaves.bit_length() + 1)
+        nodes = [(first, height) for height in heights for first in range(0, leaves, 2**height)]
+        return {self.position(it): it for it in nodes if self.birth(it) <= leaves}
+
+
+def end_of(node):
+    return node[0] + 2 ** node[1]
+
+
+def halves(node):
+    first, height = node
+    return (first, height - 1), (first + 2 ** (height - 1), height - 1)
+
+
+def holds(node, locations):
+    return any(node[0] <= it < end_of(node) for it in locations)
+
+
+def without(node, locations):
+    """The greatest nodes inside a node that hold none of some locations."""
+    if not holds(node, locations):
+        return [node]
+    return [it for half in halves(node) for it in without(half, locations)] if node[1] else []
+
+
+class Tree:
+    """A tree over elements, with chunks over its nodes of some height."""
+
+    def __init__(self, digests, family, elements, height=None, chunks=None):
+        """The chunks are given by their numbers."""
+        self.digests, self.family, self.elements = digests, family, elements
+        self.height, self.chunks, self.leaves = height, chunks or {}, len(elements)
+        self.node = functools.lru_cache(None)(self.node_anew)
+
+    def node_anew(self, node):
+        position, (first, height) = be8(self.family.position(node)), node
+        if not height:
+            return self.digests.of(position, self.elements[first])
+        return self.over(node, *map(self.node, halves(node)))
+
+    def over(self, node, left, right):
+        """The digest of a node from those of its halves."""
+        inner = self.digests.of(be8(self.family.position(node)), left, right)
+        chunk = self.chunks.get(node[0] // 2 ** node[1], b"") if node[1] == self.height else b""
+        return self.digests.of(chunk, inner) if any(chunk) else inner
+
+    def root(self, direction, inactive):
+        peaks = [self.node(it) for it in self.family.peaks(self.leaves)]
+        return root_of(self.digests, self.family, direction, self.leaves, inactive, peaks[:inactive], peaks[inactive:])
+
+    def range_proof(self, direction, inactive, start, end):
+        """The digests of the own proof of a range."""
+        told = sites(self.family, direction, self.leaves, inactive, range(start, end))
+        folds = {"left": self.digests.fold_left, "right": self.digests.fold_right}
+        return [folds[way]([self.node(it) for it in nodes]) for way, nodes in told]
+
+    def multi_proof(self, locations):
+        peaks = self.family.peaks(self.leaves)
+        needed = [it for peak in peaks for it in without(peak, locations)]
+        return [self.node(it) for it in sorted(needed, key=self.family.position)]
+
+
+def root_of(digests, family, direction, leaves, count, inactive, active):
+    """The root from the items that are folded from the left, and the others."""
+    items = ([digests.fold_left(inactive)] if inactive else []) + active
+    fold = digests.fold_right if direction == "backward" else digests.fold_left
+    bagged = [fold(items)] if items else []
+    byte = bytes([family.byte, direction == "backward"])
+    return digests.of(byte, be8(leaves), be8(count), *bagged)
+
+
+def sites(family, direction, leaves, inactive, locations):
+    """What the digests of a range proof are of: nodes that are folded from the left or from the right, in the order of the proof."""
+    peaks = family.peaks(leaves)
+    before = [it for it in peaks if end_of(it) <= locations[0]]
+    past = [it for it in peaks if it[0] > locations[-1]]
+    fixed = peaks[:inactive] if direction == "backward" else peaks
+    told = [("left", [it for it in before if it in fixed])] + [("left", [it]) for it in before if it not in fixed]
+    told += [("left", [it]) for it in past if it in fixed] + [("right", [it for it in past if it not in fixed])]
+    inside = [it for peak in peaks if holds(peak, locations) for it in without(peak, locations)]
+    told += [("left", [it]) for it in sorted(inside, key=family.position)]
+    return [(way, nodes) for way, nodes in told if nodes]
+
+
+class Check:
+    """The check of a range proof: whether its counts fit, the root that it gives, and how many nodes and folds are hashed."""
+
+    def __init__(self, tree, direction, leaves, inactive, proof, start):
+        """The tree has the elements that are claimed in the places from `start` on, and its chunks."""
+        self.tree, self.hashed, self.root = tree, 0, None
+        family, claimed = tree.family, range(start, start + len(tree.elements))
+        fits = leaves <= MAX_LEAVES and claimed and claimed[-1] < leaves and inactive <= len(family.heights(leaves))
+        told = sites(family, direction, leaves, inactive, claimed) if fits else []
+        if not fits or len(told) != len(proof):
+            self.folds = 0
+            return
+        self.start, self.given = start, {tuple(nodes): it for (_, nodes), it in zip(told, proof)}
+        peaks = family.peaks(leaves)
+        parts = [self.items(peaks[:inactive], told), self.items(peaks[inactive:], told)]
+        self.folds = sum(max(len(it) - 1, 0) for it in parts) + (all(parts) and 1)
+        self.root = root_of(tree.digests, family, direction, leaves, inactive, *parts)
+
+    def items(self, peaks, told):
+        """The items that are folded of some peaks: folds that are given stand in the place of the first of their peaks."""
+        folds = {nodes[0]: tuple(nodes) for _, nodes in told}
+        inner = {it for nodes in folds.values() for it in nodes[1:]}
+        return [self.given[folds[it]] if it in folds else self.node(it) for it in peaks if it not in inner]
+
+    def node(self, node):
+        if (node,) in self.given:
+            return self.given[node,]
+        if not node[1]:
+            position = be8(self.tree.family.position(node))
+            return self.tree.digests.of(position, self.tree.elements[node[0] - self.start])
+        self.hashed += 1
+        return self.tree.over(node, *map(self.node, halves(node)))
+
+
+class Snapshot:
+    """Operations, a bit for each that says whether it is active, and an inactivity floor, with chunks of some bytes."""
+
+    def __init__(self, digests, family, operations, bits, floor, size):
+        self.digests, self.family, self.operations, self.floor, self.size = digests, family, operations, floor, size
+        self.leaves, self.width, self.height = len(operations), 8 * size, (8 * size).bit_length() - 1
+        self.chunks = chunks_of(bits, size)
+        self.slots = slots_of(family, self.leaves, self.width)
+        grafted = dict(enumerate(self.chunks[: graftable(family, self.leaves, self.height)]))
+        self.plain, self.view = Tree(digests, family, operations), Tree(digests, family, operations, self.height, grafted)
+        self.ops_root = self.plain.root("backward", self.inactive(1))
+        grafted_root = self.view.root("backward", self.inactive(self.width))
+        self.root = canonical(digests, self.leaves % self.width, self.ops_root, grafted_root, *self.slot_digests())
+
+    def inactive(self, width):
+        """How many leading peaks end at or before the floor, up to the last that ends on a multiple of some width."""
+        ends = [end_of(it) for it in self.family.peaks(self.leaves)]
+        return max([count + 1 for count, it in enumerate(ends) if it <= self.floor and it % width == 0], default=0)
+
+    def slot_digests(self):
+        """The digests of the pending and of the partial chunk, each where it is there."""
+        return [None if it is None else self.digests.of(self.chunks[it]) for it in self.slots]
+
+    def range_part(self, start, end):
+        """The own proof of a range as bytes."""
+        count = self.inactive(self.width)
+        proof = self.view.range_proof("backward", count, start, end)
+        return range_part(self.family, self.leaves, count, proof, *self.slot_digests(), self.ops_root)
+
+    def operation_proof(self, location):
+        return varint(location) + self.chunks[location // self.width] + self.range_part(location, location + 1)
+
+
+def chunks_of(bits, size):
+    """The chunks of digits, the last one filled up with zeros."""
+    parts = [bits[it : it + 8 * size] for it in range(0, len(bits), 8 * size)]
+    return [int(it[::-1], 2).to_bytes(size, "little") for it in parts]
+
+
+def graftable(family, leaves, height):
+    """How many chunks have all their leaves inside one peak."""
+    return sum(2 ** (it - height) for it in family.heights(leaves) if it >= height)
+
+
+def slots_of(family, leaves, width):
+    """The numbers of the pending and of the partial chunk."""
+    complete = leaves // width
+    pending = complete - 1 if graftable(family, leaves, width.bit_length() - 1) < complete else None
+    return pending, complete if leaves % width else None
+
+
+def canonical(digests, next_bit, ops_root, grafted_root, pending, partial):
+    """The canonical root."""
+    slots = (pending or b"") + (be8(next_bit) + partial if partial else b"")
+    return digests.of(ops_root, grafted_root, slots)
+
+
+def range_part(family, leaves, inactive, proof, pending, partial, ops_root):
+    """A range proof over chunks as bytes."""
+    slots = [partial] if family.name == "mmr" else [pending, partial]
+    counts = varint(leaves) + varint(inactive) + varint(len(proof))
+    return counts + b"".join(proof) + b"".join(b"\1" + it if it else b"\0" for it in slots) + ops_root
+
+
+class Bits:
+    """A list of bits with a root, with chunks of some bytes."""
+
+    def __init__(self, digests, direction, size, bits):
+        self.digests, self.direction, self.bits, self.width = digests, direction, bits, 8 * size
+        self.chunks = chunks_of(bits, size)
+        self.complete = len(bits) // self.width
+        self.tree = Tree(digests, Family("mmr"), self.chunks[: self.complete])
+        self.tree_root = self.tree.root(direction, 0)
+        self.partial = digests.of(self.chunks[-1]) if len(bits) % self.width else None
+        self.root = digests.of(self.tree_root, be8(len(bits)), self.partial) if self.partial else self.tree_root
+
+    def proof(self, bit):
+        """The digests of the own proof of a bit."""
+        place = bit // self.width
+        if place == self.complete:
+            return [self.tree_root]
+        return self.tree.range_proof(self.direction, 0, place, place + 1) + ([self.partial] if self.partial else [])
