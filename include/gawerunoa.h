@@ -22,7 +22,7 @@ extern "C" {
 #endif
 
 /* What a call answers. The first of the refusals that holds, in this order: of the family, the digest function, the root, the
-   lengths of lists. A refusal takes no memory. */
+   key, the value, the lengths of lists. A refusal takes no memory. */
 enum gawerunoa_answer {
     GAWERUNOA_YES = 1,
     GAWERUNOA_NO = 0,
@@ -30,7 +30,9 @@ enum gawerunoa_answer {
     GAWERUNOA_OTHER_ROOT = -2,    /* the root has another length than a digest: 32 or 64 bytes */
     GAWERUNOA_OTHER_FAMILY = -3,  /* no such family */
     GAWERUNOA_OTHER_HASH = -4,    /* no such digest function */
-    GAWERUNOA_OTHER_LENGTHS = -5  /* the lengths of a list of byte strings do not add up to its bytes */
+    GAWERUNOA_OTHER_LENGTHS = -5, /* the lengths of a list of byte strings do not add up to its bytes */
+    GAWERUNOA_OTHER_KEY = -6,     /* the key has a length that no key has: keys have 4, 8, 20 or 32 bytes */
+    GAWERUNOA_OTHER_VALUE = -7    /* the value has a size that no value of one size has: these have 4, 8, 20 or 32 bytes */
 };
 
 /* The family of the trees: mountain ranges or mountain belts. */
@@ -62,6 +64,55 @@ int32_t gawerunoa_check_range(
     const size_t *operation_lengths, size_t operations_count,
     const uint8_t *chunks, size_t chunks_length,
     const size_t *chunk_lengths, size_t chunks_count,
+    const uint8_t *root, size_t root_length);
+
+/*
+ * The next four are of databases of keys and values, whose updates name the next greater key. The keys of one database all have 4,
+ * 8, 20 or 32 bytes, are written as they are and ordered as their bytes are. Values are encoded in one of two ways:
+ *
+ * - variable: a value has any length, which is written before it, and an operation is as long as its parts;
+ * - fixed: all values have 4, 8, 20 or 32 bytes and are written as they are, and operations are filled up with zeros to one size.
+ *
+ * A yes says of each snapshot what is said above, and of the key what is claimed where the snapshot is well-formed, as such a
+ * database makes it: the last operation is an active commit with its floor, each other active operation is an update at or past the
+ * floor, no two of these have one key, and each names the next greater of their keys, that of the greatest the least. Whether it is
+ * well-formed the caller has to know.
+ *
+ * `key` and `value` are the bytes of the key and of the value, with no length before them. `proof` is over a chunk of activity bits
+ * of `chunk_size` bytes; more than 128 digests in it are a no, and so is a size that no chunk has.
+ */
+
+/* Whether `key` has the value `value`; values are variable. `proof` is a key-value proof. */
+int32_t gawerunoa_check_value(
+    uint32_t family, uint32_t hash, size_t chunk_size,
+    const uint8_t *proof, size_t proof_length,
+    const uint8_t *key, size_t key_length,
+    const uint8_t *value, size_t value_length,
+    const uint8_t *root, size_t root_length);
+
+/*
+ * Whether `key` has no value; values are variable, of `min_value_length` to `max_value_length` bytes: a proof with another value in
+ * it is a no. Between 0 and SIZE_MAX are all lengths. `proof` is an exclusion proof.
+ */
+int32_t gawerunoa_check_absence(
+    uint32_t family, uint32_t hash, size_t chunk_size, size_t min_value_length, size_t max_value_length,
+    const uint8_t *proof, size_t proof_length,
+    const uint8_t *key, size_t key_length,
+    const uint8_t *root, size_t root_length);
+
+/* Whether `key` has the value `value`; values are fixed, all of `value_length` bytes. `proof` is a key-value proof. */
+int32_t gawerunoa_check_fixed_value(
+    uint32_t family, uint32_t hash, size_t chunk_size,
+    const uint8_t *proof, size_t proof_length,
+    const uint8_t *key, size_t key_length,
+    const uint8_t *value, size_t value_length,
+    const uint8_t *root, size_t root_length);
+
+/* Whether `key` has no value; values are fixed, all of `value_size` bytes. `proof` is an exclusion proof. */
+int32_t gawerunoa_check_fixed_absence(
+    uint32_t family, uint32_t hash, size_t chunk_size, size_t value_size,
+    const uint8_t *proof, size_t proof_length,
+    const uint8_t *key, size_t key_length,
     const uint8_t *root, size_t root_length);
 
 #ifdef __cplusplus

@@ -96,6 +96,29 @@ static int32_t range(void) {
     return answer;
 }
 
+static int32_t value(int is_fixed) {
+    uint32_t family = (uint32_t)number(), hash = (uint32_t)number();
+    size_t chunk_size = number();
+    struct bytes proof = bytes(), key = bytes(), value = bytes(), root = bytes();
+    int32_t answer = (is_fixed ? gawerunoa_check_fixed_value : gawerunoa_check_value)(family, hash, chunk_size,
+        proof.at, proof.length, key.at, key.length, value.at, value.length, root.at, root.length);
+    free(proof.at), free(key.at), free(value.at), free(root.at);
+    return answer;
+}
+
+static int32_t absence(int is_fixed) {
+    uint32_t family = (uint32_t)number(), hash = (uint32_t)number();
+    size_t chunk_size = number(), least = number(), most = is_fixed ? least : number();
+    struct bytes proof = bytes(), key = bytes(), root = bytes();
+    int32_t answer = is_fixed
+        ? gawerunoa_check_fixed_absence(family, hash, chunk_size, least, proof.at, proof.length, key.at, key.length,
+            root.at, root.length)
+        : gawerunoa_check_absence(family, hash, chunk_size, least, most, proof.at, proof.length, key.at, key.length,
+            root.at, root.length);
+    free(proof.at), free(key.at), free(root.at);
+    return answer;
+}
+
 int main(void) {
     char *line = NULL;
     size_t room = 0;
@@ -104,6 +127,10 @@ int main(void) {
         if (!call) return 3;
         int32_t answer = !strcmp(call, "operation") ? operation()
             : !strcmp(call, "range") ? range()
+            : !strcmp(call, "value") ? value(0)
+            : !strcmp(call, "fixed_value") ? value(1)
+            : !strcmp(call, "absence") ? absence(0)
+            : !strcmp(call, "fixed_absence") ? absence(1)
             : INT32_MIN;
         printf("%d\n", answer);
     }

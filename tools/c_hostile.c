@@ -1,18 +1,23 @@
 /*
  * Calls the library so many times with arguments that nobody means: numbers at the edges, byte strings that are null, empty, at odd
  * addresses, random, or a right proof with bytes changed, cut off or added. Every answer must be one that the header names for the
- * call; a yes must be to the right proof, unchanged. Byte strings end where their memory does, so that a read past one is a fault of
- * the address sanitizer. Prints how often each answer came.
+ * call; a yes must be to the right proof, unchanged, but for the key where a key has no value: one proof is of many keys. Byte
+ * strings end where their memory does, so that a read past one is a fault of the address sanitizer. Prints how often each answer came.
  *
- *     c_hostile CALLS SEED FOLDER HASH     FOLDER has the files root.bin, operation.bin and proof.bin of a right proof: of location 3,
- *                                          over mountain ranges, chunks of a byte and the digest function HASH
+ *     c_hostile CALLS SEED FOLDER HASH     FOLDER has the files NAME.bin with the strings of right proofs, by the names that stand
+ *                                          below, over chunks of a byte and the digest function HASH: of an operation at
+ *                                          location 3, of the value of a key and of the absence of one over mountain ranges, and
+ *                                          of the last two with fixed values, of 8 bytes, over mountain belts
  */
 #include <stdio.h>
 #include <stdlib.h>
 #include <string.h>
 #include "gawerunoa.h"
 
-enum { ROOM = 4096, STRINGS = 4, LENGTHS = 8, LEAST = -5 };
+enum { ROOM = 4096, STRINGS = 4, LENGTHS = 8, LEAST = -7 };
+
+/* What the answer is to be: a yes or not, or either. */
+enum wanted { OTHER, YES, EITHER };
 
 static uint64_t state;
 
@@ -33,7 +38,13 @@ struct bytes {
     void *block;
 };
 
-static struct bytes right[3];
+enum { OPERATION = 0, VALUE = 3, ABSENCE = 7, FIXED_VALUE = 10, FIXED_ABSENCE = 14, RIGHT = 17 };
+
+static const char *const names[RIGHT] = {"operation_root", "operation_proof", "operation_operation", "value_root", "value_proof",
+    "value_key", "value_value", "absence_root", "absence_proof", "absence_key", "fixed_value_root", "fixed_value_proof",
+    "fixed_value_key", "fixed_value_value", "fixed_absence_root", "fixed_absence_proof", "fixed_absence_key"};
+
+static struct bytes right[RIGHT];
 
 static uint32_t right_hash;
 
@@ -60,15 +71,20 @@ static struct bytes placed(const uint8_t *from, size_t length) {
     return it;
 }
 
-static struct bytes random_bytes(size_t most) {
-    uint8_t bytes[ROOM];
+static size_t filled(uint8_t *bytes, size_t most) {
     size_t length = below(most + 1);
     for (size_t i = 0; i < length; i++) bytes[i] = (uint8_t)(below(3) ? random64() : below(4));
+    return length;
+}
+
+static struct bytes random_bytes(size_t most) {
+    uint8_t bytes[ROOM];
+    size_t length = filled(bytes, most);
     return placed(bytes, length);
 }
 
-/* The right string, or one near it, or none like it. `is_right` is cleared where it is another one. */
-static struct bytes string(int which, int *is_right) {
+/* The right string, or one near it, or none like it. `wanted` is set to `other` where it is another one. */
+static struct bytes string(int which, enum wanted other, enum wanted *wanted) {
     uint8_t bytes[ROOM];
     size_t length = right[which].length;
     memcpy(bytes, right[which].at, length);
@@ -83,12 +99,13 @@ static struct bytes string(int which, int *is_right) {
         bytes[length++] = (uint8_t)random64();
         break;
     case 3:
-        *is_right = 0;
-        return random_bytes(300);
+        length = filled(bytes, 300);
+        break;
     default:
         break;
     }
-    *is_right &= length == right[which].length && !memcmp(bytes, right[which].at, length);
+    int is_right = length == right[which].length && !memcmp(bytes, right[which].at, length);
+    if (!is_right && *wanted != OTHER) *wanted = other;
     return placed(bytes, length);
 }
 
@@ -113,28 +130,64 @@ static size_t lengths(size_t total, size_t *into) {
     return count;
 }
 
-static int32_t call(int *is_right) {
-    uint32_t family = small((uint32_t)below(2)), hash = small(right_hash);
-    size_t chunk = number(1);
+/* What is agreed: usually what the right proofs are of. */
+struct agreed {
+    uint32_t family, hash;
+    size_t chunk;
+};
+
+static int32_t operation(struct agreed it, const struct bytes *of, enum wanted *wanted) {
+    uint64_t location = number(3);
+    if (location != 3) *wanted = OTHER;
+    return gawerunoa_check_operation(it.family, it.hash, it.chunk, location, of[1].at, of[1].length, of[2].at, of[2].length,
+        of[0].at, of[0].length);
+}
+
+static int32_t range(struct agreed it, const struct bytes *of, enum wanted *wanted) {
+    size_t first[LENGTHS], second[LENGTHS];
+    struct bytes chunks = random_bytes(64);
+    size_t firsts = lengths(of[2].length, first), seconds = lengths(chunks.length, second);
+    *wanted = OTHER;
+    int32_t answer = gawerunoa_check_range(it.family, it.hash, it.chunk, number(128), number(3), of[1].at, of[1].length,
+        of[2].at, of[2].length, firsts ? first : NULL, firsts, chunks.at, chunks.length, seconds ? second : NULL, seconds,
+        of[0].at, of[0].length);
+    free(chunks.block);
+    return answer;
+}
+
+static int32_t value(struct agreed it, const struct bytes *of, int is_fixed) {
+    return (is_fixed ? gawerunoa_check_fixed_value : gawerunoa_check_value)(it.family, it.hash, it.chunk, of[1].at, of[1].length,
+        of[2].at, of[2].length, of[3].at, of[3].length, of[0].at, of[0].length);
+}
+
+static int32_t absence(struct agreed it, const struct bytes *of, enum wanted *wanted) {
+    size_t least = number(0), most = number(SIZE_MAX);
+    if ((least || most != SIZE_MAX) && *wanted == YES) *wanted = EITHER;
+    return gawerunoa_check_absence(it.family, it.hash, it.chunk, least, most, of[1].at, of[1].length, of[2].at, of[2].length,
+        of[0].at, of[0].length);
+}
+
+static int32_t fixed_absence(struct agreed it, const struct bytes *of, enum wanted *wanted) {
+    size_t size = number(8);
+    if (size != 8) *wanted = OTHER;
+    return gawerunoa_check_fixed_absence(it.family, it.hash, it.chunk, size, of[1].at, of[1].length, of[2].at, of[2].length,
+        of[0].at, of[0].length);
+}
+
+static int32_t call(enum wanted *wanted) {
+    static const int firsts[] = {OPERATION, OPERATION, VALUE, ABSENCE, FIXED_VALUE, FIXED_ABSENCE};
+    struct agreed it = {small((uint32_t)below(2)), small(right_hash), number(1)};
     struct bytes of[STRINGS] = {{NULL, 0, NULL}};
-    of[0] = string(0, is_right);
-    of[1] = string(1, is_right);
-    of[2] = string(2, is_right);
-    int32_t answer;
-    if (below(2)) {
-        uint64_t location = number(3);
-        *is_right &= family == GAWERUNOA_MMR && hash == right_hash && chunk == 1 && location == 3;
-        answer = gawerunoa_check_operation(family, hash, chunk, location, of[2].at, of[2].length, of[1].at, of[1].length,
-            of[0].at, of[0].length);
-    } else {
-        size_t first[LENGTHS], second[LENGTHS];
-        of[3] = random_bytes(64);
-        size_t firsts = lengths(of[1].length, first), seconds = lengths(of[3].length, second);
-        *is_right = 0;
-        answer = gawerunoa_check_range(family, hash, chunk, number(128), number(3), of[2].at, of[2].length,
-            of[1].at, of[1].length, firsts ? first : NULL, firsts, of[3].at, of[3].length, seconds ? second : NULL, seconds,
-            of[0].at, of[0].length);
-    }
+    size_t which = below(sizeof firsts / sizeof *firsts);
+    int first = firsts[which], is_value = first == VALUE || first == FIXED_VALUE, is_absence = first == ABSENCE || first == FIXED_ABSENCE;
+    uint32_t family = first < FIXED_VALUE ? GAWERUNOA_MMR : GAWERUNOA_MMB;
+    *wanted = it.family == family && it.hash == right_hash && it.chunk == 1 ? YES : OTHER;
+    for (int i = 0; i < 3 + is_value; i++) of[i] = string(first + i, is_absence && i == 2 ? EITHER : OTHER, wanted);
+    int32_t answer = which == 0 ? operation(it, of, wanted)
+        : which == 1 ? range(it, of, wanted)
+        : is_value ? value(it, of, first == FIXED_VALUE)
+        : first == ABSENCE ? absence(it, of, wanted)
+        : fixed_absence(it, of, wanted);
     for (size_t i = 0; i < STRINGS; i++) free(of[i].block);
     return answer;
 }
@@ -143,20 +196,18 @@ int main(int count, char **words) {
     if (count != 5) return 2;
     size_t calls = strtoull(words[1], NULL, 10), seen[GAWERUNOA_YES - LEAST + 1] = {0};
     state = strtoull(words[2], NULL, 10) * 2 + 1;
-    right[0] = contents(words[3], "root");
-    right[1] = contents(words[3], "operation");
-    right[2] = contents(words[3], "proof");
+    for (size_t i = 0; i < RIGHT; i++) right[i] = contents(words[3], names[i]);
     right_hash = (uint32_t)strtoul(words[4], NULL, 10);
     for (size_t i = 0; i < calls; i++) {
-        int is_right = 1;
-        int32_t answer = call(&is_right);
-        if (answer < LEAST || answer > GAWERUNOA_YES || (answer == GAWERUNOA_YES) != is_right) {
+        enum wanted wanted;
+        int32_t answer = call(&wanted);
+        if (answer < LEAST || answer > GAWERUNOA_YES || (wanted != EITHER && (answer == GAWERUNOA_YES) != (wanted == YES))) {
             printf("call %zu was answered %d\n", i, answer);
             return 1;
         }
         seen[answer - LEAST]++;
     }
     for (int answer = LEAST; answer <= GAWERUNOA_YES; answer++) printf("%d: %zu\n", answer, seen[answer - LEAST]);
-    for (size_t i = 0; i < 3; i++) free(right[i].at);
+    for (size_t i = 0; i < RIGHT; i++) free(right[i].at);
     return 0;
 }

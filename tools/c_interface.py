@@ -1,13 +1,15 @@
 #!/usr/bin/env python3
 """Tests the library for C, from C, over what `rt lib` built of the crate light_c.
 
-    tools/c_interface.py [--built TREE] [--calls N] [--seed S]
+    tools/c_interface.py [--built TREE] [--kept FOLDER] [--calls N] [--seed S]
 
-With --built the crate is built here, over the libraries that a gate left in TREE. Each of these is a part:
+With --built the crate is built here, over the libraries that a gate left in TREE. With --kept what is built stays in FOLDER. Each of
+these is a part:
 
 1. The header compiles alone, as C11 and as C++17, with all warnings.
 2. Its functions are those that the sources export, and those whose names the archive has; its numbers are the sources' constants.
-3. The cases of the lists `program_checks` and `ranges_checks` of conformance/ are answered from C as they say.
+3. The cases of the lists `program_checks`, `ranges_checks`, `key_values` and `exclusions` of conformance/ are answered from C as they
+   say. Of the last two these are the cases of keys of one size, and of variable values or fixed operations: C has no call for others.
 4. N hostile calls over each digest function (200,000 where nothing is said), under the address sanitizer of the caller:
    tools/c_hostile.c says which.
 5. The examples.
@@ -34,6 +36,16 @@ LANGUAGES = [("gcc", "c", "c11"), ("g++", "c++", "c++17")]
 FAMILIES = {"mmr": 0, "mmb": 1}
 HASHES = {"sha256": 0, "sha512": 1}
 ANSWERS = {"yes": 1, "no": 0}
+KEYS = ("key_values", "exclusions")
+
+# the right proofs that hostile calls are made of: the call, the list of the case, the case's strings, and what the case must have
+RIGHT = [
+    ("operation", "program_checks", ["root", "proof", "operation"], {"family": "mmr", "chunk": "1", "location": "3"}),
+    ("value", "key_values", ["root", "proof", "key", "value"], {"family": "mmr", "chunk": "1"}),
+    ("absence", "exclusions", ["root", "proof", "key"], {"family": "mmr", "chunk": "1"}),
+    ("fixed_value", "key_values", ["root", "proof", "key", "value"], {"family": "mmb", "chunk": "1"}),
+    ("fixed_absence", "exclusions", ["root", "proof", "key"], {"family": "mmb", "chunk": "1"}),
+]
 
 
 def run(*words, text=None):
@@ -84,12 +96,36 @@ def hash_of(case):
     return HASHES[case.get("hash", "sha256")]
 
 
+def value_of(case):
+    """The bytes of a case's value: those that are written, but for a length of one byte before them where values are variable."""
+    written = case["value"]
+    if call_about_key(case) == "fixed_":
+        return written
+    same("the length of a value that is written", int(written[:2], 16), len(written) // 2 - 1)
+    return written[2:]
+
+
+def call_about_key(case):
+    """What a call about a key begins with for the case's type, or none where C has no call for it."""
+    shape, key, value = case["type"].split("/")
+    forms = {("ordered-fixed", "u64"): "fixed_", ("ordered-variable", "vec"): ""}
+    return forms.get((shape, value.split(":")[0])) if key in ("fixed4", "u64") else None
+
+
 def question(name, hash_, case):
-    """The line for tools/c_answers.c that asks what a case asks."""
+    """The line for tools/c_answers.c that asks what a case asks, or none where C has no call for it."""
     head = f"{FAMILIES[case['family']]} {hash_} {case['chunk']}"
     proof, root = bytes_or_none(case["proof"]), case["root"]
     if name == "program_checks":
         return f"operation {head} {case['location']} {proof} {bytes_or_none(case['operation'])} {root}"
+    if name in KEYS:
+        form = call_about_key(case)
+        if form is None:
+            return None
+        if name == "key_values":
+            return f"{form}value {head} {proof} {case['key']} {bytes_or_none(value_of(case))} {root}"
+        lengths = "8" if form else case["type"].split("vec:")[1].replace(":", " ")
+        return f"{form}absence {head} {lengths} {proof} {case['key']} {root}"
     lists = f"{strings(case['operations'])} {strings(case['chunks'])}"
     return f"range {head} {case['most']} {case['start']} {proof} {lists} {root}"
 
@@ -100,20 +136,20 @@ def cases_of(name):
 
 
 def answers(folder):
-    """The cases of two lists."""
+    """The cases of four lists."""
     program = folder / "c_answers"
     sanitizer = ["-fsanitize=address,undefined", "-fno-sanitize-recover=all", "-g"]
     source = [ROOT / "tools/c_answers.c", folder / "libgawerunoa.a"]
     run("gcc", "-std=c11", *WARNINGS, *sanitizer, f"-I{HEADER.parent}", *source, "-o", program)
-    for name in ("program_checks", "ranges_checks"):
-        cases = cases_of(name)
-        asked = [question(name, hash_of(case), case["in"]) for case in cases]
-        said = run(program, text="\n".join(asked) + "\n").split()
-        same(f"{name}: how many answers", len(said), len(cases))
-        for line, answer, case in zip(asked, said, cases):
+    for name in ("program_checks", "ranges_checks", *KEYS):
+        cases = [(question(name, hash_of(case), case["in"]), case) for case in cases_of(name)]
+        asked = [(line, case) for line, case in cases if line]
+        said = run(program, text="".join(f"{line}\n" for line, _ in asked)).split()
+        same(f"{name}: how many answers", len(said), len(asked))
+        for answer, (line, case) in zip(said, asked):
             same(f"{name}: {line}", int(answer), ANSWERS[case["out"]])
-        longer = sum(map(hash_of, cases))
-        print(f"c_interface: {name}: {len(cases)} cases answered from C, {longer} of them over SHA-512", flush=True)
+        longer = sum(hash_of(case) for _, case in asked)
+        print(f"c_interface: {name}: {len(asked)} of {len(cases)} cases answered from C, {longer} over SHA-512", flush=True)
 
 
 def hostile(folder, calls, seed):
@@ -128,20 +164,31 @@ def hostile(folder, calls, seed):
 
 
 def right_proof(folder, hash_):
-    """A folder with the files of a proof over a digest function: a case of conformance/ that is answered yes, at location 3."""
-    wanted = {"family": "mmr", "chunk": "1", "location": "3"}
-    is_wanted = lambda it: hash_of(it) == hash_ and it["out"] == "yes" and wanted.items() <= it["in"].items()
-    case = next(it["in"] for it in cases_of("program_checks") if is_wanted(it))
+    """A folder with the files of right proofs over a digest function: cases of conformance/ that are answered yes."""
     room = folder / f"proof{hash_}"
-    room.mkdir()
-    for name in ("root", "operation", "proof"):
-        (room / f"{name}.bin").write_bytes(bytes.fromhex(case[name]))
+    room.mkdir(exist_ok=True)
+    for call, name, parts, wanted in RIGHT:
+        asked = ((hash_of(case), case["out"], case["in"]) for case in cases_of(name))
+        found = (case for hashed, out, case in asked if (hashed, out) == (hash_, "yes") and wanted.items() <= case.items())
+        strings = next(filter(None, (right_strings(call, name, hash_, case, parts) for case in found)))
+        for part, string in strings.items():
+            (room / f"{call}_{part}.bin").write_bytes(string)
     return room
 
 
+def right_strings(call, name, hash_, case, parts):
+    """The strings of a case by their names, where it asks this call, and none of the strings is empty."""
+    asked = question(name, hash_, case)
+    if not asked or asked.split()[0] != call:
+        return None
+    strings = {part: bytes.fromhex(value_of(case) if part == "value" else case[part]) for part in parts}
+    return strings if all(strings.values()) else None
+
+
 def main():
-    words = argparse.ArgumentParser(usage="c_interface.py [--built TREE] [--calls N] [--seed S]")
+    words = argparse.ArgumentParser(usage="c_interface.py [--built TREE] [--kept FOLDER] [--calls N] [--seed S]")
     words.add_argument("--built", type=pathlib.Path)
+    words.add_argument("--kept", type=pathlib.Path)
     words.add_argument("--calls", type=int, default=200_000)
     words.add_argument("--seed", type=int, default=1)
     given = words.parse_args()
@@ -150,7 +197,7 @@ def main():
         return NOT_RUN
     failed = 0
     with tempfile.TemporaryDirectory() as work:
-        folder = pathlib.Path(work)
+        folder = given.kept or pathlib.Path(work)
         c_library.make(folder, given.built)
         parts = [
             ("the header compiles", lambda: compiles(folder)),

@@ -5,10 +5,12 @@
 
 Into the folder go `libgawerunoa.a` and `libgawerunoa.so`. Both have the code of the crate and the kit's three functions over malloc,
 realloc and free, and no names but those that begin with `gawerunoa_`. With --built the crate is proved and built here, over the
-libraries that a gate left in TREE. It wants gcc with its binutils.
+libraries that a gate left in TREE, and the LLVM module of its code goes into the folder too, for tools/wasm. It wants gcc with its
+binutils.
 """
 import argparse
 import pathlib
+import shlex
 import shutil
 import subprocess
 import tempfile
@@ -19,6 +21,7 @@ ROOT = pathlib.Path(__file__).resolve().parent.parent
 CRATE = "light_c"
 BUILT = ROOT / f"crates/{CRATE}/out/lib{CRATE}.a"
 NAMES = "gawerunoa_*"
+LLVM = f"{CRATE}.bc"
 
 
 def called(*words, folder=None):
@@ -28,12 +31,28 @@ def called(*words, folder=None):
         raise SystemExit(f"{words[0]} ended with {ran.returncode}: {ran.stdout[-3000:]}")
 
 
+def keeping_toolchain(kit, work):
+    """The kit's folder of compilers by links, but that its clang leaves the LLVM module that it is given in the folder `work`."""
+    folder = pathlib.Path(work, "toolchain")
+    (folder / "bin").mkdir(parents=True)
+    (folder / "lib").symlink_to(kit / "toolchain/lib")
+    for it in (kit / "toolchain/bin").iterdir():
+        if it.name != "clang":
+            (folder / "bin" / it.name).symlink_to(it)
+    clang = folder / "bin/clang"
+    keep = f'for it; do case "$it" in *.bc) cp "$it" {shlex.quote(str(pathlib.Path(work, LLVM)))} ;; esac; done'
+    clang.write_text(f'#!/bin/sh\n{keep}\nexec {shlex.quote(str(kit))}/toolchain/bin/clang "$@"\n')
+    clang.chmod(0o755)
+    return folder
+
+
 def archive_over(built, kit, work):
-    """The crate's archive, proved and built over the libraries of a tree."""
+    """The crate's archive, proved and built over the libraries of a tree. The LLVM module of its code stands beside it."""
     crate = Crate(CRATE, uses_of_crates(), built.resolve(), kit)
     archive = pathlib.Path(work, f"lib{CRATE}.a")
     rattle, _, *words = crate.command
-    called(rattle, "build", *words, "--toolchain", kit / "toolchain", "--backend", "llvm", "-o", archive, folder=crate.folder)
+    words += ["--toolchain", keeping_toolchain(kit, work), "--backend", "llvm"]
+    called(rattle, "build", *words, "-o", archive, folder=crate.folder)
     return archive
 
 
@@ -53,6 +72,8 @@ def make(folder, built=None):
         folder.mkdir(parents=True, exist_ok=True)
         for name in ("libgawerunoa.a", "libgawerunoa.so"):
             shutil.copy(pathlib.Path(work, name), folder / name)
+        if built is not None:
+            shutil.copy(pathlib.Path(room, LLVM), folder / LLVM)
     return folder / "libgawerunoa.a"
 
 

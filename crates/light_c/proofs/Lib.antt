@@ -1,2 +1,3 @@
+pub mod KeyAnswers
 pub mod Pieces
 pub mod Told

@@ -49,3 +49,7 @@ says_word code P (inr (inr s)) = rw s refl
 -- so what its yes means is what the yes of the number means that is told
 pub means_again : (code : ℤ) (P Q : Type 0) → Says code P → (code ≡ yes → Q) → to_z w32 (of_z w32 code) ≡ yes → Q
 means_again code P Q says means is = means (sym (says_word code P says) ∙ is)
+
+-- and it says the same
+pub says_again : (code : ℤ) (P : Type 0) → Says code P → Says (to_z w32 (of_z w32 code)) P
+says_again code P says = subst (λ (c : ℤ). Says c P) (sym (says_word code P says)) says

@@ -23,6 +23,12 @@ other_hash = negsuc 3
 abbrev pub other_lengths : ℤ
 other_lengths = negsuc 4
 
+abbrev pub other_key : ℤ
+other_key = negsuc 5
+
+abbrev pub other_value : ℤ
+other_value = negsuc 6
+
 -- what a check's answer is told as
 abbrev pub code_of : {E : Type 0} → Result Bool E → ℤ
 code_of (Ok true) = yes

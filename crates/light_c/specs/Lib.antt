@@ -1,3 +1,5 @@
 pub mod Agreed
 pub mod Answers
 pub mod ByteStrings
+pub mod KeyBytes
+pub mod SizedStrings

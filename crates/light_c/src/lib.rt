@@ -9,8 +9,13 @@
 //! before it answers.
 #![tactic(auto)]
 
+pub mod absence;
 pub mod agreed;
 pub mod answer;
 mod byte_strings;
+pub mod fixed_absence;
+pub mod fixed_value;
 pub mod operation;
 pub mod range;
+mod sized;
+pub mod value;

@@ -1,0 +1,40 @@
+//! Byte strings of the sizes that keys, and values of one size, have.
+
+ghost use Rattle.std.specs.Prelude.{◌≡◌, MatchOption, false, length, true};
+ghost use Rattle.light_c.specs.SizedStrings.{bytes_of, is_size};
+
+use commonware_storage::codec::FixedBytes;
+
+/// A byte string of one of these sizes.
+#[derive(Clone, Copy, Drop)]
+pub enum SizedBytes {
+    /// Of 4 bytes.
+    Of4(FixedBytes<4>),
+
+    /// Of 8 bytes.
+    Of8(FixedBytes<8>),
+
+    /// Of 20 bytes.
+    Of20(FixedBytes<20>),
+
+    /// Of 32 bytes.
+    Of32(FixedBytes<32>),
+}
+
+/// The string with these bytes; none where they have no such size. Takes no memory.
+pub fn of_bytes(bytes: &[u8]) -> Option<SizedBytes>
+    ensures { MatchOption result (is_size (length bytes.now) ≡ false)
+        (λ sized. (is_size (length bytes.now) ≡ true) × (bytes_of sized ≡ bytes.now)) }
+{
+    if let Ok(bytes) = <[u8; 4]>::try_from(bytes) {
+        Some(SizedBytes::Of4(FixedBytes { bytes }))
+    } else if let Ok(bytes) = <[u8; 8]>::try_from(bytes) {
+        Some(SizedBytes::Of8(FixedBytes { bytes }))
+    } else if let Ok(bytes) = <[u8; 20]>::try_from(bytes) {
+        Some(SizedBytes::Of20(FixedBytes { bytes }))
+    } else if let Ok(bytes) = <[u8; 32]>::try_from(bytes) {
+        Some(SizedBytes::Of32(FixedBytes { bytes }))
+    } else {
+        None
+    }
+}
