@@ -173,7 +173,8 @@ impl<F: Graftable, D: Digest> GraftedTree<F, D> {
         leaves.rotate_left(gone);
         leaves.truncate(rest);
         self.pinned = pinned;
-        self.pruned = chunks;
+        let pruned = &mut self.pruned;
+        *pruned = chunks;
         Ok(())
     }
 }
