@@ -30,11 +30,11 @@ def main():
     with tempfile.TemporaryDirectory() as name:
         copy = pathlib.Path(name)
         copy_to(copy)
+        before, _ = compiles(copy)
         for edit in sorted(copy.glob("crates/*/must-not-compile/*.edit")):
             lines = dict(line.split(": ", 1) for line in edit.read_text().splitlines())
             path = edit.parent.parent / lines["file"]
             text = path.read_text()
-            before, _ = compiles(copy)
             path.write_text(text.replace(lines["old"], lines["new"]))
             after, said = compiles(copy)
             path.write_text(text)
