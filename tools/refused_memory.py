@@ -252,8 +252,9 @@ def made_shim(room):
 def main():
     resource.setrlimit(resource.RLIMIT_CORE, (0, 0))
     total = [0, 0, 0]
-    processors = len(os.sched_getaffinity(0))
-    with tempfile.TemporaryDirectory() as room, concurrent.futures.ProcessPoolExecutor(processors) as pool:
+    # two for each processor, since a process that ends is waited for
+    workers = 2 * len(os.sched_getaffinity(0))
+    with tempfile.TemporaryDirectory() as room, concurrent.futures.ProcessPoolExecutor(workers) as pool:
         shim = made_shim(room)
         if shim is None:
             return NOT_RUN
@@ -261,7 +262,7 @@ def main():
             cases = cases_of(shim, crate)
             if not cases:
                 continue
-            swept = [*pool.map(functools.partial(sweep, shim), cases, chunksize=4)]
+            swept = [*pool.map(functools.partial(sweep, shim), cases)]
             faults = [fault for it in swept for fault in it[3]]
             if not any(it[0] for it in swept):
                 faults.append("no request for memory was seen")
