@@ -64,6 +64,11 @@ pub value_of : {A : Type 0} (f : A → List ℕ) (r : Option A) (x : Option (Lis
 value_of f None x d y m e h = cc
 value_of f (Some z) x d y m e h = cc
 
+-- what a digest that is lent says of the digest itself
+pub lent_some : {A B : Type 0} (now : A → B) (r : Option A) → IsSome (option_map now r) → IsSome r
+lent_some now None m = m
+lent_some now (Some y) m = cc
+
 -- the search for a pinned digest
 pub paired_on : {D : Type 0} (p q : ℕ) (qs : List ℕ) (ds : List D) (i : ℕ) → i < length ds → q ≢ p
     → paired p (q ∷ qs) (drop i ds) ≡ paired p qs (drop (i + 1) ds)

@@ -19,6 +19,7 @@ impl Hasher for Sha256 {
 
     ghost digest_of = { digest_32 };
 
+    #[inline(always)]
     fn hash(parts: &[&[u8]]) -> FixedBytes<32> {
         let mut hasher = sha2::Sha256::new();
         for part in parts {

@@ -19,6 +19,7 @@ impl Hasher for Sha512 {
 
     ghost digest_of = { digest_64 };
 
+    #[inline(always)]
     fn hash(parts: &[&[u8]]) -> FixedBytes<64> {
         let mut hasher = sha2::Sha512::new();
         for part in parts {

@@ -237,8 +237,9 @@ pub fn leaves_within<F: Family>(nodes: u64) -> u64
     ensures low { size F.shape result ≤ nodes }
     ensures high { nodes < size F.shape (result + 1) }
 {
-    let mut low: u64 = 0;
-    let mut high: u64 = crate::merkle::MAX_LEAVES + 1;
+    // a tree over n leaves has 2n nodes less one for each peak, and at most 63 peaks
+    let mut low: u64 = nodes / 2;
+    let mut high: u64 = (low + 33).min(crate::merkle::MAX_LEAVES + 1);
     while low + 1 < high {
         let middle = (low + high) / 2;
         if F::nodes_over(middle) <= nodes {

@@ -315,6 +315,7 @@ impl<F: Family, H: digest::Hasher> Hasher<F> for Standard<H> {
         self.bagging
     }
 
+    #[inline(always)]
     #[tactic(auto, unfolding(crate::specs::Calc::be8))]
     fn node_digest(&self, position: Position<F>, left: &H::Digest, right: &H::Digest) -> H::Digest
         ensures { H.Digest.text result

@@ -1,6 +1,6 @@
 //! The digests that a tree in memory keeps: how they are found, appended and written anew.
 
-ghost use Rattle.std.specs.Prelude.{◌≡◌, ℕ, ◌+◌, ◌-◌, ◌*◌, ◌%◌, ◌^◌, ◌<◌, ◌≤◌, ◌↔◌, ◌∷◌, ◌++◌, [], List, map, take, length, get_or, All, Some, IfOk, OnErr, IsTrue, slice_get, Option};
+ghost use Rattle.std.specs.Prelude.{◌≡◌, ℕ, ◌+◌, ◌-◌, ◌*◌, ◌%◌, ◌^◌, ◌<◌, ◌≤◌, ◌↔◌, ◌∷◌, ◌++◌, [], List, map, take, length, get_or, All, Some, IfOk, OnErr, IsTrue, slice_get, option_map, Option};
 ghost use Rattle.storage_merkle.specs.Calc.{be8};
 ghost use Rattle.storage_merkle.specs.Hashing.{node_over};
 ghost use Rattle.storage_merkle.specs.Kept.{kept_at, at_peaks, updated, IsClean, Holds};
@@ -14,8 +14,35 @@ use crate::merkle::{Family, Location, Position};
 use std::alloc::AllocError;
 use storage_codec::digest::Digest;
 
-/// The digest at `position`, where it is kept: in `pinned` those of the peaks over the leaves below `boundary`, in
+/// Lends the digest at `position`, where it is kept: in `pinned` those of the peaks over the leaves below `boundary`, in
 /// `nodes` those of the nodes from that leaf's position on.
+pub(crate) fn find<'a, F: Family, D: Digest>(
+    boundary: u64,
+    pinned: &'a [D],
+    nodes: &'a [D],
+    position: u64,
+) -> Option<&'a D>
+    requires few { boundary ≤ 2 ^ 62 }
+    requires pins { length pinned.now ≡ length (F.shape.peaks boundary) }
+    ensures { option_map (λ d. d.now) result
+        ≡ kept_at F.shape boundary pinned.now nodes.now position }
+{
+    let start = F::nodes_over(boundary);
+    if position >= start {
+        return nodes.get((position - start) as usize);
+    }
+    let mut left = F::nodes_to_pin(Location::new(boundary));
+    let mut index = 0;
+    while let Some(at) = left.next() {
+        if at.as_u64() == position {
+            return Some(&pinned[index]);
+        }
+        index += 1;
+    }
+    None
+}
+
+/// The digest that [`find`] lends.
 pub(crate) fn look_up<F: Family, D: Digest>(
     boundary: u64,
     pinned: &[D],
@@ -26,22 +53,12 @@ pub(crate) fn look_up<F: Family, D: Digest>(
     requires pins { length pinned.now ≡ length (F.shape.peaks boundary) }
     ensures { result ≡ kept_at F.shape boundary pinned.now nodes.now position }
 {
-    let start = F::nodes_over(boundary);
-    if position >= start {
-        return nodes.get((position - start) as usize).copied();
-    }
-    let mut left = F::nodes_to_pin(Location::new(boundary));
-    let mut index = 0;
-    while let Some(at) = left.next() {
-        if at.as_u64() == position {
-            return Some(pinned[index]);
-        }
-        index += 1;
-    }
-    None
+    find::<F, D>(boundary, pinned, nodes, position).copied()
 }
 
 /// The digest of the `offset`-th node, from 0, of those that are added with leaf number `leaves`, that of `element`.
+// in place, as the digest function is, so that they are compiled for parts of known lengths
+#[inline(always)]
 pub(crate) fn born<F: Family, H: Hasher<F>>(
     hasher: &H,
     leaves: u64,
@@ -72,24 +89,25 @@ pub(crate) fn born<F: Family, H: Hasher<F>>(
         return hasher.leaf_digest(position, element);
     }
     let half = power(height - 1);
-    let left = look_up::<F, H::Digest>(
+    let left = find::<F, H::Digest>(
         boundary,
         pinned,
         nodes,
         F::position(first, height - 1),
     ).unwrap();
-    let right = look_up::<F, H::Digest>(
+    let right = find::<F, H::Digest>(
         boundary,
         pinned,
         nodes,
         F::position(first + half, height - 1),
     )
     .unwrap();
-    hasher.node_digest(position, &left, &right)
+    hasher.node_digest(position, left, right)
 }
 
 /// Appends to `nodes` the digests of the nodes that are added with leaf number `leaves`, that of `element`. Out of
 /// memory changes nothing.
+#[inline(always)]
 pub(crate) fn grow<F: Family, H: Hasher<F>>(
     hasher: &H,
     leaves: u64,
@@ -153,20 +171,20 @@ pub(crate) fn above<F: Family, H: Hasher<F>>(
     let half = power(height - 1);
     let first = place / power(height) * power(height);
     let position = F::position(first, height);
-    let left = look_up::<F, H::Digest>(
+    let left = find::<F, H::Digest>(
         boundary,
         pinned,
         nodes,
         F::position(first, height - 1),
     ).unwrap();
-    let right = look_up::<F, H::Digest>(
+    let right = find::<F, H::Digest>(
         boundary,
         pinned,
         nodes,
         F::position(first + half, height - 1),
     )
     .unwrap();
-    hasher.node_digest(Position::new(position), &left, &right)
+    hasher.node_digest(Position::new(position), left, right)
 }
 
 /// Whether there is a leaf `next`, and it is under the node of height `height` over the leaf `first`.

@@ -1,10 +1,10 @@
-use Rattle.std.proofs.Common.{arith, rules, map, ◌+◌, ◌-◌, ◌≡◌, ◌∷◌, [], ◌++◌, ap, ◌∙◌, sym, subst}
+use Rattle.std.proofs.Common.{arith, rules, map, option_map, ◌+◌, ◌-◌, ◌≡◌, ◌∷◌, [], ◌++◌, ap, ◌∙◌, sym, subst}
 use Rattle.std.proofs.lemmas.List.{length-map}
 use Rattle.storage_merkle.specs.Shape.{size}
 use Rattle.storage_merkle.specs.Calc.{be8}
 use Rattle.storage_merkle.specs.Hashing.{node_over}
 use Rattle.storage_merkle.specs.Kept.{IsClean}
-use Rattle.storage_merkle.proofs.Keeping.{found, seen, value_of, kept_some_at, kept_is, children_kept, children_of, leaf_born, leaf_place, inner_born, clean_children, some_height, same_clean}
+use Rattle.storage_merkle.proofs.Keeping.{found, lent_some, seen, value_of, kept_some_at, kept_is, children_kept, children_of, leaf_born, leaf_place, inner_born, clean_children, some_height, same_clean}
 use Rattle.storage_merkle.proofs.merkle.mem.kept.born.Goals as goal
 
 pub power-half-requires : goal.power-half-requires
@@ -27,8 +27,8 @@ unwrap-left-requires g c =
     let d = kept_some_at S g.met.F.Family.laws c.args.boundary _ _ _ c.position.result
     (map g.H.Digest.Write.text c.args.pinned.now) (map g.H.Digest.Write.text c.args.nodes.now) c.position.ensures
     i.0 (rw length-map c.requires.count) (rw length-map c.requires.pins) in
-    found g.H.Digest.Write.text c.look_up.result _ d.0 (seen g.H.Digest.Write.text g.F.Family.shape c.args.boundary
-    c.args.pinned.now c.args.nodes.now _ _ c.look_up.ensures) d.1
+    lent_some (λ x. x.now) c.find.result (found g.H.Digest.Write.text (option_map (λ x. x.now) c.find.result) _ d.0 (seen g.H.Digest.Write.text g.F.Family.shape c.args.boundary
+    c.args.pinned.now c.args.nodes.now _ _ c.find.ensures) d.1)
 
 pub overflow_add-first : goal.overflow_add-first
 overflow_add-first g c =
@@ -57,8 +57,8 @@ unwrap-right-requires g c =
     (map g.H.Digest.Write.text c.args.pinned.now) (map g.H.Digest.Write.text c.args.nodes.now) (c.position-2.ensures
     ∙ ap (λ m. S.position (c.node_after-first.result.0 + m) (c.node_after-first.result.1 - 1)) c.power-half.ensures)
     i.1 (rw length-map c.requires.count) (rw length-map c.requires.pins) in
-    found g.H.Digest.Write.text c.look_up-2.result _ d.0 (seen g.H.Digest.Write.text g.F.Family.shape c.args.boundary
-    c.args.pinned.now c.args.nodes.now _ _ c.look_up-2.ensures) d.1
+    lent_some (λ x. x.now) c.find-2.result (found g.H.Digest.Write.text (option_map (λ x. x.now) c.find-2.result) _ d.0 (seen g.H.Digest.Write.text g.F.Family.shape c.args.boundary
+    c.args.pinned.now c.args.nodes.now _ _ c.find-2.ensures) d.1)
 
 pub returns-then-height-eq0 : goal.returns-then-height-eq0
 returns-then-height-eq0 g c list dirty len holds a k j clean =
@@ -98,12 +98,12 @@ returns g c list dirty len holds a k j clean =
     (rw length-map c.requires.count) holds down.0 in
     let y = kept_is S L node dirty c.args.boundary p _ _ (map f c.args.pinned.now) (map f c.args.nodes.now) i.1
     (rw length-map c.requires.count) holds down.1 in
-    inner_born S L g.H.Hasher.hash_of T chunk grown p n.0 n.1 (f c.unwrap-left.result)
-    (f c.unwrap-right.result) _ c.if-height-eq0.false c.node_after-first.ensures
-    (value_of f c.look_up.result _ _ _ (seen g.H.Digest.Write.text g.F.Family.shape c.args.boundary c.args.pinned.now
-    c.args.nodes.now _ _ c.look_up.ensures) c.unwrap-left.ensures (rw c.position.ensures x))
-    (value_of f c.look_up-2.result _ _ _ (seen g.H.Digest.Write.text g.F.Family.shape c.args.boundary c.args.pinned.now
-    c.args.nodes.now _ _ c.look_up-2.ensures) c.unwrap-right.ensures
+    inner_born S L g.H.Hasher.hash_of T chunk grown p n.0 n.1 (f c.unwrap-left.result.now)
+    (f c.unwrap-right.result.now) _ c.if-height-eq0.false c.node_after-first.ensures
+    (value_of f (option_map (λ x. x.now) c.find.result) _ _ _ (seen g.H.Digest.Write.text g.F.Family.shape c.args.boundary c.args.pinned.now
+    c.args.nodes.now _ _ c.find.ensures) (ap (option_map (λ x. x.now)) c.unwrap-left.ensures) (rw c.position.ensures x))
+    (value_of f (option_map (λ x. x.now) c.find-2.result) _ _ _ (seen g.H.Digest.Write.text g.F.Family.shape c.args.boundary c.args.pinned.now
+    c.args.nodes.now _ _ c.find-2.ensures) (ap (option_map (λ x. x.now)) c.unwrap-right.ensures)
     (rw (c.position-2.ensures, c.power-half.ensures) y))
     (c.node_digest.ensures n.0 n.1 (rw at c.node_after-first.ensures))
     a k j

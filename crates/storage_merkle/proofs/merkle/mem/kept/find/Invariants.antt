@@ -1,6 +1,6 @@
 use Rattle.std.proofs.Common.{◌≡◌, ◌+◌, length, drop}
 use Rattle.storage_merkle.specs.Kept.{paired, pins}
-use Rattle.storage_merkle.proofs.merkle.mem.kept.look_up.Given as goal
+use Rattle.storage_merkle.proofs.merkle.mem.kept.find.Given as goal
 
 abbrev pub invariant-loop-at : goal.invariant-loop-at
 invariant-loop-at g l = record {
