@@ -31,7 +31,7 @@ enum gawerunoa_answer {
     GAWERUNOA_OTHER_FAMILY = -3,  /* no such family */
     GAWERUNOA_OTHER_HASH = -4,    /* no such digest function */
     GAWERUNOA_OTHER_LENGTHS = -5, /* the lengths of a list of byte strings do not add up to its bytes */
-    GAWERUNOA_OTHER_KEY = -6,     /* the key has a length that no key has: keys have 4, 8, 20 or 32 bytes */
+    GAWERUNOA_OTHER_KEY = -6,     /* the key has a length that no key of one size has: these have 4, 8, 20 or 32 bytes */
     GAWERUNOA_OTHER_VALUE = -7    /* the value has a size that no value of one size has: these have 4, 8, 20 or 32 bytes */
 };
 
@@ -67,11 +67,23 @@ int32_t gawerunoa_check_range(
     const uint8_t *root, size_t root_length);
 
 /*
- * The next four are of databases of keys and values, whose updates name the next greater key. The keys of one database all have 4,
- * 8, 20 or 32 bytes, are written as they are and ordered as their bytes are. Values are encoded in one of two ways:
+ * The next ten are of databases of keys and values, whose updates name the next greater key. Keys are ordered as their bytes are. The
+ * keys of a database are of one of two kinds:
+ *
+ * - of one size: all have 4, 8, 20 or 32 bytes, and are written as they are;
+ * - strings: a key has any length, which is written before it.
+ *
+ * Values are encoded in one of three ways:
  *
  * - variable: a value has any length, which is written before it, and an operation is as long as its parts;
- * - fixed: all values have 4, 8, 20 or 32 bytes and are written as they are, and operations are filled up with zeros to one size.
+ * - sized: all values have 4, 8, 20 or 32 bytes and are written as they are, and an operation is as long as its parts;
+ * - fixed: as sized, but operations are filled up with zeros to one size. Such a database has keys of one size.
+ *
+ *                        values variable                   values sized                           values fixed
+ *     keys of one size   gawerunoa_check_value             gawerunoa_check_sized_value            gawerunoa_check_fixed_value
+ *     keys strings       gawerunoa_check_string_value      gawerunoa_check_string_sized_value
+ *
+ * and the same with `absence` for `value`. A call for another kind or another encoding than those of the snapshot says nothing of it.
  *
  * A yes says of each snapshot what is said above, and of the key what is claimed where the snapshot is well-formed, as such a
  * database makes it: the last operation is an active commit with its floor, each other active operation is an update at or past the
@@ -80,9 +92,13 @@ int32_t gawerunoa_check_range(
  *
  * `key` and `value` are the bytes of the key and of the value, with no length before them. `proof` is over a chunk of activity bits
  * of `chunk_size` bytes; more than 128 digests in it are a no, and so is a size that no chunk has.
+ *
+ * The calls with `string` read keys in the proof: the next key in a key-value proof, the two of an update in an exclusion proof. Those
+ * have from `min_key_length` to `max_key_length` bytes: a proof with another one in it is a no. Between 0 and SIZE_MAX are all lengths,
+ * and `key` may have any. Memory is taken for a copy of it too.
  */
 
-/* Whether `key` has the value `value`; values are variable. `proof` is a key-value proof. */
+/* Whether `key`, of one size, has the value `value`; values are variable. `proof` is a key-value proof. */
 int32_t gawerunoa_check_value(
     uint32_t family, uint32_t hash, size_t chunk_size,
     const uint8_t *proof, size_t proof_length,
@@ -91,8 +107,8 @@ int32_t gawerunoa_check_value(
     const uint8_t *root, size_t root_length);
 
 /*
- * Whether `key` has no value; values are variable, of `min_value_length` to `max_value_length` bytes: a proof with another value in
- * it is a no. Between 0 and SIZE_MAX are all lengths. `proof` is an exclusion proof.
+ * Whether `key`, of one size, has no value; values are variable, of `min_value_length` to `max_value_length` bytes: a proof with
+ * another value in it is a no. Between 0 and SIZE_MAX are all lengths. `proof` is an exclusion proof.
  */
 int32_t gawerunoa_check_absence(
     uint32_t family, uint32_t hash, size_t chunk_size, size_t min_value_length, size_t max_value_length,
@@ -100,7 +116,7 @@ int32_t gawerunoa_check_absence(
     const uint8_t *key, size_t key_length,
     const uint8_t *root, size_t root_length);
 
-/* Whether `key` has the value `value`; values are fixed, all of `value_length` bytes. `proof` is a key-value proof. */
+/* Whether `key`, of one size, has the value `value`; values are fixed, all of `value_length` bytes. `proof` is a key-value proof. */
 int32_t gawerunoa_check_fixed_value(
     uint32_t family, uint32_t hash, size_t chunk_size,
     const uint8_t *proof, size_t proof_length,
@@ -108,9 +124,58 @@ int32_t gawerunoa_check_fixed_value(
     const uint8_t *value, size_t value_length,
     const uint8_t *root, size_t root_length);
 
-/* Whether `key` has no value; values are fixed, all of `value_size` bytes. `proof` is an exclusion proof. */
+/* Whether `key`, of one size, has no value; values are fixed, all of `value_size` bytes. `proof` is an exclusion proof. */
 int32_t gawerunoa_check_fixed_absence(
     uint32_t family, uint32_t hash, size_t chunk_size, size_t value_size,
+    const uint8_t *proof, size_t proof_length,
+    const uint8_t *key, size_t key_length,
+    const uint8_t *root, size_t root_length);
+
+/* Whether `key`, of one size, has the value `value`; values are sized, all of `value_length` bytes. `proof` is a key-value proof. */
+int32_t gawerunoa_check_sized_value(
+    uint32_t family, uint32_t hash, size_t chunk_size,
+    const uint8_t *proof, size_t proof_length,
+    const uint8_t *key, size_t key_length,
+    const uint8_t *value, size_t value_length,
+    const uint8_t *root, size_t root_length);
+
+/* Whether `key`, of one size, has no value; values are sized, all of `value_size` bytes. `proof` is an exclusion proof. */
+int32_t gawerunoa_check_sized_absence(
+    uint32_t family, uint32_t hash, size_t chunk_size, size_t value_size,
+    const uint8_t *proof, size_t proof_length,
+    const uint8_t *key, size_t key_length,
+    const uint8_t *root, size_t root_length);
+
+/* Whether `key`, a string, has the value `value`; values are variable. `proof` is a key-value proof. */
+int32_t gawerunoa_check_string_value(
+    uint32_t family, uint32_t hash, size_t chunk_size, size_t min_key_length, size_t max_key_length,
+    const uint8_t *proof, size_t proof_length,
+    const uint8_t *key, size_t key_length,
+    const uint8_t *value, size_t value_length,
+    const uint8_t *root, size_t root_length);
+
+/*
+ * Whether `key`, a string, has no value; values are variable, of `min_value_length` to `max_value_length` bytes: a proof with another
+ * value in it is a no. `proof` is an exclusion proof.
+ */
+int32_t gawerunoa_check_string_absence(
+    uint32_t family, uint32_t hash, size_t chunk_size, size_t min_key_length, size_t max_key_length,
+    size_t min_value_length, size_t max_value_length,
+    const uint8_t *proof, size_t proof_length,
+    const uint8_t *key, size_t key_length,
+    const uint8_t *root, size_t root_length);
+
+/* Whether `key`, a string, has the value `value`; values are sized, all of `value_length` bytes. `proof` is a key-value proof. */
+int32_t gawerunoa_check_string_sized_value(
+    uint32_t family, uint32_t hash, size_t chunk_size, size_t min_key_length, size_t max_key_length,
+    const uint8_t *proof, size_t proof_length,
+    const uint8_t *key, size_t key_length,
+    const uint8_t *value, size_t value_length,
+    const uint8_t *root, size_t root_length);
+
+/* Whether `key`, a string, has no value; values are sized, all of `value_size` bytes. `proof` is an exclusion proof. */
+int32_t gawerunoa_check_string_sized_absence(
+    uint32_t family, uint32_t hash, size_t chunk_size, size_t min_key_length, size_t max_key_length, size_t value_size,
     const uint8_t *proof, size_t proof_length,
     const uint8_t *key, size_t key_length,
     const uint8_t *root, size_t root_length);

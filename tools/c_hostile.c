@@ -4,10 +4,10 @@
  * call; a yes must be to the right proof, unchanged, but for the key where a key has no value: one proof is of many keys. Byte
  * strings end where their memory does, so that a read past one is a fault of the address sanitizer. Prints how often each answer came.
  *
- *     c_hostile CALLS SEED FOLDER HASH     FOLDER has the files NAME.bin with the strings of right proofs, by the names that stand
- *                                          below, over chunks of a byte and the digest function HASH: of an operation at
- *                                          location 3, of the value of a key and of the absence of one over mountain ranges, and
- *                                          of the last two with fixed values, of 8 bytes, over mountain belts
+ *     c_hostile CALLS SEED FOLDER HASH     FOLDER has the files CALL_STRING.bin with the strings of a right proof for each call that
+ *                                          stands below, but for that of ranges, over chunks of a byte and the digest function
+ *                                          HASH, and CALL_family.bin with its family as a byte: of an operation at location 3,
+ *                                          and of keys and values; values of one size have 8 bytes
  */
 #include <stdio.h>
 #include <stdlib.h>
@@ -38,25 +38,52 @@ struct bytes {
     void *block;
 };
 
-enum { OPERATION = 0, VALUE = 3, ABSENCE = 7, FIXED_VALUE = 10, FIXED_ABSENCE = 14, RIGHT = 17 };
+enum call { OPERATION, VALUE, FIXED_VALUE, SIZED_VALUE, STRING_VALUE, STRING_SIZED_VALUE, ABSENCE, FIXED_ABSENCE, SIZED_ABSENCE,
+    STRING_ABSENCE, STRING_SIZED_ABSENCE, RIGHT, RANGE = RIGHT, CALLS };
 
-static const char *const names[RIGHT] = {"operation_root", "operation_proof", "operation_operation", "value_root", "value_proof",
-    "value_key", "value_value", "absence_root", "absence_proof", "absence_key", "fixed_value_root", "fixed_value_proof",
-    "fixed_value_key", "fixed_value_value", "fixed_absence_root", "fixed_absence_proof", "fixed_absence_key"};
+/* A right proof for a call: the root, the proof, and what it is asked of; the key of what has no value may be another one. */
+struct right {
+    const char *call;
+    const char *names[STRINGS];
+    uint32_t family;
+    struct bytes of[STRINGS];
+};
 
-static struct bytes right[RIGHT];
+#define STRINGS_OF_VALUE {"root", "proof", "key", "value"}
+#define STRINGS_OF_ABSENCE {"root", "proof", "key", NULL}
+
+static struct right rights[RIGHT] = {
+    {.call = "operation", .names = {"root", "proof", "operation", NULL}},
+    {.call = "value", .names = STRINGS_OF_VALUE},
+    {.call = "fixed_value", .names = STRINGS_OF_VALUE},
+    {.call = "sized_value", .names = STRINGS_OF_VALUE},
+    {.call = "string_value", .names = STRINGS_OF_VALUE},
+    {.call = "string_sized_value", .names = STRINGS_OF_VALUE},
+    {.call = "absence", .names = STRINGS_OF_ABSENCE},
+    {.call = "fixed_absence", .names = STRINGS_OF_ABSENCE},
+    {.call = "sized_absence", .names = STRINGS_OF_ABSENCE},
+    {.call = "string_absence", .names = STRINGS_OF_ABSENCE},
+    {.call = "string_sized_absence", .names = STRINGS_OF_ABSENCE},
+};
 
 static uint32_t right_hash;
 
-static struct bytes contents(const char *folder, const char *name) {
+static struct bytes contents(const char *folder, const char *call, const char *name) {
     char path[4096];
     struct bytes it = {malloc(ROOM), 0, NULL};
-    snprintf(path, sizeof path, "%s/%s.bin", folder, name);
+    snprintf(path, sizeof path, "%s/%s_%s.bin", folder, call, name);
     FILE *file = fopen(path, "rb");
     if (!it.at || !file) exit(3);
     it.length = fread(it.at, 1, ROOM, file);
     fclose(file);
     return it;
+}
+
+static void read_right(const char *folder, struct right *right) {
+    struct bytes family = contents(folder, right->call, "family");
+    right->family = family.at[0];
+    free(family.at);
+    for (size_t i = 0; i < STRINGS && right->names[i]; i++) right->of[i] = contents(folder, right->call, right->names[i]);
 }
 
 /* A string of these bytes, at any alignment, that ends where its block ends; null or not where it is empty. */
@@ -84,10 +111,10 @@ static struct bytes random_bytes(size_t most) {
 }
 
 /* The right string, or one near it, or none like it. `wanted` is set to `other` where it is another one. */
-static struct bytes string(int which, enum wanted other, enum wanted *wanted) {
+static struct bytes string(const struct bytes *right, enum wanted other, enum wanted *wanted) {
     uint8_t bytes[ROOM];
-    size_t length = right[which].length;
-    memcpy(bytes, right[which].at, length);
+    size_t length = right->length;
+    memcpy(bytes, right->at, length);
     switch (below(8)) {
     case 0:
         for (size_t i = 1 + below(3); i > 0; i--) bytes[below(length)] ^= (uint8_t)(1 + below(255));
@@ -104,7 +131,7 @@ static struct bytes string(int which, enum wanted other, enum wanted *wanted) {
     default:
         break;
     }
-    int is_right = length == right[which].length && !memcmp(bytes, right[which].at, length);
+    int is_right = length == right->length && !memcmp(bytes, right->at, length);
     if (!is_right && *wanted != OTHER) *wanted = other;
     return placed(bytes, length);
 }
@@ -155,48 +182,104 @@ static int32_t range(struct agreed it, const struct bytes *of, enum wanted *want
     return answer;
 }
 
-static int32_t value(struct agreed it, const struct bytes *of, int is_fixed) {
-    return (is_fixed ? gawerunoa_check_fixed_value : gawerunoa_check_value)(it.family, it.hash, it.chunk, of[1].at, of[1].length,
-        of[2].at, of[2].length, of[3].at, of[3].length, of[0].at, of[0].length);
+static int32_t value(enum call call, struct agreed it, const struct bytes *of) {
+    return (call == VALUE ? gawerunoa_check_value
+        : call == FIXED_VALUE ? gawerunoa_check_fixed_value
+        : gawerunoa_check_sized_value)(it.family, it.hash, it.chunk, of[1].at, of[1].length, of[2].at, of[2].length,
+        of[3].at, of[3].length, of[0].at, of[0].length);
+}
+
+/* Bounds of lengths, usually those that admit all. With others a right proof may be a no. */
+struct bounds {
+    size_t least, most;
+};
+
+static struct bounds bounds(enum wanted *wanted) {
+    struct bounds it = {number(0), number(SIZE_MAX)};
+    if ((it.least || it.most != SIZE_MAX) && *wanted == YES) *wanted = EITHER;
+    return it;
+}
+
+static int32_t string_value(enum call call, struct agreed it, const struct bytes *of, enum wanted *wanted) {
+    struct bounds keys = bounds(wanted);
+    return (call == STRING_VALUE ? gawerunoa_check_string_value : gawerunoa_check_string_sized_value)(it.family, it.hash, it.chunk,
+        keys.least, keys.most, of[1].at, of[1].length, of[2].at, of[2].length, of[3].at, of[3].length, of[0].at, of[0].length);
 }
 
 static int32_t absence(struct agreed it, const struct bytes *of, enum wanted *wanted) {
-    size_t least = number(0), most = number(SIZE_MAX);
-    if ((least || most != SIZE_MAX) && *wanted == YES) *wanted = EITHER;
-    return gawerunoa_check_absence(it.family, it.hash, it.chunk, least, most, of[1].at, of[1].length, of[2].at, of[2].length,
-        of[0].at, of[0].length);
+    struct bounds values = bounds(wanted);
+    return gawerunoa_check_absence(it.family, it.hash, it.chunk, values.least, values.most, of[1].at, of[1].length,
+        of[2].at, of[2].length, of[0].at, of[0].length);
 }
 
-static int32_t fixed_absence(struct agreed it, const struct bytes *of, enum wanted *wanted) {
+static int32_t string_absence(struct agreed it, const struct bytes *of, enum wanted *wanted) {
+    struct bounds keys = bounds(wanted), values = bounds(wanted);
+    return gawerunoa_check_string_absence(it.family, it.hash, it.chunk, keys.least, keys.most, values.least, values.most,
+        of[1].at, of[1].length, of[2].at, of[2].length, of[0].at, of[0].length);
+}
+
+/* The size of all values, usually that of the right proofs. With another one a right proof of a commit may be a yes. */
+static size_t size_of_values(enum wanted other, enum wanted *wanted) {
     size_t size = number(8);
-    if (size != 8) *wanted = OTHER;
-    return gawerunoa_check_fixed_absence(it.family, it.hash, it.chunk, size, of[1].at, of[1].length, of[2].at, of[2].length,
-        of[0].at, of[0].length);
+    if (size != 8 && *wanted != OTHER) *wanted = other;
+    return size;
+}
+
+static int32_t sized_absence(enum call call, struct agreed it, const struct bytes *of, enum wanted *wanted) {
+    size_t size = size_of_values(call == FIXED_ABSENCE ? OTHER : EITHER, wanted);
+    return (call == FIXED_ABSENCE ? gawerunoa_check_fixed_absence : gawerunoa_check_sized_absence)(it.family, it.hash, it.chunk,
+        size, of[1].at, of[1].length, of[2].at, of[2].length, of[0].at, of[0].length);
+}
+
+static int32_t string_sized_absence(struct agreed it, const struct bytes *of, enum wanted *wanted) {
+    struct bounds keys = bounds(wanted);
+    size_t size = size_of_values(EITHER, wanted);
+    return gawerunoa_check_string_sized_absence(it.family, it.hash, it.chunk, keys.least, keys.most, size,
+        of[1].at, of[1].length, of[2].at, of[2].length, of[0].at, of[0].length);
+}
+
+static int32_t answer(enum call call, struct agreed it, const struct bytes *of, enum wanted *wanted) {
+    switch (call) {
+    case OPERATION:
+        return operation(it, of, wanted);
+    case RANGE:
+        return range(it, of, wanted);
+    case STRING_VALUE:
+    case STRING_SIZED_VALUE:
+        return string_value(call, it, of, wanted);
+    case ABSENCE:
+        return absence(it, of, wanted);
+    case FIXED_ABSENCE:
+    case SIZED_ABSENCE:
+        return sized_absence(call, it, of, wanted);
+    case STRING_ABSENCE:
+        return string_absence(it, of, wanted);
+    case STRING_SIZED_ABSENCE:
+        return string_sized_absence(it, of, wanted);
+    default:
+        return value(call, it, of);
+    }
 }
 
 static int32_t call(enum wanted *wanted) {
-    static const int firsts[] = {OPERATION, OPERATION, VALUE, ABSENCE, FIXED_VALUE, FIXED_ABSENCE};
     struct agreed it = {small((uint32_t)below(2)), small(right_hash), number(1)};
     struct bytes of[STRINGS] = {{NULL, 0, NULL}};
-    size_t which = below(sizeof firsts / sizeof *firsts);
-    int first = firsts[which], is_value = first == VALUE || first == FIXED_VALUE, is_absence = first == ABSENCE || first == FIXED_ABSENCE;
-    uint32_t family = first < FIXED_VALUE ? GAWERUNOA_MMR : GAWERUNOA_MMB;
-    *wanted = it.family == family && it.hash == right_hash && it.chunk == 1 ? YES : OTHER;
-    for (int i = 0; i < 3 + is_value; i++) of[i] = string(first + i, is_absence && i == 2 ? EITHER : OTHER, wanted);
-    int32_t answer = which == 0 ? operation(it, of, wanted)
-        : which == 1 ? range(it, of, wanted)
-        : is_value ? value(it, of, first == FIXED_VALUE)
-        : first == ABSENCE ? absence(it, of, wanted)
-        : fixed_absence(it, of, wanted);
+    enum call which = (enum call)below(CALLS);
+    const struct right *right = &rights[which == RANGE ? OPERATION : which];
+    int is_absence = which >= ABSENCE && which < RIGHT;
+    *wanted = it.family == right->family && it.hash == right_hash && it.chunk == 1 ? YES : OTHER;
+    for (int i = 0; i < STRINGS && right->names[i]; i++)
+        of[i] = string(&right->of[i], is_absence && i == 2 ? EITHER : OTHER, wanted);
+    int32_t said = answer(which, it, of, wanted);
     for (size_t i = 0; i < STRINGS; i++) free(of[i].block);
-    return answer;
+    return said;
 }
 
 int main(int count, char **words) {
     if (count != 5) return 2;
     size_t calls = strtoull(words[1], NULL, 10), seen[GAWERUNOA_YES - LEAST + 1] = {0};
     state = strtoull(words[2], NULL, 10) * 2 + 1;
-    for (size_t i = 0; i < RIGHT; i++) right[i] = contents(words[3], names[i]);
+    for (size_t i = 0; i < RIGHT; i++) read_right(words[3], &rights[i]);
     right_hash = (uint32_t)strtoul(words[4], NULL, 10);
     for (size_t i = 0; i < calls; i++) {
         enum wanted wanted;
@@ -208,6 +291,7 @@ int main(int count, char **words) {
         seen[answer - LEAST]++;
     }
     for (int answer = LEAST; answer <= GAWERUNOA_YES; answer++) printf("%d: %zu\n", answer, seen[answer - LEAST]);
-    for (size_t i = 0; i < RIGHT; i++) free(right[i].at);
+    for (size_t i = 0; i < RIGHT; i++)
+        for (size_t k = 0; k < STRINGS; k++) free(rights[i].of[k].at);
     return 0;
 }

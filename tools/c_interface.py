@@ -8,8 +8,8 @@ these is a part:
 
 1. The header compiles alone, as C11 and as C++17, with all warnings.
 2. Its functions are those that the sources export, and those whose names the archive has; its numbers are the sources' constants.
-3. The cases of the lists `program_checks`, `ranges_checks`, `key_values` and `exclusions` of conformance/ are answered from C as they
-   say. Of the last two these are the cases of keys of one size, and of variable values or fixed operations: C has no call for others.
+3. All cases of the lists `program_checks`, `ranges_checks`, `key_values` and `exclusions` of conformance/ are answered from C as they
+   say.
 4. N hostile calls over each digest function (200,000 where nothing is said), under the address sanitizer of the caller:
    tools/c_hostile.c says which.
 5. The examples.
@@ -38,14 +38,24 @@ HASHES = {"sha256": 0, "sha512": 1}
 ANSWERS = {"yes": 1, "no": 0}
 KEYS = ("key_values", "exclusions")
 
-# the right proofs that hostile calls are made of: the call, the list of the case, the case's strings, and what the case must have
+# what the calls about keys begin with, by the encoding of operations, and by whether keys, and values, are vectors
+FORMS = {
+    ("ordered-fixed", False, False): "fixed_",
+    ("ordered-variable", False, False): "sized_",
+    ("ordered-variable", False, True): "",
+    ("ordered-variable", True, False): "string_sized_",
+    ("ordered-variable", True, True): "string_",
+}
+SIZES = {"fixed4": "4", "u64": "8"}
+
+# the right proofs that hostile calls are made of: the call, the list of the case, and the case's strings
 RIGHT = [
-    ("operation", "program_checks", ["root", "proof", "operation"], {"family": "mmr", "chunk": "1", "location": "3"}),
-    ("value", "key_values", ["root", "proof", "key", "value"], {"family": "mmr", "chunk": "1"}),
-    ("absence", "exclusions", ["root", "proof", "key"], {"family": "mmr", "chunk": "1"}),
-    ("fixed_value", "key_values", ["root", "proof", "key", "value"], {"family": "mmb", "chunk": "1"}),
-    ("fixed_absence", "exclusions", ["root", "proof", "key"], {"family": "mmb", "chunk": "1"}),
+    ("operation", "program_checks", ["root", "proof", "operation"]),
+    *((f"{form}value", "key_values", ["root", "proof", "key", "value"]) for form in FORMS.values()),
+    *((f"{form}absence", "exclusions", ["root", "proof", "key"]) for form in FORMS.values()),
 ]
+# what such a case must have, where it has it
+RIGHT_OVER = {"chunk": "1", "location": "3"}
 
 
 def run(*words, text=None):
@@ -96,36 +106,47 @@ def hash_of(case):
     return HASHES[case.get("hash", "sha256")]
 
 
-def value_of(case):
-    """The bytes of a case's value: those that are written, but for a length of one byte before them where values are variable."""
-    written = case["value"]
-    if call_about_key(case) == "fixed_":
+def types_of(case):
+    """The types of the keys and of the values of a case, and what the calls about it begin with."""
+    shape, key, value = case["type"].split("/")
+    form = (shape, *(kind.startswith("vec:") for kind in (key, value)))
+    if form not in FORMS or not all(kind in SIZES or kind.startswith("vec:") for kind in (key, value)):
+        raise AssertionError(f"no call has the type {case['type']}")
+    return key, value, FORMS[form]
+
+
+def bytes_of(kind, written):
+    """The bytes of a key or a value: those that are written, but of a vector not the byte before them, which is its length."""
+    if kind in SIZES:
+        same("the size of a string that is written", SIZES[kind], str(len(written) // 2))
         return written
-    same("the length of a value that is written", int(written[:2], 16), len(written) // 2 - 1)
+    same("the length of a vector that is written", int(written[:2], 16), len(written) // 2 - 1)
     return written[2:]
 
 
-def call_about_key(case):
-    """What a call about a key begins with for the case's type, or none where C has no call for it."""
-    shape, key, value = case["type"].split("/")
-    forms = {("ordered-fixed", "u64"): "fixed_", ("ordered-variable", "vec"): ""}
-    return forms.get((shape, value.split(":")[0])) if key in ("fixed4", "u64") else None
+def strings_of(case):
+    """The key of a case about a key, and its value where it has one."""
+    key, value, _ = types_of(case)
+    return {part: bytes_of(kind, case[part]) for part, kind in (("key", key), ("value", value)) if part in case}
+
+
+def lengths(kind):
+    """What a call is told of the values of a type, or of keys that are vectors: their size, or the least and the greatest length."""
+    return [SIZES[kind]] if kind in SIZES else kind.removeprefix("vec:").split(":")
 
 
 def question(name, hash_, case):
-    """The line for tools/c_answers.c that asks what a case asks, or none where C has no call for it."""
+    """The line for tools/c_answers.c that asks what a case asks."""
     head = f"{FAMILIES[case['family']]} {hash_} {case['chunk']}"
     proof, root = bytes_or_none(case["proof"]), case["root"]
     if name == "program_checks":
         return f"operation {head} {case['location']} {proof} {bytes_or_none(case['operation'])} {root}"
     if name in KEYS:
-        form = call_about_key(case)
-        if form is None:
-            return None
-        if name == "key_values":
-            return f"{form}value {head} {proof} {case['key']} {bytes_or_none(value_of(case))} {root}"
-        lengths = "8" if form else case["type"].split("vec:")[1].replace(":", " ")
-        return f"{form}absence {head} {lengths} {proof} {case['key']} {root}"
+        key, value, form = types_of(case)
+        told = lengths(key) if form.startswith("string_") else []
+        call = "value" if name == "key_values" else "absence"
+        told += lengths(value) if call == "absence" else []
+        return " ".join([form + call, head, *told, proof, *map(bytes_or_none, strings_of(case).values()), root])
     lists = f"{strings(case['operations'])} {strings(case['chunks'])}"
     return f"range {head} {case['most']} {case['start']} {proof} {lists} {root}"
 
@@ -142,14 +163,14 @@ def answers(folder):
     source = [ROOT / "tools/c_answers.c", folder / "libgawerunoa.a"]
     run("gcc", "-std=c11", *WARNINGS, *sanitizer, f"-I{HEADER.parent}", *source, "-o", program)
     for name in ("program_checks", "ranges_checks", *KEYS):
-        cases = [(question(name, hash_of(case), case["in"]), case) for case in cases_of(name)]
-        asked = [(line, case) for line, case in cases if line]
-        said = run(program, text="".join(f"{line}\n" for line, _ in asked)).split()
-        same(f"{name}: how many answers", len(said), len(asked))
-        for answer, (line, case) in zip(said, asked):
+        cases = cases_of(name)
+        asked = [question(name, hash_of(case), case["in"]) for case in cases]
+        said = run(program, text="".join(f"{line}\n" for line in asked)).split()
+        same(f"{name}: how many cases and answers", len(cases), len(said))
+        for answer, line, case in zip(said, asked, cases):
             same(f"{name}: {line}", int(answer), ANSWERS[case["out"]])
-        longer = sum(hash_of(case) for _, case in asked)
-        print(f"c_interface: {name}: {len(asked)} of {len(cases)} cases answered from C, {longer} over SHA-512", flush=True)
+        longer = sum(map(hash_of, cases))
+        print(f"c_interface: {name}: all {len(cases)} cases answered from C, {longer} over SHA-512", flush=True)
 
 
 def hostile(folder, calls, seed):
@@ -167,9 +188,9 @@ def right_proof(folder, hash_):
     """A folder with the files of right proofs over a digest function: cases of conformance/ that are answered yes."""
     room = folder / f"proof{hash_}"
     room.mkdir(exist_ok=True)
-    for call, name, parts, wanted in RIGHT:
+    for call, name, parts in RIGHT:
         asked = ((hash_of(case), case["out"], case["in"]) for case in cases_of(name))
-        found = (case for hashed, out, case in asked if (hashed, out) == (hash_, "yes") and wanted.items() <= case.items())
+        found = (case for hashed, out, case in asked if (hashed, out) == (hash_, "yes"))
         strings = next(filter(None, (right_strings(call, name, hash_, case, parts) for case in found)))
         for part, string in strings.items():
             (room / f"{call}_{part}.bin").write_bytes(string)
@@ -177,12 +198,12 @@ def right_proof(folder, hash_):
 
 
 def right_strings(call, name, hash_, case, parts):
-    """The strings of a case by their names, where it asks this call, and none of the strings is empty."""
-    asked = question(name, hash_, case)
-    if not asked or asked.split()[0] != call:
+    """The strings of a case by their names, and its family as a byte, where it asks this call, and none of the strings is empty."""
+    if question(name, hash_, case).split()[0] != call or any(case.get(part, it) != it for part, it in RIGHT_OVER.items()):
         return None
-    strings = {part: bytes.fromhex(value_of(case) if part == "value" else case[part]) for part in parts}
-    return strings if all(strings.values()) else None
+    given = case | (strings_of(case) if name in KEYS else {})
+    found = {"family": bytes([FAMILIES[case["family"]]]), **{part: bytes.fromhex(given[part]) for part in parts}}
+    return found if all(found.values()) else None
 
 
 def main():

@@ -1,24 +1,22 @@
 -- What a check answers of a key and a value, as an answer about their bytes.
 use Rattle.std.specs.Prelude.{IsTrue, IfOk}
-use Rattle.std.specs.Ordering.{nat_cmp}
-use Rattle.std.specs.Cmp.Lexicographic.{slice_cmp}
-use Rattle.std.proofs.Common.{◌≡◌, ◌↔◌, ◌∙◌, ℕ, ◌+◌, ◌^◌, ◌≤◌, List, ◌++◌, length, Bool, cond, leb, Result, Ok, Err, refl, sym, ap, subst, arith}
+use Rattle.std.proofs.Common.{◌≡◌, ◌↔◌, ◌∙◌, ℕ, ◌+◌, List, ◌++◌, length, Bool, Result, Ok, Err, refl, sym, ap, subst}
 use Rattle.std.specs.declared.alloc.Global.{Global}
 use Rattle.std.specs.declared.vec.Vec.{Vec}
 use Rattle.storage_codec.specs.Digests.{HashFunction}
 use Rattle.storage_codec.specs.DigestValues.{one_digest}
-use Rattle.storage_codec.specs.Codec.{fixed_at, vector_at}
+use Rattle.storage_codec.specs.Codec.{fixed_at}
 use Rattle.storage_codec.specs.Parts.{vector_text}
 use Rattle.storage_codec.specs.declared.codec.fixed.FixedBytes.{FixedBytes}
 use Rattle.storage_ops.specs.Fixed.{fixed_operation_text}
 use Rattle.storage_ops.specs.Operations.{Update}
-use Rattle.storage_ops.specs.Updates.{ordered_at}
 use Rattle.storage_ops.specs.Variable.{variable_operation_text}
 use Rattle.storage_current.specs.Snapshots.{Grafting}
 use Rattle.storage_current.specs.CurrentProofs.{IsActiveCurrent}
-use Rattle.storage_current.specs.Keys.{Keyed, keyed_by}
-use Rattle.commonware_storage.specs.LightKeys.{IsAcceptedAbsence, IsAcceptedValue, IsTrueAbsence, IsTrueValue}
-use Rattle.light_c.specs.KeyBytes.{IsAcceptedAbsenceOf, IsAcceptedFixedAbsenceOf, IsAcceptedFixedValueOf, IsAcceptedValueOf, IsTrueAbsenceOf, IsTrueFixedAbsenceOf, IsTrueFixedValueOf, IsTrueValueOf, OfSized, OfVector, keyed}
+use Rattle.light_c.specs.KeyBytes.{IsAcceptedValueOf, IsTrueValueOf, OfSized, OfVector}
+use Rattle.light_c.specs.KeySteps.{AcceptsAbsence, AcceptsValue, TrueAbsence, TrueValue, Written}
+use Rattle.light_c.specs.SizedStrings.{number_of}
+use Rattle.light_c.specs.declared.sized.Size.{Size}
 
 -- what is said of a string with the bytes of this one is said of this one
 said_of : (Said : (n : ℕ) → FixedBytes n → Type 0) (n : ℕ) (sized : FixedBytes n) → OfSized Said sized.bytes → Said n sized
@@ -28,9 +26,15 @@ said_of Said n sized of =
     let same : n ≡ of.size = sym sized.full ∙ ap length (sym of.is) ∙ of.sized.full in
     subst P same here of.sized of.is of.said
 
+-- what is said of a string follows from another thing that is said of it
+sized_along : (P Q : (n : ℕ) → FixedBytes n → Type 0) → ((n : ℕ) (x : FixedBytes n) → P n x → Q n x) → (bytes : List ℕ)
+    → OfSized P bytes → OfSized Q bytes
+sized_along P Q along bytes of =
+    record { size = of.size; sized = of.sized; is = of.is; said = along of.size of.sized of.said }
+
 module _ {E : Type 0} where
   -- an answer about a string of one size is one about its bytes
-  exact_of_sized : (Said : (n : ℕ) → FixedBytes n → Type 0) (n : ℕ) (sized : FixedBytes n) (answer : Result Bool E)
+  pub exact_of_sized : (Said : (n : ℕ) → FixedBytes n → Type 0) (n : ℕ) (sized : FixedBytes n) (answer : Result Bool E)
       → IfOk answer (λ b. IsTrue b ↔ Said n sized) → IfOk answer (λ b. IsTrue b ↔ OfSized Said sized.bytes)
   exact_of_sized Said n sized (Ok b) exact = (
     λ t. record { size = n; sized = sized; is = refl; said = exact.0 t },
@@ -38,13 +42,13 @@ module _ {E : Type 0} where
   )
   exact_of_sized Said n sized (Err e) exact = tt
 
-  means_of_sized : (Said : (n : ℕ) → FixedBytes n → Type 0) (n : ℕ) (sized : FixedBytes n) (answer : Result Bool E)
+  pub means_of_sized : (Said : (n : ℕ) → FixedBytes n → Type 0) (n : ℕ) (sized : FixedBytes n) (answer : Result Bool E)
       → IfOk answer (λ b. IsTrue b → Said n sized) → IfOk answer (λ b. IsTrue b → OfSized Said sized.bytes)
   means_of_sized Said n sized (Ok b) means = λ t. record { size = n; sized = sized; is = refl; said = means t }
   means_of_sized Said n sized (Err e) means = tt
 
   -- and one about a vector is one about its bytes, where these are all that counts
-  exact_of_vector : (Said : Vec ℕ Global → Type 0) (v : Vec ℕ Global) (bytes : List ℕ) → v.items ≡ bytes
+  pub exact_of_vector : (Said : Vec ℕ Global → Type 0) (v : Vec ℕ Global) (bytes : List ℕ) → v.items ≡ bytes
       → ((w : Vec ℕ Global) → w.items ≡ v.items → Said w → Said v) → (answer : Result Bool E)
       → IfOk answer (λ b. IsTrue b ↔ Said v) → IfOk answer (λ b. IsTrue b ↔ OfVector Said bytes)
   exact_of_vector Said v bytes e alike (Ok b) exact = (
@@ -53,39 +57,43 @@ module _ {E : Type 0} where
   )
   exact_of_vector Said v bytes e alike (Err x) exact = tt
 
-  means_of_vector : (Said : Vec ℕ Global → Type 0) (v : Vec ℕ Global) (bytes : List ℕ) → v.items ≡ bytes
+  pub means_of_vector : (Said : Vec ℕ Global → Type 0) (v : Vec ℕ Global) (bytes : List ℕ) → v.items ≡ bytes
       → (answer : Result Bool E) → IfOk answer (λ b. IsTrue b → Said v) → IfOk answer (λ b. IsTrue b → OfVector Said bytes)
   means_of_vector Said v bytes e (Ok b) means = λ t. record { vector = v; is = e; said = means t }
   means_of_vector Said v bytes e (Err x) means = tt
 
--- how many bytes a string of one size is written as
-abbrev written_size : ℕ → ℕ
-written_size n = cond (leb n (2 ^ 32)) n 0
+  -- the same where it is about the bytes of a key as well
+  exact_inside : (P Q : (n : ℕ) → FixedBytes n → Type 0) → ((n : ℕ) (x : FixedBytes n) → P n x ↔ Q n x) → (bytes : List ℕ)
+      (answer : Result Bool E) → IfOk answer (λ b. IsTrue b ↔ OfSized P bytes) → IfOk answer (λ b. IsTrue b ↔ OfSized Q bytes)
+  exact_inside P Q same bytes (Ok b) exact = (
+    λ t. sized_along P Q (λ n x. (same n x).0) bytes (exact.0 t),
+    λ of. exact.1 (sized_along Q P (λ n x. (same n x).1) bytes of),
+  )
+  exact_inside P Q same bytes (Err e) exact = tt
 
-size_is : (n : ℕ) → n ≤ 2 ^ 32 → written_size n ≡ n
-size_is n small = grind arith
+  means_inside : (P Q : (n : ℕ) → FixedBytes n → Type 0) → ((n : ℕ) (x : FixedBytes n) → P n x → Q n x) → (bytes : List ℕ)
+      (answer : Result Bool E) → IfOk answer (λ b. IsTrue b → OfSized P bytes) → IfOk answer (λ b. IsTrue b → OfSized Q bytes)
+  means_inside P Q along bytes (Ok b) means = λ t. sized_along P Q along bytes (means t)
+  means_inside P Q along bytes (Err e) means = tt
 
--- keys and values of one size, by the sizes that they are written as
-abbrev keyed_written : (n m ks vs : ℕ) → Keyed (FixedBytes n) (FixedBytes m)
-keyed_written n m ks vs =
-    keyed_by (λ k. k.bytes) (λ v. v.bytes) (fixed_operation_text ks (ks + vs + ks) vs) (λ a b. slice_cmp nat_cmp a.bytes b.bytes)
+-- what operations are written as that are as long as their parts; and over values of m bytes, filled up to one size
+abbrev pub as_long : Written
+as_long n = variable_operation_text
 
-along_sizes : (n m : ℕ) → n ≤ 2 ^ 32 → m ≤ 2 ^ 32 → (Q : ℕ → ℕ → Type 0) → Q (written_size n) (written_size m) → Q n m
-along_sizes n m few less Q q =
-    subst (λ (x : ℕ). Q n x) (size_is m less) (subst (λ (x : ℕ). Q x (written_size m)) (size_is n few) q)
+abbrev pub filled : ℕ → Written
+filled m n = fixed_operation_text n (n + m + n) m
 
 module _ (h : HashFunction) (g : Grafting) (has_pending : Bool) (d : ℕ) (proof : List ℕ) where
   -- ---- values of any length
 
   module _ (root : List ℕ) where
-    abbrev AcceptsValue : (n : ℕ) → FixedBytes n → Vec ℕ Global → Type 0
-    AcceptsValue n key v = IsAcceptedValue (keyed n) (λ x. x.bytes) (fixed_at n) h g has_pending d proof key v root
+    abbrev Accepts : Vec ℕ Global → (n : ℕ) → FixedBytes n → Type 0
+    Accepts = AcceptsValue h g has_pending d proof root as_long (λ x. vector_text x.items)
 
-    abbrev TrueValue : (n : ℕ) → FixedBytes n → Vec ℕ Global → Type 0
-    TrueValue n key v = IsTrueValue (keyed n) (λ x. x.bytes) (fixed_at n) h g has_pending d proof key v root
+    abbrev IsMeant : Vec ℕ Global → (n : ℕ) → FixedBytes n → Type 0
+    IsMeant = TrueValue h g has_pending d proof root as_long (λ x. vector_text x.items)
 
-    accepted_alike : (n : ℕ) (key : FixedBytes n) (v w : Vec ℕ Global) → w.items ≡ v.items → AcceptsValue n key w
-        → AcceptsValue n key v
+    accepted_alike : (n : ℕ) (key : FixedBytes n) (v w : Vec ℕ Global) → w.items ≡ v.items → Accepts w n key → Accepts v n key
     accepted_alike n key v w e a = record {
       proof = a.proof;
       next = a.next;
@@ -95,90 +103,70 @@ module _ (h : HashFunction) (g : Grafting) (has_pending : Bool) (d : ℕ) (proof
           a.accepted;
     }
 
-  module _ {E : Type 0} where
-    pub value_exactly : (n : ℕ) (key : FixedBytes n) (v : Vec ℕ Global) (value : List ℕ) → v.items ≡ value
-        → (root : List ℕ) (answer : Result Bool E) → IfOk answer (λ b. IsTrue b ↔ AcceptsValue root n key v)
-        → IfOk answer (λ b. IsTrue b ↔ IsAcceptedValueOf h g has_pending d proof key.bytes value root)
-    value_exactly n key v value e root answer exact =
-        exact_of_sized (λ m x. OfVector (AcceptsValue root m x) value) n key answer
-        (exact_of_vector (AcceptsValue root n key) v value e (accepted_alike root n key v) answer exact)
+  module _ {E : Type 0} (key : List ℕ) (v : Vec ℕ Global) (value : List ℕ) (e : v.items ≡ value) (root : List ℕ)
+      (answer : Result Bool E) where
+    pub value_exactly : IfOk answer (λ b. IsTrue b ↔ OfSized (Accepts root v) key)
+        → IfOk answer (λ b. IsTrue b ↔ IsAcceptedValueOf h g has_pending d proof key value root)
+    value_exactly exact =
+        exact_inside (Accepts root v) (λ n k. OfVector (λ w. Accepts root w n k) value)
+        (λ n k. (
+          λ a. record { vector = v; is = e; said = a },
+          λ of. accepted_alike root n k v of.vector (of.is ∙ sym e) of.said,
+        )) key answer exact
 
-    pub value_meaning : (n : ℕ) (key : FixedBytes n) (v : Vec ℕ Global) (value : List ℕ) → v.items ≡ value
-        → (root : List ℕ) (answer : Result Bool E) → IfOk answer (λ b. IsTrue b → TrueValue root n key v)
-        → IfOk answer (λ b. IsTrue b → IsTrueValueOf h g has_pending d proof key.bytes value root)
-    value_meaning n key v value e root answer means =
-        means_of_sized (λ m x. OfVector (TrueValue root m x) value) n key answer
-        (means_of_vector (TrueValue root n key) v value e answer means)
+    pub value_meaning : IfOk answer (λ b. IsTrue b → OfSized (IsMeant root v) key)
+        → IfOk answer (λ b. IsTrue b → IsTrueValueOf h g has_pending d proof key value root)
+    value_meaning means =
+        means_inside (IsMeant root v) (λ n k. OfVector (λ w. IsMeant root w n k) value)
+        (λ n k a. record { vector = v; is = e; said = a }) key answer means
 
-  module _ (least most : ℕ) where
-    abbrev AcceptsAbsence : List ℕ → (n : ℕ) → FixedBytes n → Type 0
-    AcceptsAbsence root n key =
-        IsAcceptedAbsence (keyed n) (λ x. x.bytes) (λ v. v.items) (ordered_at (fixed_at n) (vector_at least most))
-        (vector_at least most) h g has_pending d proof key root
+  -- ---- values of one size, in operations that are written in some way
 
-    abbrev TrueAbsence : List ℕ → (n : ℕ) → FixedBytes n → Type 0
-    TrueAbsence root n key =
-        IsTrueAbsence (keyed n) (λ x. x.bytes) (λ v. v.items) (ordered_at (fixed_at n) (vector_at least most))
-        (vector_at least most) h g has_pending d proof key root
+  module _ {E : Type 0} (written : ℕ → Written) (key : List ℕ) (m : ℕ) (v : FixedBytes m) (root : List ℕ)
+      (answer : Result Bool E) where
+    abbrev AcceptsSized : (i : ℕ) → FixedBytes i → (n : ℕ) → FixedBytes n → Type 0
+    AcceptsSized i = AcceptsValue h g has_pending d proof root (written i) (λ x. x.bytes)
 
-    pub absence_exactly : {E : Type 0} (n : ℕ) (key : FixedBytes n) (root : List ℕ) (answer : Result Bool E)
-        → IfOk answer (λ b. IsTrue b ↔ AcceptsAbsence root n key)
-        → IfOk answer (λ b. IsTrue b ↔ IsAcceptedAbsenceOf h g has_pending d proof least most key.bytes root)
-    absence_exactly n key root answer exact = exact_of_sized (AcceptsAbsence root) n key answer exact
+    abbrev IsMeantSized : (i : ℕ) → FixedBytes i → (n : ℕ) → FixedBytes n → Type 0
+    IsMeantSized i = TrueValue h g has_pending d proof root (written i) (λ x. x.bytes)
 
-    pub absence_meaning : {E : Type 0} (n : ℕ) (key : FixedBytes n) (root : List ℕ) (answer : Result Bool E)
-        → IfOk answer (λ b. IsTrue b → TrueAbsence root n key)
-        → IfOk answer (λ b. IsTrue b → IsTrueAbsenceOf h g has_pending d proof least most key.bytes root)
-    absence_meaning n key root answer means = means_of_sized (TrueAbsence root) n key answer means
+    pub sized_exactly : IfOk answer (λ b. IsTrue b ↔ OfSized (AcceptsSized m v) key)
+        → IfOk answer (λ b. IsTrue b ↔ OfSized (λ n k. OfSized (λ i x. AcceptsSized i x n k) v.bytes) key)
+    sized_exactly exact =
+        exact_inside (AcceptsSized m v) (λ n k. OfSized (λ i x. AcceptsSized i x n k) v.bytes)
+        (λ n k. (
+          λ a. record { size = m; sized = v; is = refl; said = a },
+          λ of. said_of (λ i x. AcceptsSized i x n k) m v of,
+        )) key answer exact
 
-  -- ---- values of one size
+    pub sized_meaning : IfOk answer (λ b. IsTrue b → OfSized (IsMeantSized m v) key)
+        → IfOk answer (λ b. IsTrue b → OfSized (λ n k. OfSized (λ i x. IsMeantSized i x n k) v.bytes) key)
+    sized_meaning means =
+        means_inside (IsMeantSized m v) (λ n k. OfSized (λ i x. IsMeantSized i x n k) v.bytes)
+        (λ n k a. record { size = m; sized = v; is = refl; said = a }) key answer means
 
-  module _ (n m : ℕ) (ks vs : ℕ) where
-    abbrev AcceptsFixed : List ℕ → FixedBytes n → FixedBytes m → Type 0
-    AcceptsFixed root key v =
-        IsAcceptedValue (keyed_written n m ks vs) (λ x. x.bytes) (fixed_at n) h g has_pending d proof key v root
+-- what holds of a size holds of an equal one
+pub at_size : (P : ℕ → Type 0) (size known : Size) → size ≡ known → P (number_of known) → P (number_of size)
+at_size P size known e p = subst (λ (s : Size). P (number_of s)) (sym e) p
 
-    abbrev TrueFixed : List ℕ → FixedBytes n → FixedBytes m → Type 0
-    TrueFixed root key v =
-        IsTrueValue (keyed_written n m ks vs) (λ x. x.bytes) (fixed_at n) h g has_pending d proof key v root
+-- ---- absence where values have one size, in operations that are written in some way
 
-    abbrev AcceptsFixedAbsence : List ℕ → FixedBytes n → Type 0
-    AcceptsFixedAbsence root key =
-        IsAcceptedAbsence (keyed_written n m ks vs) (λ x. x.bytes) (λ v. v.bytes) (ordered_at (fixed_at n) (fixed_at m))
-        (fixed_at m) h g has_pending d proof key root
+module _ (h : HashFunction) (g : Grafting) (has_pending : Bool) (d : ℕ) (proof root : List ℕ) (written : ℕ → Written)
+    (key : List ℕ) {E : Type 0} (answer : Result Bool E) (size known : Size) (e : size ≡ known) where
+  abbrev AcceptsMissing : ℕ → (n : ℕ) → FixedBytes n → Type 0
+  AcceptsMissing m =
+      AcceptsAbsence h g has_pending d proof root (written m) {V = FixedBytes m} (λ x. x.bytes) (λ x. x.bytes) (fixed_at m)
+      (fixed_at m)
 
-    abbrev TrueFixedAbsence : List ℕ → FixedBytes n → Type 0
-    TrueFixedAbsence root key =
-        IsTrueAbsence (keyed_written n m ks vs) (λ x. x.bytes) (λ v. v.bytes) (ordered_at (fixed_at n) (fixed_at m))
-        (fixed_at m) h g has_pending d proof key root
+  abbrev IsMissing : ℕ → (n : ℕ) → FixedBytes n → Type 0
+  IsMissing m =
+      TrueAbsence h g has_pending d proof root (written m) {V = FixedBytes m} (λ x. x.bytes) (λ x. x.bytes) (fixed_at m)
+      (fixed_at m)
 
-  module _ {E : Type 0} (n m : ℕ) where
-    pub fixed_value_exactly : (key : FixedBytes n) (v : FixedBytes m) (root : List ℕ) (answer : Result Bool E)
-        → IfOk answer (λ b. IsTrue b ↔ AcceptsFixed n m (written_size n) (written_size m) root key v)
-        → IfOk answer (λ b. IsTrue b ↔ IsAcceptedFixedValueOf h g has_pending d proof key.bytes v.bytes root)
-    fixed_value_exactly key v root answer exact =
-        exact_of_sized (λ i x. OfSized (λ j y. AcceptsFixed i j i j root x y) v.bytes) n key answer
-        (exact_of_sized (λ j y. AcceptsFixed n j n j root key y) m v answer
-        (along_sizes n m key.small v.small (λ ks vs. IfOk answer (λ b. IsTrue b ↔ AcceptsFixed n m ks vs root key v)) exact))
+  pub absence_exactly : IfOk answer (λ b. IsTrue b ↔ OfSized (AcceptsMissing (number_of known)) key)
+      → IfOk answer (λ b. IsTrue b ↔ OfSized (AcceptsMissing (number_of size)) key)
+  absence_exactly exact = at_size (λ m. IfOk answer (λ b. IsTrue b ↔ OfSized (AcceptsMissing m) key)) size known e exact
 
-    pub fixed_value_meaning : (key : FixedBytes n) (v : FixedBytes m) (root : List ℕ) (answer : Result Bool E)
-        → IfOk answer (λ b. IsTrue b → TrueFixed n m (written_size n) (written_size m) root key v)
-        → IfOk answer (λ b. IsTrue b → IsTrueFixedValueOf h g has_pending d proof key.bytes v.bytes root)
-    fixed_value_meaning key v root answer means =
-        means_of_sized (λ i x. OfSized (λ j y. TrueFixed i j i j root x y) v.bytes) n key answer
-        (means_of_sized (λ j y. TrueFixed n j n j root key y) m v answer
-        (along_sizes n m key.small v.small (λ ks vs. IfOk answer (λ b. IsTrue b → TrueFixed n m ks vs root key v)) means))
-
-    pub fixed_absence_exactly : m ≤ 2 ^ 32 → (key : FixedBytes n) (root : List ℕ) (answer : Result Bool E)
-        → IfOk answer (λ b. IsTrue b ↔ AcceptsFixedAbsence n m (written_size n) (written_size m) root key)
-        → IfOk answer (λ b. IsTrue b ↔ IsAcceptedFixedAbsenceOf h g has_pending d proof m key.bytes root)
-    fixed_absence_exactly less key root answer exact =
-        exact_of_sized (λ i x. AcceptsFixedAbsence i m i m root x) n key answer
-        (along_sizes n m key.small less (λ ks vs. IfOk answer (λ b. IsTrue b ↔ AcceptsFixedAbsence n m ks vs root key)) exact)
-
-    pub fixed_absence_meaning : m ≤ 2 ^ 32 → (key : FixedBytes n) (root : List ℕ) (answer : Result Bool E)
-        → IfOk answer (λ b. IsTrue b → TrueFixedAbsence n m (written_size n) (written_size m) root key)
-        → IfOk answer (λ b. IsTrue b → IsTrueFixedAbsenceOf h g has_pending d proof m key.bytes root)
-    fixed_absence_meaning less key root answer means =
-        means_of_sized (λ i x. TrueFixedAbsence i m i m root x) n key answer
-        (along_sizes n m key.small less (λ ks vs. IfOk answer (λ b. IsTrue b → TrueFixedAbsence n m ks vs root key)) means)
+  pub absence_meaning : IfOk answer (λ b. IsTrue b → OfSized (IsMissing (number_of known)) key)
+      → IfOk answer (λ b. IsTrue b → OfSized (IsMissing (number_of size)) key)
+  absence_meaning means = at_size (λ m. IfOk answer (λ b. IsTrue b → OfSized (IsMissing m) key)) size known e means

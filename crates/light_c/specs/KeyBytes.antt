@@ -24,6 +24,10 @@ abbrev pub keyed_fixed : (n m : ℕ) → Keyed (FixedBytes n) (FixedBytes m)
 keyed_fixed n m =
     keyed_by (λ k. k.bytes) (λ v. v.bytes) (fixed_operation_text n (n + m + n) m) (λ a b. slice_cmp nat_cmp a.bytes b.bytes)
 
+-- the same with values of m bytes, in operations that are not filled up
+abbrev pub keyed_sized : (n m : ℕ) → Keyed (FixedBytes n) (FixedBytes m)
+keyed_sized n m = keyed_by (λ k. k.bytes) (λ v. v.bytes) variable_operation_text (λ a b. slice_cmp nat_cmp a.bytes b.bytes)
+
 -- What is said of the byte string of one size with these bytes, of which there is one.
 pub record OfSized (Said : (n : ℕ) → FixedBytes n → Type 0) (bytes : List ℕ) : Type 0 where
   pub size : ℕ
@@ -79,4 +83,25 @@ module _ (h : HashFunction) (g : Grafting) (has_pending : Bool) (d : ℕ) (proof
   abbrev pub IsTrueFixedAbsenceOf : ℕ → List ℕ → List ℕ → Type 0
   IsTrueFixedAbsenceOf m key root =
       OfSized (λ n k. IsTrueAbsence (keyed_fixed n m) (λ x. x.bytes) (λ v. v.bytes) (ordered_at (fixed_at n) (fixed_at m))
+      (fixed_at m) h g has_pending d proof k root) key
+
+  -- the same four where the operations are not filled up
+  abbrev pub IsAcceptedSizedValueOf : List ℕ → List ℕ → List ℕ → Type 0
+  IsAcceptedSizedValueOf key value root =
+      OfSized (λ n k. OfSized (λ m v. IsAcceptedValue (keyed_sized n m) (λ x. x.bytes) (fixed_at n) h g has_pending d proof
+      k v root) value) key
+
+  abbrev pub IsTrueSizedValueOf : List ℕ → List ℕ → List ℕ → Type 0
+  IsTrueSizedValueOf key value root =
+      OfSized (λ n k. OfSized (λ m v. IsTrueValue (keyed_sized n m) (λ x. x.bytes) (fixed_at n) h g has_pending d proof
+      k v root) value) key
+
+  abbrev pub IsAcceptedSizedAbsenceOf : ℕ → List ℕ → List ℕ → Type 0
+  IsAcceptedSizedAbsenceOf m key root =
+      OfSized (λ n k. IsAcceptedAbsence (keyed_sized n m) (λ x. x.bytes) (λ v. v.bytes) (ordered_at (fixed_at n) (fixed_at m))
+      (fixed_at m) h g has_pending d proof k root) key
+
+  abbrev pub IsTrueSizedAbsenceOf : ℕ → List ℕ → List ℕ → Type 0
+  IsTrueSizedAbsenceOf m key root =
+      OfSized (λ n k. IsTrueAbsence (keyed_sized n m) (λ x. x.bytes) (λ v. v.bytes) (ordered_at (fixed_at n) (fixed_at m))
       (fixed_at m) h g has_pending d proof k root) key

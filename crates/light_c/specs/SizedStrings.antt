@@ -1,6 +1,8 @@
 -- Byte strings of the sizes that keys, and values of one size, have.
 use Rattle.std.specs.Prelude.{◌==◌, ◌||◌, ℕ, ℤ, Bool, List, length, Option, Some, None, if◌then◌else◌}
 use Rattle.light_c.specs.Answers.{other_key, other_value}
+use Rattle.light_c.specs.declared.sized.Size.{Size}
+use Rattle.light_c.specs.declared.sized.Size.TheVariants.{Four, Eight, Twenty, ThirtyTwo}
 use Rattle.light_c.specs.declared.sized.SizedBytes.{SizedBytes}
 use Rattle.light_c.specs.declared.sized.SizedBytes.TheVariants.{Of4, Of8, Of20, Of32}
 
@@ -21,3 +23,10 @@ bytes_of (Of4 sized) = sized.bytes
 bytes_of (Of8 sized) = sized.bytes
 bytes_of (Of20 sized) = sized.bytes
 bytes_of (Of32 sized) = sized.bytes
+
+-- a size in bytes
+abbrev pub number_of : Size → ℕ
+number_of Four = 4
+number_of Eight = 8
+number_of Twenty = 20
+number_of ThirtyTwo = 32

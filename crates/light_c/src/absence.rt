@@ -8,14 +8,12 @@ ghost use Rattle.light_c.specs.Answers.{IsTold, Says, no, or_then, yes};
 ghost use Rattle.light_c.specs.KeyBytes.{IsAcceptedAbsenceOf, IsTrueAbsenceOf};
 ghost use Rattle.light_c.specs.SizedStrings.{bytes_of, key_refusal};
 
-use crate::agreed::{MMR, Root, trusted};
+use crate::agreed::{Root, trusted};
 use crate::answer::{OTHER_KEY, told};
 use crate::sized::{SizedBytes, of_bytes};
-use commonware_storage::codec::{FixedBytes, RangeCfg};
+use crate::variable::absence_of_sized;
+use commonware_storage::codec::RangeCfg;
 use commonware_storage::digest::{Hasher, Sha256, Sha512};
-use commonware_storage::light::check_absence;
-use commonware_storage::merkle::{Graftable, mmb, mmr};
-use commonware_storage::qmdb::any::VariableEncoding;
 use std::alloc::Global;
 
 /// Whether the key with the bytes `key` has no value in the snapshot with the canonical root `root`. `proof` is an exclusion
@@ -86,72 +84,7 @@ fn of_key<H: Hasher>(
         (H.Digest.text root.now) }
     ensures refused { ¬ IsChunkSize chunk_size → result ≡ no }
 {
-    match key {
-        SizedBytes::Of4(key) => {
-            of_family::<H, 4>(alloc, family, chunk_size, lengths, proof, key, root)
-        }
-        SizedBytes::Of8(key) => {
-            of_family::<H, 8>(alloc, family, chunk_size, lengths, proof, key, root)
-        }
-        SizedBytes::Of20(key) => {
-            of_family::<H, 20>(alloc, family, chunk_size, lengths, proof, key, root)
-        }
-        SizedBytes::Of32(key) => {
-            of_family::<H, 32>(alloc, family, chunk_size, lengths, proof, key, root)
-        }
-    }
-}
-
-/// The same over a size of keys.
-fn of_family<H: Hasher, const N: usize>(
-    alloc: Global,
-    family: u32,
-    chunk_size: usize,
-    lengths: RangeCfg,
-    proof: &[u8],
-    key: &FixedBytes<N>,
-    root: &H::Digest,
-) -> i32
-    ensures exact { Says result (IsAcceptedAbsenceOf H.hash_of
-        (grafting_of (shape_of family) chunk_size) (pending_of family) H.Digest.size proof.now
-        lengths.min lengths.max key.now.bytes (H.Digest.text root.now)) }
-    ensures meaning { (H.Digest.size ≡ 32) ⊎ (H.Digest.size ≡ 64) → result ≡ yes
-        → IsTrueAbsenceOf H.hash_of (grafting_of (shape_of family) chunk_size)
-        (pending_of family) H.Digest.size proof.now lengths.min lengths.max key.now.bytes
-        (H.Digest.text root.now) }
-    ensures refused { ¬ IsChunkSize chunk_size → result ≡ no }
-{
-    if family == MMR {
-        checked::<mmr::Family, H, N>(alloc, chunk_size, lengths, proof, key, root)
-    } else {
-        checked::<mmb::Family, H, N>(alloc, chunk_size, lengths, proof, key, root)
-    }
-}
-
-/// The same over a family.
-fn checked<F: Graftable, H: Hasher, const N: usize>(
-    alloc: Global,
-    chunk_size: usize,
-    lengths: RangeCfg,
-    proof: &[u8],
-    key: &FixedBytes<N>,
-    root: &H::Digest,
-) -> i32
-    ensures exact { Says result (IsAcceptedAbsenceOf H.hash_of (grafting_of F.shape chunk_size)
-        F.has_pending H.Digest.size proof.now lengths.min lengths.max key.now.bytes
-        (H.Digest.text root.now)) }
-    ensures meaning { (H.Digest.size ≡ 32) ⊎ (H.Digest.size ≡ 64) → result ≡ yes
-        → IsTrueAbsenceOf H.hash_of (grafting_of F.shape chunk_size) F.has_pending H.Digest.size
-        proof.now lengths.min lengths.max key.now.bytes (H.Digest.text root.now) }
-    ensures refused { ¬ IsChunkSize chunk_size → result ≡ no }
-{
     let value = (lengths, ());
-    told(check_absence::<F, H, FixedBytes<N>, VariableEncoding<Vec<u8>>>(
-        alloc,
-        proof,
-        chunk_size,
-        &(((), value), value),
-        key,
-        root,
-    ))
+    let cfgs = &(((), value), value);
+    told(absence_of_sized::<H, Vec<u8>>(alloc, family, chunk_size, proof, cfgs, key, root))
 }

@@ -26,7 +26,7 @@ pub const OTHER_HASH: i32 = -4;
 /// The lengths of a list of byte strings do not add up to its bytes.
 pub const OTHER_LENGTHS: i32 = -5;
 
-/// The key has a length that no key has: keys have 4, 8, 20 or 32 bytes.
+/// The key has a length that no key of one size has: these have 4, 8, 20 or 32 bytes.
 pub const OTHER_KEY: i32 = -6;
 
 /// The value, or its size, is one that no value of one size has: these have 4, 8, 20 or 32 bytes.

@@ -1,21 +1,20 @@
 //! A check that a key has no value, where all values have one size.
 
-ghost use Rattle.std.specs.Prelude.{◌≡◌, ◌⊎◌, ◌≤◌, None};
+ghost use Rattle.std.specs.Prelude.{◌≡◌, ◌↔◌, ◌⊎◌, IfOk, IsTrue, None, Ok, false};
 ghost use Rattle.storage_bitmap.specs.Chunks.{IsChunkSize};
 ghost use Rattle.storage_current.specs.Snapshots.{grafting_of};
 ghost use Rattle.light_c.specs.Agreed.{function_of, pending_of, refusal, shape_of, size_of};
 ghost use Rattle.light_c.specs.Answers.{IsTold, Says, no, or_then, yes};
 ghost use Rattle.light_c.specs.KeyBytes.{IsAcceptedFixedAbsenceOf, IsTrueFixedAbsenceOf};
-ghost use Rattle.light_c.specs.SizedStrings.{bytes_of, key_refusal, value_refusal};
+ghost use Rattle.light_c.specs.SizedStrings.{bytes_of, key_refusal, number_of, value_refusal};
 
-use crate::agreed::{MMR, Root, trusted};
+use crate::agreed::{Root, trusted};
 use crate::answer::{OTHER_KEY, OTHER_VALUE, told};
-use crate::sized::{SizedBytes, of_bytes};
+use crate::fixed::absence_of_sized;
+use crate::sized::{Size, SizedBytes, of_bytes, size_of};
+use commonware_storage::NoMemory;
 use commonware_storage::codec::FixedBytes;
 use commonware_storage::digest::{Hasher, Sha256, Sha512};
-use commonware_storage::light::check_absence;
-use commonware_storage::merkle::{Graftable, mmb, mmr};
-use commonware_storage::qmdb::any::FixedEncoding;
 use std::alloc::Global;
 
 /// Whether the key with the bytes `key` has no value in the snapshot with the canonical root `root`. `proof` is an exclusion
@@ -53,12 +52,15 @@ pub extern "C" fn gawerunoa_check_fixed_absence(
     let Some(key) = of_bytes(key) else {
         return OTHER_KEY;
     };
+    let Some(size) = size_of(value_size) else {
+        return OTHER_VALUE;
+    };
     match root {
         Root::Of256(root) => {
-            of_key::<Sha256>(alloc, family, chunk_size, value_size, proof, &key, &root)
+            of_key::<Sha256>(alloc, family, chunk_size, size, proof, &key, &root)
         }
         Root::Of512(root) => {
-            of_key::<Sha512>(alloc, family, chunk_size, value_size, proof, &key, &root)
+            of_key::<Sha512>(alloc, family, chunk_size, size, proof, &key, &root)
         }
     }
 }
@@ -68,114 +70,54 @@ fn of_key<H: Hasher>(
     alloc: Global,
     family: u32,
     chunk_size: usize,
-    value_size: usize,
+    size: Size,
     proof: &[u8],
     key: &SizedBytes,
     root: &H::Digest,
 ) -> i32
-    ensures exact { IsTold (value_refusal value_size) result (Says result (IsAcceptedFixedAbsenceOf
-        H.hash_of (grafting_of (shape_of family) chunk_size) (pending_of family) H.Digest.size
-        proof.now value_size (bytes_of key.now) (H.Digest.text root.now))) }
-    ensures meaning { value_refusal value_size ≡ None → (H.Digest.size ≡ 32) ⊎ (H.Digest.size ≡ 64) → result ≡ yes
-        → IsTrueFixedAbsenceOf H.hash_of (grafting_of (shape_of family) chunk_size)
-        (pending_of family) H.Digest.size proof.now value_size (bytes_of key.now)
-        (H.Digest.text root.now) }
-    ensures refused { value_refusal value_size ≡ None → ¬ IsChunkSize chunk_size → result ≡ no }
-{
-    match key {
-        SizedBytes::Of4(key) => {
-            of_size::<H, 4>(alloc, family, chunk_size, value_size, proof, key, root)
-        }
-        SizedBytes::Of8(key) => {
-            of_size::<H, 8>(alloc, family, chunk_size, value_size, proof, key, root)
-        }
-        SizedBytes::Of20(key) => {
-            of_size::<H, 20>(alloc, family, chunk_size, value_size, proof, key, root)
-        }
-        SizedBytes::Of32(key) => {
-            of_size::<H, 32>(alloc, family, chunk_size, value_size, proof, key, root)
-        }
-    }
-}
-
-/// The same over a size of keys.
-fn of_size<H: Hasher, const N: usize>(
-    alloc: Global,
-    family: u32,
-    chunk_size: usize,
-    value_size: usize,
-    proof: &[u8],
-    key: &FixedBytes<N>,
-    root: &H::Digest,
-) -> i32
-    ensures exact { IsTold (value_refusal value_size) result (Says result (IsAcceptedFixedAbsenceOf
-        H.hash_of (grafting_of (shape_of family) chunk_size) (pending_of family) H.Digest.size
-        proof.now value_size key.now.bytes (H.Digest.text root.now))) }
-    ensures meaning { value_refusal value_size ≡ None → (H.Digest.size ≡ 32) ⊎ (H.Digest.size ≡ 64) → result ≡ yes
-        → IsTrueFixedAbsenceOf H.hash_of (grafting_of (shape_of family) chunk_size)
-        (pending_of family) H.Digest.size proof.now value_size key.now.bytes
-        (H.Digest.text root.now) }
-    ensures refused { value_refusal value_size ≡ None → ¬ IsChunkSize chunk_size → result ≡ no }
-{
-    match value_size {
-        4 => of_family::<H, N, 4>(alloc, family, chunk_size, proof, key, root),
-        8 => of_family::<H, N, 8>(alloc, family, chunk_size, proof, key, root),
-        20 => of_family::<H, N, 20>(alloc, family, chunk_size, proof, key, root),
-        32 => of_family::<H, N, 32>(alloc, family, chunk_size, proof, key, root),
-        _ => OTHER_VALUE,
-    }
-}
-
-/// The same over a size of values.
-fn of_family<H: Hasher, const N: usize, const M: usize>(
-    alloc: Global,
-    family: u32,
-    chunk_size: usize,
-    proof: &[u8],
-    key: &FixedBytes<N>,
-    root: &H::Digest,
-) -> i32
-    requires small { M ≤ 64 }
-    ensures exact { Says result (IsAcceptedFixedAbsenceOf
-        H.hash_of (grafting_of (shape_of family) chunk_size) (pending_of family) H.Digest.size
-        proof.now M key.now.bytes (H.Digest.text root.now)) }
+    ensures exact { Says result (IsAcceptedFixedAbsenceOf H.hash_of
+        (grafting_of (shape_of family) chunk_size) (pending_of family) H.Digest.size proof.now
+        (number_of size) (bytes_of key.now) (H.Digest.text root.now)) }
     ensures meaning { (H.Digest.size ≡ 32) ⊎ (H.Digest.size ≡ 64) → result ≡ yes
         → IsTrueFixedAbsenceOf H.hash_of (grafting_of (shape_of family) chunk_size)
-        (pending_of family) H.Digest.size proof.now M key.now.bytes
+        (pending_of family) H.Digest.size proof.now (number_of size) (bytes_of key.now)
         (H.Digest.text root.now) }
     ensures refused { ¬ IsChunkSize chunk_size → result ≡ no }
 {
-    if family == MMR {
-        checked::<mmr::Family, H, N, M>(alloc, chunk_size, proof, key, root)
-    } else {
-        checked::<mmb::Family, H, N, M>(alloc, chunk_size, proof, key, root)
-    }
+    told(of_size::<H>(alloc, family, chunk_size, size, proof, key, root))
 }
 
-/// The same over a family.
-fn checked<F: Graftable, H: Hasher, const N: usize, const M: usize>(
+/// The same, before its answer is told.
+fn of_size<H: Hasher>(
     alloc: Global,
+    family: u32,
     chunk_size: usize,
+    size: Size,
     proof: &[u8],
-    key: &FixedBytes<N>,
+    key: &SizedBytes,
     root: &H::Digest,
-) -> i32
-    requires small { M ≤ 64 }
-    ensures exact { Says result (IsAcceptedFixedAbsenceOf
-        H.hash_of (grafting_of F.shape chunk_size) F.has_pending H.Digest.size
-        proof.now M key.now.bytes (H.Digest.text root.now)) }
-    ensures meaning { (H.Digest.size ≡ 32) ⊎ (H.Digest.size ≡ 64) → result ≡ yes
-        → IsTrueFixedAbsenceOf H.hash_of (grafting_of F.shape chunk_size)
-        F.has_pending H.Digest.size proof.now M key.now.bytes
-        (H.Digest.text root.now) }
-    ensures refused { ¬ IsChunkSize chunk_size → result ≡ no }
+) -> Result<bool, NoMemory>
+    ensures refused { ¬ IsChunkSize chunk_size → result ≡ Ok false }
+    ensures exact { IfOk result (λ yes. IsTrue yes ↔ IsAcceptedFixedAbsenceOf H.hash_of
+        (grafting_of (shape_of family) chunk_size) (pending_of family) H.Digest.size proof.now
+        (number_of size) (bytes_of key.now) (H.Digest.text root.now)) }
+    ensures meaning { (H.Digest.size ≡ 32) ⊎ (H.Digest.size ≡ 64)
+        → IfOk result (λ yes. IsTrue yes → IsTrueFixedAbsenceOf H.hash_of
+        (grafting_of (shape_of family) chunk_size) (pending_of family) H.Digest.size proof.now
+        (number_of size) (bytes_of key.now) (H.Digest.text root.now)) }
 {
-    told(check_absence::<F, H, FixedBytes<N>, FixedEncoding<FixedBytes<M>>>(
-        alloc,
-        proof,
-        chunk_size,
-        &((), ()),
-        key,
-        root,
-    ))
+    match size {
+        Size::Four => absence_of_sized::<H, FixedBytes<4>>(
+            alloc, family, chunk_size, proof, key, root,
+        ),
+        Size::Eight => absence_of_sized::<H, FixedBytes<8>>(
+            alloc, family, chunk_size, proof, key, root,
+        ),
+        Size::Twenty => absence_of_sized::<H, FixedBytes<20>>(
+            alloc, family, chunk_size, proof, key, root,
+        ),
+        Size::ThirtyTwo => absence_of_sized::<H, FixedBytes<32>>(
+            alloc, family, chunk_size, proof, key, root,
+        ),
+    }
 }

@@ -1,6 +1,6 @@
 //! A check of the value of a key, where all values have one size.
 
-ghost use Rattle.std.specs.Prelude.{◌≡◌, ◌⊎◌, None, length};
+ghost use Rattle.std.specs.Prelude.{◌≡◌, ◌↔◌, ◌⊎◌, IfOk, IsTrue, None, Ok, false, length};
 ghost use Rattle.storage_bitmap.specs.Chunks.{IsChunkSize};
 ghost use Rattle.storage_current.specs.Snapshots.{grafting_of};
 ghost use Rattle.light_c.specs.Agreed.{function_of, pending_of, refusal, shape_of, size_of};
@@ -8,14 +8,13 @@ ghost use Rattle.light_c.specs.Answers.{IsTold, Says, no, or_then, yes};
 ghost use Rattle.light_c.specs.KeyBytes.{IsAcceptedFixedValueOf, IsTrueFixedValueOf};
 ghost use Rattle.light_c.specs.SizedStrings.{bytes_of, key_refusal, value_refusal};
 
-use crate::agreed::{MMR, Root, trusted};
+use crate::agreed::{Root, trusted};
 use crate::answer::{OTHER_KEY, OTHER_VALUE, told};
+use crate::fixed::value_of_sized;
 use crate::sized::{SizedBytes, of_bytes};
+use commonware_storage::NoMemory;
 use commonware_storage::codec::FixedBytes;
 use commonware_storage::digest::{Hasher, Sha256, Sha512};
-use commonware_storage::light::check_value;
-use commonware_storage::merkle::{Graftable, mmb, mmr};
-use commonware_storage::qmdb::any::FixedEncoding;
 use std::alloc::Global;
 
 /// Whether the key with the bytes `key` has the value with the bytes `value` in the snapshot with the canonical root `root`.
@@ -85,108 +84,40 @@ fn of_key<H: Hasher>(
         (H.Digest.text root.now) }
     ensures refused { ¬ IsChunkSize chunk_size → result ≡ no }
 {
-    match key {
-        SizedBytes::Of4(key) => {
-            of_value::<H, 4>(alloc, family, chunk_size, proof, key, value, root)
-        }
-        SizedBytes::Of8(key) => {
-            of_value::<H, 8>(alloc, family, chunk_size, proof, key, value, root)
-        }
-        SizedBytes::Of20(key) => {
-            of_value::<H, 20>(alloc, family, chunk_size, proof, key, value, root)
-        }
-        SizedBytes::Of32(key) => {
-            of_value::<H, 32>(alloc, family, chunk_size, proof, key, value, root)
-        }
-    }
+    told(of_value::<H>(alloc, family, chunk_size, proof, key, value, root))
 }
 
-/// The same over a size of keys.
-fn of_value<H: Hasher, const N: usize>(
+/// The same, before its answer is told.
+fn of_value<H: Hasher>(
     alloc: Global,
     family: u32,
     chunk_size: usize,
     proof: &[u8],
-    key: &FixedBytes<N>,
+    key: &SizedBytes,
     value: &SizedBytes,
     root: &H::Digest,
-) -> i32
-    ensures exact { Says result (IsAcceptedFixedValueOf H.hash_of
+) -> Result<bool, NoMemory>
+    ensures refused { ¬ IsChunkSize chunk_size → result ≡ Ok false }
+    ensures exact { IfOk result (λ yes. IsTrue yes ↔ IsAcceptedFixedValueOf H.hash_of
         (grafting_of (shape_of family) chunk_size) (pending_of family) H.Digest.size proof.now
-        key.now.bytes (bytes_of value.now) (H.Digest.text root.now)) }
-    ensures meaning { (H.Digest.size ≡ 32) ⊎ (H.Digest.size ≡ 64) → result ≡ yes
-        → IsTrueFixedValueOf H.hash_of (grafting_of (shape_of family) chunk_size)
-        (pending_of family) H.Digest.size proof.now key.now.bytes (bytes_of value.now)
-        (H.Digest.text root.now) }
-    ensures refused { ¬ IsChunkSize chunk_size → result ≡ no }
+        (bytes_of key.now) (bytes_of value.now) (H.Digest.text root.now)) }
+    ensures meaning { (H.Digest.size ≡ 32) ⊎ (H.Digest.size ≡ 64)
+        → IfOk result (λ yes. IsTrue yes → IsTrueFixedValueOf H.hash_of
+        (grafting_of (shape_of family) chunk_size) (pending_of family) H.Digest.size proof.now
+        (bytes_of key.now) (bytes_of value.now) (H.Digest.text root.now)) }
 {
     match value {
         SizedBytes::Of4(value) => {
-            of_family::<H, N, 4>(alloc, family, chunk_size, proof, key, value, root)
+            value_of_sized::<H, FixedBytes<4>>(alloc, family, chunk_size, proof, key, *value, root)
         }
         SizedBytes::Of8(value) => {
-            of_family::<H, N, 8>(alloc, family, chunk_size, proof, key, value, root)
+            value_of_sized::<H, FixedBytes<8>>(alloc, family, chunk_size, proof, key, *value, root)
         }
         SizedBytes::Of20(value) => {
-            of_family::<H, N, 20>(alloc, family, chunk_size, proof, key, value, root)
+            value_of_sized::<H, FixedBytes<20>>(alloc, family, chunk_size, proof, key, *value, root)
         }
         SizedBytes::Of32(value) => {
-            of_family::<H, N, 32>(alloc, family, chunk_size, proof, key, value, root)
+            value_of_sized::<H, FixedBytes<32>>(alloc, family, chunk_size, proof, key, *value, root)
         }
     }
-}
-
-/// The same over a size of values.
-fn of_family<H: Hasher, const N: usize, const M: usize>(
-    alloc: Global,
-    family: u32,
-    chunk_size: usize,
-    proof: &[u8],
-    key: &FixedBytes<N>,
-    value: &FixedBytes<M>,
-    root: &H::Digest,
-) -> i32
-    ensures exact { Says result (IsAcceptedFixedValueOf H.hash_of
-        (grafting_of (shape_of family) chunk_size) (pending_of family) H.Digest.size proof.now
-        key.now.bytes value.now.bytes (H.Digest.text root.now)) }
-    ensures meaning { (H.Digest.size ≡ 32) ⊎ (H.Digest.size ≡ 64) → result ≡ yes
-        → IsTrueFixedValueOf H.hash_of (grafting_of (shape_of family) chunk_size)
-        (pending_of family) H.Digest.size proof.now key.now.bytes value.now.bytes
-        (H.Digest.text root.now) }
-    ensures refused { ¬ IsChunkSize chunk_size → result ≡ no }
-{
-    if family == MMR {
-        checked::<mmr::Family, H, N, M>(alloc, chunk_size, proof, key, value, root)
-    } else {
-        checked::<mmb::Family, H, N, M>(alloc, chunk_size, proof, key, value, root)
-    }
-}
-
-/// The same over a family.
-fn checked<F: Graftable, H: Hasher, const N: usize, const M: usize>(
-    alloc: Global,
-    chunk_size: usize,
-    proof: &[u8],
-    key: &FixedBytes<N>,
-    value: &FixedBytes<M>,
-    root: &H::Digest,
-) -> i32
-    ensures exact { Says result (IsAcceptedFixedValueOf H.hash_of
-        (grafting_of F.shape chunk_size) F.has_pending H.Digest.size proof.now
-        key.now.bytes value.now.bytes (H.Digest.text root.now)) }
-    ensures meaning { (H.Digest.size ≡ 32) ⊎ (H.Digest.size ≡ 64) → result ≡ yes
-        → IsTrueFixedValueOf H.hash_of (grafting_of F.shape chunk_size)
-        F.has_pending H.Digest.size proof.now key.now.bytes value.now.bytes
-        (H.Digest.text root.now) }
-    ensures refused { ¬ IsChunkSize chunk_size → result ≡ no }
-{
-    told(check_value::<F, H, FixedBytes<N>, FixedEncoding<FixedBytes<M>>>(
-        alloc,
-        proof,
-        chunk_size,
-        &(),
-        *key,
-        *value,
-        root,
-    ))
 }

@@ -1,7 +1,7 @@
 //! Byte strings of the sizes that keys, and values of one size, have.
 
 ghost use Rattle.std.specs.Prelude.{◌≡◌, MatchOption, false, length, true};
-ghost use Rattle.light_c.specs.SizedStrings.{bytes_of, is_size};
+ghost use Rattle.light_c.specs.SizedStrings.{bytes_of, is_size, number_of};
 
 use commonware_storage::codec::FixedBytes;
 
@@ -36,5 +36,35 @@ pub fn of_bytes(bytes: &[u8]) -> Option<SizedBytes>
         Some(SizedBytes::Of32(FixedBytes { bytes }))
     } else {
         None
+    }
+}
+
+/// A size that values of one size have.
+#[derive(Clone, Copy, Drop)]
+pub enum Size {
+    /// 4 bytes.
+    Four,
+
+    /// 8 bytes.
+    Eight,
+
+    /// 20 bytes.
+    Twenty,
+
+    /// 32 bytes.
+    ThirtyTwo,
+}
+
+/// The size of `bytes` bytes; none where that is no such size.
+pub fn size_of(bytes: usize) -> Option<Size>
+    ensures { MatchOption result (is_size bytes ≡ false)
+        (λ size. (is_size bytes ≡ true) × (number_of size ≡ bytes)) }
+{
+    match bytes {
+        4 => Some(Size::Four),
+        8 => Some(Size::Eight),
+        20 => Some(Size::Twenty),
+        32 => Some(Size::ThirtyTwo),
+        _ => None,
     }
 }

@@ -1,20 +1,18 @@
 //! A check of the value of a key.
 
-ghost use Rattle.std.specs.Prelude.{◌≡◌, ◌⊎◌, None};
+ghost use Rattle.std.specs.Prelude.{◌≡◌, ◌↔◌, ◌⊎◌, IfOk, IsTrue, None};
 ghost use Rattle.storage_current.specs.Snapshots.{grafting_of};
 ghost use Rattle.light_c.specs.Agreed.{function_of, pending_of, refusal, shape_of, size_of};
 ghost use Rattle.light_c.specs.Answers.{IsTold, Says, or_then, yes};
 ghost use Rattle.light_c.specs.KeyBytes.{IsAcceptedValueOf, IsTrueValueOf};
 ghost use Rattle.light_c.specs.SizedStrings.{bytes_of, key_refusal};
 
-use crate::agreed::{MMR, Root, trusted};
-use crate::answer::{NO_MEMORY, OTHER_KEY, told};
+use crate::agreed::{Root, trusted};
+use crate::answer::{OTHER_KEY, told};
 use crate::sized::{SizedBytes, of_bytes};
-use commonware_storage::codec::FixedBytes;
+use crate::variable::value_of_sized;
+use commonware_storage::NoMemory;
 use commonware_storage::digest::{Hasher, Sha256, Sha512};
-use commonware_storage::light::check_value;
-use commonware_storage::merkle::{Graftable, mmb, mmr};
-use commonware_storage::qmdb::any::VariableEncoding;
 use std::alloc::Global;
 
 /// Whether the key with the bytes `key` has the value with the bytes `value` in the snapshot with the canonical root `root`.
@@ -76,71 +74,27 @@ fn of_key<H: Hasher>(
         H.hash_of (grafting_of (shape_of family) chunk_size) (pending_of family) H.Digest.size
         proof.now (bytes_of key.now) value.now (H.Digest.text root.now) }
 {
-    match key {
-        SizedBytes::Of4(key) => {
-            of_family::<H, 4>(alloc, family, chunk_size, proof, key, value, root)
-        }
-        SizedBytes::Of8(key) => {
-            of_family::<H, 8>(alloc, family, chunk_size, proof, key, value, root)
-        }
-        SizedBytes::Of20(key) => {
-            of_family::<H, 20>(alloc, family, chunk_size, proof, key, value, root)
-        }
-        SizedBytes::Of32(key) => {
-            of_family::<H, 32>(alloc, family, chunk_size, proof, key, value, root)
-        }
-    }
+    told(of_copy::<H>(alloc, family, chunk_size, proof, key, value, root))
 }
 
-/// The same over a size of keys.
-fn of_family<H: Hasher, const N: usize>(
+/// The same of a copy of the value, before its answer is told.
+fn of_copy<H: Hasher>(
     alloc: Global,
     family: u32,
     chunk_size: usize,
     proof: &[u8],
-    key: &FixedBytes<N>,
+    key: &SizedBytes,
     value: &[u8],
     root: &H::Digest,
-) -> i32
-    ensures exact { Says result (IsAcceptedValueOf H.hash_of
+) -> Result<bool, NoMemory>
+    ensures exact { IfOk result (λ yes. IsTrue yes ↔ IsAcceptedValueOf H.hash_of
         (grafting_of (shape_of family) chunk_size) (pending_of family) H.Digest.size proof.now
-        key.now.bytes value.now (H.Digest.text root.now)) }
-    ensures meaning { (H.Digest.size ≡ 32) ⊎ (H.Digest.size ≡ 64) → result ≡ yes → IsTrueValueOf
-        H.hash_of (grafting_of (shape_of family) chunk_size) (pending_of family) H.Digest.size
-        proof.now key.now.bytes value.now (H.Digest.text root.now) }
+        (bytes_of key.now) value.now (H.Digest.text root.now)) }
+    ensures meaning { (H.Digest.size ≡ 32) ⊎ (H.Digest.size ≡ 64)
+        → IfOk result (λ yes. IsTrue yes → IsTrueValueOf H.hash_of
+        (grafting_of (shape_of family) chunk_size) (pending_of family) H.Digest.size proof.now
+        (bytes_of key.now) value.now (H.Digest.text root.now)) }
 {
-    if family == MMR {
-        checked::<mmr::Family, H, N>(alloc, chunk_size, proof, key, value, root)
-    } else {
-        checked::<mmb::Family, H, N>(alloc, chunk_size, proof, key, value, root)
-    }
-}
-
-/// The same over a family.
-fn checked<F: Graftable, H: Hasher, const N: usize>(
-    alloc: Global,
-    chunk_size: usize,
-    proof: &[u8],
-    key: &FixedBytes<N>,
-    value: &[u8],
-    root: &H::Digest,
-) -> i32
-    ensures exact { Says result (IsAcceptedValueOf H.hash_of (grafting_of F.shape chunk_size)
-        F.has_pending H.Digest.size proof.now key.now.bytes value.now (H.Digest.text root.now)) }
-    ensures meaning { (H.Digest.size ≡ 32) ⊎ (H.Digest.size ≡ 64) → result ≡ yes → IsTrueValueOf
-        H.hash_of (grafting_of F.shape chunk_size) F.has_pending H.Digest.size proof.now
-        key.now.bytes value.now (H.Digest.text root.now) }
-{
-    let Ok(value) = Vec::from_slice(alloc, value) else {
-        return NO_MEMORY;
-    };
-    told(check_value::<F, H, FixedBytes<N>, VariableEncoding<Vec<u8>>>(
-        alloc,
-        proof,
-        chunk_size,
-        &(),
-        *key,
-        value,
-        root,
-    ))
+    let value = Vec::from_slice(alloc, value)?;
+    value_of_sized::<H, Vec<u8>>(alloc, family, chunk_size, proof, key, value, root)
 }

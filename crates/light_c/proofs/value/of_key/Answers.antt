@@ -1,22 +1,8 @@
-use Rattle.light_c.proofs.Told.{means_again}
+use Rattle.light_c.proofs.Told.{told_means, told_says}
 use Rattle.light_c.proofs.value.of_key.Goals as goal
 
-pub returns-in-Of4-clause-meaning : goal.returns-in-Of4-clause-meaning
-returns-in-Of4-clause-meaning g c = λ wide.
-    rw c.in-Of4.is
-    (means_again c.of_family.result _ _ c.of_family.ensures.exact (c.of_family.ensures.meaning wide))
+pub returns-clause-exact : goal.returns-clause-exact
+returns-clause-exact g c = told_says c.of_copy.result c.told.result _ c.told.ensures c.of_copy.ensures.exact
 
-pub returns-in-Of8-clause-meaning : goal.returns-in-Of8-clause-meaning
-returns-in-Of8-clause-meaning g c = λ wide.
-    rw c.in-Of8.is
-    (means_again c.of_family-in-Of8.result _ _ c.of_family-in-Of8.ensures.exact (c.of_family-in-Of8.ensures.meaning wide))
-
-pub returns-in-Of20-clause-meaning : goal.returns-in-Of20-clause-meaning
-returns-in-Of20-clause-meaning g c = λ wide.
-    rw c.in-Of20.is
-    (means_again c.of_family-in-Of20.result _ _ c.of_family-in-Of20.ensures.exact (c.of_family-in-Of20.ensures.meaning wide))
-
-pub returns-in-Of32-clause-meaning : goal.returns-in-Of32-clause-meaning
-returns-in-Of32-clause-meaning g c = λ wide.
-    rw c.in-Of32.is
-    (means_again c.of_family-in-Of32.result _ _ c.of_family-in-Of32.ensures.exact (c.of_family-in-Of32.ensures.meaning wide))
+pub returns-clause-meaning : goal.returns-clause-meaning
+returns-clause-meaning g c = λ wide. told_means c.of_copy.result c.told.result _ c.told.ensures (c.of_copy.ensures.meaning wide)

@@ -1,0 +1,10 @@
+use Rattle.std.proofs.lemmas.Bool.{ne_eqb}
+use Rattle.light_c.proofs.variable.absence_of.Goals as goal
+
+pub returns-else-family-eq-MMR-clause-exact : goal.returns-else-family-eq-MMR-clause-exact
+returns-else-family-eq-MMR-clause-exact g c =
+    rw (ne_eqb c.args.family 0 c.if-family-eq-MMR.false) c.check_absence-else-family-eq-MMR.ensures.exact
+
+pub returns-else-family-eq-MMR-clause-meaning : goal.returns-else-family-eq-MMR-clause-meaning
+returns-else-family-eq-MMR-clause-meaning g c = λ wide.
+    rw (ne_eqb c.args.family 0 c.if-family-eq-MMR.false) (c.check_absence-else-family-eq-MMR.ensures.meaning wide)

@@ -1,0 +1,123 @@
+//! A check of the value of a key, where all values have one size and operations are as long as their parts.
+
+ghost use Rattle.std.specs.Prelude.{◌≡◌, ◌↔◌, ◌⊎◌, IfOk, IsTrue, None, Ok, false, length};
+ghost use Rattle.storage_bitmap.specs.Chunks.{IsChunkSize};
+ghost use Rattle.storage_current.specs.Snapshots.{grafting_of};
+ghost use Rattle.light_c.specs.Agreed.{function_of, pending_of, refusal, shape_of, size_of};
+ghost use Rattle.light_c.specs.Answers.{IsTold, Says, no, or_then, yes};
+ghost use Rattle.light_c.specs.KeyBytes.{IsAcceptedSizedValueOf, IsTrueSizedValueOf};
+ghost use Rattle.light_c.specs.SizedStrings.{bytes_of, key_refusal, value_refusal};
+
+use crate::agreed::{Root, trusted};
+use crate::answer::{OTHER_KEY, OTHER_VALUE, told};
+use crate::sized::{SizedBytes, of_bytes};
+use crate::variable::value_of_sized;
+use commonware_storage::NoMemory;
+use commonware_storage::codec::FixedBytes;
+use commonware_storage::digest::{Hasher, Sha256, Sha512};
+use std::alloc::Global;
+
+/// Whether the key with the bytes `key` has the value with the bytes `value` in the snapshot with the canonical root `root`.
+/// `proof` is a key-value proof as it is written, over a chunk of `chunk_size` bytes. Keys have 4, 8, 20 or 32 bytes, and so
+/// have values. Both are written as they are, and operations are as long as their parts.
+///
+/// The answer is one of those of `answer`. A no for a chunk size that no chunk has takes no memory.
+#[unsafe(no_mangle)]
+pub extern "C" fn gawerunoa_check_sized_value(
+    alloc: Global,
+    family: u32,
+    hash: u32,
+    chunk_size: usize,
+    proof: &[u8],
+    key: &[u8],
+    value: &[u8],
+    root: &[u8],
+) -> i32
+    ensures exact { let refused = or_then (or_then (refusal family hash root.now)
+        (key_refusal key.now)) (value_refusal (length value.now)) in
+        IsTold refused result (Says result (IsAcceptedSizedValueOf (function_of hash)
+        (grafting_of (shape_of family) chunk_size) (pending_of family) (size_of hash) proof.now
+        key.now value.now root.now)) }
+    ensures meaning { or_then (or_then (refusal family hash root.now) (key_refusal key.now))
+        (value_refusal (length value.now)) ≡ None → result ≡ yes → IsTrueSizedValueOf
+        (function_of hash) (grafting_of (shape_of family) chunk_size) (pending_of family)
+        (size_of hash) proof.now key.now value.now root.now }
+    ensures refused { or_then (or_then (refusal family hash root.now) (key_refusal key.now))
+        (value_refusal (length value.now)) ≡ None → ¬ IsChunkSize chunk_size → result ≡ no }
+{
+    let root = match trusted(family, hash, root) {
+        Ok(root) => root,
+        Err(code) => return code,
+    };
+    let Some(key) = of_bytes(key) else {
+        return OTHER_KEY;
+    };
+    let Some(value) = of_bytes(value) else {
+        return OTHER_VALUE;
+    };
+    match root {
+        Root::Of256(root) => {
+            of_key::<Sha256>(alloc, family, chunk_size, proof, &key, &value, &root)
+        }
+        Root::Of512(root) => {
+            of_key::<Sha512>(alloc, family, chunk_size, proof, &key, &value, &root)
+        }
+    }
+}
+
+/// The same over a digest function, against a digest.
+fn of_key<H: Hasher>(
+    alloc: Global,
+    family: u32,
+    chunk_size: usize,
+    proof: &[u8],
+    key: &SizedBytes,
+    value: &SizedBytes,
+    root: &H::Digest,
+) -> i32
+    ensures exact { Says result (IsAcceptedSizedValueOf H.hash_of
+        (grafting_of (shape_of family) chunk_size) (pending_of family) H.Digest.size proof.now
+        (bytes_of key.now) (bytes_of value.now) (H.Digest.text root.now)) }
+    ensures meaning { (H.Digest.size ≡ 32) ⊎ (H.Digest.size ≡ 64) → result ≡ yes
+        → IsTrueSizedValueOf H.hash_of (grafting_of (shape_of family) chunk_size)
+        (pending_of family) H.Digest.size proof.now (bytes_of key.now) (bytes_of value.now)
+        (H.Digest.text root.now) }
+    ensures refused { ¬ IsChunkSize chunk_size → result ≡ no }
+{
+    told(of_value::<H>(alloc, family, chunk_size, proof, key, value, root))
+}
+
+/// The same, before its answer is told.
+fn of_value<H: Hasher>(
+    alloc: Global,
+    family: u32,
+    chunk_size: usize,
+    proof: &[u8],
+    key: &SizedBytes,
+    value: &SizedBytes,
+    root: &H::Digest,
+) -> Result<bool, NoMemory>
+    ensures refused { ¬ IsChunkSize chunk_size → result ≡ Ok false }
+    ensures exact { IfOk result (λ yes. IsTrue yes ↔ IsAcceptedSizedValueOf H.hash_of
+        (grafting_of (shape_of family) chunk_size) (pending_of family) H.Digest.size proof.now
+        (bytes_of key.now) (bytes_of value.now) (H.Digest.text root.now)) }
+    ensures meaning { (H.Digest.size ≡ 32) ⊎ (H.Digest.size ≡ 64)
+        → IfOk result (λ yes. IsTrue yes → IsTrueSizedValueOf H.hash_of
+        (grafting_of (shape_of family) chunk_size) (pending_of family) H.Digest.size proof.now
+        (bytes_of key.now) (bytes_of value.now) (H.Digest.text root.now)) }
+{
+    match value {
+        SizedBytes::Of4(value) => {
+            value_of_sized::<H, FixedBytes<4>>(alloc, family, chunk_size, proof, key, *value, root)
+        }
+        SizedBytes::Of8(value) => {
+            value_of_sized::<H, FixedBytes<8>>(alloc, family, chunk_size, proof, key, *value, root)
+        }
+        SizedBytes::Of20(value) => {
+            value_of_sized::<H, FixedBytes<20>>(alloc, family, chunk_size, proof, key, *value, root)
+        }
+        SizedBytes::Of32(value) => {
+            value_of_sized::<H, FixedBytes<32>>(alloc, family, chunk_size, proof, key, *value, root)
+        }
+    }
+}
