@@ -86,6 +86,11 @@ HINTS = {
     "digest::Digest::read_option": ("sweeps.rt::compare_range_copies", "decoded::<RangeProof", ""),
     "<ordered::Update<K, FixedEncoding<V>> as Read>::read_cfg": ("keyed.rt::served", "decoded::<Operation>", " [0-9]+$"),
     "operation::Proof::verify": ("check.rt::verify_span", "proof.verify::<", ""),
+    "ordered::Ordered::put": ("databases.rt::db", '"db", *family, *chunk', "^db .*70757420"),
+    "ordered::Ordered::delete": ("databases.rt::db", '"db", *family, *chunk', "^db .*64656c657465"),
+    "ordered::Ordered::commit": ("databases.rt::db", '"db", *family, *chunk', "^db .*636f6d6d6974"),
+    "ordered::Ordered::prove_value": ("databases.rt::db", '"db", *family, *chunk', "^db .*636f6d6d6974.*76616c7565"),
+    "ordered::Ordered::prove_absence": ("databases.rt::db", '"db", *family, *chunk', "^db .*636f6d6d6974.*616273656e6365"),
 }
 
 # The lists whose store or log fails at each call in turn, and where their functions see to that.

@@ -7,8 +7,8 @@ PROGRAM is crates/stateproof/out/stateproof, which `rt ci` leaves, if none is na
 standard input is closed, a directory, or ends in the middle of a line; there are a million lines, and lines of ten megabytes; and the
 address space is limited (`ulimit -v`) at STEPS steps, from the least limit at which the program says how it is used to one that is
 enough. Each run must end with the status and the texts that are documented, or want memory where it is limited, and never by a signal.
-The roots of a million operations are computed here, from the definitions. The last line is 'N runs, M of them wrong'; the status is 1 where
-M is not 0, and 77 where the program is not there.
+The roots of a million operations are computed here, from the definitions, and what a database answers by tools/database.py. The last
+line is 'N runs, M of them wrong'; the status is 1 where M is not 0, and 77 where the program is not there.
 """
 import hashlib
 import pathlib
@@ -16,11 +16,14 @@ import subprocess
 import sys
 import tempfile
 
+import database
+
 ROOT = pathlib.Path(__file__).resolve().parent.parent
 STEPS = 40
 SECONDS = 120
 NOT_RUN = 77
 MILLION = 1_000_000
+MANY_STEPS = 100_000
 TEN_MEGABYTES = 10_000_000
 
 USAGE, INPUT, MEMORY = ((2, "", f"stateproof: {it}\n") for it in ("usage", "input", "memory"))
@@ -173,6 +176,20 @@ def asked(program, family, size, operations, bits, location):
     ]
 
 
+def stepped(family, size, steps):
+    """The words and the input of `db`, and what it answers."""
+    name = "mmb" if family.byte else "mmr"
+    return f"db {name} {size}", "".join(f"{it}\n" for it in steps).encode(), (0, database.answers(name, size, steps), "")
+
+
+def puts(count, keys):
+    """So many puts, of so many keys in turn."""
+    return [f"put {it * 2654435761 % keys:08x} {it}" for it in range(count)]
+
+
+FEW_STEPS = [*puts(5, 3), "commit", "value 00000001", "absence ffffffff", "delete 00000000", "commit", "absence 00000000"]
+
+
 def outputs(program, cases):
     """Standard output or error that is closed or full, and standard input that is closed."""
     for words, text, right in cases:
@@ -203,6 +220,16 @@ def cut_lines(program, cases):
     program.run("half a character", check, claimed + b"\xe2\x82", INPUT)
 
 
+def cut_steps(program, words, text, right):
+    """Commands of a database that end in the middle of a line."""
+    last = text.count(b"\n")
+    program.run("no last line feed", words, text[:-1], right)
+    program.run("half a key", words, text[:-2], line(last))
+    program.run("no key", words, text[: text.rindex(b" ") + 1], line(last))
+    program.run("a word alone", words, text[: text.rindex(b" ")], line(last))
+    program.run("half a character", words, text + b"commit \xe2\x82", INPUT)
+
+
 def long_input(program):
     """A million lines, and lines of ten megabytes."""
     operations = [be8(it) for it in range(MILLION)]
@@ -223,6 +250,15 @@ def long_input(program):
         program.run("a bad line of ten megabytes", root, text.replace(b" 07", b" 0g", 1), line(1))
         program.run("no hexadecimal at all", root, b"1 " + b"z" * TEN_MEGABYTES, line(1))
         program.run("a proof of ten megabytes", check, claimed.replace(b"\n", b"\n" + b"07" * (TEN_MEGABYTES // 2), 1), (1, "no\n", ""))
+
+
+def many_steps(program):
+    """Many commands of a database, and one of ten megabytes."""
+    for family, size in ((MMR, 32), (MMB, 1)):
+        words, text, right = stepped(family, size, [*puts(MANY_STEPS, 8), "commit", "value 00000003", "absence 00000008"])
+        program.run("many steps", words, text, right)
+        program.run("a bad step after many", words, text + b"commit 1\n", line(MANY_STEPS + 4))
+        program.run("a bad step of ten megabytes", words, b"put 00000003 " + b"0" * TEN_MEGABYTES + b"\n" + text, line(1))
 
 
 def least(low, high, is_enough):
@@ -261,14 +297,18 @@ def main():
         few = [bytes([it]) * (it + 1) for it in range(19)]
         for family, size, location in ((MMR, 1, 16), (MMB, 1, 7), (MMR, 32, 4), (MMB, 32, 0)):
             cases = asked(program, family, size, few, "01" * 9 + "1", location)
-            outputs(program, cases)
+            steps = stepped(family, size, FEW_STEPS)
+            outputs(program, [*cases, steps])
             cut_lines(program, cases)
+            cut_steps(program, *steps)
         for family in (MMR, MMB):
             root, prove, _ = asked(program, family, 1, [be8(it) * 16 for it in range(5000)], "01" * 2500, 17)
             _, _, check = asked(program, family, 1, [bytes(500_000), b"short"], "11", 0)
-            for case in (root, prove, check):
+            steps = stepped(family, 32, [*puts(2000, 500), "commit", "value 00000003"])
+            for case in (root, prove, check, steps):
                 limits(program, *case)
         long_input(program)
+        many_steps(program)
     print("".join(f"FAULT {it}\n" for it in program.faults), end="")
     print(f"{program.runs} runs, {len(program.faults)} of them wrong")
     return 1 if program.faults else 0

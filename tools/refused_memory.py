@@ -28,6 +28,8 @@ import subprocess
 import sys
 import tempfile
 
+import database
+
 ROOT = pathlib.Path(__file__).resolve().parent.parent
 
 EACH = 250
@@ -109,14 +111,18 @@ def is_want_of_command(ending):
 
 
 OPERATIONS = "".join(f"{int(i % 3 == 1)} {'ab' * (i + 1)}\n" for i in range(11))
+STEPS = ["put 00000005 7", "put 00000009 8", "absence 00000007", "commit", "value 00000005", "absence 00000007"]
+STEPS += ["delete 00000009", "delete 00000005", "commit", "absence 00000005", "value 00000005"]
 
 
 def commands(shim):
-    """Roots, proofs and checks of `stateproof`, over both families and both chunk sizes."""
+    """Roots, proofs, checks and databases of `stateproof`, over both families and both chunk sizes."""
     program = built("stateproof")
     for tree in [f"{family} {size}" for family in ("mmr", "mmb") for size in (1, 32)]:
         proved = ended(shim, [program, "prove", *tree.split(), "0", "7"], OPERATIONS).output
         root, proof = proved.split()
+        family, size = tree.split()
+        steps = "".join(f"{it}\n" for it in STEPS)
         for line, given, right in [
             (f"root {tree} 0", OPERATIONS, (0, f"{root}\n", "")),
             (f"prove {tree} 0 7", OPERATIONS, (0, proved, "")),
@@ -124,6 +130,8 @@ def commands(shim):
             (f"check {tree} {root} 7", f"{'ab' * 9}\n{proof}\n", (1, "no\n", "")),
             (f"check {tree} {root} 7", f"{'ab' * 8}\n{proof}0\n", (2, "", "stateproof: line 2\n")),
             (f"root {tree} 12", OPERATIONS, (2, "", "stateproof: range\n")),
+            (f"db {tree}", steps, (0, database.answers(family, int(size), STEPS), "")),
+            (f"db {tree}", f"{steps}puts\n", (2, "", f"stateproof: line {len(STEPS) + 1}\n")),
         ]:
             yield Case(line, [program, *line.split()], given, right, is_want_of_command)
 

@@ -6,7 +6,7 @@
 LISTS is a folder of lists, one case a line, columns with blanks between them, the first line their names. They were
 made by an independent program that computes the definitions over whole lists. A line of stdin is the name of a list
 and the columns that are given, a line of stdout the columns that are asked for. The cases over SHA-512 come last, with that word
-before the list's name. Left out is the list `db`, for databases stand above these crates.
+before the list's name.
 
 Lines of stdin that begin with the name of a worked row and a colon are kept with their answers, before the lists; but those over
 SHA-512 of the lists that tools/sha512_rows.py knows are made anew by it, after the others of their rows, from the definitions.
@@ -99,6 +99,8 @@ def cases(lists):
         yield "program", columns[:5], [root, root, proof, answer]
     for given, asked in lists.cut("program_checks", 7):
         yield "program_checks", given, asked
+    for given, asked in lists.cut("db", 3):
+        yield "db", given, asked
     for given, asked in lists.cut("ranges", 7):
         yield "ranges", given, asked
     for given, asked in lists.cut("ranges_checks", 9):

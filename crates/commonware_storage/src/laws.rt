@@ -26,6 +26,7 @@ use storage_current::laws::{
     own_operation_proofs_are_accepted, own_operation_proofs_are_read_again,
 };
 use storage_current::qmdb::current::proof::constant::OperationProof;
+pub use storage_db::laws as database;
 pub use storage_merkle::laws as merkle;
 use storage_merkle::laws::greatest_nodes_are_planned;
 use storage_merkle::merkle::{ElementPlan, Graftable, Location, Position};

@@ -18,4 +18,5 @@ pub mod stateproof;
 
 pub use storage_bitmap::bitmap;
 pub use storage_codec::{NoMemory, codec, digest};
+pub use storage_db::db;
 pub use storage_merkle::merkle;

@@ -3,9 +3,11 @@
 ghost use Rattle.std.specs.Prelude.{◌≡◌, ◌<◌, ◌≤◌, ◌⊎◌};
 
 mod command;
+mod database;
 mod fault;
 mod lines;
 mod reply;
+mod script;
 
 use command::{Action, Chunk, Command, Tree};
 pub use fault::Fault;

@@ -8,6 +8,7 @@ mod chunks;
 mod codecs;
 mod combined;
 mod constant;
+mod databases;
 mod errors;
 mod extracted;
 mod faulty;
@@ -79,6 +80,7 @@ fn over(alloc: Global, list: &str, columns: &[&str]) -> Result<String, Fault> {
         "chunks" => chunks::answer(alloc, columns),
         "program" => program::program(alloc, columns),
         "runs" => program::runs(alloc, columns),
+        "db" => databases::db(alloc, columns),
         "errors" => errors::errors(alloc, columns),
         _ => others(alloc, list, columns),
     }

@@ -35,6 +35,8 @@ pub enum Action {
     Prove { floor: u64, location: u64 },
     /// Whether a proof shows an operation at a location, under a canonical root.
     Check { root: FixedBytes<32>, location: u64 },
+    /// What a database answers to the commands and questions on standard input.
+    Database,
 }
 
 /// The arguments of a run, read.
@@ -85,6 +87,7 @@ impl Action {
                 root: digest(root.as_str())?,
                 location: number(location.as_str())?,
             }),
+            ("db", []) => Some(Action::Database),
             _ => None,
         }
     }

@@ -6,6 +6,7 @@ ghost use Rattle.commonware_storage.specs.declared.stateproof.fault.Fault.TheVar
 use std::alloc::{AllocError, AllocFailed};
 use std::io::{self, ErrorKind};
 use storage_codec::NoMemory;
+use storage_db::db;
 use storage_merkle::merkle;
 use storage_ops::qmdb;
 use thiserror::Error;
@@ -22,7 +23,7 @@ pub enum Fault {
     /// The number of a line, counted from 1, that is bad, missing, or one too many.
     #[error("stateproof: line {0}")]
     Line(u64),
-    /// The floor is past the length, or the location is at or past it.
+    /// The floor is past the length, the location is at or past it, or a database has no room for more operations.
     #[error("stateproof: range")]
     Range,
     /// Out of memory.
@@ -59,6 +60,14 @@ impl Fault {
     pub(crate) fn of_snapshot<F>(error: &qmdb::Error<F>) -> Fault {
         match error {
             qmdb::Error::Merkle(error) => Fault::of_plan(error),
+            _ => Fault::Memory,
+        }
+    }
+
+    /// The fault of a database that could not do what it was told.
+    pub(crate) fn of_database<F>(error: &db::Error<F>) -> Fault {
+        match error {
+            db::Error::Full(_) => Fault::Range,
             _ => Fault::Memory,
         }
     }

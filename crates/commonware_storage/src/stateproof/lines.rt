@@ -49,14 +49,14 @@ const READ_AT_ONCE: usize = 65_536;
 
 /// The lines of an input, one at a time. A line ends at its LF, and what follows the last LF is a line where it is not empty.
 #[derive(Drop)]
-struct Lines<R> {
+pub(crate) struct Lines<R> {
     input: BufReader<R>,
     line: Vec<u8>,
 }
 
 impl<R: Read + Drop> Lines<R> {
     /// The lines of `input`, before the first one.
-    fn of(alloc: Global, input: R) -> Result<Lines<R>, Fault> {
+    pub(crate) fn of(alloc: Global, input: R) -> Result<Lines<R>, Fault> {
         match BufReader::with_capacity(alloc, READ_AT_ONCE, input) {
             Ok(input) => Ok(Lines {
                 input,
@@ -67,7 +67,7 @@ impl<R: Read + Drop> Lines<R> {
     }
 
     /// Goes on to the next line, and answers whether there is one.
-    fn advance(&mut self) -> Result<bool, Fault> {
+    pub(crate) fn advance(&mut self) -> Result<bool, Fault> {
         self.line.clear();
         match self.input.read_until(b'\n', &mut self.line) {
             Ok(count) => Ok(count > 0),
@@ -76,7 +76,7 @@ impl<R: Read + Drop> Lines<R> {
     }
 
     /// The line, its LF left out.
-    fn line(&self) -> &[u8] {
+    pub(crate) fn line(&self) -> &[u8] {
         match self.line.as_slice() {
             [line @ .., b'\n'] => line,
             line => line,
@@ -85,7 +85,7 @@ impl<R: Read + Drop> Lines<R> {
 
     /// The fault where line number `number` is bad and those before it are not: that line; but the input comes first, where
     /// this line or what follows it can't be read or is not UTF-8.
-    fn fault(mut self, number: u64) -> Fault {
+    pub(crate) fn fault(mut self, number: u64) -> Fault {
         for _ in 0..u64::MAX {
             if str::from_utf8(&self.line).is_err() {
                 return Fault::Input;

@@ -4,7 +4,9 @@ ghost use Rattle.std.specs.Prelude.{◌≤◌};
 ghost use Rattle.storage_bitmap.specs.Chunks.{IsChunkSize};
 
 use crate::light::{TextError, check_text};
+use crate::stateproof::database::answers;
 use crate::stateproof::lines::Operations;
+use crate::stateproof::script::steps;
 use crate::stateproof::{Action, Chunk, Command, Fault, Tree};
 use std::alloc::Global;
 use std::io::{self, Read};
@@ -74,6 +76,7 @@ fn over_chunk<F: Graftable, R: Read + Drop, const N: usize>(
             let text = text_of(alloc, input)?;
             check::<F>(alloc, text.as_str(), N, root, *location)
         }
+        Action::Database => database::<F, R, N>(alloc, input),
     }
 }
 
@@ -178,4 +181,16 @@ fn check<F: Graftable>(
         text: format!(in alloc; "{word}\n")?,
         status,
     })
+}
+
+/// What a database answers to the steps on the lines of `input`. All are read before the first one is taken.
+fn database<F: Graftable, R: Read + Drop, const N: usize>(
+    alloc: Global,
+    input: R,
+) -> Result<Reply, Fault>
+    requires { IsChunkSize N }
+{
+    let steps = steps(alloc, input)?;
+    let text = answers::<F, N>(alloc, &steps)?;
+    Ok(Reply { text, status: 0 })
 }

@@ -11,14 +11,14 @@ use std::alloc::Global;
 
 /// What a run wrote, and its status.
 #[derive(Drop)]
-struct Outcome {
-    status: u8,
-    output: String,
-    errors: String,
+pub(super) struct Outcome {
+    pub status: u8,
+    pub output: String,
+    pub errors: String,
 }
 
 /// A run over the words of a command line and an input. Want of memory is no outcome.
-fn outcome_of(alloc: Global, words: &[String], input: &[u8]) -> Result<Outcome, Fault> {
+pub(super) fn outcome_of(alloc: Global, words: &[String], input: &[u8]) -> Result<Outcome, Fault> {
     let mut output = Vec::new(alloc);
     let mut errors = Vec::new(alloc);
     let status = run(alloc, words, input, &mut output, &mut errors);
@@ -46,7 +46,7 @@ fn words_of(alloc: Global, line: &str) -> Result<Vec<String>, Fault> {
 }
 
 /// The same words, each as a string of its own.
-fn owned_words(alloc: Global, line: &[&str]) -> Result<Vec<String>, Fault> {
+pub(super) fn owned_words(alloc: Global, line: &[&str]) -> Result<Vec<String>, Fault> {
     let mut words = Vec::new(alloc);
     for word in line {
         words.push(owned(alloc, *word)?)?;

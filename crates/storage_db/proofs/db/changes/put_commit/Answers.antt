@@ -1,0 +1,40 @@
+use Rattle.std.proofs.Common.{◌≡◌, inr, length, refl, ap, ◌∙◌}
+use Rattle.storage_current.specs.Keys.{Keyed, keyed_by}
+use Rattle.storage_current.specs.Snapshots.{grafting_of}
+use Rattle.storage_db.specs.Databases.{least_location}
+use Rattle.storage_db.proofs.Cases.{err_and}
+use Rattle.storage_db.proofs.Keeping.{kept_of}
+use Rattle.storage_db.proofs.Commits.{committed_with, commit_too_many}
+use Rattle.storage_db.proofs.db.changes.put_commit.Goals as goal
+
+pub returns-clause-ok : goal.returns-clause-ok
+returns-clause-ok g c = λ last before_is d keeps.
+    let e : Keyed g.row.K.Denot g.row.V-Value.Denot
+    = keyed_by g.K.Write.text g.V.Value.Write.text g.V.OperationCodec.operation_text g.K.Ord.cmp in
+    let entries = c.args.active.now.entries in
+    let room = c.make_room.new.self in
+    let floor_is : c.new-floor.result ≡ least_location entries (length room.operations.items)
+    = c.new-floor.ensures ∙ c.least_location.ensures ∙ ap (least_location entries) c.len.ensures.count in
+    committed_with e g.H.Hasher.hash_of (grafting_of g.F.Family.shape g.row.N) c.args.log.now room c.append_commit.new.self
+    entries last (kept_of c.args.log.now entries last) refl c.in_ok-make_room.ensures.operations c.in_ok-make_room.ensures.bits
+    c.args.metadata c.new-floor.result c.in_ok-bytes.bytes c.deref.result.now c.args.before c.in_ok-commit.commit floor_is
+    c.in_ok-bytes.ensures c.deref.ensures.value before_is c.append_commit.ensures.operations c.append_commit.ensures.bits
+    c.in_ok-commit.ensures.metadata c.in_ok-commit.ensures.floor c.in_ok-commit.ensures.count c.in_ok-commit.ensures.entries
+    c.in_ok-commit.ensures.snapshot d keeps
+
+pub returns-in_err-make_room-clause-why : goal.returns-in_err-make_room-clause-why
+returns-in_err-make_room-clause-why g c =
+    let e : Keyed g.row.K.Denot g.row.V-Value.Denot
+    = keyed_by g.K.Write.text g.V.Value.Write.text g.V.OperationCodec.operation_text g.K.Ord.cmp in
+    let why = c.in_err-make_room.ensures.why in
+    err_and _ _ c.from_residual.result (λ error same last. commit_too_many e c.args.log.now c.args.active.now.entries last
+    c.args.metadata error (rw same why)) c.from_residual.ensures.1
+
+pub returns-in_err-bytes-clause-why : goal.returns-in_err-bytes-clause-why
+returns-in_err-bytes-clause-why g c =
+    err_and _ _ c.from_residual-in_err-bytes.result (λ error memory last. inr memory) c.from_residual-in_err-bytes.ensures.1
+
+pub returns-in_err-commit-clause-why : goal.returns-in_err-commit-clause-why
+returns-in_err-commit-clause-why g c =
+    err_and _ _ c.from_residual-in_err-commit.result (λ error memory last. inr memory)
+    c.from_residual-in_err-commit.ensures.1

@@ -1,0 +1,47 @@
+use Rattle.std.proofs.Common.{rules, length, Option, sym, ◌∙◌}
+use Rattle.std.specs.Prelude.{IfErr}
+use Rattle.storage_current.specs.Keys.{Keyed, keyed_by}
+use Rattle.storage_current.specs.Snapshots.{grafting_of}
+use Rattle.storage_db.specs.Databases.{Committed, delete}
+use Rattle.storage_db.specs.Parts.{IsTooMany, database_of}
+use Rattle.storage_db.proofs.Cases.{if_err}
+use Rattle.storage_db.proofs.Keeping.{done_from, refused_from, kept_from, on_err}
+use Rattle.storage_db.proofs.Told.{nothing_deleted}
+use Rattle.storage_db.proofs.db.ordered.Ordered.delete.Goals as goal
+
+pub returns-then-not-contains_key-clause-ok : goal.returns-then-not-contains_key-clause-ok
+returns-then-not-contains_key-clause-ok g c =
+    let e : Keyed g.row.K.Denot g.row.V-Value.Denot
+    = keyed_by g.K.Write.text g.V.Value.Write.text g.V.OperationCodec.operation_text g.K.Ord.cmp in
+    nothing_deleted e g.H.Hasher.hash_of (grafting_of g.F.Family.shape g.row.N) c.self.inside.log
+    c.self.inside.active.entries c.self.inside.last c.args.self.now c.self.view_is c.args.key.now
+    (sym c.contains_key.ensures ∙ c.if-not-contains_key.true)
+
+pub returns-clause-ok : goal.returns-clause-ok
+returns-clause-ok g c =
+    let e : Keyed g.row.K.Denot g.row.V-Value.Denot
+    = keyed_by g.K.Write.text g.V.Value.Write.text g.V.OperationCodec.operation_text g.K.Ord.cmp in
+    done_from e g.H.Hasher.hash_of (grafting_of g.F.Family.shape g.row.N) (λ x. delete e x c.args.key.now)
+    c.self.inside.log c.remove.new.log c.self.inside.active.entries c.remove.new.active.entries c.self.inside.last
+    c.args.self.now c.self.view_is c.in_ok-remove.ensures.ok c.remove.ensures.few
+
+pub returns-in_err-remove-clause-err : goal.returns-in_err-remove-clause-err
+returns-in_err-remove-clause-err g c =
+    let e : Keyed g.row.K.Denot g.row.V-Value.Denot
+    = keyed_by g.K.Write.text g.V.Value.Write.text g.V.OperationCodec.operation_text g.K.Ord.cmp in
+    on_err c.from_residual.result
+    (kept_from e g.H.Hasher.hash_of (grafting_of g.F.Family.shape g.row.N) (λ x. delete e x c.args.key.now)
+    c.self.inside.log c.remove.new.log c.self.inside.active.entries c.remove.new.active.entries c.self.inside.last
+    c.args.self.now c.self.view_is c.in_err-remove.ensures.err)
+
+pub returns-in_err-remove-clause-why : goal.returns-in_err-remove-clause-why
+returns-in_err-remove-clause-why g c =
+    let e : Keyed g.row.K.Denot g.row.V-Value.Denot
+    = keyed_by g.K.Write.text g.V.Value.Write.text g.V.OperationCodec.operation_text g.K.Ord.cmp in
+    let why : IfErr c.from_residual.result (λ error. (last : Option (Committed g.row.K.Denot g.row.V-Value.Denot))
+    → IsTooMany (length c.self.inside.log.operations.items)
+    (length (delete e (database_of c.self.inside.log c.self.inside.active.entries last) c.args.key.now).operations) error)
+    = search rules in
+    if_err _ _ c.from_residual.result (λ error refused. refused_from e g.H.Hasher.hash_of
+    (grafting_of g.F.Family.shape g.row.N) (λ x. delete e x c.args.key.now) c.self.inside.log c.remove.new.log
+    c.self.inside.active.entries c.remove.new.active.entries c.self.inside.last c.args.self.now c.self.view_is error refused) why

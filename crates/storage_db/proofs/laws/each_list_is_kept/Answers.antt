@@ -1,0 +1,7 @@
+use Rattle.storage_db.proofs.Lists.{each_list}
+use Rattle.storage_db.proofs.laws.each_list_is_kept.Goals as goal
+
+pub returns : goal.returns
+returns g c = λ commands.
+    let kept = each_list _ c.operations_settle_keys.ensures commands in
+    (kept.now, kept.committed)

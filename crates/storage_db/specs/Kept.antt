@@ -1,0 +1,61 @@
+-- Databases in memory, and how they keep what commands gave.
+use Rattle.std.specs.Prelude.{◌≡◌, ◌⊎◌, ℕ, Bool, true, false, List, length, Option, None, MatchOption, IsSomeAnd}
+use Rattle.std.specs.List.{AllZip}
+use Rattle.storage_codec.specs.Digests.{HashFunction}
+use Rattle.storage_current.specs.Keys.{Keyed}
+use Rattle.storage_current.specs.KeptSnapshots.{KeptSnapshot, StandsFor}
+use Rattle.storage_current.specs.Snapshots.{Grafting, IsSnapshot}
+use Rattle.storage_db.specs.declared.db.active.Active.{Active}
+use Rattle.storage_db.specs.declared.db.error.Error.{Error}
+use Rattle.storage_db.specs.declared.db.error.Error.TheVariants.{Full, Memory}
+use Rattle.storage_db.specs.Databases.{Committed, Database, Command, done, is_full}
+
+-- what is kept of the last commit: its value and its floor, how many operations there are up to it, copies of the active keys
+-- as they were, and the snapshot
+pub record KeptCommit (K W : Type 0) : Type 0 where
+  pub metadata : Option W
+  pub floor : ℕ
+  pub count : ℕ
+  pub entries : List (K × Active W)
+  pub snapshot : KeptSnapshot
+
+-- what the operations are written as, of each whether it is active, the active keys in their order, and the last commit
+pub record Kept (K W : Type 0) : Type 0 where
+  pub operations : List (List ℕ)
+  pub bits : List Bool
+  pub entries : List (K × Active W)
+  pub last : Option (KeptCommit K W)
+
+module _ {K W : Type 0} (e : Keyed K W) where
+  -- the second is written as the first, and is at the same location
+  pub record IsCopy (entry copy : K × Active W) : Type 0 where
+    pub key : e.key copy.0 ≡ e.key entry.0
+    pub value : e.value copy.1.value ≡ e.value entry.1.value
+    pub location : copy.1.location ≡ entry.1.location
+
+  module _ (h : HashFunction) (g : Grafting) where
+    -- it is kept of this commit
+    pub record KeepsCommit (kept : KeptCommit K W) (commit : Committed K W) : Type 0 where
+      pub metadata : kept.metadata ≡ commit.metadata
+      pub floor : kept.floor ≡ commit.snapshot.floor
+      pub count : kept.count ≡ length commit.snapshot.operations
+      pub entries : AllZip IsCopy commit.entries kept.entries
+      pub whole : IsSnapshot commit.snapshot
+      pub snapshot : StandsFor h g kept.snapshot commit.snapshot
+
+    -- it is this database in memory
+    pub record Keeps (kept : Kept K W) (d : Database K W) : Type 0 where
+      pub operations : kept.operations ≡ d.operations
+      pub bits : kept.bits ≡ d.bits
+      pub entries : kept.entries ≡ d.entries
+      pub last : MatchOption d.last (kept.last ≡ None) (λ commit. IsSomeAnd kept.last (λ c. KeepsCommit c commit))
+
+    -- The command is not one too many, and leaves what it gives.
+    abbrev pub IsDone : Kept K W → Kept K W → Command K W → Type 0
+    IsDone old new command = (d : Database K W) → Keeps old d
+        → (is_full e d command ≡ false) × Keeps new (done e d command)
+
+    -- why a command is refused: it is one too many, else want of memory
+    abbrev pub IsRefused : {F : Type 0} → Kept K W → Command K W → Error F → Type 0
+    IsRefused old command error = (d : Database K W) → Keeps old d
+        → ((is_full e d command ≡ true) × (error ≡ Full (length d.operations))) ⊎ (error ≡ Memory)

@@ -1,0 +1,17 @@
+-- Operations and their bits in two vectors.
+use Rattle.std.specs.Prelude.{ℕ, ◌+◌, ◌<◌, ◌≤◌, Bool, false, List, slice_set, Option, Some, None}
+
+-- vectors of so many operations and bits have room for some more
+pub record HasRoom (count length operations bits : ℕ) : Type 0 where
+  pub operation_room : length + count ≤ operations
+  pub bit_room : length + count ≤ bits
+
+-- a location, if there is one, is that of one of so many bits
+abbrev pub IsWithin : Option ℕ → ℕ → Type 0
+IsWithin None count = Unit {0}
+IsWithin (Some location) count = location < count
+
+-- the bits, with that at a location cleared, if there is one
+abbrev pub cleared_at : Option ℕ → List Bool → List Bool
+cleared_at None bits = bits
+cleared_at (Some location) bits = slice_set bits location false

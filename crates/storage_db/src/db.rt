@@ -1,0 +1,13 @@
+//! An ordered database: a map of keys to values that proves what it has committed.
+
+mod active;
+mod changes;
+mod commit;
+mod error;
+mod log;
+mod nodes;
+mod ordered;
+mod strings;
+
+pub use error::Error;
+pub use ordered::Ordered;

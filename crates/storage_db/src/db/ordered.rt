@@ -1,0 +1,260 @@
+//! The ordered database.
+
+ghost use Rattle.std.specs.Prelude.{◌≡◌, ◌-◌, Option, None, option_map, option_and_then, is_some, IfOk, IfErr, IsSomeAnd, MatchOption, OnOk, OnErr};
+ghost use Rattle.storage_bitmap.specs.Chunks.{IsChunkSize};
+ghost use Rattle.storage_current.specs.Held.{operation_of};
+ghost use Rattle.storage_current.specs.HeldKeys.{exclusion_of};
+ghost use Rattle.storage_current.specs.Keys.{keyed_by};
+ghost use Rattle.storage_current.specs.KeptSnapshots.{StandsFor};
+ghost use Rattle.storage_current.specs.Snapshots.{canonical_root, grafting_of};
+ghost use Rattle.storage_db.specs.Databases.{Committed, Database, Put, Delete, Commit as Committing, active_at, empty, value_at};
+ghost use Rattle.storage_db.specs.Kept.{IsDone, IsRefused, Keeps};
+ghost use Rattle.storage_db.specs.Shown.{IsAbsenceProof, IsValueProof};
+
+use crate::db::Error;
+use crate::db::active::Active;
+use crate::db::changes::{put_active, put_commit, put_new, remove};
+use crate::db::commit::Commit;
+use crate::db::log::Log;
+use crate::laws::operations_settle_keys;
+use std::alloc::Global;
+use std::collections::BTreeMap;
+use std::marker::Model;
+use storage_codec::digest::Hasher;
+use storage_current::qmdb::current::Snapshot;
+use storage_current::qmdb::current::ordered::constant::{ExclusionProof, KeyValueProof};
+use storage_merkle::merkle::Graftable;
+use storage_ops::qmdb::any::operation::OperationCodec;
+use storage_ops::qmdb::any::operation::update::Ordered as Update;
+use storage_ops::qmdb::any::value::ValueEncoding;
+use storage_ops::qmdb::operation::Key;
+
+/// A map of keys to values that proves what it has committed. It keeps its operations as they are written, a bit for each
+/// that says whether it is active, the active keys, and of the last commit the keys that were active and the snapshot.
+///
+/// `F` is the family of the trees, `H` the digest function, `V` the encoding of the values, `N` the bytes of a chunk of
+/// bits. After each refusal the database is as it was.
+#[derive(Drop)]
+pub struct Ordered<F: Graftable, H: Hasher, K: Key, V: ValueEncoding, const N: usize> {
+    alloc: Global,
+    log: Log,
+    active: BTreeMap<K, Active<V::Value>>,
+    last: Option<Commit<F, H, K, V, N>>,
+}
+
+impl<F: Graftable, H: Hasher, K: Key, V: ValueEncoding, const N: usize> Model
+    for Ordered<F, H, K, V, N> {
+    ghost use Rattle.storage_bitmap.specs.Chunks.{IsChunkSize};
+    ghost use Rattle.storage_db.specs.Kept.{Kept};
+    ghost use Rattle.storage_db.specs.Parts.{texts};
+
+    ghost Value = { Kept K V.Value };
+
+    ghost view = { λ s. record {
+      operations = texts s.log;
+      bits = s.log.bits.items;
+      entries = s.active.entries;
+      last = s.last;
+    } };
+
+    ghost invariant = { λ s. IsChunkSize N };
+}
+
+impl<F: Graftable, H: Hasher, K: Key, V: OperationCodec<F, Update<K, V>>, const N: usize> Ordered<
+    F,
+    H,
+    K,
+    V,
+    N,
+> {
+    /// The database with no operations and no commit. It takes no memory; what its calls take is from `alloc`.
+    pub fn new(alloc: Global) -> Self
+        requires { IsChunkSize N }
+        ensures { let e = keyed_by K.text V.Value.text V.operation_text K.cmp in
+            Keeps e H.hash_of (grafting_of F.shape N) result empty }
+    {
+        Ordered {
+            alloc,
+            log: Log::new(alloc),
+            active: BTreeMap::new(alloc),
+            last: None,
+        }
+    }
+
+    /// Gives `key` the value `value`.
+    ///
+    /// # Errors
+    ///
+    /// `Full` where the operations with the one or two that are appended would pass 2^62; `Memory`.
+    pub fn put(&mut self, key: K, value: V::Value) -> Result<(), Error<F>>
+        ensures ok { let e = keyed_by K.text V.Value.text V.operation_text K.cmp in OnOk result
+            (IsDone e H.hash_of (grafting_of F.shape N) self.old self.new (Put key value)) }
+        ensures err { OnErr result (self.new ≡ self.old) }
+        ensures why { let e = keyed_by K.text V.Value.text V.operation_text K.cmp in IfErr result
+            (IsRefused e H.hash_of (grafting_of F.shape N) self.old (Put key value)) }
+    {
+        if self.active.contains_key(&key) {
+            put_active::<F, K, V>(self.alloc, &mut self.log, &mut self.active, key, value)
+        } else {
+            put_new::<F, K, V>(self.alloc, &mut self.log, &mut self.active, key, value)
+        }
+    }
+
+    /// Takes `key` out. Whether it had a value; where it had none nothing changes.
+    ///
+    /// # Errors
+    ///
+    /// `Full` where the operations with the one or two that are appended would pass 2^62; `Memory`.
+    pub fn delete(&mut self, key: &K) -> Result<bool, Error<F>>
+        ensures ok { let e = keyed_by K.text V.Value.text V.operation_text K.cmp in OnOk result
+            (IsDone e H.hash_of (grafting_of F.shape N) self.old self.new (Delete key.now)) }
+        ensures answer { let e = keyed_by K.text V.Value.text V.operation_text K.cmp in
+            IfOk result (λ was. (d : Database K V.Value)
+            → Keeps e H.hash_of (grafting_of F.shape N) self.old d
+            → was ≡ is_some (active_at e d.entries key.now)) }
+        ensures err { OnErr result (self.new ≡ self.old) }
+        ensures why { let e = keyed_by K.text V.Value.text V.operation_text K.cmp in IfErr result
+            (IsRefused e H.hash_of (grafting_of F.shape N) self.old (Delete key.now)) }
+    {
+        if !self.active.contains_key(key) {
+            return Ok(false);
+        }
+        remove::<F, K, V>(self.alloc, &mut self.log, &mut self.active, key)?;
+        Ok(true)
+    }
+
+    /// Commits what has been put and deleted since the last commit, with `metadata` as the value of the commit. The
+    /// floor is the least location of an active update, or the commit's own where no key is active.
+    ///
+    /// # Errors
+    ///
+    /// `Full` where there are 2^62 operations already; `Memory`.
+    pub fn commit(&mut self, metadata: Option<V::Value>) -> Result<(), Error<F>>
+        ensures ok { let e = keyed_by K.text V.Value.text V.operation_text K.cmp in OnOk result
+            (IsDone e H.hash_of (grafting_of F.shape N) self.old self.new (Committing metadata)) }
+        ensures err { OnErr result (self.new ≡ self.old) }
+        ensures why { let e = keyed_by K.text V.Value.text V.operation_text K.cmp in IfErr result
+            (IsRefused e H.hash_of (grafting_of F.shape N) self.old (Committing metadata)) }
+    {
+        let before = self.last_location();
+        let commit = put_commit(self.alloc, &mut self.log, &self.active, before, metadata)?;
+        self.last = Some(commit);
+        Ok(())
+    }
+
+    /// The value that `key` has now; none where it has none. Takes no memory.
+    pub fn get(&self, key: &K) -> Option<&V::Value>
+        ensures { let e = keyed_by K.text V.Value.text V.operation_text K.cmp in
+            (d : Database K V.Value) → Keeps e H.hash_of (grafting_of F.shape N) self.now d
+            → option_map (λ v. v.now) result ≡ value_at e d.entries key.now }
+    {
+        match self.active.get(key) {
+            Some(entry) => Some(&entry.value),
+            None => None,
+        }
+    }
+
+    /// The value that `key` had at the last commit; none where it had none, and before the first commit. Takes no memory.
+    pub fn get_committed(&self, key: &K) -> Option<&V::Value>
+        ensures { let e = keyed_by K.text V.Value.text V.operation_text K.cmp in
+            (d : Database K V.Value) → Keeps e H.hash_of (grafting_of F.shape N) self.now d
+            → option_map (λ v. V.Value.text v.now) result ≡ option_map V.Value.text
+            (option_and_then (λ commit. value_at e commit.entries key.now) d.last) }
+    {
+        operations_settle_keys::<F, K, V>();
+        match &self.last {
+            Some(last) => last.get(key),
+            None => None,
+        }
+    }
+
+    /// The canonical root of the last commit's snapshot; none before the first commit. Takes no memory.
+    pub fn root(&self) -> Option<H::Digest>
+        ensures { let e = keyed_by K.text V.Value.text V.operation_text K.cmp in
+            let g = grafting_of F.shape N in
+            (d : Database K V.Value) → Keeps e H.hash_of g self.now d
+            → option_map H.Digest.text result
+            ≡ option_map (λ commit. canonical_root H.hash_of g commit.snapshot) d.last }
+    {
+        match self.snapshot() {
+            Some(snapshot) => Some(snapshot.root()),
+            None => None,
+        }
+    }
+
+    /// The snapshot of the last commit; none before the first commit. Takes no memory.
+    pub fn snapshot(&self) -> Option<&Snapshot<F, H, N>>
+        ensures { let e = keyed_by K.text V.Value.text V.operation_text K.cmp in
+            let g = grafting_of F.shape N in
+            (d : Database K V.Value) → Keeps e H.hash_of g self.now d
+            → MatchOption d.last (result ≡ None) (λ commit. IsSomeAnd result
+            (λ kept. StandsFor H.hash_of g kept.now commit.snapshot)) }
+    {
+        match &self.last {
+            Some(last) => Some(last.snapshot()),
+            None => None,
+        }
+    }
+
+    /// The value that `key` had at the last commit, and the proof of it against the last commit's root.
+    ///
+    /// # Errors
+    ///
+    /// The first of: `NotCommitted` before the first commit; `Absent` where the key had no value; `Memory`.
+    pub fn prove_value(
+        &self,
+        key: &K,
+    ) -> Result<(V::Value, KeyValueProof<F, K, H::Digest, N>), Error<F>>
+        ensures own { let e = keyed_by K.text V.Value.text V.operation_text K.cmp in
+            let g = grafting_of F.shape N in
+            IfOk result (λ r. (d : Database K V.Value) → Keeps e H.hash_of g self.now d
+            → IsSomeAnd d.last (λ commit. IsValueProof e H.hash_of g commit key.now r.0
+            r.1.next_key (operation_of H.Digest.text (λ c. c) r.1.proof))) }
+        ensures why { let e = keyed_by K.text V.Value.text V.operation_text K.cmp in
+            IfErr result (λ error. (d : Database K V.Value)
+            → Keeps e H.hash_of (grafting_of F.shape N) self.now d
+            → MatchOption d.last (error ≡ Error.NotCommitted) (λ commit.
+            MatchOption (active_at e commit.entries key.now) (error ≡ Error.Absent)
+            (λ _. error ≡ Error.Memory))) }
+    {
+        match &self.last {
+            Some(last) => last.prove_value(self.alloc, key),
+            None => Err(Error::NotCommitted),
+        }
+    }
+
+    /// The proof against the last commit's root that `key` had no value then: by the update whose span holds the key, or
+    /// by the commit where no key was active.
+    ///
+    /// # Errors
+    ///
+    /// The first of: `NotCommitted` before the first commit; `Present` where the key had a value; `Memory`.
+    pub fn prove_absence(&self, key: &K) -> Result<ExclusionProof<F, K, V, H::Digest, N>, Error<F>>
+        ensures own { let e = keyed_by K.text V.Value.text V.operation_text K.cmp in
+            let g = grafting_of F.shape N in
+            IfOk result (λ x. (d : Database K V.Value) → Keeps e H.hash_of g self.now d
+            → IsSomeAnd d.last (λ commit. IsAbsenceProof e H.hash_of g commit key.now
+            (exclusion_of H.Digest.text (λ c. c) x))) }
+        ensures why { let e = keyed_by K.text V.Value.text V.operation_text K.cmp in
+            IfErr result (λ error. (d : Database K V.Value)
+            → Keeps e H.hash_of (grafting_of F.shape N) self.now d
+            → MatchOption d.last (error ≡ Error.NotCommitted) (λ commit.
+            MatchOption (active_at e commit.entries key.now) (error ≡ Error.Memory)
+            (λ _. error ≡ Error.Present))) }
+    {
+        match &self.last {
+            Some(last) => last.prove_absence(self.alloc, key),
+            None => Err(Error::NotCommitted),
+        }
+    }
+
+    /// Where the last commit stands; none before the first commit.
+    fn last_location(&self) -> Option<u64>
+        ensures { result ≡ option_map (λ commit. commit.count - 1) self.now.last }
+    {
+        match &self.last {
+            Some(last) => Some(last.location()),
+            None => None,
+        }
+    }
+}

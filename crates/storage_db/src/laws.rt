@@ -1,0 +1,58 @@
+//! What holds of a database after each list of commands, as laws over the definitions alone.
+
+ghost use Rattle.storage_current.specs.Keys.{Keyed, keyed_by};
+ghost use Rattle.storage_db.specs.Keyed.{IsKeyed};
+ghost use Rattle.storage_current.specs.Snapshots.{grafting_of};
+ghost use Rattle.storage_db.specs.Promises.{EachListIsKept, EachProofIsAccepted, EachYesIsTrue};
+
+use storage_codec::digest::Hasher;
+use storage_current::laws::own_operation_proofs_are_accepted;
+use storage_merkle::merkle::{Family, Graftable};
+use storage_ops::qmdb::any::operation::OperationCodec;
+use storage_ops::qmdb::any::operation::update::Ordered;
+use storage_ops::qmdb::operation::Key;
+
+/// Each list of commands leaves the map that its puts and deletions make, and with a commit among them a well-formed snapshot
+/// whose ring of keys is the map at the last one; a command that is refused changes nothing.
+pub fn each_list_is_kept<F: Family, K: Key, V: OperationCodec<F, Ordered<K, V>>>()
+    ensures { let e = keyed_by K.text V.Value.text V.operation_text K.cmp in EachListIsKept e }
+{
+    operations_settle_keys::<F, K, V>();
+}
+
+/// Whatever commands were given, each proof of a value at the last commit is accepted against the root of its snapshot, and
+/// each proof that a key has none.
+pub fn each_proof_is_accepted<
+    F: Graftable,
+    H: Hasher,
+    K: Key,
+    V: OperationCodec<F, Ordered<K, V>>,
+    const N: usize,
+>()
+    ensures { let e = keyed_by K.text V.Value.text V.operation_text K.cmp in
+        EachProofIsAccepted e H.hash_of (grafting_of F.shape N) }
+{
+    operations_settle_keys::<F, K, V>();
+    own_operation_proofs_are_accepted();
+}
+
+/// Whatever commands were given, a client's yes against the root of the last commit's snapshot, of a value or of an absence,
+/// states what the map had at that commit, or two different strings have one digest.
+pub fn each_yes_is_true<
+    F: Family,
+    H: Hasher,
+    K: Key,
+    V: OperationCodec<F, Ordered<K, V>>,
+    const N: usize,
+>()
+    ensures { let e = keyed_by K.text V.Value.text V.operation_text K.cmp in
+        EachYesIsTrue e H.hash_of (grafting_of F.shape N) }
+{
+    operations_settle_keys::<F, K, V>();
+}
+
+/// The bytes of operations settle their keys, values and floors, and exactly those keys compare alike which are written
+/// alike.
+pub(crate) fn operations_settle_keys<F: Family, K: Key, V: OperationCodec<F, Ordered<K, V>>>()
+    ensures { let e = keyed_by K.text V.Value.text V.operation_text K.cmp in IsKeyed e }
+{}
