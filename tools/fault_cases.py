@@ -63,7 +63,7 @@ HINTS = {
     "operation::Proof::new": ("failing.rt::operation", "OperationProof::<", ""),
     "proof::RangeProof::new": ("failing.rt::range", "RangeProof::new::<", ""),
     "proof::RangeProof::new_with_ops": ("failing.rt::logged", "RangeProof::new_with_ops::<", ""),
-    "log::Contiguous::read_many": ("with_operations.rt::read_range", "log.read_many(", ""),
+    "contiguous::Contiguous::read_many": ("with_ops.rt::read_range", "log.read_many(", ""),
     "key_value::KeyValueProof::clone": ("keyed.rt::copy_shows", "key_value.clone()?", " [0-9]+$"),
     "exclusion::ExclusionProof::clone": ("keyed.rt::copy_excludes", "exclusion.clone()?", " absent$"),
     "<key_value::KeyValueProof<F, K, D, C> as Write>::write": ("keyed.rt::shown", "key_value.write(&mut bytes)", " [0-9]+$"),
@@ -103,4 +103,4 @@ FAILING = {
 }
 
 # Calls that answer want of memory in other words than an error of their result's type.
-OTHERWISE = {"stateproof::run": "status 2"}
+OTHERWISE = {"stateproof_cli::run": "status 2"}

@@ -3,8 +3,8 @@
 
     tools/refused_memory.py [CRATE..]
 
-Takes what `rt ci` left: the tests of each crate that has some, and the programs `stateproof`, `replay` and `many_checks`; or of
-the named crates alone. A case is a test, a command of `stateproof`, a line for `replay`, or for `many_checks` the shortest line of each
+Takes what `rt ci` left: the tests of each crate that has some, and the programs `stateproof`, `replay` and `altered_proofs`; or of
+the named crates alone. A case is a test, a command of `stateproof`, a line for `replay`, or for `altered_proofs` the shortest line of each
 kind. Of the lines for `replay` that are of a worked row, which begin with its name and a colon, all of each list are taken where they
 are at most LINES_OF_ROW, else LINES of them and those that ALSO names; of the others LINES of each list. A case is run once with all
 memory that it asks for, and must give the right answer. Then each of its requests for memory is refused in turn: once alone, and once
@@ -172,21 +172,21 @@ def lines():
 
 
 def is_want_of_check(ending):
-    """Whether `many_checks` answered nothing but that it wants memory."""
+    """Whether `altered_proofs` answered nothing but that it wants memory."""
     said = re.fullmatch(r"Error: (out of memory|Out of memory|memory allocation failed)\n", ending.errors)
     return ending.status == 1 and ending.output == "" and said is not None
 
 
 def shortest_checks():
-    """A case for the shortest line of each kind that `many_checks` answers."""
-    folder = ROOT / "crates/many_checks"
+    """A case for the shortest line of each kind that `altered_proofs` answers."""
+    folder = ROOT / "crates/altered_proofs"
     kinds = {}
     for given, answer in zip((folder / "stdin").open(), (folder / "stdout").open()):
         kind = given.split()[1]
         if kind not in kinds or len(given) < len(kinds[kind][0]):
             kinds[kind] = given, answer
     for given, answer in kinds.values():
-        yield Case(given.strip(), [built("many_checks"), "altered"], given, (0, answer, ""), is_want_of_check)
+        yield Case(given.strip(), [built("altered_proofs")], given, (0, answer, ""), is_want_of_check)
 
 
 def refused(requests, each):
@@ -235,7 +235,7 @@ def cases_of(shim, crate):
         return [*commands(shim)]
     if crate == "replay":
         return [*lines()]
-    if crate == "many_checks":
+    if crate == "altered_proofs":
         return [*shortest_checks()]
     sources = (ROOT / f"crates/{crate}/src").rglob("*.rt")
     return [*tests(shim, crate)] if any("#[test]" in it.read_text() for it in sources) else []

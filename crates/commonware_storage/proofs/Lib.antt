@@ -8,4 +8,3 @@ mod OwnYes
 mod RangeAnswers
 mod OwnRanges
 mod OwnRangeYes
-mod StepLines

@@ -1,4 +1,3 @@
-pub mod Words
 pub mod Light
 pub mod LightKeys
 pub mod LightRanges

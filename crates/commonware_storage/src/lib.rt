@@ -14,7 +14,6 @@
 pub mod laws;
 pub mod light;
 pub mod qmdb;
-pub mod stateproof;
 
 pub use storage_bitmap::bitmap;
 pub use storage_codec::{NoMemory, codec, digest};

@@ -1,9 +1,11 @@
-//! Tests of single libraries: calls made again after they were out of memory, and what a call through a bound gives. The other
-//! cases of single libraries are lines of `replay`.
+//! Tests of single libraries: calls made again after they were out of memory, what a call through a bound gives, and databases beside a
+//! plain map. The other cases of single libraries are lines of `replay`.
 #![tactic(auto)]
 
 #[cfg(test)]
 mod bounds;
+#[cfg(test)]
+mod database;
 #[cfg(test)]
 mod grafted;
 #[cfg(test)]

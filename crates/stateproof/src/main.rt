@@ -2,7 +2,7 @@
 //! arguments, standard input, output and error.
 #![tactic(auto)]
 
-use commonware_storage::stateproof::{Fault, fail, run};
+use stateproof_cli::{Fault, fail, run};
 use std::env;
 use std::io::{self, ErrorKind};
 use std::process::ExitCode;

@@ -18,7 +18,7 @@ use Rattle.storage_current.specs.GraftingLaws.{and-true, or-true}
 use Rattle.storage_current.specs.HeldOfViews.{AreSupplied, HoldsOfViews, view_at}
 use Rattle.storage_current.specs.Snapshots.{graftable_at}
 use Rattle.storage_current.proofs.Padding.{supplied-whole}
-use Rattle.storage_current.proofs.Served.{or-false}
+use Rattle.storage_current.proofs.RangeOwn.{or-false}
 
 module _ (size height r start : ℕ) (chunks : List (List ℕ)) (S : Shape) where
   abbrev layout : Layout

@@ -13,7 +13,7 @@ use Rattle.storage_current.specs.CurrentSoundness.{HasDigests}
 use Rattle.storage_current.specs.ExtractedCurrent.{AreExtractedCurrent, ExtractedCurrentDigestsAreTrue, IsNotExtracted, MeansExtracted, extracted_current}
 use Rattle.storage_current.specs.GraftingLaws.{aligned-le, chunk_apart}
 use Rattle.storage_current.specs.Snapshots.{CurrentProof, Grafting, aligned_of, canonical_root, content, height, view}
-use Rattle.storage_current.proofs.Canonical.{chunk-length, grafted_accepted, padded, same_parts, fewer, wider}
+use Rattle.storage_current.proofs.RangeSound.{chunk-length, grafted_accepted, padded, same_parts, fewer, wider}
 use Rattle.storage_current.proofs.Padding.{pad-length, same_extracted}
 
 -- each digest is the grafted view's

@@ -1,14 +1,14 @@
 mod Heights
 pub mod Padding
 mod Places
-pub mod Canonical
+pub mod RangeSound
 pub mod Bits
-pub mod Operations
+pub mod OperationSound
 pub mod Keys
 pub mod WellFormed
 pub mod KeyAnswers
-pub mod Served
-pub mod Witnesses
+pub mod RangeOwn
+pub mod WitnessSound
 pub mod Families
 pub mod Examples
 mod Grafts

@@ -21,7 +21,7 @@ use Rattle.storage_current.specs.CurrentWire.{current_text, current_at, operatio
 use Rattle.storage_current.specs.CurrentWireLaws.{current_again, sized_again}
 use Rattle.storage_current.specs.GraftingLaws.{aligned-le}
 use Rattle.storage_current.specs.OwnWire.{IsPrompt}
-use Rattle.storage_current.proofs.Canonical.{chunk-length}
+use Rattle.storage_current.proofs.RangeSound.{chunk-length}
 use Rattle.storage_current.proofs.OwnSites.{few_sites}
 
 fold_sized : (d : ℕ) (h : HashFunction) (over : Content) → IsSized d h → (t : Option Calc)

@@ -1,5 +1,5 @@
 -- The parts of a database, once a put or a delete has changed them.
-use Rattle.std.proofs.Common.{◌≡◌, ◌⊎◌, ℕ, ◌+◌, ◌<◌, ◌^◌, inl, inr, subst, arith, Bool, true, false, List, [], ◌∷◌, ◌++◌, length, map, Option, Some, None, is_some, IsSome, Ordering, Less, Equal, Greater, is_eq, refl, sym, ap, ◌∙◌}
+use Rattle.std.proofs.Common.{◌≡◌, ℕ, ◌+◌, ◌≤◌, ◌^◌, subst, arith, Bool, true, false, List, [], ◌∷◌, ◌++◌, length, map, Option, Some, None, is_some, IsSome, option_map, Ordering, Less, Equal, Greater, is_eq, refl, sym, ap, ◌∙◌}
 use Rattle.std.specs.Cmp.{IsTotalOrder}
 use Rattle.std.specs.Ordering.{match_ordering}
 use Rattle.std.specs.Global.{Vec}
@@ -7,6 +7,9 @@ use Rattle.std.specs.List.{AllByRecursion}
 use Rattle.std.specs.List.Sorted.{IsStrictlySortedBy}
 use Rattle.std.specs.BTreeMap.{insert_entry, is_at}
 use Rattle.std.specs.Map.{keys_of, lookup, remove_entry, set_value}
+use Rattle.std.specs.Prelude.{if◌then◌else◌, Result, IfErr}
+use Rattle.std.specs.Result.{IsErrAnd}
+use Rattle.std.proofs.lemmas.Bool.{le-ltb}
 use Rattle.std.proofs.lemmas.List.{map-append, length-append, length-map}
 use Rattle.storage_ops.specs.Operations as operation
 use Rattle.storage_current.specs.Keys.{Keyed, update_text}
@@ -16,8 +19,9 @@ use Rattle.storage_db.specs.declared.db.error.Error.TheVariants.{Full, Memory}
 use Rattle.storage_db.specs.declared.db.log.Log.{Log}
 use Rattle.storage_db.specs.Rings.{next_key, previous}
 use Rattle.storage_db.specs.Databases.{Committed, Database, without, active_at, updated, relinked, removed, put, delete}
-use Rattle.storage_db.specs.Parts.{texts, database_of, moved, moved_to, IsTooMany}
-use Rattle.storage_db.proofs.Cases.{by_bool, clash, cond_yes, cond_no, equal_of}
+use Rattle.storage_db.specs.Parts.{texts, database_of, moved, moved_to}
+use Rattle.storage_db.specs.Logs.{IsTooMany}
+use Rattle.storage_db.proofs.Cases.{by_bool, clash, cond_yes, cond_no, equal_of, err_and}
 use Rattle.storage_db.specs.Keyed.{IsKeyed}
 use Rattle.storage_db.proofs.Entries.{Above, Sorted, less_greater, some_past, above_found, lookup_alike, lookup-insert, lookup-remove}
 use Rattle.storage_db.proofs.Nexts.{IsPrevious, previous_some}
@@ -167,24 +171,75 @@ module _ {K W : Type 0} (e : Keyed K W) where
           sym (cond_yes _ (relinked e (removed e d key) (previous e.cmp d.entries key) next) d held
           ∙ ap (λ (o : Option (K × Active W)). relinked e (removed e d key) o next) at)
 
-      -- each of these appends two operations
-      two : (operations : List (List ℕ)) (x y : List ℕ) → length operations + 2 ≡ length ((operations ++ x ∷ []) ++ y ∷ [])
-      two operations x y = simp length-append (omega arith)
+  -- ---- how many operations a command appends: its own, and where there is a key before, that key's update
 
-      pub put_count : (value : W) → is_some (active_at e d.entries key) ≡ false
-          → length d.operations + 2 ≡ length (put e d key value).operations
-      put_count value fresh =
-          two d.operations _ _ ∙ ap (λ (x : Database K W). length x.operations) (put_is value fresh)
+  linked_count : (d after : Database K W) (o : Option (K × Active W)) (next : K)
+      → length after.operations ≡ length d.operations + 1
+      → length d.operations + (if is_some o then 2 else 1) ≡ length (relinked e after o next).operations
+  linked_count d after None next one = sym one
+  linked_count d after (Some entry) next one = simp length-append (omega (arith, one))
 
-      pub delete_count : is_some (active_at e d.entries key) ≡ true
-          → length d.operations + 2 ≡ length (delete e d key).operations
-      delete_count held = two d.operations _ _ ∙ ap (λ (x : Database K W). length x.operations) (delete_is held)
+  -- as the key before was found
+  seen_count : {T : Type 0} (f : T → K × Active W) (o : Option T) (p : Option (K × Active W)) → option_map f o ≡ p
+      → (n : ℕ) → n ≡ (if is_some o then 2 else 1) → n ≡ (if is_some p then 2 else 1)
+  seen_count f None p same n is = is ∙ ap (λ (q : Option (K × Active W)). if is_some q then 2 else 1) same
+  seen_count f (Some x) p same n is = is ∙ ap (λ (q : Option (K × Active W)). if is_some q then 2 else 1) same
 
--- a refusal by one count is that by an equal one
-pub too_many : {F : Type 0} (log : Log) (more after : ℕ) (error : Error F) → length (texts log) + more ≡ after
-    → ((2 ^ 62 < length log.operations.items + more) × (error ≡ Full (length log.operations.items))) ⊎ (error ≡ Memory)
-    → IsTooMany (length log.operations.items) after error
-too_many log more after error same why = elim why as (λ x. IsTooMany (length log.operations.items) after error) [
-  | inl full ↦ inl (subst (λ (n : ℕ). 2 ^ 62 < n) (ap (λ (n : ℕ). n + more) (count_of_texts log) ∙ same) full.0, full.1)
-  | inr memory ↦ inr memory
-]
+  module _ (log : Log) (m : List (K × Active W)) (key : K) where
+    pub update_count : (value : W) → is_some (active_at e m key) ≡ true → (last : Option (Committed K W))
+        → length (texts log) + 1 ≡ length (put e (database_of log m last) key value).operations
+    update_count value held last =
+        let d : Database K W = database_of log m last in
+        let after : Database K W = updated e d key value (next_key e.cmp m key) in
+        sym (length-append (texts log) _) ∙ ap (λ (x : Database K W). length x.operations)
+        (sym (cond_yes _ after (relinked e after (previous e.cmp m key) key) held))
+
+    module _ {T : Type 0} (f : T → K × Active W) (o : Option T) (at : option_map f o ≡ previous e.cmp m key) (n : ℕ)
+        (is : n ≡ (if is_some o then 2 else 1)) where
+      pub put_count : (value : W) → is_some (active_at e m key) ≡ false → (last : Option (Committed K W))
+          → length (texts log) + n ≡ length (put e (database_of log m last) key value).operations
+      put_count value fresh last =
+          let d : Database K W = database_of log m last in
+          let after : Database K W = updated e d key value (next_key e.cmp m key) in
+          ap (λ (k : ℕ). length (texts log) + k) (seen_count f o _ at n is)
+          ∙ linked_count d after (previous e.cmp m key) key (length-append (texts log) _)
+          ∙ ap (λ (x : Database K W). length x.operations)
+          (sym (cond_no _ after (relinked e after (previous e.cmp m key) key) fresh))
+
+      pub delete_count : is_some (active_at e m key) ≡ true → (last : Option (Committed K W))
+          → length (texts log) + n ≡ length (delete e (database_of log m last) key).operations
+      delete_count held last =
+          let d : Database K W = database_of log m last in
+          let next : K = next_key e.cmp m key in
+          ap (λ (k : ℕ). length (texts log) + k) (seen_count f o _ at n is)
+          ∙ linked_count d (removed e d key) (previous e.cmp m key) next (length-append (texts log) _)
+          ∙ ap (λ (x : Database K W). length x.operations)
+          (sym (cond_yes _ (relinked e (removed e d key) (previous e.cmp m key) next) d held))
+
+-- ---- why a command is refused that appends so many operations
+
+module _ {K W : Type 0} (log : Log) (m : List (K × Active W)) (step : Database K W → Database K W) (n : ℕ)
+    (count : (last : Option (Committed K W)) → length (texts log) + n ≡ length (step (database_of log m last)).operations)
+    {T F : Type 0} (r : Result T (Error F)) where
+  abbrev IsTold : Type 0
+  IsTold = IfErr r (λ error. (last : Option (Committed K W)) → IsTooMany (length log.operations.items)
+      (length (step (database_of log m last)).operations) error)
+
+  told : (error : Error F) → IsTooMany (length log.operations.items) (length log.operations.items + n) error
+      → (last : Option (Committed K W))
+      → IsTooMany (length log.operations.items) (length (step (database_of log m last)).operations) error
+  told error why last =
+      subst (λ (k : ℕ). IsTooMany (length log.operations.items) k error)
+      (ap (λ (k : ℕ). k + n) (count_of_texts log) ∙ count last) why
+
+  -- as the making of room was
+  pub no_room : (e : Error F) → IsTooMany (length log.operations.items) (length log.operations.items + n) e
+      → IsErrAnd r (λ error. error ≡ e) → IsTold
+  no_room e why h = err_and _ _ r (λ error same. told error (same ∙ why)) h
+
+  -- once there was room, for want of memory
+  pub no_memory : length log.operations.items + n ≤ 2 ^ 62 → IsErrAnd r (λ error. error ≡ Memory) → IsTold
+  no_memory few h =
+      let why : IsTooMany {F = F} (length log.operations.items) (length log.operations.items + n) Memory
+      = sym (cond_no _ (Full (length log.operations.items)) Memory (le-ltb _ _ few)) in
+      no_room Memory why h

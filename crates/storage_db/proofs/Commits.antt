@@ -1,5 +1,5 @@
 -- A commit, from what its steps say: the room for it is made first.
-use Rattle.std.proofs.Common.{◌≡◌, ◌⊎◌, ℕ, ◌+◌, ◌-◌, ◌<◌, ◌^◌, true, false, List, [], ◌∷◌, ◌++◌, length, Option, Some, option_map, nat_lt, sym, ap, ◌∙◌, subst}
+use Rattle.std.proofs.Common.{◌≡◌, ℕ, ◌+◌, ◌-◌, ◌^◌, true, false, List, [], ◌∷◌, ◌++◌, length, Option, Some, option_map, nat_lt, sym, ap, ◌∙◌, subst}
 use Rattle.std.specs.Global.{Vec}
 use Rattle.std.specs.List.{AllZip}
 use Rattle.std.proofs.lemmas.List.{length-append}
@@ -8,14 +8,12 @@ use Rattle.storage_current.specs.Keys.{Keyed, commit_text}
 use Rattle.storage_current.specs.KeptSnapshots.{StandsFor}
 use Rattle.storage_current.specs.Snapshots.{Grafting, Snapshot, IsSnapshot}
 use Rattle.storage_db.specs.declared.db.active.Active.{Active}
-use Rattle.storage_db.specs.declared.db.error.Error.{Error}
-use Rattle.storage_db.specs.declared.db.error.Error.TheVariants.{Full, Memory}
 use Rattle.storage_db.specs.declared.db.log.Log.{Log}
 use Rattle.storage_db.specs.Databases.{Committed, Database, least_location, commit}
 use Rattle.storage_db.specs.Logs.{cleared_at}
-use Rattle.storage_db.specs.Parts.{texts, database_of, IsTooMany}
+use Rattle.storage_db.specs.Parts.{texts, database_of}
 use Rattle.storage_db.specs.Kept.{Kept, KeptCommit, IsCopy, Keeps}
-use Rattle.storage_db.proofs.Changing.{same_database, too_many}
+use Rattle.storage_db.proofs.Changing.{same_database}
 use Rattle.storage_db.proofs.Keeping.{kept_of, same_kept, committed_of}
 use Rattle.storage_db.proofs.Told.{no_more}
 
@@ -56,11 +54,8 @@ module _ {K W : Type 0} (e : Keyed K W) (h : HashFunction) (g : Grafting) where
         bytes before (written ∙ ap (commit_text e metadata) floor_is) before_is appended set metadata_is
         (kept_floor ∙ floor_is) count copies whole.0 whole.1 (no_more after)
 
--- why a commit is refused where there is no room for it
-pub commit_too_many : {K W F : Type 0} (e : Keyed K W) (log : Log) (m : List (K × Active W)) (last : Option (Committed K W))
-    (metadata : Option W) (error : Error F)
-    → ((2 ^ 62 < length log.operations.items + 1) × (error ≡ Full (length log.operations.items))) ⊎ (error ≡ Memory)
-    → IsTooMany (length log.operations.items) (length (commit e (database_of log m last) metadata).operations) error
-commit_too_many e log m last metadata error why =
-    too_many log 1 _ error
-    (sym (length-append (texts log) (commit_text e metadata (least_location m (length (texts log))) ∷ []))) why
+-- how many operations a commit appends
+pub commit_count : {K W : Type 0} (e : Keyed K W) (log : Log) (m : List (K × Active W)) (last : Option (Committed K W))
+    (metadata : Option W) → length (texts log) + 1 ≡ length (commit e (database_of log m last) metadata).operations
+commit_count e log m last metadata =
+    sym (length-append (texts log) (commit_text e metadata (least_location m (length (texts log))) ∷ []))

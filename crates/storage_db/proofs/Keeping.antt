@@ -1,9 +1,9 @@
 -- Databases in memory, once a command has been done or refused.
-use Rattle.std.proofs.Common.{◌≡◌, ◌⊎◌, ℕ, ◌+◌, ◌-◌, ◌≤◌, ◌^◌, Bool, true, false, List, [], ◌∷◌, ◌++◌, length, slice_set, Option, Some, None, option_map, nat_lt, inl, inr, refl, sym, ap, ◌∙◌, subst}
+use Rattle.std.proofs.Common.{◌≡◌, ℕ, ◌+◌, ◌-◌, ◌≤◌, ◌^◌, Bool, true, false, List, [], ◌∷◌, ◌++◌, length, slice_set, Option, Some, None, option_map, nat_lt, refl, sym, ap, ◌∙◌, subst}
 use Rattle.std.specs.Global.{Vec}
 use Rattle.std.specs.List.{AllZip}
 use Rattle.std.specs.Prelude.{MatchOption, IsSomeAnd, Result, Ok, Err, OnOk, OnErr, IfErr}
-use Rattle.std.proofs.lemmas.Bool.{le-ltb, lt-ltb}
+use Rattle.std.proofs.lemmas.Bool.{le-ltb}
 use Rattle.std.proofs.lemmas.List.{length-append, length-map}
 use Rattle.storage_codec.specs.Digests.{HashFunction}
 use Rattle.storage_current.specs.Keys.{Keyed, commit_text}
@@ -11,11 +11,10 @@ use Rattle.storage_current.specs.KeptSnapshots.{StandsFor}
 use Rattle.storage_current.specs.Snapshots.{Grafting, Snapshot, IsSnapshot}
 use Rattle.storage_db.specs.declared.db.active.Active.{Active}
 use Rattle.storage_db.specs.declared.db.error.Error.{Error}
-use Rattle.storage_db.specs.declared.db.error.Error.TheVariants.{Full, Memory}
 use Rattle.storage_db.specs.declared.db.log.Log.{Log}
 use Rattle.storage_db.specs.Databases.{Committed, Database, without_commit, least_location, commit}
-use Rattle.storage_db.specs.Logs.{cleared_at}
-use Rattle.storage_db.specs.Parts.{texts, database_of, IsTooMany}
+use Rattle.storage_db.specs.Logs.{IsTooMany, cleared_at}
+use Rattle.storage_db.specs.Parts.{texts, database_of}
 use Rattle.storage_db.specs.Kept.{Kept, KeptCommit, IsCopy, Keeps, KeepsCommit}
 use Rattle.storage_db.proofs.Changing.{same_parts, texts_more, count_of_texts}
 
@@ -65,19 +64,12 @@ module _ {K W : Type 0} (e : Keyed K W) (h : HashFunction) (g : Grafting) where
     pub refused_of : {F : Type 0} (error : Error F)
         → ((l : Option (Committed K W)) → IsTooMany (length log.operations.items) (length (step (database_of log m l)).operations)
         error)
-        → ((nat_lt (2 ^ 62) (length (step d).operations) ≡ true) × (error ≡ Full (length d.operations))) ⊎ (error ≡ Memory)
+        → IsTooMany (length d.operations) (length (step d).operations) error
     refused_of error too_many =
-        let same : database_of log m d.last ≡ d = same_database_of log m last d keeps in
-        let count : length log.operations.items ≡ length d.operations
-        = sym (length-map _ _) ∙ ap (λ (l : List (List ℕ)). length l) keeps.operations in
-        elim (too_many d.last) as (λ x. ((nat_lt (2 ^ 62) (length (step d).operations) ≡ true)
-        × (error ≡ Full (length d.operations))) ⊎ (error ≡ Memory)) [
-          | inl full ↦ inl (
-            subst (λ (x : Database K W). nat_lt (2 ^ 62) (length (step x).operations) ≡ true) same (lt-ltb _ _ full.0),
-            full.1 ∙ ap Full count,
-          )
-          | inr memory ↦ inr memory
-        ]
+        subst (λ (x : Database K W). IsTooMany (length x.operations) (length (step x).operations) error)
+        (same_database_of log m last d keeps)
+        (subst (λ (n : ℕ). IsTooMany n (length (step (database_of log m d.last)).operations) error) (count_of_texts log)
+        (too_many d.last))
 
   -- the same of what a call answers
   module _ (step : Database K W → Database K W) (log after : Log) (m n : List (K × Active W)) (last : Option (KeptCommit K W))
@@ -94,7 +86,7 @@ module _ {K W : Type 0} (e : Keyed K W) (h : HashFunction) (g : Grafting) where
         → ((l : Option (Committed K W)) → IsTooMany (length log.operations.items) (length (step (database_of log m l)).operations)
         error)
         → (d : Database K W) → Keeps e h g old d
-        → ((nat_lt (2 ^ 62) (length (step d).operations) ≡ true) × (error ≡ Full (length d.operations))) ⊎ (error ≡ Memory)
+        → IsTooMany (length d.operations) (length (step d).operations) error
     refused_from error too_many d keeps = refused_of step log after m n last d (keeps_inside d keeps) error too_many
 
     pub kept_from : ((l : Option (Committed K W)) → database_of after n l ≡ database_of log m l)
@@ -113,7 +105,7 @@ module _ {K W : Type 0} (e : Keyed K W) (h : HashFunction) (g : Grafting) where
         → IfErr r (λ error. (l : Option (Committed K W))
         → IsTooMany (length log.operations.items) (length (step (database_of log m l)).operations) error)
         → IfErr r (λ error. (d : Database K W) → Keeps e h g old d
-        → ((nat_lt (2 ^ 62) (length (step d).operations) ≡ true) × (error ≡ Full (length d.operations))) ⊎ (error ≡ Memory))
+        → IsTooMany (length d.operations) (length (step d).operations) error)
     refused_err (Ok x) why = tt
     refused_err (Err y) why = refused_from y why
 

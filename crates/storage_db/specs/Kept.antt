@@ -1,5 +1,5 @@
 -- Databases in memory, and how they keep what commands gave.
-use Rattle.std.specs.Prelude.{◌≡◌, ◌⊎◌, ℕ, Bool, true, false, List, length, Option, None, MatchOption, IsSomeAnd}
+use Rattle.std.specs.Prelude.{◌≡◌, ℕ, Bool, false, List, length, Option, None, MatchOption, IsSomeAnd, if◌then◌else◌}
 use Rattle.std.specs.List.{AllZip}
 use Rattle.storage_codec.specs.Digests.{HashFunction}
 use Rattle.storage_current.specs.Keys.{Keyed}
@@ -58,4 +58,4 @@ module _ {K W : Type 0} (e : Keyed K W) where
     -- why a command is refused: it is one too many, else want of memory
     abbrev pub IsRefused : {F : Type 0} → Kept K W → Command K W → Error F → Type 0
     IsRefused old command error = (d : Database K W) → Keeps old d
-        → ((is_full e d command ≡ true) × (error ≡ Full (length d.operations))) ⊎ (error ≡ Memory)
+        → error ≡ (if is_full e d command then Full (length d.operations) else Memory)

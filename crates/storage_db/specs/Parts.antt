@@ -1,9 +1,7 @@
 -- The parts of a database in memory, and how an active update moves.
-use Rattle.std.specs.Prelude.{◌≡◌, ◌⊎◌, ℕ, ◌<◌, ◌^◌, Bool, List, map, Option, Some, None}
+use Rattle.std.specs.Prelude.{ℕ, Bool, List, map, Option, Some, None}
 use Rattle.std.specs.Map.{lookup, set_value}
 use Rattle.storage_db.specs.declared.db.active.Active.{Active}
-use Rattle.storage_db.specs.declared.db.error.Error.{Error}
-use Rattle.storage_db.specs.declared.db.error.Error.TheVariants.{Full, Memory}
 use Rattle.storage_db.specs.declared.db.log.Log.{Log}
 use Rattle.storage_db.specs.Databases.{Committed, Database}
 
@@ -28,7 +26,3 @@ moved_to (Some active) test entries location =
 
 abbrev pub moved : {K W : Type 0} → (K → Bool) → List (K × Active W) → ℕ → List (K × Active W)
 moved test entries location = moved_to (lookup test entries) test entries location
-
--- why so many operations after so many are refused: they pass 2^62; else want of memory
-abbrev pub IsTooMany : {F : Type 0} → ℕ → ℕ → Error F → Type 0
-IsTooMany count after error = ((2 ^ 62 < after) × (error ≡ Full count)) ⊎ (error ≡ Memory)

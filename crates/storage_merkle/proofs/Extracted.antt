@@ -23,7 +23,7 @@ use Rattle.storage_merkle.proofs.RangeOwn.{and-true, eval_agree, all_not_leading
 use Rattle.storage_merkle.proofs.Rising.{count, count-permutation}
 use Rattle.storage_merkle.proofs.Siblings.{positions, sort_rises, overlapped-is}
 use Rattle.storage_merkle.proofs.Ascending.{sorted}
-use Rattle.storage_merkle.proofs.PlanSites.{AllSites, all_both, IsAlignedNode, each_place_once, strictly}
+use Rattle.storage_merkle.proofs.Plan.Sites.{AllSites, all_both, IsAlignedNode, each_place_once, strictly}
 
 pub tells : (b : Bool) → (b ≡ true) ⊎ (b ≡ false)
 tells true = inl refl

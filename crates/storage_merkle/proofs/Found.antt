@@ -8,7 +8,7 @@ use Rattle.storage_merkle.specs.Trees.{Layout, Peak, peaks_of, node_calc}
 use Rattle.storage_merkle.specs.RangeProofs.{apart, leading, position_of}
 use Rattle.storage_merkle.specs.Rests.{peaks_from, AreAfterLeading}
 use Rattle.storage_merkle.specs.Extracted.{nodes_under, nodes_in, overlapped, entries, digest_at}
-use Rattle.storage_merkle.proofs.PlanFolds.{no_peaks_from}
+use Rattle.storage_merkle.proofs.Plan.Folds.{no_peaks_from}
 use Rattle.storage_merkle.proofs.Siblings.{overlapped-past}
 use Rattle.storage_merkle.proofs.Extracted.{tells}
 

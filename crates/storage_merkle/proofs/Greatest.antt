@@ -15,8 +15,8 @@ use Rattle.storage_merkle.specs.Plans.{InTree, IsGreatestApart, GreatestNodesAre
 use Rattle.storage_merkle.proofs.Distinct.{times, one_if, same_itself, times-append, times-join, times-by_position}
 use Rattle.storage_merkle.proofs.RangeOwn.{IsUnder, under_halves}
 use Rattle.storage_merkle.proofs.Siblings.{positions, sites-join}
-use Rattle.storage_merkle.proofs.PlanSites.{AllSites, all_both}
-use Rattle.storage_merkle.proofs.PlanAmong.{site_has, all_have, times_among}
+use Rattle.storage_merkle.proofs.Plan.Sites.{AllSites, all_both}
+use Rattle.storage_merkle.proofs.Plan.Among.{site_has, all_have, times_among}
 
 -- a node that covers a half of another node, and is not that half, covers the other node
 covers_left : (a k b j : ℕ) → a % 2 ^ suc k ≡ 0 → b % 2 ^ j ≡ 0 → b ≤ a → a + 2 ^ k ≤ b + 2 ^ j

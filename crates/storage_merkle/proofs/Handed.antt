@@ -12,7 +12,7 @@ use Rattle.storage_merkle.specs.Extracted.{entries, texts}
 use Rattle.storage_merkle.proofs.Agreeing.{AgreeAt, agree_by_position}
 use Rattle.storage_merkle.proofs.Distinct.{times, one_if, same_itself}
 use Rattle.storage_merkle.proofs.Siblings.{positions, positions_sorted}
-use Rattle.storage_merkle.proofs.PlanSites.{AllSites, IsAlignedNode, one_place}
+use Rattle.storage_merkle.proofs.Plan.Sites.{AllSites, IsAlignedNode, one_place}
 use Rattle.storage_merkle.proofs.RangeOwn.{same_site-eq}
 use Rattle.storage_merkle.proofs.Extracted.{tells, bare, entries_agree}
 

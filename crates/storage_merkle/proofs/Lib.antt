@@ -7,8 +7,7 @@ pub mod RangeSound
 pub mod RangeOwn
 pub mod Extracted
 pub mod Expand
-pub mod PinnedExpand
-pub mod PinnedSound
+pub mod Pinned
 pub mod Examples
 pub mod Keeping
 mod Retained
@@ -18,25 +17,14 @@ pub mod Rewriting
 pub mod Alike
 pub mod Ascending
 pub mod Walks
-pub mod PlanWalk
-pub mod PlanSites
-pub mod PlanAnswers
-pub mod PlanFolds
-pub mod PlanTops
-pub mod PlanAmong
-pub mod PlanOwn
+pub mod Plan
 pub mod Greatest
 pub mod Folds
 pub mod Written
 pub mod Rising
 pub mod Siblings
 pub mod Rests
-pub mod CheckNodes
-pub mod CheckTops
-pub mod CheckSites
-pub mod CheckBags
-pub mod CheckSiblings
-pub mod Checks
+pub mod Check
 pub mod Meaning
 pub mod Built
 pub mod KeptRoots
@@ -44,27 +32,7 @@ pub mod Served
 pub mod Found
 pub mod Handed
 pub mod HandedOut
-pub mod MultiSound
-pub mod MultiOwn
-pub mod MultiClaims
-pub mod MultiNeeded
-pub mod MultiNodes
-pub mod MultiChecks
-pub mod MultiMeaning
-pub mod StoreEntries
-pub mod StoreOwn
-pub mod StoreMulti
-pub mod StoreMade
-pub mod StoreGiven
+pub mod Multi
+pub mod Store
 mod Births
 mod Countable
-pub mod StoreSteps
-pub mod StoreTops
-pub mod StoreReads
-pub mod StoreKept
-pub mod StoreRange
-pub mod StoreAnswers
-pub mod PinnedNodes
-pub mod PinnedMatch
-pub mod PinnedChecks
-pub mod PinnedMeaning

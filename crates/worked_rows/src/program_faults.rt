@@ -1,6 +1,6 @@
 //! Runs of the program whose input or output fails.
 
-use commonware_storage::stateproof::run;
+use stateproof_cli::run;
 use std::alloc::Global;
 use std::io::{self, ErrorKind, Read};
 use std::test::Fail;

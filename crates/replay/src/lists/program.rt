@@ -6,7 +6,7 @@ use crate::columns::{
 use crate::lists::shared::Given;
 use commonware_storage::digest::Hasher;
 use commonware_storage::merkle::{Graftable, Location, mmb, mmr};
-use commonware_storage::stateproof::run;
+use stateproof_cli::run;
 use std::alloc::Global;
 
 /// What a run wrote, and its status.

@@ -7,12 +7,12 @@ ghost use Rattle.storage_merkle.specs.Shape.{size};
 ghost use Rattle.storage_bitmap.specs.Chunks.{IsChunkSize, bit_count, chunk as chunk_of};
 ghost use Rattle.storage_bitmap.specs.Packed.{bit_in};
 
+mod as_storage;
 mod inclusion;
 mod merkleized;
 mod proof;
 mod rehashed;
 mod state;
-mod stored;
 mod unmerkleized;
 
 use crate::bitmap::prunable::read;

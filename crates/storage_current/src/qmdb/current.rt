@@ -1,17 +1,17 @@
 //! Snapshots of operations and of which of them are active, their roots and proofs.
 
 mod chunks;
+mod contiguous;
 pub mod grafting;
-mod log;
+mod operation_tree;
 pub mod ordered;
 pub mod proof;
 mod required;
 mod root;
 mod snapshot;
-mod tree;
 mod view;
 
-pub use log::{Contiguous, LogError};
+pub use contiguous::{Contiguous, LogError};
+pub use operation_tree::OperationTree;
 pub use required::{RequiredChunks, required_chunks};
 pub use snapshot::Snapshot;
-pub use tree::OperationTree;

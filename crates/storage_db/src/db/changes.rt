@@ -1,6 +1,6 @@
 //! What a put, a delete and a commit change of the operations and of the active keys.
 
-ghost use Rattle.std.specs.Prelude.{◌≡◌, ◌+◌, ◌-◌, ◌<◌, ◌≤◌, ◌^◌, [], ◌∷◌, ◌++◌, true, false, length, Option, Some, option_map, is_some, IfOk, IfErr, OnOk, OnErr, vec_len, vec_capacity};
+ghost use Rattle.std.specs.Prelude.{◌≡◌, ◌+◌, ◌-◌, ◌<◌, ◌≤◌, ◌^◌, [], ◌∷◌, ◌++◌, true, false, length, Option, Some, option_map, is_some, if◌then◌else◌, IfOk, IfErr, OnOk, OnErr, vec_len, vec_capacity};
 ghost use Rattle.std.specs.BTreeMap.{IsOrdered, insert_entry, is_at};
 ghost use Rattle.std.specs.Map.{lookup, remove_entry};
 ghost use Rattle.storage_bitmap.specs.Chunks.{IsChunkSize};
@@ -8,11 +8,11 @@ ghost use Rattle.storage_current.specs.Keys.{keyed_by};
 ghost use Rattle.storage_current.specs.Snapshots.{grafting_of};
 ghost use Rattle.storage_db.specs.Databases.{Commit as Committing, Committed, active_at, commit, delete, put, without};
 ghost use Rattle.storage_db.specs.Kept.{IsDone, KeptCommit};
-ghost use Rattle.storage_db.specs.Logs.{HasRoom};
-ghost use Rattle.storage_db.specs.Parts.{IsTooMany, database_of, moved, texts};
+ghost use Rattle.storage_db.specs.Logs.{HasRoom, IsTooMany};
+ghost use Rattle.storage_db.specs.Parts.{database_of, moved, texts};
 
 use crate::db::Error;
-use crate::db::active::{Active, least_location};
+use crate::db::active::{Active, least_location, previous};
 use crate::db::commit::Commit;
 use crate::db::log::Log;
 use crate::db::strings::{next_or_own, relinked, written_commit, written_delete, written_update};
@@ -48,9 +48,9 @@ pub(crate) fn put_active<F: Family, K: Key, V: OperationCodec<F, Update<K, V>>>(
         → IsTooMany (length log.old.operations.items) (length (put e
         (database_of log.old active.old.entries last) key value).operations) error) }
 {
+    log.make_room::<F>(1)?;
     let next_key = next_or_own(active, &key)?;
     let bytes = written_update::<F, K, V>(alloc, &key, &value, &next_key)?;
-    log.make_room::<F>(1)?;
     set(log, active, key, value, bytes)?;
     Ok(())
 }
@@ -78,17 +78,17 @@ pub(crate) fn put_new<F: Family, K: Key, V: OperationCodec<F, Update<K, V>>>(
         → IsTooMany (length log.old.operations.items) (length (put e
         (database_of log.old active.old.entries last) key value).operations) error) }
 {
+    let before = previous(active, &key);
+    log.make_room::<F>(appended(&before))?;
     let next_key = next_or_own(active, &key)?;
     let bytes = written_update::<F, K, V>(alloc, &key, &value, &next_key)?;
-    match relinked::<F, K, V>(alloc, active, &key, &key)? {
+    match relinked::<F, K, V>(alloc, before, &key)? {
         None => {
-            log.make_room::<F>(1)?;
             set(log, active, key, value, bytes)?;
             Ok(())
         }
         Some((previous, link)) => {
             operations_settle_keys::<F, K, V>();
-            log.make_room::<F>(2)?;
             set(log, active, key, value, bytes)?;
             renew(log, active, &previous, link);
             Ok(())
@@ -118,17 +118,17 @@ pub(crate) fn remove<F: Family, K: Key, V: OperationCodec<F, Update<K, V>>>(
         → IsTooMany (length log.old.operations.items) (length (delete e
         (database_of log.old active.old.entries last) key.now).operations) error) }
 {
+    let before = previous(active, key);
+    log.make_room::<F>(appended(&before))?;
     let next_key = next_or_own(active, key)?;
     let bytes = written_delete::<F, K, V>(alloc, key)?;
-    match relinked::<F, K, V>(alloc, active, key, &next_key)? {
+    match relinked::<F, K, V>(alloc, before, &next_key)? {
         None => {
-            log.make_room::<F>(1)?;
             take_out(log, active, key, bytes);
             Ok(())
         }
         Some((previous, link)) => {
             operations_settle_keys::<F, K, V>();
-            log.make_room::<F>(2)?;
             take_out(log, active, key, bytes);
             renew(log, active, &previous, link);
             Ok(())
@@ -180,6 +180,14 @@ pub(crate) fn put_commit<
     let commit = Commit::after(alloc, log, active, before, metadata, floor, &bytes)?;
     log.append_commit(bytes, before);
     Ok(commit)
+}
+
+/// How many operations a put of a new key or a deletion appends: its own, and where there is a key before, that key's
+/// update.
+fn appended<T>(before: &Option<T>) -> usize
+    ensures { result ≡ (if is_some before.now then 2 else 1) }
+{
+    if before.is_some() { 2 } else { 1 }
 }
 
 /// Appends `bytes`, the update of `key` to `value`, which is the active one of its key from now on. There is room.

@@ -1,9 +1,9 @@
 //! Operations as they are written, each with its activity bit.
 
-ghost use Rattle.std.specs.Prelude.{◌≡◌, ◌⊎◌, ℕ, ◌+◌, ◌<◌, ◌≤◌, ◌^◌, List, [], ◌∷◌, ◌++◌, length, map, slice_set, true, false, IfOk, IfErr, OnOk, vec_len, vec_capacity};
+ghost use Rattle.std.specs.Prelude.{◌≡◌, ℕ, ◌+◌, ◌<◌, ◌≤◌, ◌^◌, List, [], ◌∷◌, ◌++◌, length, map, slice_set, true, false, IfOk, IfErr, OnOk, vec_len, vec_capacity};
 ghost use Rattle.storage_bitmap.specs.Chunks.{IsChunkSize};
 ghost use Rattle.storage_current.specs.NodeLists.{IsTreeOver};
-ghost use Rattle.storage_db.specs.Logs.{HasRoom, cleared_at};
+ghost use Rattle.storage_db.specs.Logs.{HasRoom, IsTooMany, cleared_at};
 
 use crate::db::Error;
 use std::alloc::Global;
@@ -51,15 +51,15 @@ impl Log {
     ///
     /// # Errors
     ///
-    /// `Full` where there would be more than 2^62 operations; `Memory`.
+    /// The first of: `Full` where there would be more than 2^62 operations; `Memory`.
     pub(crate) fn make_room<F>(&mut self, count: usize) -> Result<(), Error<F>>
         ensures operations { self.new.operations.items ≡ self.old.operations.items }
         ensures bits { self.new.bits.items ≡ self.old.bits.items }
         ensures room { OnOk result (HasRoom count (vec_len self.new.operations)
             (vec_capacity self.new.operations) (vec_capacity self.new.bits)) }
         ensures few { OnOk result (length self.old.operations.items + count ≤ 2 ^ 62) }
-        ensures why { IfErr result (λ error. ((2 ^ 62 < length self.old.operations.items + count)
-            × (error ≡ Error.Full (length self.old.operations.items))) ⊎ (error ≡ Error.Memory)) }
+        ensures why { IfErr result (IsTooMany (length self.old.operations.items)
+            (length self.old.operations.items + count)) }
     {
         if MAX_LEAVES - self.len() < count as u64 {
             return Err(Error::Full(Location::new(self.len())));

@@ -85,8 +85,7 @@ impl<F: Graftable, H: Hasher, K: Key, V: OperationCodec<F, Update<K, V>>, const 
     ///
     /// # Errors
     ///
-    /// `Full` where the operations with the one or two that are appended would pass 2^62, or `Memory` in its place where
-    /// what is appended can't be written; else `Memory`.
+    /// The first of: `Full` where the operations with the one or two that are appended would pass 2^62; `Memory`.
     pub fn put(&mut self, key: K, value: V::Value) -> Result<(), Error<F>>
         ensures ok { let e = keyed_by K.text V.Value.text V.operation_text K.cmp in OnOk result
             (IsDone e H.hash_of (grafting_of F.shape N) self.old self.new (Put key value)) }
@@ -105,8 +104,7 @@ impl<F: Graftable, H: Hasher, K: Key, V: OperationCodec<F, Update<K, V>>, const 
     ///
     /// # Errors
     ///
-    /// `Full` where the operations with the one or two that are appended would pass 2^62, or `Memory` in its place where
-    /// what is appended can't be written; else `Memory`.
+    /// The first of: `Full` where the operations with the one or two that are appended would pass 2^62; `Memory`.
     pub fn delete(&mut self, key: &K) -> Result<bool, Error<F>>
         ensures ok { let e = keyed_by K.text V.Value.text V.operation_text K.cmp in OnOk result
             (IsDone e H.hash_of (grafting_of F.shape N) self.old self.new (Delete key.now)) }
@@ -130,7 +128,7 @@ impl<F: Graftable, H: Hasher, K: Key, V: OperationCodec<F, Update<K, V>>, const 
     ///
     /// # Errors
     ///
-    /// `Full` where there are 2^62 operations already; `Memory`.
+    /// The first of: `Full` where there are 2^62 operations already; `Memory`.
     pub fn commit(&mut self, metadata: Option<V::Value>) -> Result<(), Error<F>>
         ensures ok { let e = keyed_by K.text V.Value.text V.operation_text K.cmp in OnOk result
             (IsDone e H.hash_of (grafting_of F.shape N) self.old self.new (Committing metadata)) }

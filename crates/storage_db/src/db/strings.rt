@@ -1,12 +1,11 @@
 //! What the operations of a database are written as.
 
-ghost use Rattle.std.specs.Prelude.{◌≡◌, ◌++◌, None, IfOk, OnOk, MatchOption, option_map};
-ghost use Rattle.std.specs.BTreeMap.{IsOrdered};
+ghost use Rattle.std.specs.Prelude.{◌≡◌, ◌++◌, None, Some, IfOk, MatchOption, option_map};
 ghost use Rattle.storage_ops.specs.Operations.{operation_map, parts, Delete};
 ghost use Rattle.storage_current.specs.Keys.{keyed_by, update_text, commit_text};
-ghost use Rattle.storage_db.specs.Rings.{next_key, previous};
+ghost use Rattle.storage_db.specs.Rings.{next_key};
 
-use crate::db::active::{Active, next_key, previous};
+use crate::db::active::{Active, next_key};
 use std::alloc::Global;
 use std::collections::BTreeMap;
 use storage_codec::NoMemory;
@@ -99,22 +98,20 @@ pub(crate) fn next_or_own<K: Key, W>(
     }
 }
 
-/// The other active key that comes last before `key`, around past the least, and its update, its value kept, that names
-/// `next_key`, as it is written; none where no other key is active.
+/// The key of `before`, which is an active one, and its update, its value kept, that names `next_key`, as it is written;
+/// none for none.
 pub(crate) fn relinked<F: Family, K: Key, V: OperationCodec<F, Update<K, V>>>(
     alloc: Global,
-    active: &BTreeMap<K, Active<V::Value>>,
-    key: &K,
+    before: Option<(&K, &Active<V::Value>)>,
     next_key: &K,
 ) -> Result<Option<(K, Vec<u8>)>, NoMemory>
-    ensures found { let e = keyed_by K.text V.Value.text V.operation_text K.cmp in
-        IfOk result (λ found. MatchOption found (previous K.cmp active.now.entries key.now ≡ None)
-        (λ r. (p : K × Active V.Value) × (previous K.cmp active.now.entries key.now ≡ Some p)
-        × (K.text r.0 ≡ K.text p.0)
+    ensures { let e = keyed_by K.text V.Value.text V.operation_text K.cmp in
+        let seen = option_map (λ p. (p.0.now, p.1.now)) before.entry in
+        IfOk result (λ found. MatchOption found (seen ≡ None)
+        (λ r. (p : K × Active V.Value) × (seen ≡ Some p) × (K.text r.0 ≡ K.text p.0)
         × (r.1.items ≡ update_text e p.0 p.1.value next_key.now))) }
-    ensures ordered { OnOk result (IsOrdered K.cmp active.now) }
 {
-    let Some((start, entry)) = previous(active, key) else {
+    let Some((start, entry)) = before else {
         return Ok(None);
     };
     let bytes = written_update::<F, K, V>(alloc, start, &entry.value, next_key)?;

@@ -6,13 +6,13 @@ ghost use Rattle.storage_merkle.specs.Hashing.{node_over, peak_digests, root_of}
 ghost use Rattle.storage_merkle.specs.Kept.{NodesOver, StandsBut, StandsFor, IsFirstAway, IsWhole, at_peaks, kept_at, pins, updated};
 ghost use Rattle.storage_merkle.specs.Shape.{size};
 
-mod kept;
+mod as_storage;
+mod nodes;
 mod proofs;
-mod stored;
 
 use crate::merkle::hasher::Hasher;
 use crate::merkle::{Error, Family, Location, MAX_LEAVES, Position};
-use kept::{grow, look_up, peaks_over, write_leaves};
+use nodes::{grow, look_up, peaks_over, write_leaves};
 use std::alloc::{AllocError, Global};
 use std::marker::{Model, PhantomData};
 use storage_codec::digest::Digest;

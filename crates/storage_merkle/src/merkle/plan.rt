@@ -12,11 +12,11 @@ ghost use Rattle.storage_merkle.specs.Rests.{AreAfterLeading, AreFolded, peaks_f
 ghost use Rattle.storage_merkle.specs.Siblings.{sibling_sites};
 ghost use Rattle.storage_merkle.specs.Trees.{folded, node_calc, unfolded, ungrafted};
 
-pub(crate) mod nodes;
+pub(crate) mod digests;
 
 use crate::merkle::family::power;
 use crate::merkle::hasher::Hasher;
-use crate::merkle::plan::nodes::Nodes;
+use crate::merkle::plan::digests::Nodes;
 use crate::merkle::{Bagging, Error, Family, Location, MAX_LEAVES, Position, Proof};
 use std::alloc::{AllocError, Global};
 use std::marker::Model;

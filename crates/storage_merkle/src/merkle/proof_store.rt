@@ -8,7 +8,7 @@ ghost use Rattle.storage_merkle.specs.Rests.{peaks_from};
 ghost use Rattle.storage_merkle.specs.Shape.{AreAligned};
 ghost use Rattle.storage_merkle.specs.Stores.{entry_at, found_at, is_among, location_refusal, multi_refusal, needed_refusal, or_else, store_multi_proof, suffix_positions};
 
-mod made;
+mod construct;
 mod range;
 
 use crate::merkle::family::power;

@@ -1,4 +1,4 @@
-use Rattle.storage_current.proofs.Canonical.{current_sound}
+use Rattle.storage_current.proofs.RangeSound.{current_sound}
 use Rattle.storage_current.proofs.laws.current_proofs_are_sound.Goals as goal
 
 pub returns : goal.returns

@@ -1,4 +1,4 @@
-use Rattle.storage_current.proofs.Operations.{operation_sound}
+use Rattle.storage_current.proofs.OperationSound.{operation_sound}
 use Rattle.storage_current.proofs.laws.operation_proofs_are_sound.Goals as goal
 
 pub returns : goal.returns

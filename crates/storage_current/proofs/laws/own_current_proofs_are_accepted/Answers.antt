@@ -1,4 +1,4 @@
-use Rattle.storage_current.proofs.Served.{own_current_is_accepted}
+use Rattle.storage_current.proofs.RangeOwn.{own_current_is_accepted}
 use Rattle.storage_current.proofs.laws.own_current_proofs_are_accepted.Goals as goal
 
 pub returns : goal.returns

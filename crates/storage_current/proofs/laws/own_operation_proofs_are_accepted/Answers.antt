@@ -1,4 +1,4 @@
-use Rattle.storage_current.proofs.Operations.{operation_accepted}
+use Rattle.storage_current.proofs.OperationSound.{operation_accepted}
 use Rattle.storage_current.proofs.laws.own_operation_proofs_are_accepted.Goals as goal
 
 pub returns : goal.returns

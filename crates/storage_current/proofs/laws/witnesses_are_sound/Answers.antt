@@ -1,4 +1,4 @@
-use Rattle.storage_current.proofs.Witnesses.{witness_sound}
+use Rattle.storage_current.proofs.WitnessSound.{witness_sound}
 use Rattle.storage_current.proofs.laws.witnesses_are_sound.Goals as goal
 
 pub returns : goal.returns

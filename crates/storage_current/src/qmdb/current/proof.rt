@@ -15,12 +15,12 @@ mod chunk;
 mod clones;
 mod codec;
 mod extract;
-mod fetched;
+mod from_store;
 pub mod operation;
-mod served;
+mod planned_digests;
 mod slots;
 mod window;
-mod with_operations;
+mod with_ops;
 mod witness;
 
 use crate::laws::current_proofs_are_sound;
@@ -39,7 +39,7 @@ use storage_codec::codec::Write;
 use storage_codec::digest::{Digest, Hasher};
 use storage_merkle::merkle::{self, Graftable, Location, Position, Proof, RangePlan};
 use storage_ops::qmdb::{self, Error};
-pub use with_operations::RangeProofSpec;
+pub use with_ops::RangeProofSpec;
 pub use witness::OpsRootWitness;
 
 /// A proof that operations stand at a range of locations, and of their activity bits.

@@ -11,9 +11,9 @@ ghost use Rattle.storage_current.specs.WitnessWire.{witness_of};
 
 use crate::qmdb::current::chunks::{ChunkCounts, chunk_digest};
 use crate::qmdb::current::grafting::{self, GraftedTree, aligned_inactive, exact_inactive};
+use crate::qmdb::current::operation_tree::OperationTree;
 use crate::qmdb::current::proof::OpsRootWitness;
 use crate::qmdb::current::root::canonical_root;
-use crate::qmdb::current::tree::OperationTree;
 use crate::qmdb::current::view::{graft_chunks, view_digest, view_root};
 use std::alloc::{AllocError, Global};
 use std::convert::AsSlice;

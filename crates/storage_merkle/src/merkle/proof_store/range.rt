@@ -14,7 +14,7 @@ ghost use Rattle.storage_merkle.specs.Trees.{Content, Layout, ungrafted};
 
 use crate::merkle::family::power;
 use crate::merkle::hasher::{Hasher, append, join};
-use crate::merkle::plan::nodes::push_some;
+use crate::merkle::plan::digests::push_some;
 use crate::merkle::plan::{Rest, check_range, is_apart, node_position, siblings};
 use crate::merkle::{Error, Family, Location, Position, Proof, ProofStore};
 use std::alloc::{AllocError, Global};

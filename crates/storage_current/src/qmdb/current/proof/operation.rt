@@ -12,7 +12,7 @@ ghost use Rattle.storage_current.specs.BuiltProofs.{AreAnswered, AreBitsOf, AreP
 ghost use Rattle.storage_current.specs.Snapshots.{Snapshot as SnapshotOf, first_chunk, height, own_operation_proof, grafting_of};
 
 mod codec;
-mod stored;
+mod from_store;
 
 use crate::laws::operation_proofs_are_sound;
 use crate::qmdb::current::grafting;

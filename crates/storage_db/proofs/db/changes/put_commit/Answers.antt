@@ -1,10 +1,10 @@
-use Rattle.std.proofs.Common.{◌≡◌, inr, length, refl, ap, ◌∙◌}
+use Rattle.std.proofs.Common.{◌≡◌, length, refl, ap, ◌∙◌}
 use Rattle.storage_current.specs.Keys.{Keyed, keyed_by}
 use Rattle.storage_current.specs.Snapshots.{grafting_of}
-use Rattle.storage_db.specs.Databases.{least_location}
-use Rattle.storage_db.proofs.Cases.{err_and}
+use Rattle.storage_db.specs.Databases.{commit, least_location}
 use Rattle.storage_db.proofs.Keeping.{kept_of}
-use Rattle.storage_db.proofs.Commits.{committed_with, commit_too_many}
+use Rattle.storage_db.proofs.Commits.{committed_with, commit_count}
+use Rattle.storage_db.proofs.Changing.{no_room, no_memory}
 use Rattle.storage_db.proofs.db.changes.put_commit.Goals as goal
 
 pub returns-clause-ok : goal.returns-clause-ok
@@ -26,15 +26,22 @@ pub returns-in_err-make_room-clause-why : goal.returns-in_err-make_room-clause-w
 returns-in_err-make_room-clause-why g c =
     let e : Keyed g.row.K.Denot g.row.V-Value.Denot
     = keyed_by g.K.Write.text g.V.Value.Write.text g.V.OperationCodec.operation_text g.K.Ord.cmp in
-    let why = c.in_err-make_room.ensures.why in
-    err_and _ _ c.from_residual.result (λ error same last. commit_too_many e c.args.log.now c.args.active.now.entries last
-    c.args.metadata error (rw same why)) c.from_residual.ensures.1
+    no_room c.args.log.now c.args.active.now.entries (λ x. commit e x c.args.metadata) 1
+    (λ last. commit_count e c.args.log.now c.args.active.now.entries last c.args.metadata)
+    c.from_residual.result _ c.in_err-make_room.ensures.why c.from_residual.ensures.1
 
 pub returns-in_err-bytes-clause-why : goal.returns-in_err-bytes-clause-why
 returns-in_err-bytes-clause-why g c =
-    err_and _ _ c.from_residual-in_err-bytes.result (λ error memory last. inr memory) c.from_residual-in_err-bytes.ensures.1
+    let e : Keyed g.row.K.Denot g.row.V-Value.Denot
+    = keyed_by g.K.Write.text g.V.Value.Write.text g.V.OperationCodec.operation_text g.K.Ord.cmp in
+    no_memory c.args.log.now c.args.active.now.entries (λ x. commit e x c.args.metadata) 1
+    (λ last. commit_count e c.args.log.now c.args.active.now.entries last c.args.metadata)
+    c.from_residual-in_err-bytes.result c.in_ok-make_room.ensures.few c.from_residual-in_err-bytes.ensures.1
 
 pub returns-in_err-commit-clause-why : goal.returns-in_err-commit-clause-why
 returns-in_err-commit-clause-why g c =
-    err_and _ _ c.from_residual-in_err-commit.result (λ error memory last. inr memory)
-    c.from_residual-in_err-commit.ensures.1
+    let e : Keyed g.row.K.Denot g.row.V-Value.Denot
+    = keyed_by g.K.Write.text g.V.Value.Write.text g.V.OperationCodec.operation_text g.K.Ord.cmp in
+    no_memory c.args.log.now c.args.active.now.entries (λ x. commit e x c.args.metadata) 1
+    (λ last. commit_count e c.args.log.now c.args.active.now.entries last c.args.metadata)
+    c.from_residual-in_err-commit.result c.in_ok-make_room.ensures.few c.from_residual-in_err-commit.ensures.1

@@ -1,13 +1,10 @@
-use Rattle.std.proofs.Common.{rules, ◌≡◌, ◌⊎◌, ◌+◌, ◌<◌, ◌^◌, length, Some, ap, ◌∙◌}
-use Rattle.std.specs.Prelude.{IfErr}
+use Rattle.std.proofs.Common.{◌≡◌, Some, sym, ap, ◌∙◌}
 use Rattle.storage_current.specs.Keys.{Keyed, keyed_by}
-use Rattle.storage_db.specs.declared.db.error.Error.TheVariants.{Full, Memory}
-use Rattle.storage_db.specs.Rings.{next_key}
-use Rattle.storage_db.specs.Databases.{Database, active_at, updated, removed}
+use Rattle.storage_db.specs.Rings.{next_key, previous}
+use Rattle.storage_db.specs.Databases.{Database, active_at, updated, removed, delete}
 use Rattle.storage_db.specs.Parts.{database_of}
 use Rattle.storage_db.specs.Keyed.{IsKeyed}
-use Rattle.storage_db.proofs.Cases.{if_err}
-use Rattle.storage_db.proofs.Changing.{sorted_of, too_many, delete_count, same_database, removed_parts, renewed_parts, stays_removed, delete_is}
+use Rattle.storage_db.proofs.Changing.{sorted_of, no_room, no_memory, delete_count, same_database, removed_parts, renewed_parts, stays_removed, delete_is}
 use Rattle.storage_db.proofs.db.changes.remove.Goals as goal
 
 pub returns-clause-ok : goal.returns-clause-ok
@@ -15,40 +12,62 @@ returns-clause-ok g c = λ last.
     let e : Keyed g.row.K.Denot g.row.V-Value.Denot
     = keyed_by g.K.Write.text g.V.Value.Write.text g.V.OperationCodec.operation_text g.K.Ord.cmp in
     let is : IsKeyed e = c.operations_settle_keys.ensures in
-    let found = rw c.in-Some.is at c.in_ok-relinked.ensures.found in
+    let found = rw c.in-Some.is at c.in_ok-relinked.ensures in
     let key = c.args.key.now in
     let entries = c.args.active.now.entries in
+    let at : previous e.cmp entries key ≡ Some found.0 = sym c.previous-before.ensures.value ∙ found.1 in
     let fewer = c.take_out-in-Some.new.active.entries in
     let d : Database g.row.K.Denot g.row.V-Value.Denot = database_of c.args.log.now entries last in
     let next = next_key e.cmp entries key in
-    let sorted = sorted_of e.cmp entries c.in_ok-relinked.ensures.ordered in
+    let sorted = sorted_of e.cmp entries c.previous-before.ensures.ordered in
     let first : database_of c.take_out-in-Some.new.log fewer last ≡ removed e d key
-    = removed_parts e c.make_room-in-Some.new.self c.take_out-in-Some.new.log entries fewer last key c.in_ok-bytes.bytes
+    = removed_parts e c.make_room.new.self c.take_out-in-Some.new.log entries fewer last key c.in_ok-bytes.bytes
     c.in_ok-bytes.ensures c.take_out-in-Some.ensures.operations c.take_out-in-Some.ensures.bits
     c.take_out-in-Some.ensures.entries
     ∙ ap (λ (x : Database g.row.K.Denot g.row.V-Value.Denot). removed e x key)
-    (same_database c.args.log.now c.make_room-in-Some.new.self c.in_ok-make_room-in-Some.ensures.operations
-    c.in_ok-make_room-in-Some.ensures.bits entries last) in
+    (same_database c.args.log.now c.make_room.new.self c.in_ok-make_room.ensures.operations
+    c.in_ok-make_room.ensures.bits entries last) in
     let there : active_at e fewer found.0.0 ≡ Some found.0.1
     = ap (λ (x : Database g.row.K.Denot g.row.V-Value.Denot). active_at e x.entries found.0.0) first
-    ∙ stays_removed e is d sorted key found.0 found.1 in
+    ∙ stays_removed e is d sorted key found.0 at in
     renewed_parts e is c.take_out-in-Some.new.log c.renew.new.log fewer c.renew.new.active.entries last c.in-Some.previous
     found.0 c.in_ok-next_key.next_key next c.in-Some.link found.2 (sorted_of e.cmp fewer c.renew.ensures.ordered) there
     c.in_ok-next_key.ensures found.3 c.renew.ensures.operations c.renew.ensures.bits c.renew.ensures.entries
     ∙ ap (λ (x : Database g.row.K.Denot g.row.V-Value.Denot). updated e x found.0.0 found.0.1.value next) first
-    ∙ delete_is e is d sorted key found.0 found.1 c.requires
+    ∙ delete_is e is d sorted key found.0 at c.requires
 
-pub returns-in_err-make_room-in-Some-clause-why : goal.returns-in_err-make_room-in-Some-clause-why
-returns-in_err-make_room-in-Some-clause-why g c =
+pub returns-in_err-make_room-clause-why : goal.returns-in_err-make_room-clause-why
+returns-in_err-make_room-clause-why g c =
     let e : Keyed g.row.K.Denot g.row.V-Value.Denot
     = keyed_by g.K.Write.text g.V.Value.Write.text g.V.OperationCodec.operation_text g.K.Ord.cmp in
-    let found = rw c.in-Some.is at c.in_ok-relinked.ensures.found in
-    let entries = c.args.active.now.entries in
-    let sorted = sorted_of e.cmp entries c.in_ok-relinked.ensures.ordered in
-    let why : IfErr c.from_residual-in_err-make_room-in-Some.result (λ error.
-    ((2 ^ 62 < length c.args.log.now.operations.items + 2) × (error ≡ Full (length c.args.log.now.operations.items)))
-    ⊎ (error ≡ Memory)) = search rules in
-    if_err _ _ c.from_residual-in_err-make_room-in-Some.result
-    (λ error refused last. too_many c.args.log.now 2 _ error
-    (delete_count e c.operations_settle_keys.ensures (database_of c.args.log.now entries last) sorted c.args.key.now found.0 found.1
-    c.requires) refused) why
+    no_room c.args.log.now c.args.active.now.entries (λ x. delete e x c.args.key.now) c.appended.result
+    (delete_count e c.args.log.now c.args.active.now.entries c.args.key.now _ c.previous-before.result c.previous-before.ensures.value
+    c.appended.result c.appended.ensures c.requires)
+    c.from_residual.result _ c.in_err-make_room.ensures.why c.from_residual.ensures.1
+
+pub returns-in_err-next_key-clause-why : goal.returns-in_err-next_key-clause-why
+returns-in_err-next_key-clause-why g c =
+    let e : Keyed g.row.K.Denot g.row.V-Value.Denot
+    = keyed_by g.K.Write.text g.V.Value.Write.text g.V.OperationCodec.operation_text g.K.Ord.cmp in
+    no_memory c.args.log.now c.args.active.now.entries (λ x. delete e x c.args.key.now) c.appended.result
+    (delete_count e c.args.log.now c.args.active.now.entries c.args.key.now _ c.previous-before.result c.previous-before.ensures.value
+    c.appended.result c.appended.ensures c.requires)
+    c.from_residual-in_err-next_key.result c.in_ok-make_room.ensures.few c.from_residual-in_err-next_key.ensures.1
+
+pub returns-in_err-bytes-clause-why : goal.returns-in_err-bytes-clause-why
+returns-in_err-bytes-clause-why g c =
+    let e : Keyed g.row.K.Denot g.row.V-Value.Denot
+    = keyed_by g.K.Write.text g.V.Value.Write.text g.V.OperationCodec.operation_text g.K.Ord.cmp in
+    no_memory c.args.log.now c.args.active.now.entries (λ x. delete e x c.args.key.now) c.appended.result
+    (delete_count e c.args.log.now c.args.active.now.entries c.args.key.now _ c.previous-before.result c.previous-before.ensures.value
+    c.appended.result c.appended.ensures c.requires)
+    c.from_residual-in_err-bytes.result c.in_ok-make_room.ensures.few c.from_residual-in_err-bytes.ensures.1
+
+pub returns-in_err-relinked-clause-why : goal.returns-in_err-relinked-clause-why
+returns-in_err-relinked-clause-why g c =
+    let e : Keyed g.row.K.Denot g.row.V-Value.Denot
+    = keyed_by g.K.Write.text g.V.Value.Write.text g.V.OperationCodec.operation_text g.K.Ord.cmp in
+    no_memory c.args.log.now c.args.active.now.entries (λ x. delete e x c.args.key.now) c.appended.result
+    (delete_count e c.args.log.now c.args.active.now.entries c.args.key.now _ c.previous-before.result c.previous-before.ensures.value
+    c.appended.result c.appended.ensures c.requires)
+    c.from_residual-in_err-relinked.result c.in_ok-make_room.ensures.few c.from_residual-in_err-relinked.ensures.1

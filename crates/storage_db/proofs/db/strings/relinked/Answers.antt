@@ -1,5 +1,5 @@
-use Rattle.std.proofs.Common.{rules, sym}
+use Rattle.std.proofs.Common.{rules, option_map, ap}
 use Rattle.storage_db.proofs.db.strings.relinked.Goals as goal
 
-pub returns-clause-found : goal.returns-clause-found
-returns-clause-found g c = (_, sym c.in-Some.ensures.value, search rules, search rules)
+pub returns : goal.returns
+returns g c = (_, ap (option_map _) c.in-Some.is, search rules, search rules)

@@ -1,4 +1,4 @@
-use Rattle.storage_merkle.proofs.MultiOwn.{own_multi_accepted}
+use Rattle.storage_merkle.proofs.Multi.Own.{own_multi_accepted}
 use Rattle.storage_merkle.proofs.laws.multi.own_multi_proofs_are_accepted.Goals as goal
 
 pub returns : goal.returns

@@ -1,4 +1,4 @@
-use Rattle.storage_merkle.proofs.StoreMulti.{multi_own}
+use Rattle.storage_merkle.proofs.Store.Multi.{multi_own}
 use Rattle.storage_merkle.proofs.laws.stores.stores_give_own_multi_proofs.Goals as goal
 
 pub returns : goal.returns

@@ -1,4 +1,4 @@
-use Rattle.storage_merkle.proofs.StoreOwn.{stores_give_own}
+use Rattle.storage_merkle.proofs.Store.Own.{stores_give_own}
 use Rattle.storage_merkle.proofs.laws.stores.stores_give_own_proofs.Goals as goal
 
 pub returns : goal.returns

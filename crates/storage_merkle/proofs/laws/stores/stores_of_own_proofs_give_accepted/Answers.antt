@@ -1,6 +1,6 @@
-use Rattle.storage_merkle.proofs.StoreMade.{made_of_own}
-use Rattle.storage_merkle.proofs.StoreOwn.{stores_give_own}
-use Rattle.storage_merkle.proofs.StoreGiven.{range_accepted, multi_accepted}
+use Rattle.storage_merkle.proofs.Store.Made.{made_of_own}
+use Rattle.storage_merkle.proofs.Store.Own.{stores_give_own}
+use Rattle.storage_merkle.proofs.Store.Given.{range_accepted, multi_accepted}
 use Rattle.storage_merkle.proofs.laws.stores.stores_of_own_proofs_give_accepted.Goals as goal
 
 pub returns : goal.returns

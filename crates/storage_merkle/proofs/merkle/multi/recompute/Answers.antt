@@ -3,9 +3,9 @@ use Rattle.storage_merkle.specs.CheckSteps.{Serves}
 use Rattle.storage_merkle.specs.Multi.{Ascend, claims_of, locations, needed_sites, multi_values}
 use Rattle.storage_merkle.specs.Trees.{ungrafted}
 use Rattle.storage_merkle.proofs.Siblings.{positions, not_both}
-use Rattle.storage_merkle.proofs.MultiChecks.{too_many_leaves, not_ascending, other_count, served, fit, root_is, rising_claims, needed_present, needed_rise}
-use Rattle.storage_merkle.proofs.MultiClaims.{locations-claims}
-use Rattle.storage_merkle.proofs.MultiNodes.{values_in}
+use Rattle.storage_merkle.proofs.Multi.Checks.{too_many_leaves, not_ascending, other_count, served, fit, root_is, rising_claims, needed_present, needed_rise}
+use Rattle.storage_merkle.proofs.Multi.Claims.{locations-claims}
+use Rattle.storage_merkle.proofs.Multi.Nodes.{values_in}
 use Rattle.storage_merkle.proofs.merkle.multi.recompute.Goals as goal
 use Rattle.storage_merkle.proofs.merkle.multi.recompute.Goals.{then-leaves-gt-MAX_LEAVES-via-then-leaves-gt-MAX_LEAVES, then-leaves-gt-MAX_LEAVES-via-else-leaves-gt-MAX_LEAVES+then-not-ascend}
 

@@ -1,7 +1,7 @@
 use Rattle.std.proofs.Common.{◌≡◌, ◌++◌}
 use Rattle.storage_merkle.specs.Plans.{ArePeaks}
 use Rattle.storage_merkle.specs.Trees.{ungrafted}
-use Rattle.storage_merkle.proofs.PlanSites.{planned_from}
+use Rattle.storage_merkle.proofs.Plan.Sites.{planned_from}
 use Rattle.storage_merkle.proofs.merkle.plan.planned.Given as goal
 
 abbrev pub invariant-loop-left : goal.invariant-loop-left

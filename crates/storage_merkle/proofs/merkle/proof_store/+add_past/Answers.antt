@@ -1,7 +1,7 @@
 use Rattle.std.proofs.Common.{rules, ap, ◌++◌, ◌∷◌, [], ◌∙◌}
 use Rattle.storage_merkle.specs.ShapeLaws.{step, no_peaks}
 use Rattle.storage_merkle.proofs.Siblings.{on_ok}
-use Rattle.storage_merkle.proofs.StoreSteps.{past_none, past_pushed, past_not_yet, past_folded}
+use Rattle.storage_merkle.proofs.Store.Steps.{past_none, past_pushed, past_not_yet, past_folded}
 use Rattle.storage_merkle.proofs.merkle.proof_store.+add_past.Goals as goal
 use Rattle.storage_merkle.proofs.merkle.proof_store.+add_past.Goals.{then-folded-eq0+then-past-first+in_ok-push, else-folded-eq0, else-folded-eq0-via-then-folded-eq0+else-past-first, else-folded-eq0-via-else-folded-eq0}
 

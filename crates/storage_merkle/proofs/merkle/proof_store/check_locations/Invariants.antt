@@ -1,6 +1,6 @@
 use Rattle.std.proofs.Common.{◌≡◌, ◌≤◌}
 use Rattle.storage_merkle.specs.Stores.{location_refusal}
-use Rattle.storage_merkle.proofs.StoreSteps.{Refused}
+use Rattle.storage_merkle.proofs.Store.Steps.{Refused}
 use Rattle.storage_merkle.proofs.merkle.proof_store.check_locations.Given as goal
 
 abbrev pub invariant-loop-location : goal.invariant-loop-location

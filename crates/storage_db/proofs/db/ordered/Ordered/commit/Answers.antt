@@ -35,4 +35,4 @@ returns-in_err-commit-clause-why g c =
     err_and _ _ c.from_residual.result (λ error same. refused_from e g.H.Hasher.hash_of
     (grafting_of g.F.Family.shape g.row.N) (λ x. commit e x c.args.metadata) c.self.inside.log c.put_commit.new.log
     c.self.inside.active.entries c.self.inside.active.entries c.self.inside.last c.args.self.now c.self.view_is error
-    (λ last. rw same (why last))) c.from_residual.ensures.1
+    (λ last. same ∙ why last)) c.from_residual.ensures.1

@@ -1,10 +1,8 @@
-use Rattle.std.proofs.Common.{rules, length, Option, sym, ◌∙◌}
-use Rattle.std.specs.Prelude.{IfErr}
+use Rattle.std.proofs.Common.{sym, ◌∙◌}
 use Rattle.storage_current.specs.Keys.{Keyed, keyed_by}
 use Rattle.storage_current.specs.Snapshots.{grafting_of}
-use Rattle.storage_db.specs.Databases.{Committed, delete}
-use Rattle.storage_db.specs.Parts.{IsTooMany, database_of}
-use Rattle.storage_db.proofs.Cases.{if_err}
+use Rattle.storage_db.specs.Databases.{delete}
+use Rattle.storage_db.proofs.Cases.{err_and}
 use Rattle.storage_db.proofs.Keeping.{done_from, refused_from, kept_from, on_err}
 use Rattle.storage_db.proofs.Told.{nothing_deleted}
 use Rattle.storage_db.proofs.db.ordered.Ordered.delete.Goals as goal
@@ -38,10 +36,8 @@ pub returns-in_err-remove-clause-why : goal.returns-in_err-remove-clause-why
 returns-in_err-remove-clause-why g c =
     let e : Keyed g.row.K.Denot g.row.V-Value.Denot
     = keyed_by g.K.Write.text g.V.Value.Write.text g.V.OperationCodec.operation_text g.K.Ord.cmp in
-    let why : IfErr c.from_residual.result (λ error. (last : Option (Committed g.row.K.Denot g.row.V-Value.Denot))
-    → IsTooMany (length c.self.inside.log.operations.items)
-    (length (delete e (database_of c.self.inside.log c.self.inside.active.entries last) c.args.key.now).operations) error)
-    = search rules in
-    if_err _ _ c.from_residual.result (λ error refused. refused_from e g.H.Hasher.hash_of
+    let why = c.in_err-remove.ensures.why in
+    err_and _ _ c.from_residual.result (λ error same. refused_from e g.H.Hasher.hash_of
     (grafting_of g.F.Family.shape g.row.N) (λ x. delete e x c.args.key.now) c.self.inside.log c.remove.new.log
-    c.self.inside.active.entries c.remove.new.active.entries c.self.inside.last c.args.self.now c.self.view_is error refused) why
+    c.self.inside.active.entries c.remove.new.active.entries c.self.inside.last c.args.self.now c.self.view_is error
+    (λ last. same ∙ why last)) c.from_residual.ensures.1

@@ -1,6 +1,6 @@
 use Rattle.std.proofs.Common.{arith, rules, sym, ap, ◌+◌}
 use Rattle.storage_merkle.proofs.Walks.{in_tree_leaves, in_tree_left, in_tree_right, halves}
-use Rattle.storage_merkle.proofs.MultiNodes.{given_itself, given_halves, halves_rise, node_given, node_leaf, node_halves}
+use Rattle.storage_merkle.proofs.Multi.Nodes.{given_itself, given_halves, halves_rise, node_given, node_leaf, node_halves}
 use Rattle.storage_merkle.proofs.merkle.multi.Given.+node.Goals as goal
 
 pub node_position-position-requires-clause-within : goal.node_position-position-requires-clause-within

@@ -2,7 +2,7 @@ use Rattle.std.proofs.Common.{rules, arith, ◌+◌, ◌≤◌, ◌^◌}
 use Rattle.storage_merkle.specs.ShapeLaws.{step, no_peaks}
 use Rattle.storage_merkle.specs.Trees.{ungrafted}
 use Rattle.storage_merkle.proofs.Siblings.{on_ok}
-use Rattle.storage_merkle.proofs.MultiNeeded.{adds_no_peaks, adds_peak, peaks_ascend}
+use Rattle.storage_merkle.proofs.Multi.Needed.{adds_no_peaks, adds_peak, peaks_ascend}
 use Rattle.storage_merkle.proofs.merkle.multi.needed.+add_in_peaks.Goals as goal
 
 pub returns-then-left-eq0 : goal.returns-then-left-eq0

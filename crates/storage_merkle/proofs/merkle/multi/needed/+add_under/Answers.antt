@@ -2,7 +2,7 @@ use Rattle.std.proofs.Common.{rules, arith, ◌≡◌, ◌+◌, ◌-◌, ◌≤�
 use Rattle.storage_merkle.specs.Trees.{ungrafted}
 use Rattle.storage_merkle.proofs.Walks.{halves}
 use Rattle.storage_merkle.proofs.Siblings.{on_ok}
-use Rattle.storage_merkle.proofs.MultiNeeded.{adds_whole, adds_leaf, adds_halves, halves_ascend}
+use Rattle.storage_merkle.proofs.Multi.Needed.{adds_whole, adds_leaf, adds_halves, halves_ascend}
 use Rattle.storage_merkle.proofs.merkle.multi.needed.+add_under.Goals as goal
 
 pub returns-then-is_empty : goal.returns-then-is_empty

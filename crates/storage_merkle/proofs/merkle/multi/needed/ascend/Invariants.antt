@@ -1,4 +1,4 @@
-use Rattle.storage_merkle.proofs.MultiClaims.{Left}
+use Rattle.storage_merkle.proofs.Multi.Claims.{Left}
 use Rattle.storage_merkle.proofs.merkle.multi.needed.ascend.Given as goal
 
 abbrev pub invariant-loop-item : goal.invariant-loop-item

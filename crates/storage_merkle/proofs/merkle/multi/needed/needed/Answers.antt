@@ -1,7 +1,7 @@
 use Rattle.std.proofs.Common.{ℕ, ◌++◌, map, ap, ◌∙◌}
 use Rattle.std.proofs.lemmas.List.Sorted.{IsNonDecreasingBy-from_sort}
 use Rattle.storage_merkle.specs.Trees.{ungrafted}
-use Rattle.storage_merkle.proofs.MultiNeeded.{in_peaks, needed_sorted}
+use Rattle.storage_merkle.proofs.Multi.Needed.{in_peaks, needed_sorted}
 use Rattle.storage_merkle.proofs.merkle.multi.needed.needed.Goals as goal
 
 pub returns : goal.returns

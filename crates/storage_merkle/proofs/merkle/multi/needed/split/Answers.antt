@@ -1,6 +1,6 @@
 use Rattle.std.proofs.Common.{rules, of_calls, ltb}
 use Rattle.std.proofs.lemmas.List.Sorted.{IsPartitionedBy-ltb, IsPartitionPoint-from_clause}
-use Rattle.storage_merkle.proofs.MultiClaims.{non_decreasing, parts_ascend}
+use Rattle.storage_merkle.proofs.Multi.Claims.{non_decreasing, parts_ascend}
 use Rattle.storage_merkle.proofs.merkle.multi.needed.split.Goals as goal
 
 pub returns-clause-parts : goal.returns-clause-parts

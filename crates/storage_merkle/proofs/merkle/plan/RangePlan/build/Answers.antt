@@ -2,7 +2,7 @@ use Rattle.std.proofs.Common.{◌≡◌, ◌∙◌, ap, map, refl, sym, subst, l
 use Rattle.std.specs.List.{AllZip}
 use Rattle.storage_merkle.specs.Plans.{PlanOf, planned}
 use Rattle.storage_merkle.specs.Trees.{tree_node}
-use Rattle.storage_merkle.proofs.PlanOwn.{are_of, are_of_any, as_many, each_answered, is_own, is_gathered}
+use Rattle.storage_merkle.proofs.Plan.Own.{are_of, are_of_any, as_many, each_answered, is_own, is_gathered}
 use Rattle.storage_merkle.proofs.merkle.plan.RangePlan.build.Goals as goal
 
 pub digests-requires : goal.digests-requires

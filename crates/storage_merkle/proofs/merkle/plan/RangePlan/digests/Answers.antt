@@ -4,7 +4,7 @@ use Rattle.storage_merkle.specs.Plans.{PlanOf, planned}
 use Rattle.storage_merkle.specs.PlanParts.{AreOf, site_digest, tops}
 use Rattle.storage_merkle.specs.Siblings.{sibling_sites}
 use Rattle.storage_merkle.specs.Trees.{ungrafted, folded, unfolded}
-use Rattle.storage_merkle.proofs.PlanAmong.{peaks_planned, siblings_planned, planned_in_order, of_folded, proof_digests}
+use Rattle.storage_merkle.proofs.Plan.Among.{peaks_planned, siblings_planned, planned_in_order, of_folded, proof_digests}
 use Rattle.storage_merkle.proofs.merkle.plan.RangePlan.digests.Goals as goal
 
 pub add_peaks-requires-clause-order : goal.add_peaks-requires-clause-order

@@ -1,6 +1,6 @@
 use Rattle.std.proofs.Common.{List, ℕ, ◌∙◌, sym, subst}
 use Rattle.std.specs.List.Sorted.{IsStrictlyIncreasing}
-use Rattle.storage_merkle.proofs.PlanSites.{planned_rises}
+use Rattle.storage_merkle.proofs.Plan.Sites.{planned_rises}
 use Rattle.storage_merkle.proofs.merkle.plan.RangePlan.positions.Goals as goal
 
 pub returns-clause-rising : goal.returns-clause-rising

@@ -8,9 +8,9 @@ use Rattle.storage_merkle.specs.RangeProofs.{RangeProof, CountsFit, check_values
 use Rattle.storage_merkle.specs.Rests.{peaks_from}
 use Rattle.storage_merkle.specs.Siblings.{sibling_sites}
 use Rattle.storage_merkle.specs.Trees.{Content, ungrafted}
-use Rattle.storage_merkle.proofs.Checks.{after_all, claim_on}
+use Rattle.storage_merkle.proofs.Check.Roots.{after_all, claim_on}
 use Rattle.storage_merkle.proofs.Siblings.{not_both}
-use Rattle.storage_merkle.proofs.PinnedChecks.{pinned_counted, siblings_low, siblings_at, enough, beside_are, fold_refused, left_are, agree_where, peaks_agree, siblings_agree}
+use Rattle.storage_merkle.proofs.Pinned.Checks.{pinned_counted, siblings_low, siblings_at, enough, beside_are, fold_refused, left_are, agree_where, peaks_agree, siblings_agree}
 use Rattle.storage_merkle.proofs.merkle.proof.Proof.agrees_with.Goals as goal
 use Rattle.storage_merkle.proofs.merkle.proof.Proof.agrees_with.Goals.{then-end-leaves-via-then-end-leaves, then-end-leaves-via-else-end-leaves+then-leaves-gt-MAX_LEAVES, then-end-leaves-via-else-end-leaves+else-leaves-gt-MAX_LEAVES+then-pinned-peak_count, then-give_peaks, else-give_peaks}
 

@@ -4,8 +4,8 @@ use Rattle.storage_merkle.specs.ProofWireLaws.{all_digests}
 use Rattle.storage_merkle.specs.Shape.{Laws}
 use Rattle.storage_merkle.specs.Trees.{listed}
 use Rattle.storage_merkle.proofs.Meaning.{chained, same_option}
-use Rattle.storage_merkle.proofs.MultiMeaning.{accepted_none, accepted_claims}
-use Rattle.storage_merkle.proofs.MultiSound.{multi_sound}
+use Rattle.storage_merkle.proofs.Multi.Meaning.{accepted_none, accepted_claims}
+use Rattle.storage_merkle.proofs.Multi.Sound.{multi_sound}
 use Rattle.storage_merkle.proofs.merkle.proof.Proof.verify_multi_inclusion.Goals as goal
 
 pub returns-then-is_empty-clause-exact : goal.returns-then-is_empty-clause-exact

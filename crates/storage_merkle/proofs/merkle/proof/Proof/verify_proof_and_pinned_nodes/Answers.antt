@@ -3,7 +3,7 @@ use Rattle.std.proofs.lemmas.List.{length-map}
 use Rattle.storage_merkle.specs.ProofWireLaws.{all_digests}
 use Rattle.storage_merkle.specs.Shape.{Laws}
 use Rattle.storage_merkle.proofs.Meaning.{no_elements, some_elements}
-use Rattle.storage_merkle.proofs.PinnedMeaning.{if_ok, nothing_pinned, counts_fit, agreeing_pinned, pinned_proved}
+use Rattle.storage_merkle.proofs.Pinned.Meaning.{if_ok, nothing_pinned, counts_fit, agreeing_pinned, pinned_proved}
 use Rattle.storage_merkle.proofs.merkle.proof.Proof.verify_proof_and_pinned_nodes.Goals as goal
 
 pub returns-then-is_empty-clause-exact : goal.returns-then-is_empty-clause-exact

@@ -1,7 +1,7 @@
 use Rattle.std.proofs.Common.{arith, rules, ap, length, ◌+◌, ◌<◌, ◌^◌}
 use Rattle.std.proofs.lemmas.Nat.{pow_pos}
 use Rattle.storage_merkle.proofs.Walks.{peaks_next}
-use Rattle.storage_merkle.proofs.CheckTops.{counts_apart, counts_others, tops_fold, tops_end}
+use Rattle.storage_merkle.proofs.Check.Tops.{counts_apart, counts_others, tops_fold, tops_end}
 use Rattle.storage_merkle.proofs.merkle.proof.check.count_apart.Goals as goal
 use Rattle.storage_merkle.proofs.merkle.proof.check.count_apart.Goals.{then-is_apart, else-is_apart, then-loop-rest-test+else-rest-end, else-loop-rest-test}
 

@@ -5,8 +5,8 @@ use Rattle.storage_merkle.specs.RangeProofs.{apart, CountsFit, position_of, chec
 use Rattle.storage_merkle.specs.Rests.{peaks_from}
 use Rattle.storage_merkle.specs.Siblings.{sibling_sites}
 use Rattle.storage_merkle.specs.Trees.{ungrafted}
-use Rattle.storage_merkle.proofs.CheckSiblings.{siblings_rise, siblings_present, siblings_serve}
-use Rattle.storage_merkle.proofs.Checks.{too_few, not_as_many, fit, tops_read, siblings_read, root_is, apart_count, after_all, claim_on}
+use Rattle.storage_merkle.proofs.Check.Siblings.{siblings_rise, siblings_present, siblings_serve}
+use Rattle.storage_merkle.proofs.Check.Roots.{too_few, not_as_many, fit, tops_read, siblings_read, root_is, apart_count, after_all, claim_on}
 use Rattle.storage_merkle.specs.Extracted.{checked, checked_sites, digest_at, entries, texts}
 use Rattle.storage_merkle.proofs.Found.{adds_same, found_rest}
 use Rattle.std.proofs.lemmas.Grind.{common_steps}

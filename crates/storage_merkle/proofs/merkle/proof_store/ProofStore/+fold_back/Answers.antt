@@ -4,7 +4,7 @@ use Rattle.storage_merkle.specs.Calc.{node}
 use Rattle.storage_merkle.specs.ShapeLaws.{step}
 use Rattle.storage_merkle.specs.Stores.{Store, kept_at}
 use Rattle.storage_merkle.specs.Trees.{ungrafted}
-use Rattle.storage_merkle.proofs.CheckTops.{right_end, right_fold, right_step}
+use Rattle.storage_merkle.proofs.Check.Tops.{right_end, right_fold, right_step}
 use Rattle.storage_merkle.proofs.merkle.proof_store.ProofStore.+fold_back.Goals as goal
 
 pub returns-then-left-eq0 : goal.returns-then-left-eq0

@@ -1,10 +1,10 @@
 use Rattle.std.proofs.Common.{◌+◌, ◌≤◌, ◌⊎◌, map, inl, inr, ap, ◌∙◌, arith, option_map}
 use Rattle.std.proofs.lemmas.List.{map-append}
 use Rattle.storage_merkle.proofs.Walks.{peaks_step, peaks_next}
-use Rattle.storage_merkle.proofs.PlanTops.{pushed}
+use Rattle.storage_merkle.proofs.Plan.Tops.{pushed}
 use Rattle.storage_merkle.proofs.Siblings.{on_ok}
-use Rattle.storage_merkle.proofs.StoreTops.{tops_taken, tops_passed}
-use Rattle.storage_merkle.proofs.StoreRange.{adds_peak, adds_other, adds_last, late_next, last_listed}
+use Rattle.storage_merkle.proofs.Store.Tops.{tops_taken, tops_passed}
+use Rattle.storage_merkle.proofs.Store.Range.{adds_peak, adds_other, adds_last, late_next, last_listed}
 use Rattle.storage_merkle.proofs.merkle.proof_store.ProofStore.add_peaks.Goals as goal
 use Rattle.storage_merkle.proofs.merkle.proof_store.ProofStore.add_peaks.Goals.{then-is_apart+in_ok-push, else-is_apart, then-loop-rest-test+else-rest-end, else-loop-rest-test}
 

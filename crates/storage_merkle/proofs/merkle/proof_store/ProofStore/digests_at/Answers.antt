@@ -1,7 +1,7 @@
 use Rattle.std.proofs.Common.{Some, inl, inr, sym, ap, ◌∙◌, arith}
 use Rattle.storage_merkle.specs.Extracted.{texts}
 use Rattle.storage_merkle.specs.Stores.{suffix_positions}
-use Rattle.storage_merkle.proofs.StoreSteps.{needed_missing}
+use Rattle.storage_merkle.proofs.Store.Steps.{needed_missing}
 use Rattle.std.proofs.lemmas.Grind.{common_steps}
 use Rattle.storage_merkle.proofs.merkle.proof_store.ProofStore.digests_at.Goals as goal
 

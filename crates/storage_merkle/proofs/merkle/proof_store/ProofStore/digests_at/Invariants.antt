@@ -1,7 +1,7 @@
 use Rattle.std.proofs.Common.{◌≡◌, ◌++◌, map, drop}
 use Rattle.storage_merkle.specs.Extracted.{texts}
 use Rattle.storage_merkle.specs.Stores.{needed_refusal, suffix_positions}
-use Rattle.storage_merkle.proofs.StoreSteps.{digest_of}
+use Rattle.storage_merkle.proofs.Store.Steps.{digest_of}
 use Rattle.storage_merkle.proofs.merkle.proof_store.ProofStore.digests_at.Given as goal
 
 abbrev pub invariant-loop-position : goal.invariant-loop-position

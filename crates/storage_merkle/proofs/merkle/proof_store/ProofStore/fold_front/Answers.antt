@@ -5,10 +5,10 @@ use Rattle.storage_merkle.specs.Rests.{peaks_from, AreAfterLeading}
 use Rattle.storage_merkle.specs.CheckSteps.{folded_before}
 use Rattle.storage_merkle.specs.ShapeLaws.{no_peaks}
 use Rattle.storage_merkle.specs.Stores.{Store}
-use Rattle.storage_merkle.proofs.Checks.{after_all}
+use Rattle.storage_merkle.proofs.Check.Roots.{after_all}
 use Rattle.storage_merkle.proofs.Walks.{peaks_step, peaks_next}
-use Rattle.storage_merkle.proofs.PlanFolds.{forward_leads, forward_ends, leads_not, leads_end}
-use Rattle.storage_merkle.proofs.StoreRange.{kept_of, front_starts, before_some, before_none}
+use Rattle.storage_merkle.proofs.Plan.Folds.{forward_leads, forward_ends, leads_not, leads_end}
+use Rattle.storage_merkle.proofs.Store.Range.{kept_of, front_starts, before_some, before_none}
 use Rattle.storage_merkle.proofs.merkle.proof_store.ProofStore.fold_front.Goals as goal
 use Rattle.storage_merkle.proofs.merkle.proof_store.ProofStore.fold_front.Goals.{then-rest-gt0, else-rest-gt0}
 

@@ -3,8 +3,8 @@ use Rattle.storage_merkle.specs.PlanParts.{peaks_by}
 use Rattle.storage_merkle.specs.Plans.{ArePeaks}
 use Rattle.storage_merkle.specs.RangeProofs.{leading}
 use Rattle.storage_merkle.specs.Rests.{peaks_from}
-use Rattle.storage_merkle.proofs.PlanFolds.{forward_from}
-use Rattle.storage_merkle.proofs.StoreRange.{front_fold_of, kept_of}
+use Rattle.storage_merkle.proofs.Plan.Folds.{forward_from}
+use Rattle.storage_merkle.proofs.Store.Range.{front_fold_of, kept_of}
 use Rattle.storage_merkle.proofs.merkle.proof_store.ProofStore.fold_front.Given as goal
 
 abbrev pub invariant-loop-rest : goal.invariant-loop-rest

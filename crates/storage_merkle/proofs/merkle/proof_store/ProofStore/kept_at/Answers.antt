@@ -3,7 +3,7 @@ use Rattle.std.proofs.lemmas.List.{get_or_default}
 use Rattle.std.proofs.lemmas.List.Sorted.{IsPartitionedBy-ltb, IsPartitionPoint-from_clause}
 use Rattle.storage_merkle.specs.Extracted.{texts}
 use Rattle.storage_merkle.specs.Stores.{Store, entry_at}
-use Rattle.storage_merkle.proofs.StoreSteps.{kept_found, kept_none, entries_rise, stands_elsewhere, stands_there}
+use Rattle.storage_merkle.proofs.Store.Steps.{kept_found, kept_none, entries_rise, stands_elsewhere, stands_there}
 use Rattle.storage_merkle.proofs.merkle.proof_store.ProofStore.kept_at.Goals as goal
 use Rattle.storage_merkle.proofs.merkle.proof_store.ProofStore.kept_at.Goals.{then-index-len-via-then-index-len, then-index-len-via-else-index-len+then-ne}
 

@@ -1,6 +1,6 @@
 use Rattle.std.proofs.Common.{ap, ◌≡◌, ◌∙◌, inl}
 use Rattle.storage_merkle.specs.Stores.{is_among, suffix_positions}
-use Rattle.storage_merkle.proofs.StoreSteps.{chosen_first, chosen_second}
+use Rattle.storage_merkle.proofs.Store.Steps.{chosen_first, chosen_second}
 use Rattle.storage_merkle.proofs.merkle.proof_store.ProofStore.missing.Goals as goal
 
 pub returns-then-contains : goal.returns-then-contains

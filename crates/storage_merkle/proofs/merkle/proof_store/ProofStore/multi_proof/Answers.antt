@@ -2,7 +2,7 @@ use Rattle.std.proofs.Common.{None, ap, sym, ◌≡◌, ◌∙◌, subst, inl, i
 use Rattle.storage_merkle.specs.Multi.{Ascend}
 use Rattle.storage_merkle.specs.Extracted.{texts}
 use Rattle.storage_merkle.specs.Stores.{Store, location_refusal}
-use Rattle.storage_merkle.proofs.StoreSteps.{ascends, map_itself, multi_is, multi_digests}
+use Rattle.storage_merkle.proofs.Store.Steps.{ascends, map_itself, multi_is, multi_digests}
 use Rattle.storage_merkle.proofs.merkle.proof_store.ProofStore.multi_proof.Goals as goal
 
 pub needed-requires-clause-rising : goal.needed-requires-clause-rising

@@ -9,7 +9,7 @@ use Rattle.storage_merkle.specs.Trees.{Content}
 use Rattle.storage_merkle.proofs.Meaning.{no_elements, some_elements}
 use Rattle.storage_merkle.proofs.Handed.{taken, on_proof}
 use Rattle.storage_merkle.proofs.HandedOut.{misfit, misfit_none, other_root, other_root_none, differ, alike}
-use Rattle.storage_merkle.proofs.StoreAnswers.{made_some, made_nothing, not_lost}
+use Rattle.storage_merkle.proofs.Store.Answers.{made_some, made_nothing, not_lost}
 use Rattle.storage_merkle.proofs.merkle.proof_store.ProofStore.new.Goals.{in_default-via-in-Some+in_default, in_default-via-in_default}
 use Rattle.std.proofs.lemmas.Grind.{common_steps}
 use Rattle.storage_merkle.proofs.merkle.proof_store.ProofStore.new.Goals as goal

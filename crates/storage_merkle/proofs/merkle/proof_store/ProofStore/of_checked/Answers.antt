@@ -7,11 +7,11 @@ use Rattle.storage_merkle.specs.RangeProofs.{RangeProof, check_values}
 use Rattle.storage_merkle.specs.Rests.{AreFolded, AreAfterLeading, peaks_from}
 use Rattle.storage_merkle.specs.StoreParts.{back_among, nodes_among}
 use Rattle.storage_merkle.specs.Trees.{ungrafted}
-use Rattle.storage_merkle.proofs.Checks.{after_all}
-use Rattle.storage_merkle.proofs.StoreReads.{all_but_first, enough_some, enough_none, front_some, front_none, rest_digests, rest_some, rest_none, back_is}
-use Rattle.storage_merkle.proofs.StoreSteps.{positions_rise}
-use Rattle.storage_merkle.proofs.StoreKept.{kept_sorted}
-use Rattle.storage_merkle.proofs.StoreAnswers.{store_is, unwrapped}
+use Rattle.storage_merkle.proofs.Check.Roots.{after_all}
+use Rattle.storage_merkle.proofs.Store.Reads.{all_but_first, enough_some, enough_none, front_some, front_none, rest_digests, rest_some, rest_none, back_is}
+use Rattle.storage_merkle.proofs.Store.Steps.{positions_rise}
+use Rattle.storage_merkle.proofs.Store.Kept.{kept_sorted}
+use Rattle.storage_merkle.proofs.Store.Answers.{store_is, unwrapped}
 use Rattle.storage_merkle.proofs.merkle.proof_store.ProofStore.of_checked.Goals.{then-rest-gt0, else-rest-gt0}
 use Rattle.std.proofs.lemmas.Grind.{common_steps}
 use Rattle.storage_merkle.proofs.merkle.proof_store.ProofStore.of_checked.Goals as goal

@@ -4,9 +4,9 @@ use Rattle.storage_merkle.specs.Rests.{AreAfterLeading}
 use Rattle.storage_merkle.specs.Siblings.{sibling_sites}
 use Rattle.storage_merkle.specs.Stores.{Store}
 use Rattle.storage_merkle.specs.Trees.{ungrafted}
-use Rattle.storage_merkle.proofs.Checks.{after_all}
-use Rattle.storage_merkle.proofs.PlanTops.{pushed, listed}
-use Rattle.storage_merkle.proofs.StoreRange.{adds_sibling, siblings_end, digests_are}
+use Rattle.storage_merkle.proofs.Check.Roots.{after_all}
+use Rattle.storage_merkle.proofs.Plan.Tops.{pushed, listed}
+use Rattle.storage_merkle.proofs.Store.Range.{adds_sibling, siblings_end, digests_are}
 use Rattle.storage_merkle.proofs.merkle.proof_store.ProofStore.range_digests.Goals as goal
 
 pub loop-position-init : goal.loop-position-init

@@ -1,8 +1,8 @@
 use Rattle.std.proofs.Common.{◌≡◌, None, rules, sym, ap, ◌∙◌, subst}
 use Rattle.storage_merkle.specs.Shape.{Laws}
 use Rattle.storage_merkle.specs.Stores.{Store, range_refusal}
-use Rattle.storage_merkle.proofs.StoreOwn.{stores_give_own}
-use Rattle.storage_merkle.proofs.StoreRange.{proof_is}
+use Rattle.storage_merkle.proofs.Store.Own.{stores_give_own}
+use Rattle.storage_merkle.proofs.Store.Range.{proof_is}
 use Rattle.storage_merkle.proofs.merkle.proof_store.ProofStore.range_proof.Goals as goal
 
 pub returns-clause-given : goal.returns-clause-given

@@ -1,7 +1,7 @@
 use Rattle.std.proofs.Common.{ℕ, ap, ◌∙◌}
 use Rattle.std.proofs.lemmas.List.Sorted.{IsNonDecreasingBy-from_sort}
 use Rattle.storage_merkle.specs.Stores.{Store}
-use Rattle.storage_merkle.proofs.StoreSteps.{suffix_sorted, suffix_forward, suffix_backward}
+use Rattle.storage_merkle.proofs.Store.Steps.{suffix_sorted, suffix_forward, suffix_backward}
 use Rattle.storage_merkle.proofs.merkle.proof_store.ProofStore.suffix_peak_positions.Goals as goal
 use Rattle.storage_merkle.proofs.merkle.proof_store.ProofStore.suffix_peak_positions.Goals.{in-ForwardFold, in-BackwardFold+in_ok-add_past-in-BackwardFold}
 

@@ -4,7 +4,7 @@ use Rattle.storage_merkle.specs.CheckSteps.{given_values}
 use Rattle.storage_merkle.specs.RangeProofs.{apart}
 use Rattle.storage_merkle.specs.Trees.{part}
 use Rattle.storage_merkle.proofs.Walks.{peak_in_tree, peaks_next}
-use Rattle.storage_merkle.proofs.CheckTops.{first_and_others, tops, present_first, present_others, some_top, tops_left, top_here, tops_after, bag_step, bag_none, bag_some, tops_unfolded}
+use Rattle.storage_merkle.proofs.Check.Tops.{first_and_others, tops, present_first, present_others, some_top, tops_left, top_here, tops_after, bag_step, bag_none, bag_some, tops_unfolded}
 use Rattle.storage_merkle.proofs.Found.{keeps_on, found_first}
 use Rattle.storage_merkle.proofs.merkle.proof.check.Given.bag.Goals.{then-loop-rest-test+else-rest-gt0-2, else-loop-rest-test}
 use Rattle.std.proofs.lemmas.Grind.{common_steps}

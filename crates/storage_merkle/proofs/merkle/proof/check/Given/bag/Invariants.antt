@@ -5,7 +5,7 @@ use Rattle.storage_merkle.specs.Plans.{ArePeaks}
 use Rattle.storage_merkle.specs.RangeProofs.{apart}
 use Rattle.storage_merkle.specs.Rests.{peaks_from}
 use Rattle.storage_merkle.specs.Trees.{part}
-use Rattle.storage_merkle.proofs.CheckTops.{tops}
+use Rattle.storage_merkle.proofs.Check.Tops.{tops}
 use Rattle.storage_merkle.specs.Extracted.{texts}
 use Rattle.storage_merkle.proofs.Found.{found_peaks}
 use Rattle.storage_merkle.proofs.merkle.proof.check.Given.bag.Given as goal

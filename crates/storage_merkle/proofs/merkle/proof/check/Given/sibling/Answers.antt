@@ -1,4 +1,4 @@
-use Rattle.storage_merkle.proofs.CheckNodes.{search_finds, search_at, sibling_is}
+use Rattle.storage_merkle.proofs.Check.Nodes.{search_finds, search_at, sibling_is}
 use Rattle.storage_merkle.proofs.merkle.proof.check.Given.sibling.Goals as goal
 
 pub unwrap-index-requires : goal.unwrap-index-requires

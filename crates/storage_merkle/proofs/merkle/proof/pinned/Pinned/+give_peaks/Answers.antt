@@ -1,6 +1,6 @@
 use Rattle.std.proofs.Common.{arith, rules, refl, sym, ◌∙◌, ◌+◌, ◌≤◌, ◌^◌}
 use Rattle.storage_merkle.proofs.Walks.{peak_in_tree, peaks_next}
-use Rattle.storage_merkle.proofs.PinnedMatch.{match_none, match_past, none_missing, later_text, match_goes_on}
+use Rattle.storage_merkle.proofs.Pinned.Match.{match_none, match_past, none_missing, later_text, match_goes_on}
 use Rattle.storage_merkle.proofs.merkle.proof.pinned.Pinned.+give_peaks.Goals as goal
 
 pub returns-then-rest-eq0 : goal.returns-then-rest-eq0

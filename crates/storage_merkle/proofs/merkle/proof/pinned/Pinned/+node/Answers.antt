@@ -1,6 +1,6 @@
 use Rattle.std.proofs.Common.{arith, rules, sym, map, []}
 use Rattle.storage_merkle.proofs.Walks.{in_tree_leaves, in_tree_left, in_tree_right, halves}
-use Rattle.storage_merkle.proofs.PinnedNodes.{node_pinned, node_empty, node_joined}
+use Rattle.storage_merkle.proofs.Pinned.Nodes.{node_pinned, node_empty, node_joined}
 use Rattle.storage_merkle.proofs.merkle.proof.pinned.Pinned.+node.Goals as goal
 
 pub returns-in-Some : goal.returns-in-Some

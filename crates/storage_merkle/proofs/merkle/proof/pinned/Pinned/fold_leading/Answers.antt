@@ -4,7 +4,7 @@ use Rattle.storage_merkle.specs.RangeProofs.{leading}
 use Rattle.storage_merkle.specs.Rests.{peaks_from}
 use Rattle.storage_merkle.specs.ShapeLaws.{no_peaks}
 use Rattle.storage_merkle.proofs.Walks.{peak_in_tree, peaks_next}
-use Rattle.storage_merkle.proofs.PlanFolds.{forward_leads, forward_ends, leads_not, leads_none, leads_end}
+use Rattle.storage_merkle.proofs.Plan.Folds.{forward_leads, forward_ends, leads_not, leads_none, leads_end}
 use Rattle.storage_merkle.proofs.Rests.{passing_starts, passing_goes_on, passing_stops, passing_unfolded, passing_ends}
 use Rattle.storage_merkle.proofs.merkle.proof.pinned.Pinned.fold_leading.Goals as goal
 use Rattle.storage_merkle.proofs.merkle.proof.pinned.Pinned.fold_leading.Goals.{then-loop-rest-test+else-rest-gt0, else-loop-rest-test, then-loop-rest-test+then-rest-gt0+then-rest-power}

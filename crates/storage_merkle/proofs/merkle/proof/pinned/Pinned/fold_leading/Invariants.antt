@@ -5,7 +5,7 @@ use Rattle.storage_merkle.specs.PlanParts.{peaks_by}
 use Rattle.storage_merkle.specs.Plans.{ArePeaks}
 use Rattle.storage_merkle.specs.RangeProofs.{leading}
 use Rattle.storage_merkle.specs.Rests.{peaks_from}
-use Rattle.storage_merkle.proofs.PlanFolds.{forward_from}
+use Rattle.storage_merkle.proofs.Plan.Folds.{forward_from}
 use Rattle.storage_merkle.proofs.Rests.{Passing}
 use Rattle.storage_merkle.proofs.merkle.proof.pinned.Pinned.fold_leading.Given as goal
 

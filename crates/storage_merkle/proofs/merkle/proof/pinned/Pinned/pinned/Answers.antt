@@ -1,6 +1,6 @@
 use Rattle.std.proofs.Common.{arith, map, length, ap}
 use Rattle.storage_merkle.specs.ShapeLaws.{no_peaks}
-use Rattle.storage_merkle.proofs.PinnedNodes.{some_left}
+use Rattle.storage_merkle.proofs.Pinned.Nodes.{some_left}
 use Rattle.std.proofs.lemmas.Grind.{common_steps}
 use Rattle.storage_merkle.proofs.merkle.proof.pinned.Pinned.pinned.Goals as goal
 

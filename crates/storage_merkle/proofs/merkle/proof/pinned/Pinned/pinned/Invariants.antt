@@ -1,5 +1,5 @@
 use Rattle.std.proofs.Common.{length, map}
-use Rattle.storage_merkle.proofs.PinnedNodes.{Goes}
+use Rattle.storage_merkle.proofs.Pinned.Nodes.{Goes}
 use Rattle.storage_merkle.proofs.merkle.proof.pinned.Pinned.pinned.Given as goal
 
 abbrev pub invariant-loop-digest : goal.invariant-loop-digest

@@ -1,0 +1,459 @@
+//! Databases beside a plain map, and the root of a commit that has a value.
+
+ghost use Rattle.storage_bitmap.specs.Chunks.{IsChunkSize};
+
+use std::alloc::Global;
+use std::mem;
+use std::process::Abort;
+use std::test::Fail;
+use storage_codec::codec::{Encode, FixedBytes, U64};
+use storage_codec::digest::{Hasher, Sha256, Sha512};
+use storage_db::db::{Error, Ordered};
+use storage_merkle::merkle::{Graftable, mmb, mmr};
+use storage_ops::qmdb::any::operation::OperationCodec;
+use storage_ops::qmdb::any::operation::update::Ordered as Update;
+use storage_ops::qmdb::any::{FixedEncoding, VariableEncoding};
+use storage_ops::qmdb::operation::Key;
+
+/// A key or a value for each number, and for no other number the same one.
+trait Numbered: Sized {
+    /// That of `number`.
+    fn numbered(alloc: Global, number: u64) -> Result<Self, Fail>;
+}
+
+impl Numbered for u64 {
+    fn numbered(_alloc: Global, number: u64) -> Result<u64, Fail> {
+        Ok(number)
+    }
+}
+
+impl Numbered for U64 {
+    fn numbered(_alloc: Global, number: u64) -> Result<U64, Fail> {
+        Ok(U64::new(number))
+    }
+}
+
+impl Numbered for Vec<u8> {
+    fn numbered(alloc: Global, number: u64) -> Result<Vec<u8>, Fail> {
+        if number == 0 {
+            return Ok(Vec::new(alloc));
+        }
+        Ok(format!(in alloc; "{number}")?.into_bytes())
+    }
+}
+
+/// Whether `value` is that of `number`, or both are none.
+fn is_of<T: Encode + Numbered + Drop>(
+    alloc: Global,
+    value: Option<&T>,
+    number: Option<u64>,
+) -> Result<bool, Fail> {
+    match (value, number) {
+        (Some(value), Some(number)) => {
+            let right = T::numbered(alloc, number)?.encode(alloc)?;
+            Ok(value.encode(alloc)? == right)
+        }
+        (None, None) => Ok(true),
+        _ => Ok(false),
+    }
+}
+
+/// How many keys there are at most.
+const KEYS: usize = 256;
+
+/// A plain map: at each key's number the number of its value, now and at the last commit.
+#[derive(Drop)]
+struct Plain {
+    now: Vec<Option<u64>>,
+    committed: Vec<Option<u64>>,
+}
+
+impl Plain {
+    /// No key has a value.
+    fn new(alloc: Global) -> Result<Plain, Fail> {
+        Ok(Plain {
+            now: vec![in alloc; None; KEYS]?,
+            committed: vec![in alloc; None; KEYS]?,
+        })
+    }
+
+    /// Gives the key with the number `key` a value, or none; that which it had.
+    fn set(&mut self, key: u64, value: Option<u64>) -> Option<u64> {
+        match self.now.get_mut(key as usize) {
+            Some(held) => mem::replace(held, value),
+            None => None,
+        }
+    }
+}
+
+/// What `values` have at the number `key`.
+fn at(values: &[Option<u64>], key: u64) -> Option<u64> {
+    match values.get(key as usize) {
+        Some(value) => *value,
+        None => None,
+    }
+}
+
+/// The next of some numbers that look random, the high bits most.
+fn next_number(number: u64) -> u64 {
+    number
+        .wrapping_mul(6_364_136_223_846_793_005)
+        .wrapping_add(1_442_695_040_888_963_407)
+}
+
+/// Whether the database answers rightly what value `key` had at the last commit: by that of `number` and a proof, which is accepted,
+/// or that it had none.
+fn is_value<F: Graftable, H: Hasher, K: Key, V: OperationCodec<F, Update<K, V>>, const N: usize>(
+    alloc: Global,
+    database: &Ordered<F, H, K, V, N>,
+    key: &K,
+    number: Option<u64>,
+) -> Result<bool, Fail>
+where
+    V::Value: Numbered,
+    requires { IsChunkSize N }
+{
+    let Some(root) = database.root() else {
+        return Ok(false);
+    };
+    match database.prove_value(key) {
+        Ok((value, proof)) => {
+            let is_right = is_of(alloc, Some(&value), number)?;
+            Ok(is_right && proof.verify::<H, V>(alloc, key.clone()?, value, &root)?)
+        }
+        Err(Error::Absent) => Ok(number.is_none()),
+        Err(refusal) => Err(refusal.into()),
+    }
+}
+
+/// Whether the database answers rightly if `key` had no value at the last commit: by a proof, which is accepted, or that it had one.
+fn is_absence<F: Graftable, H: Hasher, K: Key, V: OperationCodec<F, Update<K, V>>, const N: usize>(
+    alloc: Global,
+    database: &Ordered<F, H, K, V, N>,
+    key: &K,
+    is_absent: bool,
+) -> Result<bool, Fail>
+    requires { IsChunkSize N }
+{
+    let Some(root) = database.root() else {
+        return Ok(false);
+    };
+    match database.prove_absence(key) {
+        Ok(proof) => Ok(is_absent && proof.verify::<H>(alloc, key, &root)?),
+        Err(Error::Present) => Ok(!is_absent),
+        Err(refusal) => Err(refusal.into()),
+    }
+}
+
+/// The database proves what the map had at the last commit at the number `key`.
+fn prove<
+    F: Graftable,
+    H: Hasher,
+    K: Key + Numbered,
+    V: OperationCodec<F, Update<K, V>>,
+    const N: usize,
+>(
+    rt: &(impl Abort + AllocGlobal),
+    database: &Ordered<F, H, K, V, N>,
+    plain: &Plain,
+    key: u64,
+) -> Result<(), Fail>
+where
+    V::Value: Numbered,
+    requires { IsChunkSize N }
+{
+    let asked = K::numbered(rt.alloc(), key)?;
+    let number = at(&plain.committed, key);
+    assert!(rt; is_value(rt.alloc(), database, &asked, number)?);
+    assert!(rt; is_absence(rt.alloc(), database, &asked, number.is_none())?);
+    Ok(())
+}
+
+/// The database has what the map has at the number `key`, now and at the last commit.
+fn compare<
+    F: Graftable,
+    H: Hasher,
+    K: Key + Numbered,
+    V: OperationCodec<F, Update<K, V>>,
+    const N: usize,
+>(
+    rt: &(impl Abort + AllocGlobal),
+    database: &Ordered<F, H, K, V, N>,
+    plain: &Plain,
+    key: u64,
+) -> Result<(), Fail>
+where
+    V::Value: Numbered,
+{
+    let asked = K::numbered(rt.alloc(), key)?;
+    let (now, committed) = (at(&plain.now, key), at(&plain.committed, key));
+    assert!(rt; is_of(rt.alloc(), database.get(&asked), now)?);
+    assert!(rt; is_of(rt.alloc(), database.get_committed(&asked), committed)?);
+    Ok(())
+}
+
+/// A put or a deletion at the number `key`, as `draw` says: both answer alike.
+fn change<
+    F: Graftable,
+    H: Hasher,
+    K: Key + Numbered,
+    V: OperationCodec<F, Update<K, V>>,
+    const N: usize,
+>(
+    rt: &(impl Abort + AllocGlobal),
+    database: &mut Ordered<F, H, K, V, N>,
+    plain: &mut Plain,
+    key: u64,
+    draw: u64,
+) -> Result<(), Fail>
+where
+    V::Value: Numbered,
+{
+    let asked = K::numbered(rt.alloc(), key)?;
+    if (draw >> 33) % 2 == 0 {
+        database.put(asked, V::Value::numbered(rt.alloc(), draw)?)?;
+        plain.set(key, Some(draw));
+    } else {
+        let was = database.delete(&asked)?;
+        assert_eq!(rt; was, plain.set(key, None).is_some());
+    }
+    Ok(())
+}
+
+/// A commit with the value of `draw`, or none.
+fn commit<F: Graftable, H: Hasher, K: Key, V: OperationCodec<F, Update<K, V>>, const N: usize>(
+    alloc: Global,
+    database: &mut Ordered<F, H, K, V, N>,
+    plain: &mut Plain,
+    draw: u64,
+) -> Result<(), Fail>
+where
+    V::Value: Numbered,
+{
+    let value = if (draw >> 33) % 2 == 0 {
+        Some(V::Value::numbered(alloc, draw)?)
+    } else {
+        None
+    };
+    database.commit(value)?;
+    plain.committed = plain.now.clone()?;
+    Ok(())
+}
+
+/// The database proves what the map had at the last commit at eight numbers from `first` on, around past `last`.
+fn prove_eight<
+    F: Graftable,
+    H: Hasher,
+    K: Key + Numbered,
+    V: OperationCodec<F, Update<K, V>>,
+    const N: usize,
+>(
+    rt: &(impl Abort + AllocGlobal),
+    database: &Ordered<F, H, K, V, N>,
+    plain: &Plain,
+    first: u64,
+    last: u64,
+) -> Result<(), Fail>
+where
+    V::Value: Numbered,
+    requires { IsChunkSize N }
+{
+    for step in 0..8u64 {
+        prove(rt, database, plain, first.wrapping_add(step) & last)?;
+    }
+    Ok(())
+}
+
+/// The database has what the map has at each number up to `last`.
+fn compare_each<
+    F: Graftable,
+    H: Hasher,
+    K: Key + Numbered,
+    V: OperationCodec<F, Update<K, V>>,
+    const N: usize,
+>(
+    rt: &(impl Abort + AllocGlobal),
+    database: &Ordered<F, H, K, V, N>,
+    plain: &Plain,
+    last: u64,
+) -> Result<(), Fail>
+where
+    V::Value: Numbered,
+{
+    for key in 0..=last {
+        compare(rt, database, plain, key)?;
+    }
+    Ok(())
+}
+
+/// A commit over the keys up to `last`. Proofs are asked for before and after it.
+fn commit_and_prove<
+    F: Graftable,
+    H: Hasher,
+    K: Key + Numbered,
+    V: OperationCodec<F, Update<K, V>>,
+    const N: usize,
+>(
+    rt: &(impl Abort + AllocGlobal),
+    database: &mut Ordered<F, H, K, V, N>,
+    plain: &mut Plain,
+    last: u64,
+    draw: u64,
+) -> Result<(), Fail>
+where
+    V::Value: Numbered,
+    requires { IsChunkSize N }
+{
+    prove_eight(rt, database, plain, draw >> 48, last)?;
+    commit(rt.alloc(), database, plain, draw)?;
+    prove_eight(rt, database, plain, draw >> 40, last)?;
+    compare_each(rt, database, plain, last)
+}
+
+/// The command after `count` others over the keys up to `last`, all of whose bits are set: a put or a deletion, or two in `count` times a
+/// commit. Two keys are compared after it.
+fn step<
+    F: Graftable,
+    H: Hasher,
+    K: Key + Numbered,
+    V: OperationCodec<F, Update<K, V>>,
+    const N: usize,
+>(
+    rt: &(impl Abort + AllocGlobal),
+    database: &mut Ordered<F, H, K, V, N>,
+    plain: &mut Plain,
+    last: u64,
+    count: u64,
+    draw: u64,
+) -> Result<(), Fail>
+where
+    V::Value: Numbered,
+    requires { IsChunkSize N }
+{
+    let key = (draw >> 56) & last;
+    match (draw >> 33).checked_rem(count) {
+        Some(0..2) => commit_and_prove(rt, database, plain, last, draw)?,
+        _ => change(rt, database, plain, key, draw)?,
+    }
+    compare(rt, database, plain, key)?;
+    compare(rt, database, plain, (draw >> 48) & last)
+}
+
+/// Gives both 2,500 commands, which `seed` settles.
+fn command<
+    F: Graftable,
+    H: Hasher,
+    K: Key + Numbered,
+    V: OperationCodec<F, Update<K, V>>,
+    const N: usize,
+>(
+    rt: &(impl Abort + AllocGlobal),
+    database: &mut Ordered<F, H, K, V, N>,
+    plain: &mut Plain,
+    seed: u64,
+    last: u64,
+) -> Result<(), Fail>
+where
+    V::Value: Numbered,
+    requires { IsChunkSize N }
+{
+    let mut draw = seed;
+    for count in 1..2_501u64 {
+        draw = next_number(draw);
+        step(rt, database, plain, last, count, draw)?;
+    }
+    Ok(())
+}
+
+/// A commit and 2,500 commands of a database without operations, beside a plain map.
+fn run<
+    F: Graftable,
+    H: Hasher,
+    K: Key + Numbered,
+    V: OperationCodec<F, Update<K, V>>,
+    const N: usize,
+>(
+    rt: &(impl Abort + AllocGlobal),
+    database: &mut Ordered<F, H, K, V, N>,
+    seed: u64,
+    last: u64,
+) -> Result<(), Fail>
+where
+    V::Value: Numbered,
+    requires { IsChunkSize N }
+{
+    let mut plain = Plain::new(rt.alloc())?;
+    database.commit(None)?;
+    command(rt, database, &mut plain, seed, last)
+}
+
+/// Four keys of one size over an MMR.
+fn few_keys_of_one_size(rt: &(impl Abort + AllocGlobal)) -> Result<(), Fail> {
+    let mut database = Ordered::<mmr::Family, Sha256, U64, FixedEncoding<u64>, 1>::new(rt.alloc());
+    run(rt, &mut database, 78, 3)
+}
+
+/// 256 keys of any size over an MMR.
+fn many_keys_of_any_size(rt: &(impl Abort + AllocGlobal)) -> Result<(), Fail> {
+    let mut database = Ordered::<mmr::Family, Sha512, Vec<u8>, VariableEncoding<Vec<u8>>, 2>::new(
+        rt.alloc(),
+    );
+    run(rt, &mut database, 346, 255)
+}
+
+/// Four keys of any size over an MMB.
+fn few_keys_of_any_size(rt: &(impl Abort + AllocGlobal)) -> Result<(), Fail> {
+    let mut database = Ordered::<mmb::Family, Sha256, Vec<u8>, VariableEncoding<Vec<u8>>, 1>::new(
+        rt.alloc(),
+    );
+    run(rt, &mut database, 213, 3)
+}
+
+/// 256 keys of one size over an MMB.
+fn many_keys_of_one_size(rt: &(impl Abort + AllocGlobal)) -> Result<(), Fail> {
+    let mut database = Ordered::<mmb::Family, Sha512, U64, FixedEncoding<u64>, 2>::new(rt.alloc());
+    run(rt, &mut database, 121, 255)
+}
+
+#[test]
+fn ten_thousand_commands(rt: HostRuntime) -> Result<(), Fail> {
+    few_keys_of_one_size(&rt)?;
+    many_keys_of_any_size(&rt)?;
+    few_keys_of_any_size(&rt)?;
+    many_keys_of_one_size(&rt)
+}
+
+/// The key that ends with `byte`.
+fn key(byte: u8) -> FixedBytes<4> {
+    FixedBytes {
+        bytes: [0, 0, 0, byte],
+    }
+}
+
+/// The root of a commit with the value 1, after the keys 5 and 9 are put and committed and 9 is deleted.
+fn commit_value(alloc: Global) -> Result<Option<FixedBytes<32>>, Fail> {
+    let mut database = Ordered::<mmr::Family, Sha256, FixedBytes<4>, FixedEncoding<u64>, 1>::new(
+        alloc,
+    );
+    database.commit(None)?;
+    database.put(key(5), 7)?;
+    database.put(key(9), 8)?;
+    database.commit(None)?;
+    database.delete(&key(9))?;
+    database.commit(Some(1))?;
+    Ok(database.root())
+}
+
+// what is expected is from an independent program
+#[test]
+fn value_of_a_commit(rt: HostRuntime) -> Result<(), Fail> {
+    let root = FixedBytes {
+        bytes: [
+            0x37, 0xac, 0x85, 0xec, 0x76, 0x14, 0xc0, 0x48, 0x07, 0xf3, 0x50, 0xbf, 0xa6, 0x71,
+            0xba, 0x16, 0x8e, 0xb6, 0x9a, 0xc1, 0xaa, 0xeb, 0x9d, 0x0a, 0xdc, 0xcf, 0x70, 0x5b,
+            0x99, 0x26, 0x28, 0x93,
+        ],
+    };
+    assert!(rt; commit_value(rt.alloc())? == Some(root));
+    Ok(())
+}

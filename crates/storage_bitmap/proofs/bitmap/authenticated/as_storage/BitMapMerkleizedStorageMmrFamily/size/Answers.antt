@@ -1,0 +1,5 @@
+use Rattle.std.proofs.Common.{rules}
+use Rattle.storage_bitmap.proofs.bitmap.authenticated.as_storage.BitMapMerkleizedStorageMmrFamily.size.Goals as goal
+
+pub returns : goal.returns
+returns g c = search rules

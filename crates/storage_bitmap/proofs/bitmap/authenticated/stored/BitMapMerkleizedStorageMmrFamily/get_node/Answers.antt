@@ -1,8 +1,0 @@
-use Rattle.std.proofs.Common.{rules}
-use Rattle.storage_bitmap.proofs.bitmap.authenticated.stored.BitMapMerkleizedStorageMmrFamily.get_node.Goals as goal
-
-pub returns-clause-answer : goal.returns-clause-answer
-returns-clause-answer g c = search rules
-
-pub returns-clause-fault : goal.returns-clause-fault
-returns-clause-fault g c code same = absurd (cc)

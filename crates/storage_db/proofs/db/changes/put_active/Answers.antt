@@ -1,0 +1,36 @@
+use Rattle.storage_current.specs.Keys.{Keyed, keyed_by}
+use Rattle.storage_db.specs.Databases.{put}
+use Rattle.storage_db.proofs.Changing.{no_room, no_memory, update_count}
+use Rattle.storage_db.proofs.db.changes.put_active.Goals as goal
+
+pub returns-in_err-make_room-clause-why : goal.returns-in_err-make_room-clause-why
+returns-in_err-make_room-clause-why g c =
+    let e : Keyed g.row.K.Denot g.row.V-Value.Denot
+    = keyed_by g.K.Write.text g.V.Value.Write.text g.V.OperationCodec.operation_text g.K.Ord.cmp in
+    no_room c.args.log.now c.args.active.now.entries (λ x. put e x c.args.key c.args.value) 1
+    (update_count e c.args.log.now c.args.active.now.entries c.args.key c.args.value c.requires)
+    c.from_residual.result _ c.in_err-make_room.ensures.why c.from_residual.ensures.1
+
+pub returns-in_err-next_key-clause-why : goal.returns-in_err-next_key-clause-why
+returns-in_err-next_key-clause-why g c =
+    let e : Keyed g.row.K.Denot g.row.V-Value.Denot
+    = keyed_by g.K.Write.text g.V.Value.Write.text g.V.OperationCodec.operation_text g.K.Ord.cmp in
+    no_memory c.args.log.now c.args.active.now.entries (λ x. put e x c.args.key c.args.value) 1
+    (update_count e c.args.log.now c.args.active.now.entries c.args.key c.args.value c.requires)
+    c.from_residual-in_err-next_key.result c.in_ok-make_room.ensures.few c.from_residual-in_err-next_key.ensures.1
+
+pub returns-in_err-bytes-clause-why : goal.returns-in_err-bytes-clause-why
+returns-in_err-bytes-clause-why g c =
+    let e : Keyed g.row.K.Denot g.row.V-Value.Denot
+    = keyed_by g.K.Write.text g.V.Value.Write.text g.V.OperationCodec.operation_text g.K.Ord.cmp in
+    no_memory c.args.log.now c.args.active.now.entries (λ x. put e x c.args.key c.args.value) 1
+    (update_count e c.args.log.now c.args.active.now.entries c.args.key c.args.value c.requires)
+    c.from_residual-in_err-bytes.result c.in_ok-make_room.ensures.few c.from_residual-in_err-bytes.ensures.1
+
+pub returns-in_err-set-clause-why : goal.returns-in_err-set-clause-why
+returns-in_err-set-clause-why g c =
+    let e : Keyed g.row.K.Denot g.row.V-Value.Denot
+    = keyed_by g.K.Write.text g.V.Value.Write.text g.V.OperationCodec.operation_text g.K.Ord.cmp in
+    no_memory c.args.log.now c.args.active.now.entries (λ x. put e x c.args.key c.args.value) 1
+    (update_count e c.args.log.now c.args.active.now.entries c.args.key c.args.value c.requires)
+    c.from_residual-in_err-set.result c.in_ok-make_room.ensures.few c.from_residual-in_err-set.ensures.1

@@ -1,0 +1,11 @@
+pub mod Entries
+pub mod Own
+pub mod Multi
+pub mod Made
+pub mod Given
+pub mod Steps
+pub mod Tops
+pub mod Reads
+pub mod Kept
+pub mod Range
+pub mod Answers
