@@ -5,7 +5,8 @@
 
 Compares docs/FAULTS.md with the table made anew from the sources, or writes it with --write. The page says what the table has and
 how a case is found. A line for each difference, for each call without a case, and for each line of tools/fault_cases.py that fits
-nothing. The last line is 'N calls, M without a case or not told'; the status is 1 where M is not 0 or the page differs.
+nothing. The last line is 'N calls, M without a case or not told', and says so where the page differs; the status is 1 where it does or
+M is not 0.
 """
 import collections
 import difflib
@@ -201,7 +202,8 @@ def main():
         kept = made
     differences = [it for it in difflib.unified_diff(kept.split("\n"), made.split("\n"), "docs/FAULTS.md", "made anew", "", "", 0, "")]
     print("".join(f"{it}\n" for it in [*differences, *table.faults]), end="")
-    print(f"{table.count} calls, {len(table.faults)} without a case or not told")
+    stale = " (the page is not as it is made anew)" if differences else ""
+    print(f"{table.count} calls, {len(table.faults)} without a case or not told{stale}")
     return 1 if table.faults or differences else 0
 
 
