@@ -4,7 +4,7 @@
     tools/wrong_bodies.py [--built FOLDER [--gate LOG]] [--jobs N] [--kept] [--only NAME,..] [CRATE..]
 
 A file crates/CRATE/must-fail/NAME.edit has one edit: a line 'file: src/FILE.rt', then pairs of lines 'old: TEXT' and 'new: TEXT'.
-A file with lines 'name: NAME' has a group: an edit of its own under each of them, all of the file named above them. `rt ci` takes a
+A file with lines 'name: NAME' has a group: an edit of its own under each of them, of the file that is named last above it. `rt ci` takes a
 group for one edit, so that each must be found once also where those above it are made. A line
 'goal: GOAL' names a goal of the edited function which a proof file answers, and whose answer the edit breaks: of that function nothing
 is searched then, since one goal is enough. An edit that breaks no such answer is tried once more, with all searches.
