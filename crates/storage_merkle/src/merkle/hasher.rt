@@ -334,7 +334,7 @@ impl<F: Family, H: digest::Hasher> Hasher<F> for Standard<H> {
     ghost over = { λ _. refl };
 }
 
-/// Parts of so many bytes together, or fewer, are joined before they are hashed.
+/// Parts of at most this many bytes together are joined before they are hashed.
 const JOINED: usize = 64;
 
 /// The digest of `parts`, joined one after another. Where they are short the digest function is given them at once, since each part
