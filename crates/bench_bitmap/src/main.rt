@@ -6,7 +6,8 @@
 //! one of them was turned.
 #![tactic(auto)]
 
-ghost use Rattle.std.specs.Prelude.{◌≡◌, ℕ, ◌+◌, ◌^◌, ◌≤◌, IfSome};
+ghost use Rattle.std.specs.Prelude.{◌≡◌, ℕ, ◌+◌, ◌≤◌, IfSome};
+ghost use Rattle.storage_merkle.specs.Shape.{max_leaves};
 ghost use Rattle.storage_bitmap.specs.Chunks.{IsChunkSize, bit_count};
 
 mod counted;
@@ -43,7 +44,7 @@ fn empty<const N: usize>(alloc: Global, hasher: &Hasher) -> Result<UnmerkleizedB
 
 /// Appends four bits to `bitmap`, of which the first one is set; none where there is no memory for one.
 fn push_four<const N: usize>(bitmap: &mut UnmerkleizedBitMap<Digest, N>) -> Option<()>
-    requires { bit_count N bitmap.old.retained + 4 ≤ 2 ^ 62 }
+    requires { bit_count N bitmap.old.retained + 4 ≤ max_leaves }
     ensures { IfSome result (λ _.
         bit_count N bitmap.new.retained ≡ bit_count N bitmap.old.retained + 4) }
 {
@@ -61,7 +62,7 @@ fn push_four<const N: usize>(bitmap: &mut UnmerkleizedBitMap<Digest, N>) -> Opti
 /// apart, so that what it takes does not depend on its caller.
 #[inline(never)]
 fn push_all<const N: usize>(bitmap: &mut UnmerkleizedBitMap<Digest, N>, count: u64) -> Option<()>
-    requires { bit_count N bitmap.old.retained + count ≤ 2 ^ 62 }
+    requires { bit_count N bitmap.old.retained + count ≤ max_leaves }
 {
     let mut left = count;
     while left >= 4 {

@@ -11,19 +11,19 @@ use Rattle.storage_codec.specs.Digests.{HashFunction}
 use Rattle.storage_codec.specs.Faults.{Fault, ◌>>=◌, Invalid, EndOfBuffer}
 use Rattle.storage_codec.specs.Parts.{IsBytes}
 use Rattle.storage_codec.specs.Codec.{Answer, MayFail, whole, front_at}
-use Rattle.storage_codec.specs.CodecLaws.{whole_ok}
-use Rattle.storage_codec.specs.Laws.{bind_ok, guard_ok, ok_is}
+use Rattle.storage_codec.specs.Laws.Codec.{whole_ok}
+use Rattle.storage_codec.specs.Laws.Reading.{bind_ok, guard_ok, ok_is}
 use Rattle.storage_merkle.specs.Shape.{Shape}
 use Rattle.storage_merkle.specs.Wire.{location_at}
 use Rattle.storage_bitmap.specs.Chunks.{halves}
-use Rattle.storage_current.specs.Snapshots.{Grafting, CurrentProof, OperationProof, own_operation_proof, IsActive}
+use Rattle.storage_current.specs.Snapshots.{Grafting, RangeProof, OperationProof, own_operation_proof, IsActive}
 use Rattle.storage_current.specs.CurrentProofs.{IsActiveCurrent}
 use Rattle.storage_current.specs.CurrentSoundness.{MeansActive}
-use Rattle.storage_current.specs.CurrentWire.{current_at, operation_text, operation_at, sized_operation_at}
-use Rattle.storage_current.specs.CurrentWireLaws.{sized_back}
+use Rattle.storage_current.specs.CurrentWire.{range_proof_at, operation_text, operation_at, sized_operation_at}
+use Rattle.storage_current.specs.Laws.CurrentWire.{sized_back}
 use Rattle.commonware_storage.specs.Light.{IsAcceptedAt, IsTrueAt, IsAnswerOf}
 
-abbrev at_location : ℕ → List ℕ → CurrentProof → OperationProof
+abbrev at_location : ℕ → List ℕ → RangeProof → OperationProof
 at_location location chunk range = record { location = location; chunk = chunk; range = range }
 
 front_length : (n : ℕ) (bytes : List ℕ) (x : List ℕ × List ℕ) → front_at n bytes ≡ Ok x → length x.0 ≡ n
@@ -36,11 +36,11 @@ operation_chunk : (there : Bool) (d size most : ℕ) (bytes : List ℕ) (p : Ope
     → operation_at there d size most bytes ≡ Ok (p, rest) → length p.chunk ≡ size
 operation_chunk there d size most bytes p rest e =
     let a = bind_ok {B = OperationProof × List ℕ} (location_at bytes) (λ location. front_at size location.1 >>= λ chunk.
-    current_at there d most chunk.1 >>= λ range. Ok (at_location location.0 chunk.0 range.0, range.1))
+    range_proof_at there d most chunk.1 >>= λ range. Ok (at_location location.0 chunk.0 range.0, range.1))
     (p, rest) e in
     let b = bind_ok {B = OperationProof × List ℕ} (front_at size a.0.1) (λ chunk.
-    current_at there d most chunk.1 >>= λ range. Ok (at_location a.0.0 chunk.0 range.0, range.1)) (p, rest) a.2 in
-    let c = bind_ok {B = OperationProof × List ℕ} (current_at there d most b.0.1)
+    range_proof_at there d most chunk.1 >>= λ range. Ok (at_location a.0.0 chunk.0 range.0, range.1)) (p, rest) a.2 in
+    let c = bind_ok {B = OperationProof × List ℕ} (range_proof_at there d most b.0.1)
     (λ range. Ok (at_location a.0.0 b.0.0 range.0, range.1)) (p, rest) b.2 in
     let range = c.0.0 in
     let tail = c.0.1 in
@@ -116,7 +116,7 @@ module _ (h : HashFunction) (S : Shape) (size : ℕ) (there : Bool) (d location 
         record {
           proof = p;
           read = read;
-          means = λ s snapshot same. elim (means s snapshot same) [
+          meaning = λ s snapshot same. elim (means s snapshot same) [
             | inl both ↦ inl (
               subst (λ (n : ℕ). IsActive s n operation) at both.1,
               text ∙ ap (operation_text there) (both.0 ∙ ap (own_operation_proof h (grafting size) s) at),

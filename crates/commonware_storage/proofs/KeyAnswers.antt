@@ -10,16 +10,17 @@ use Rattle.std.specs.Result.{IfOk}
 use Rattle.storage_codec.specs.Digests.{HashFunction}
 use Rattle.storage_codec.specs.Codec.{Answer, mapped, option_at, whole}
 use Rattle.storage_codec.specs.Faults.{EndOfBuffer, InvalidEnum}
-use Rattle.storage_codec.specs.CodecLaws.{whole_ok}
-use Rattle.storage_codec.specs.Laws.{bind_ok, mapped_ok, ok_is}
+use Rattle.storage_codec.specs.Laws.Codec.{whole_ok}
+use Rattle.storage_codec.specs.Laws.Reading.{bind_ok, mapped_ok, ok_is}
 use Rattle.storage_merkle.specs.Shape.{Shape}
 use Rattle.storage_ops.specs.Operations.{Update, CommitFloor}
-use Rattle.storage_ops.specs.Reading.{chosen, failed, no_fault}
+use Rattle.storage_codec.specs.Laws.Varint.{chosen}
+use Rattle.storage_ops.specs.Laws.Reading.{failed, no_fault}
 use Rattle.storage_current.specs.Snapshots.{Grafting, OperationProof}
 use Rattle.storage_current.specs.CurrentProofs.{IsActiveCurrent}
 use Rattle.storage_current.specs.CurrentWire.{sized_operation_at}
 use Rattle.storage_current.specs.Keys.{Keyed, update_text, before, Excludes}
-use Rattle.storage_current.specs.KeyProofs.{MeansValue, MeansAbsent, Exclusion, KeyValue, Commit, Allows, IsExcluded, proof_of, shown_text}
+use Rattle.storage_current.specs.KeyProofs.{MeansValue, MeansAbsent, Exclusion, KeyValue, Commit, Allows, IsExcluded, proof_in, shown_text}
 use Rattle.storage_current.specs.KeyWire.{pair_at, exclusion_at, exclusion_map}
 use Rattle.commonware_storage.specs.LightKeys.{IsAcceptedValue, IsTrueValue, IsAcceptedAbsence, IsTrueAbsence}
 use Rattle.commonware_storage.proofs.Answers.{front_chunk}
@@ -92,7 +93,7 @@ module _ {K V X : Type 0} (e : Keyed K V) (view : K → X) (next_at : List ℕ �
       proof = p;
       next = next;
       read = read;
-      means = subst (λ (n : ℕ). MeansValue e h (grafting n) p key value next root) (chunk_size p next read) (means t);
+      meaning = subst (λ (n : ℕ). MeansValue e h (grafting n) p key value next root) (chunk_size p next read) (means t);
     }
 
 -- ---- exclusions
@@ -118,7 +119,7 @@ module _ {X Y : Type 0} (there : Bool) (d size most : ℕ) (update_at : List ℕ
 
   -- the chunk of an exclusion proof that was read
   pub exclusion_chunk : (bytes : List ℕ) (y : Exclusion X Y) (rest : List ℕ)
-      → exclusion_at reader update_at value_at bytes ≡ Ok (y, rest) → length (proof_of y).chunk ≡ size
+      → exclusion_at reader update_at value_at bytes ≡ Ok (y, rest) → length (proof_in y).chunk ≡ size
   exclusion_chunk [] y rest e = no_fault {A = Exclusion X Y × List ℕ} EndOfBuffer (y, rest) _ e
   exclusion_chunk (tag ∷ bytes) y rest e =
       let wrong = failed (Exclusion X Y × List ℕ) (InvalidEnum tag) in
@@ -127,12 +128,12 @@ module _ {X Y : Type 0} (there : Bool) (d size most : ℕ) (update_at : List ℕ
       elim (chosen (eqb tag 0) spans (cond (eqb tag 1) commits wrong) (Ok (y, rest)) e) [
         | inl i ↦
             let m = mapped_ok span_of_pair (pair_at reader update_at bytes) y rest i.1 in
-            subst (λ (z : Exclusion X Y). length (proof_of z).chunk ≡ size) m.2
+            subst (λ (z : Exclusion X Y). length (proof_in z).chunk ≡ size) m.2
             (pair_chunk there d size most update_at bytes m.0.0 m.0.1 rest m.1)
         | inr i ↦ elim (chosen (eqb tag 1) commits wrong (Ok (y, rest)) i.1) [
           | inl j ↦
               let m = mapped_ok commit_of_pair (pair_at reader (option_at value_at) bytes) y rest j.1 in
-              subst (λ (z : Exclusion X Y). length (proof_of z).chunk ≡ size) m.2
+              subst (λ (z : Exclusion X Y). length (proof_in z).chunk ≡ size) m.2
               (pair_chunk there d size most (option_at value_at) bytes m.0.0 m.0.1 rest m.1)
           | inr j ↦ no_fault (InvalidEnum tag) (y, rest) _ j.1
         ]
@@ -188,7 +189,7 @@ module _ {K V X Y : Type 0} (e : Keyed K V) (kview : K → X) (vview : V → Y) 
   }
 
   record SameShown (x y : Exclusion (K × V × K) V) (key : K) : Type 0 where
-    proof : proof_of x ≡ proof_of y
+    proof : proof_in x ≡ proof_in y
     text : shown_text e x ≡ shown_text e y
     allows : Allows e x key → Allows e y key
 
@@ -221,11 +222,11 @@ module _ {K V X Y : Type 0} (e : Keyed K V) (kview : K → X) (vview : V → Y) 
       let s = shown_alike x y key same in
       record {
         allowed = s.allows a.allowed;
-        accepted = subst (λ (t : List ℕ). IsActiveCurrent h g (proof_of y) t root) s.text
+        accepted = subst (λ (t : List ℕ). IsActiveCurrent h g (proof_in y) t root) s.text
             (subst (λ (q : OperationProof). IsActiveCurrent h g q (shown_text e x) root) s.proof a.accepted);
       }
 
-  same_proof : (x : Exclusion (K × V × K) V) → proof_of (View x) ≡ proof_of x
+  same_proof : (x : Exclusion (K × V × K) V) → proof_in (View x) ≡ proof_in x
   same_proof (KeyValue p u) = refl
   same_proof (Commit p v) = refl
 
@@ -236,14 +237,14 @@ module _ {K V X Y : Type 0} (e : Keyed K V) (kview : K → X) (vview : V → Y) 
     abbrev over : ℕ → Grafting
     over n = record { shape = S; bytes = n }
 
-    size_is : length (proof_of x).chunk ≡ size
+    size_is : length (proof_in x).chunk ≡ size
     size_is = subst (λ (p : OperationProof). length p.chunk ≡ size) (same_proof x)
         (exclusion_chunk there d size 128 update_at value_at bytes (View x) []
         (whole_ok (exclusion_at (sized_operation_at there d size 128) update_at value_at bytes) (View x) [] read).0)
 
     -- what the check of the bytes answers, from what the check of the proof that they are read as does
     pub absence_exactly : {E : Type 0} (answer : Result Bool E)
-        → IfOk answer (λ yes. IsTrue yes ↔ IsExcluded e h (over (length (proof_of x).chunk)) x key root)
+        → IfOk answer (λ yes. IsTrue yes ↔ IsExcluded e h (over (length (proof_in x).chunk)) x key root)
         → IfOk answer (λ yes. IsTrue yes
         ↔ IsAcceptedAbsence e kview vview update_at value_at h (over size) there d bytes key root)
     absence_exactly (Err z) exact = tt
@@ -256,12 +257,12 @@ module _ {K V X Y : Type 0} (e : Keyed K V) (kview : K → X) (vview : V → Y) 
 
     -- and what its yes means
     pub absence_meaning : {E : Type 0} (answer : Result Bool E)
-        → IfOk answer (λ yes. IsTrue yes → MeansAbsent e h (over (length (proof_of x).chunk)) x key root)
+        → IfOk answer (λ yes. IsTrue yes → MeansAbsent e h (over (length (proof_in x).chunk)) x key root)
         → IfOk answer (λ yes. IsTrue yes
         → IsTrueAbsence e kview vview update_at value_at h (over size) there d bytes key root)
     absence_meaning (Err z) means = tt
     absence_meaning (Ok b) means = λ t. record {
       proof = x;
       read = read;
-      means = subst (λ (n : ℕ). MeansAbsent e h (over n) x key root) size_is (means t);
+      meaning = subst (λ (n : ℕ). MeansAbsent e h (over n) x key root) size_is (means t);
     }

@@ -7,7 +7,7 @@ use Rattle.storage_current.specs.Snapshots.{Grafting, IsGrafting, Snapshot, IsSn
 use Rattle.storage_current.specs.CurrentWire.{operation_text}
 use Rattle.storage_current.specs.OwnWire.{IsPrompt}
 use Rattle.storage_current.specs.Keys.{Keyed, Updates}
-use Rattle.storage_current.specs.KeyProofs.{Exclusion, Allows, proof_of, shown_text}
+use Rattle.storage_current.specs.KeyProofs.{Exclusion, Allows, proof_in, shown_text}
 use Rattle.storage_current.specs.KeyWire.{exclusion_text, IsAdmittedExclusion}
 use Rattle.commonware_storage.specs.LightKeys.{IsAcceptedValue, IsAcceptedAbsence, OwnValuesAreAccepted, OwnExclusionsAreAccepted}
 
@@ -37,7 +37,7 @@ pub own_absence_yes : {K V X Y : Type 0} (e : Keyed K V) (kview : K → X) (vvie
     → (d : ℕ) (h : HashFunction) → IsSized d h → (g : Grafting) → IsGrafting g → (has_pending : Bool)
     → IsPrompt has_pending g.shape
     → (s : Snapshot) → IsSnapshot s → (x : Exclusion (K × V × K) V) (key : K) (bytes root : List ℕ)
-    → proof_of x ≡ own_operation_proof h g s (proof_of x).location → IsActive s (proof_of x).location (shown_text e x)
+    → proof_in x ≡ own_operation_proof h g s (proof_in x).location → IsActive s (proof_in x).location (shown_text e x)
     → Allows e x key
     → IsAdmittedExclusion (λ _. Unit {0}) update_admits value_admits x
     → bytes ≡ exclusion_text has_pending (λ u. e.key u.0 ++ e.value u.1 ++ e.key u.2) e.value x

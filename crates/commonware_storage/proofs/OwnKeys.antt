@@ -4,16 +4,16 @@ use Rattle.storage_codec.specs.Digests.{HashFunction, IsSized}
 use Rattle.storage_codec.specs.Codec.{Answer, whole}
 use Rattle.storage_ops.specs.Reading.{IsRead}
 use Rattle.storage_ops.specs.Updates.{ordered_at}
-use Rattle.storage_ops.specs.UpdatesLaws.{ordered_again}
+use Rattle.storage_ops.specs.Laws.Updates.{ordered_again}
 use Rattle.storage_current.specs.Snapshots.{Grafting, IsGrafting, Snapshot, IsSnapshot, OperationProof, canonical_root, own_operation_proof}
 use Rattle.storage_current.specs.CurrentProofs.{IsActiveCurrent}
 use Rattle.storage_current.specs.CurrentSoundness.{OwnOperationProofsAreAccepted}
 use Rattle.storage_current.specs.CurrentWire.{operation_text, sized_operation_at}
 use Rattle.storage_current.specs.OwnWire.{IsPrompt, OwnOperationProofsAreReadAgain}
 use Rattle.storage_current.specs.Keys.{Keyed, update_text}
-use Rattle.storage_current.specs.KeyProofs.{Exclusion, KeyValue, Commit, proof_of, shown_text}
+use Rattle.storage_current.specs.KeyProofs.{Exclusion, KeyValue, Commit, proof_in, shown_text}
 use Rattle.storage_current.specs.KeyWire.{pair_at, exclusion_text, exclusion_at, exclusion_map, IsAdmittedExclusion}
-use Rattle.storage_current.specs.KeyWireLaws.{pair_again, exclusion_again}
+use Rattle.storage_current.specs.Laws.KeyWire.{pair_again, exclusion_again}
 use Rattle.commonware_storage.specs.LightKeys.{OwnValuesAreAccepted, OwnExclusionsAreAccepted}
 
 -- the reader of operation proofs reads the snapshot's own one of a location again
@@ -31,7 +31,7 @@ own_read again d h sized g grafting has_pending prompt s snapshot location withi
 
 -- an exclusion proof whose operation proof is that one
 own_admitted : {U W : Type 0} (own : OperationProof) (update : U → Type 0) (value : W → Type 0) (x : Exclusion U W)
-    → proof_of x ≡ own
+    → proof_in x ≡ own
     → IsAdmittedExclusion (λ _. Unit {0}) update value x → IsAdmittedExclusion (λ q. q ≡ own) update value x
 own_admitted own update value (KeyValue p u) same ok = (same, ok.1)
 own_admitted own update value (Commit p v) same ok = (same, ok.1)
@@ -89,9 +89,9 @@ module _ (accepted : OwnOperationProofsAreAccepted) (again : OwnOperationProofsA
     own_exclusions d h sized g grafting has_pending prompt s snapshot x key own active allowed admitted =
         let parse = sized_operation_at has_pending d g.bytes 128 in
         let none : List ℕ = [] in
-        let p = own_operation_proof h g s (proof_of x).location in
+        let p = own_operation_proof h g s (proof_in x).location in
         let proof_read =
-        own_read again d h sized g grafting has_pending prompt s snapshot (proof_of x).location active.within in
+        own_read again d h sized g grafting has_pending prompt s snapshot (proof_in x).location active.within in
         let text = exclusion_text has_pending written e.value x in
         let one = exclusion_again has_pending written e.value seen vview parse (ordered_at kparse vparse) wparse
         (λ q. q ≡ p) UpdateAdmits wadmits proof_read update_read commit_read x none
@@ -105,6 +105,6 @@ module _ (accepted : OwnOperationProofsAreAccepted) (again : OwnOperationProofsA
             allowed = allowed;
             accepted =
                 subst (λ (q : OperationProof). IsActiveCurrent h g q (shown_text e x) (canonical_root h g s)) (sym own)
-                (accepted h g grafting s snapshot (proof_of x).location (shown_text e x) active);
+                (accepted h g grafting s snapshot (proof_in x).location (shown_text e x) active);
           };
         }

@@ -12,7 +12,7 @@ use Rattle.storage_bitmap.specs.Chunks.{Retained, bit_count}
 use Rattle.storage_ops.specs.declared.qmdb.error.Error.{Error}
 use Rattle.storage_ops.specs.declared.qmdb.error.Error.TheVariants.{OperationPruned, Memory}
 use Rattle.storage_current.specs.BuiltProofs.{ArePartsOf, IsNotBuilt}
-use Rattle.storage_current.specs.KeptSnapshots.{KeptSnapshot, StandsFor}
+use Rattle.storage_current.specs.KeptSnapshots.{KeptSnapshot, StandsForSnapshot}
 use Rattle.storage_current.specs.Snapshots.{Grafting, Snapshot, IsSnapshot, first_chunk, ops_root_of}
 
 -- an answer that is none where there is one
@@ -40,7 +40,7 @@ absent_one answers (q ∷ qs) p (inr there) = let r = absent_one answers qs p th
 
 module _ {D : Type 0} (text : D → List ℕ) (answers : ℕ → Option D → Type 0) (h : HashFunction) (g : Grafting)
     (laws : Laws g.shape) (greatest : GreatestNodesArePlanned) (plan : PlanOf) (kept : KeptSnapshot) (s : Snapshot)
-    (snapshot : IsSnapshot s) (stands : StandsFor h g kept s) (count : plan.leaves ≡ length s.operations)
+    (snapshot : IsSnapshot s) (stands : StandsForSnapshot h g kept s) (count : plan.leaves ≡ length s.operations)
     (served : (p : ℕ) (o : Option D) → answers p o → option_map text o ≡ slice_get kept.nodes p) where
   none_pruned : kept.status.pruned ≡ 0
   none_pruned = ap (λ r. r.pruned) stands.status

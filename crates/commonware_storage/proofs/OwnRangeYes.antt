@@ -11,22 +11,22 @@ use Rattle.storage_bitmap.specs.Chunks.{Retained}
 use Rattle.storage_ops.specs.declared.qmdb.error.Error.{Error}
 use Rattle.storage_ops.specs.declared.qmdb.error.Error.TheVariants.{Memory}
 use Rattle.storage_current.specs.BuiltProofs.{IsNotBuilt}
-use Rattle.storage_current.specs.KeptSnapshots.{KeptSnapshot, StandsFor}
-use Rattle.storage_current.specs.Snapshots.{Grafting, IsGrafting, Snapshot, IsSnapshot, Holds, CurrentProof, canonical_root, own_current_proof}
-use Rattle.storage_current.specs.CurrentWire.{current_text}
+use Rattle.storage_current.specs.KeptSnapshots.{KeptSnapshot, StandsForSnapshot}
+use Rattle.storage_current.specs.Snapshots.{Grafting, IsGrafting, Snapshot, IsSnapshot, Holds, RangeProof, canonical_root, own_range_proof}
+use Rattle.storage_current.specs.CurrentWire.{range_proof_text}
 use Rattle.storage_current.specs.OwnWire.{IsPrompt}
 use Rattle.commonware_storage.specs.LightRanges.{HasFewDigests, IsAcceptedRange, OwnRangesAreAccepted, own_range_text}
 use Rattle.commonware_storage.proofs.OwnParts.{never_refused}
 
 -- what the check is asked about, where its bytes are what a snapshot's own proof is written as
 pub range_asked : (d : ℕ) (h : HashFunction) (g : Grafting) (has_pending : Bool) (s : Snapshot) (most at start high : ℕ)
-    (operations chunks : List (List ℕ)) (bytes root : List ℕ) (p : CurrentProof) → at ≡ start
-    → bytes ≡ current_text has_pending p → p ≡ own_current_proof h g s start high
+    (operations chunks : List (List ℕ)) (bytes root : List ℕ) (p : RangeProof) → at ≡ start
+    → bytes ≡ range_proof_text has_pending p → p ≡ own_range_proof h g s start high
     → (answer : Bool) → (IsTrue answer ↔ IsAcceptedRange h g has_pending d most at bytes operations chunks root)
     → IsTrue answer ↔ IsAcceptedRange h g has_pending d most start (own_range_text h g has_pending s start high)
     operations chunks root
 range_asked d h g has_pending s most at start high operations chunks bytes root p same written own answer exact =
-    let text : bytes ≡ own_range_text h g has_pending s start high = written ∙ ap (current_text has_pending) own in
+    let text : bytes ≡ own_range_text h g has_pending s start high = written ∙ ap (range_proof_text has_pending) own in
     let of_text =
     subst (λ b. IsTrue answer ↔ IsAcceptedRange h g has_pending d most at b operations chunks root) text exact in
     subst (λ n. IsTrue answer ↔ IsAcceptedRange h g has_pending d most n
@@ -55,7 +55,7 @@ range_yes accepted d h sized g grafting has_pending prompt s snapshot most start
 -- a range of a snapshot in memory is refused for want of memory alone
 pub range_refused_for_memory : {D : Type 0} (text : D → List ℕ) (answers : ℕ → Option D → Type 0) (h : HashFunction)
     (g : Grafting) → Laws g.shape → GreatestNodesArePlanned → (plan : PlanOf) (kept : KeptSnapshot) (s : Snapshot)
-    → IsSnapshot s → StandsFor h g kept s → plan.leaves ≡ length s.operations
+    → IsSnapshot s → StandsForSnapshot h g kept s → plan.leaves ≡ length s.operations
     → ((p : ℕ) (o : Option D) → answers p o → option_map text o ≡ slice_get kept.nodes p)
     → {F : Type 0} (error : Error F) (status : Retained) → status ≡ kept.status
     → IsNotBuilt answers g plan status error → error ≡ Memory

@@ -4,7 +4,7 @@ use Rattle.storage_codec.specs.Digests.{HashFunction, IsSized, Cross}
 use Rattle.storage_codec.specs.Codec.{whole}
 use Rattle.storage_current.specs.Snapshots.{Grafting, IsGrafting, Snapshot, IsSnapshot, canonical_root, snapshot_strings, IsActive, OperationProof, own_operation_proof}
 use Rattle.storage_current.specs.CurrentProofs.{IsActiveCurrent, operation_strings}
-use Rattle.storage_current.specs.CurrentWire.{operation_text, sized_operation_at}
+use Rattle.storage_current.specs.CurrentWire.{operation_text, sized_operation_at, max_digests}
 use Rattle.storage_current.specs.OwnWire.{IsPrompt}
 use Rattle.hex.specs.Hex.{decode_of}
 use Rattle.commonware_storage.specs.declared.light.text_error.TextError.{TextError}
@@ -13,14 +13,14 @@ use Rattle.commonware_storage.specs.declared.light.text_error.TextError.TheVaria
 -- these bytes are one whole operation proof, of a location, over a chunk of so many bytes, with at most 128 digests of d bytes
 pub record IsProofAt (has_pending : Bool) (d size location : ℕ) (bytes : List ℕ) : Type 0 where
   pub proof : OperationProof
-  pub read : whole (sized_operation_at has_pending d size 128 bytes) ≡ Ok (proof, [])
+  pub read : whole (sized_operation_at has_pending d size max_digests bytes) ≡ Ok (proof, [])
   pub at : proof.location ≡ location
 
 -- the same, and the check of that proof says yes for an operation against a root
 pub record IsAcceptedAt (h : HashFunction) (g : Grafting) (has_pending : Bool) (d location : ℕ)
     (bytes operation root : List ℕ) : Type 0 where
   pub proof : OperationProof
-  pub read : whole (sized_operation_at has_pending d g.bytes 128 bytes) ≡ Ok (proof, [])
+  pub read : whole (sized_operation_at has_pending d g.bytes max_digests bytes) ≡ Ok (proof, [])
   pub at : proof.location ≡ location
   pub accepted : IsActiveCurrent h g proof operation root
 
@@ -30,8 +30,8 @@ pub record IsAcceptedAt (h : HashFunction) (g : Grafting) (has_pending : Bool) (
 pub record IsTrueAt (h : HashFunction) (g : Grafting) (has_pending : Bool) (d location : ℕ)
     (bytes operation root : List ℕ) : Type 0 where
   pub proof : OperationProof
-  pub read : whole (sized_operation_at has_pending d g.bytes 128 bytes) ≡ Ok (proof, [])
-  pub means : (s : Snapshot) → IsSnapshot s → canonical_root h g s ≡ root →
+  pub read : whole (sized_operation_at has_pending d g.bytes max_digests bytes) ≡ Ok (proof, [])
+  pub meaning : (s : Snapshot) → IsSnapshot s → canonical_root h g s ≡ root →
       IsActive s location operation × (bytes ≡ operation_text has_pending (own_operation_proof h g s location))
       ⊎ Cross h (operation_strings h g proof operation) (snapshot_strings h g s)
 
@@ -63,7 +63,7 @@ pub record IsTextTrueAt (h : HashFunction) (g : Grafting) (has_pending : Bool) (
   pub spelled : decode_of proof ≡ Ok bytes
   pub operation_bytes : List ℕ
   pub operation_spelled : decode_of operation ≡ Ok operation_bytes
-  pub means : IsTrueAt h g has_pending d location bytes operation_bytes root
+  pub meaning : IsTrueAt h g has_pending d location bytes operation_bytes root
 
 -- the first of a text, which spells the bytes in hexadecimal
 pub record IsProofTextAt (has_pending : Bool) (d size location : ℕ) (text : List ℕ) : Type 0 where

@@ -8,7 +8,7 @@ ghost use Rattle.storage_current.specs.BuiltProofs.{ArePartsOf, IsNotBuilt};
 ghost use Rattle.storage_current.specs.CurrentWire.{operation_text};
 ghost use Rattle.storage_current.specs.KeptSnapshots.{KeptSnapshot};
 ghost use Rattle.storage_current.specs.Snapshots.{IsActive, IsSnapshot, Snapshot as SnapshotOf, canonical_root, first_chunk, own_operation_proof, grafting_of};
-ghost use Rattle.commonware_storage.specs.Handed.{AreHandedOut};
+ghost use Rattle.commonware_storage.specs.Handed.{AreSnapshotParts};
 ghost use Rattle.commonware_storage.specs.Light.{IsAcceptedAt, OwnProofsAreAccepted};
 
 pub mod keys;
@@ -85,7 +85,7 @@ pub fn built_proofs_are_accepted<
         → IfOk result (λ yes. yes ≡ true) }
     ensures handed { let g = grafting_of F.shape N in
         (kept : KeptSnapshot) (s : SnapshotOf) → IsSnapshot s
-        → AreHandedOut H.Digest.text (G.post get_node) H.hash_of g plan
+        → AreSnapshotParts H.Digest.text (G.post get_node) H.hash_of g plan
         (R.retained status.now) floor (H.Digest.text ops_root) (H.Digest.text root.now) kept s
         → IsActive s plan.start operation.now
         → MatchResult result (λ yes. yes ≡ true) (λ error. error ≡ Error.Memory) }

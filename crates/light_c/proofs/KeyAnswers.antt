@@ -4,7 +4,7 @@ use Rattle.std.proofs.Common.{◌≡◌, ◌↔◌, ◌∙◌, ℕ, ◌+◌, Lis
 use Rattle.std.specs.declared.alloc.Global.{Global}
 use Rattle.std.specs.declared.vec.Vec.{Vec}
 use Rattle.storage_codec.specs.Digests.{HashFunction}
-use Rattle.storage_codec.specs.DigestValues.{one_digest}
+use Rattle.storage_codec.specs.Laws.DigestValues.{one_digest}
 use Rattle.storage_codec.specs.Codec.{fixed_at}
 use Rattle.storage_codec.specs.Parts.{vector_text}
 use Rattle.storage_codec.specs.declared.codec.fixed.FixedBytes.{FixedBytes}
@@ -14,8 +14,8 @@ use Rattle.storage_ops.specs.Variable.{variable_operation_text}
 use Rattle.storage_current.specs.Snapshots.{Grafting}
 use Rattle.storage_current.specs.CurrentProofs.{IsActiveCurrent}
 use Rattle.light_c.specs.KeyBytes.{IsAcceptedValueOf, IsTrueValueOf, OfSized, OfVector}
-use Rattle.light_c.specs.KeySteps.{AcceptsAbsence, AcceptsValue, TrueAbsence, TrueValue, Written}
-use Rattle.light_c.specs.SizedStrings.{number_of}
+use Rattle.light_c.specs.KeyParts.{AcceptsAbsence, AcceptsValue, TrueAbsence, TrueValue, Written}
+use Rattle.light_c.specs.SizedStrings.{size_in_bytes}
 use Rattle.light_c.specs.declared.sized.Size.{Size}
 
 -- what is said of a string with the bytes of this one is said of this one
@@ -146,8 +146,8 @@ module _ (h : HashFunction) (g : Grafting) (has_pending : Bool) (d : ℕ) (proof
         (λ n k a. record { size = m; sized = v; is = refl; said = a }) key answer means
 
 -- what holds of a size holds of an equal one
-pub at_size : (P : ℕ → Type 0) (size known : Size) → size ≡ known → P (number_of known) → P (number_of size)
-at_size P size known e p = subst (λ (s : Size). P (number_of s)) (sym e) p
+pub at_size : (P : ℕ → Type 0) (size known : Size) → size ≡ known → P (size_in_bytes known) → P (size_in_bytes size)
+at_size P size known e p = subst (λ (s : Size). P (size_in_bytes s)) (sym e) p
 
 -- ---- absence where values have one size, in operations that are written in some way
 
@@ -163,10 +163,10 @@ module _ (h : HashFunction) (g : Grafting) (has_pending : Bool) (d : ℕ) (proof
       TrueAbsence h g has_pending d proof root (written m) {V = FixedBytes m} (λ x. x.bytes) (λ x. x.bytes) (fixed_at m)
       (fixed_at m)
 
-  pub absence_exactly : IfOk answer (λ b. IsTrue b ↔ OfSized (AcceptsMissing (number_of known)) key)
-      → IfOk answer (λ b. IsTrue b ↔ OfSized (AcceptsMissing (number_of size)) key)
+  pub absence_exactly : IfOk answer (λ b. IsTrue b ↔ OfSized (AcceptsMissing (size_in_bytes known)) key)
+      → IfOk answer (λ b. IsTrue b ↔ OfSized (AcceptsMissing (size_in_bytes size)) key)
   absence_exactly exact = at_size (λ m. IfOk answer (λ b. IsTrue b ↔ OfSized (AcceptsMissing m) key)) size known e exact
 
-  pub absence_meaning : IfOk answer (λ b. IsTrue b → OfSized (IsMissing (number_of known)) key)
-      → IfOk answer (λ b. IsTrue b → OfSized (IsMissing (number_of size)) key)
+  pub absence_meaning : IfOk answer (λ b. IsTrue b → OfSized (IsMissing (size_in_bytes known)) key)
+      → IfOk answer (λ b. IsTrue b → OfSized (IsMissing (size_in_bytes size)) key)
   absence_meaning means = at_size (λ m. IfOk answer (λ b. IsTrue b → OfSized (IsMissing m) key)) size known e means

@@ -18,7 +18,7 @@ use Rattle.storage_current.specs.Keys.{Excludes, Keyed, keyed_by}
 use Rattle.storage_current.specs.KeyProofs.{Allows, Commit, Exclusion, KeyValue}
 use Rattle.commonware_storage.specs.LightKeys.{IsAcceptedAbsence, IsAcceptedValue, IsTrueAbsence, IsTrueValue}
 use Rattle.light_c.specs.KeyBytes.{OfSized, OfVector}
-use Rattle.light_c.specs.SizedStrings.{number_of}
+use Rattle.light_c.specs.SizedStrings.{size_in_bytes}
 use Rattle.light_c.specs.StringKeys.{IsAcceptedStringAbsenceOf, IsAcceptedStringSizedAbsenceOf, IsAcceptedStringSizedValueOf, IsAcceptedStringValueOf, IsTrueStringAbsenceOf, IsTrueStringSizedAbsenceOf, IsTrueStringSizedValueOf, IsTrueStringValueOf}
 use Rattle.light_c.specs.declared.sized.Size.{Size}
 use Rattle.light_c.proofs.KeyAnswers.{at_size, exact_of_sized, exact_of_vector, means_of_sized, means_of_vector}
@@ -187,20 +187,20 @@ module _ (h : HashFunction) (g : Grafting) (has_pending : Bool) (d : ℕ) (proof
       abbrev IsMissing : ℕ → Type 0
       IsMissing m = IsMeantAbsence {V = FixedBytes m} (λ v. v.bytes) (λ v. v.bytes) (fixed_at m) answer k
 
-      pub string_sized_absence_exactly : IfOk answer (λ b. IsTrue b ↔ AcceptsMissing (number_of known))
+      pub string_sized_absence_exactly : IfOk answer (λ b. IsTrue b ↔ AcceptsMissing (size_in_bytes known))
           → IfOk answer (λ b. IsTrue b
-          ↔ IsAcceptedStringSizedAbsenceOf h g has_pending d proof lower upper (number_of size) key root)
+          ↔ IsAcceptedStringSizedAbsenceOf h g has_pending d proof lower upper (size_in_bytes size) key root)
       string_sized_absence_exactly exact =
           at_size (λ m. IfOk answer (λ b. IsTrue b
           ↔ IsAcceptedStringSizedAbsenceOf h g has_pending d proof lower upper m key root)) size known e
-          (absence_of_bytes {V = FixedBytes (number_of known)} (λ v. v.bytes) (λ v. v.bytes) (fixed_at (number_of known)) answer
+          (absence_of_bytes {V = FixedBytes (size_in_bytes known)} (λ v. v.bytes) (λ v. v.bytes) (fixed_at (size_in_bytes known)) answer
           exact)
 
-      pub string_sized_absence_meaning : IfOk answer (λ b. IsTrue b → IsMissing (number_of known))
+      pub string_sized_absence_meaning : IfOk answer (λ b. IsTrue b → IsMissing (size_in_bytes known))
           → IfOk answer (λ b. IsTrue b
-          → IsTrueStringSizedAbsenceOf h g has_pending d proof lower upper (number_of size) key root)
+          → IsTrueStringSizedAbsenceOf h g has_pending d proof lower upper (size_in_bytes size) key root)
       string_sized_absence_meaning means =
           at_size (λ m. IfOk answer (λ b. IsTrue b
           → IsTrueStringSizedAbsenceOf h g has_pending d proof lower upper m key root)) size known e
-          (missing_of_bytes {V = FixedBytes (number_of known)} (λ v. v.bytes) (λ v. v.bytes) (fixed_at (number_of known)) answer
+          (missing_of_bytes {V = FixedBytes (size_in_bytes known)} (λ v. v.bytes) (λ v. v.bytes) (fixed_at (size_in_bytes known)) answer
           means)

@@ -14,23 +14,23 @@ use Rattle.light_c.specs.declared.agreed.Root.TheVariants.{Of256, Of512}
 abbrev pub shape_of : ℕ → Shape
 shape_of family = if family == 0 then mmr else mmb
 
-abbrev pub pending_of : ℕ → Bool
-pending_of family = if family == 0 then false else true
+abbrev pub has_pending_of : ℕ → Bool
+has_pending_of family = if family == 0 then false else true
 
 -- the digest functions: 0 is SHA-256, whose digests have 32 bytes, 1 is SHA-512, whose digests have 64
 abbrev pub function_of : ℕ → HashFunction
 function_of hash = if hash == 0 then sha256 else sha512
 
-abbrev pub size_of : ℕ → ℕ
-size_of hash = if hash == 0 then 32 else 64
+abbrev pub digest_size_of : ℕ → ℕ
+digest_size_of hash = if hash == 0 then 32 else 64
 
 -- what is refused of a family, a digest function and a root: the families and the digest functions are 0 and 1, and a root has as
 -- many bytes as a digest
-abbrev pub refusal : ℕ → ℕ → List ℕ → Option ℤ
-refusal family hash root =
+abbrev pub agreed_refusal : ℕ → ℕ → List ℕ → Option ℤ
+agreed_refusal family hash root =
     if not (family == 0) && not (family == 1) then Some other_family
     else if not (hash == 0) && not (hash == 1) then Some other_hash
-    else if not (length root == size_of hash) then Some other_root
+    else if not (length root == digest_size_of hash) then Some other_root
     else None
 
 -- a root is a digest with these bytes, of a digest function

@@ -2,6 +2,6 @@ pub mod Agreed
 pub mod Answers
 pub mod ByteStrings
 pub mod KeyBytes
-pub mod KeySteps
+pub mod KeyParts
 pub mod SizedStrings
 pub mod StringKeys

@@ -25,8 +25,8 @@ bytes_of (Of20 sized) = sized.bytes
 bytes_of (Of32 sized) = sized.bytes
 
 -- a size in bytes
-abbrev pub number_of : Size → ℕ
-number_of Four = 4
-number_of Eight = 8
-number_of Twenty = 20
-number_of ThirtyTwo = 32
+abbrev pub size_in_bytes : Size → ℕ
+size_in_bytes Four = 4
+size_in_bytes Eight = 8
+size_in_bytes Twenty = 20
+size_in_bytes ThirtyTwo = 32

@@ -3,7 +3,7 @@
 ghost use Rattle.std.specs.Prelude.{◌≡◌, ◌⊎◌, None};
 ghost use Rattle.storage_bitmap.specs.Chunks.{IsChunkSize};
 ghost use Rattle.storage_current.specs.Snapshots.{grafting_of};
-ghost use Rattle.light_c.specs.Agreed.{function_of, pending_of, refusal, shape_of, size_of};
+ghost use Rattle.light_c.specs.Agreed.{function_of, has_pending_of, agreed_refusal, shape_of, digest_size_of};
 ghost use Rattle.light_c.specs.Answers.{IsTold, Says, no, or_then, yes};
 ghost use Rattle.light_c.specs.KeyBytes.{IsAcceptedAbsenceOf, IsTrueAbsenceOf};
 ghost use Rattle.light_c.specs.SizedStrings.{bytes_of, key_refusal};
@@ -33,15 +33,18 @@ pub extern "C" fn gawerunoa_check_absence(
     key: &[u8],
     root: &[u8],
 ) -> i32
-    ensures exact { let refused = or_then (refusal family hash root.now) (key_refusal key.now) in
+    ensures exact { let refused = or_then (agreed_refusal family hash root.now)
+        (key_refusal key.now) in
         IsTold refused result (Says result (IsAcceptedAbsenceOf (function_of hash)
-        (grafting_of (shape_of family) chunk_size) (pending_of family) (size_of hash) proof.now
+        (grafting_of (shape_of family) chunk_size) (has_pending_of family)
+        (digest_size_of hash) proof.now
         min_value_length max_value_length key.now root.now)) }
-    ensures meaning { or_then (refusal family hash root.now) (key_refusal key.now) ≡ None
+    ensures meaning { or_then (agreed_refusal family hash root.now) (key_refusal key.now) ≡ None
         → result ≡ yes → IsTrueAbsenceOf (function_of hash)
-        (grafting_of (shape_of family) chunk_size) (pending_of family) (size_of hash) proof.now
+        (grafting_of (shape_of family) chunk_size) (has_pending_of family)
+        (digest_size_of hash) proof.now
         min_value_length max_value_length key.now root.now }
-    ensures refused { or_then (refusal family hash root.now) (key_refusal key.now) ≡ None
+    ensures refused { or_then (agreed_refusal family hash root.now) (key_refusal key.now) ≡ None
         → ¬ IsChunkSize chunk_size → result ≡ no }
 {
     let root = match trusted(family, hash, root) {
@@ -76,11 +79,11 @@ fn of_key<H: Hasher>(
     root: &H::Digest,
 ) -> i32
     ensures exact { Says result (IsAcceptedAbsenceOf H.hash_of
-        (grafting_of (shape_of family) chunk_size) (pending_of family) H.Digest.size proof.now
+        (grafting_of (shape_of family) chunk_size) (has_pending_of family) H.Digest.size proof.now
         lengths.min lengths.max (bytes_of key.now) (H.Digest.text root.now)) }
     ensures meaning { (H.Digest.size ≡ 32) ⊎ (H.Digest.size ≡ 64) → result ≡ yes
         → IsTrueAbsenceOf H.hash_of (grafting_of (shape_of family) chunk_size)
-        (pending_of family) H.Digest.size proof.now lengths.min lengths.max (bytes_of key.now)
+        (has_pending_of family) H.Digest.size proof.now lengths.min lengths.max (bytes_of key.now)
         (H.Digest.text root.now) }
     ensures refused { ¬ IsChunkSize chunk_size → result ≡ no }
 {

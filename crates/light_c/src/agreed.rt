@@ -1,7 +1,7 @@
 //! What is agreed beforehand: the family, the digest function and the root.
 
 ghost use Rattle.std.specs.Prelude.{◌≡◌, MatchResult, None, Some};
-ghost use Rattle.light_c.specs.Agreed.{IsRoot, refusal};
+ghost use Rattle.light_c.specs.Agreed.{IsRoot, agreed_refusal};
 
 use crate::answer::{OTHER_FAMILY, OTHER_HASH, OTHER_ROOT};
 use commonware_storage::codec::FixedBytes;
@@ -31,8 +31,8 @@ pub enum Root {
 /// The root as a digest, or the first that is refused of the family, the digest function and the root.
 pub fn trusted(family: u32, hash: u32, root: &[u8]) -> Result<Root, i32>
     ensures { MatchResult result
-        (λ digest. (refusal family hash root.now ≡ None) × IsRoot hash root.now digest)
-        (λ code. refusal family hash root.now ≡ Some code) }
+        (λ digest. (agreed_refusal family hash root.now ≡ None) × IsRoot hash root.now digest)
+        (λ code. agreed_refusal family hash root.now ≡ Some code) }
 {
     if family != MMR && family != MMB {
         return Err(OTHER_FAMILY);

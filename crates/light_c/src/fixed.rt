@@ -7,9 +7,9 @@ ghost use Rattle.storage_ops.specs.Updates.{ordered_at};
 ghost use Rattle.storage_current.specs.Keys.{keyed_by};
 ghost use Rattle.storage_current.specs.Snapshots.{grafting_of};
 ghost use Rattle.commonware_storage.specs.LightKeys.{IsAcceptedAbsence, IsAcceptedValue, IsTrueAbsence, IsTrueValue};
-ghost use Rattle.light_c.specs.Agreed.{pending_of, shape_of};
+ghost use Rattle.light_c.specs.Agreed.{has_pending_of, shape_of};
 ghost use Rattle.light_c.specs.KeyBytes.{OfSized};
-ghost use Rattle.light_c.specs.KeySteps.{AcceptsAbsence, AcceptsValue, TrueAbsence, TrueValue};
+ghost use Rattle.light_c.specs.KeyParts.{AcceptsAbsence, AcceptsValue, TrueAbsence, TrueValue};
 ghost use Rattle.light_c.specs.SizedStrings.{bytes_of};
 
 use crate::agreed::MMR;
@@ -37,13 +37,13 @@ pub fn value_of<H: Hasher, K: Key + Small + Read<Cfg = ()>, V: FixedValue>(
     ensures exact { let operation = fixed_operation_text K.size
         (K.size + V.size + K.size) V.size in let e = keyed_by K.text V.text operation K.cmp in
         IfOk result (λ yes. IsTrue yes ↔ IsAcceptedValue e K.view (K.parse tt) H.hash_of
-        (grafting_of (shape_of family) chunk_size) (pending_of family) H.Digest.size proof.now
+        (grafting_of (shape_of family) chunk_size) (has_pending_of family) H.Digest.size proof.now
         key value (H.Digest.text root.now)) }
     ensures meaning { let operation = fixed_operation_text K.size
         (K.size + V.size + K.size) V.size in let e = keyed_by K.text V.text operation K.cmp in
         (H.Digest.size ≡ 32) ⊎ (H.Digest.size ≡ 64)
         → IfOk result (λ yes. IsTrue yes → IsTrueValue e K.view (K.parse tt) H.hash_of
-        (grafting_of (shape_of family) chunk_size) (pending_of family) H.Digest.size proof.now
+        (grafting_of (shape_of family) chunk_size) (has_pending_of family) H.Digest.size proof.now
         key value (H.Digest.text root.now)) }
 {
     let cfg = &();
@@ -72,14 +72,14 @@ pub fn absence_of<H: Hasher, K: Key + Small + Read<Cfg = ()>, V: FixedValue>(
         (K.size + V.size + K.size) V.size in let e = keyed_by K.text V.text operation K.cmp in
         IfOk result (λ yes. IsTrue yes ↔ IsAcceptedAbsence e K.view V.view
         (ordered_at (K.parse tt) (V.parse tt)) (V.parse tt) H.hash_of
-        (grafting_of (shape_of family) chunk_size) (pending_of family) H.Digest.size proof.now
+        (grafting_of (shape_of family) chunk_size) (has_pending_of family) H.Digest.size proof.now
         key.now (H.Digest.text root.now)) }
     ensures meaning { let operation = fixed_operation_text K.size
         (K.size + V.size + K.size) V.size in let e = keyed_by K.text V.text operation K.cmp in
         (H.Digest.size ≡ 32) ⊎ (H.Digest.size ≡ 64)
         → IfOk result (λ yes. IsTrue yes → IsTrueAbsence e K.view V.view
         (ordered_at (K.parse tt) (V.parse tt)) (V.parse tt) H.hash_of
-        (grafting_of (shape_of family) chunk_size) (pending_of family) H.Digest.size proof.now
+        (grafting_of (shape_of family) chunk_size) (has_pending_of family) H.Digest.size proof.now
         key.now (H.Digest.text root.now)) }
 {
     let cfgs = &((), ());
@@ -106,12 +106,12 @@ pub fn value_of_sized<H: Hasher, V: FixedValue>(
 ) -> Result<bool, NoMemory>
     ensures refused { ¬ IsChunkSize chunk_size → result ≡ Ok false }
     ensures exact { IfOk result (λ yes. IsTrue yes ↔ OfSized (AcceptsValue H.hash_of
-        (grafting_of (shape_of family) chunk_size) (pending_of family) H.Digest.size proof.now
+        (grafting_of (shape_of family) chunk_size) (has_pending_of family) H.Digest.size proof.now
         (H.Digest.text root.now) (λ n. fixed_operation_text n (n + V.size + n) V.size) V.text value)
         (bytes_of key.now)) }
     ensures meaning { (H.Digest.size ≡ 32) ⊎ (H.Digest.size ≡ 64)
         → IfOk result (λ yes. IsTrue yes → OfSized (TrueValue H.hash_of
-        (grafting_of (shape_of family) chunk_size) (pending_of family) H.Digest.size proof.now
+        (grafting_of (shape_of family) chunk_size) (has_pending_of family) H.Digest.size proof.now
         (H.Digest.text root.now) (λ n. fixed_operation_text n (n + V.size + n) V.size) V.text value)
         (bytes_of key.now)) }
 {
@@ -142,12 +142,12 @@ pub fn absence_of_sized<H: Hasher, V: FixedValue>(
 ) -> Result<bool, NoMemory>
     ensures refused { ¬ IsChunkSize chunk_size → result ≡ Ok false }
     ensures exact { IfOk result (λ yes. IsTrue yes ↔ OfSized (AcceptsAbsence H.hash_of
-        (grafting_of (shape_of family) chunk_size) (pending_of family) H.Digest.size proof.now
+        (grafting_of (shape_of family) chunk_size) (has_pending_of family) H.Digest.size proof.now
         (H.Digest.text root.now) (λ n. fixed_operation_text n (n + V.size + n) V.size) V.text V.view
         (V.parse tt) (V.parse tt)) (bytes_of key.now)) }
     ensures meaning { (H.Digest.size ≡ 32) ⊎ (H.Digest.size ≡ 64)
         → IfOk result (λ yes. IsTrue yes → OfSized (TrueAbsence H.hash_of
-        (grafting_of (shape_of family) chunk_size) (pending_of family) H.Digest.size proof.now
+        (grafting_of (shape_of family) chunk_size) (has_pending_of family) H.Digest.size proof.now
         (H.Digest.text root.now) (λ n. fixed_operation_text n (n + V.size + n) V.size) V.text V.view
         (V.parse tt) (V.parse tt)) (bytes_of key.now)) }
 {

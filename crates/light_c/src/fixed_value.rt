@@ -3,7 +3,7 @@
 ghost use Rattle.std.specs.Prelude.{◌≡◌, ◌↔◌, ◌⊎◌, IfOk, IsTrue, None, Ok, false, length};
 ghost use Rattle.storage_bitmap.specs.Chunks.{IsChunkSize};
 ghost use Rattle.storage_current.specs.Snapshots.{grafting_of};
-ghost use Rattle.light_c.specs.Agreed.{function_of, pending_of, refusal, shape_of, size_of};
+ghost use Rattle.light_c.specs.Agreed.{function_of, has_pending_of, agreed_refusal, shape_of, digest_size_of};
 ghost use Rattle.light_c.specs.Answers.{IsTold, Says, no, or_then, yes};
 ghost use Rattle.light_c.specs.KeyBytes.{IsAcceptedFixedValueOf, IsTrueFixedValueOf};
 ghost use Rattle.light_c.specs.SizedStrings.{bytes_of, key_refusal, value_refusal};
@@ -33,16 +33,17 @@ pub extern "C" fn gawerunoa_check_fixed_value(
     value: &[u8],
     root: &[u8],
 ) -> i32
-    ensures exact { let refused = or_then (or_then (refusal family hash root.now)
+    ensures exact { let refused = or_then (or_then (agreed_refusal family hash root.now)
         (key_refusal key.now)) (value_refusal (length value.now)) in
         IsTold refused result (Says result (IsAcceptedFixedValueOf (function_of hash)
-        (grafting_of (shape_of family) chunk_size) (pending_of family) (size_of hash) proof.now
+        (grafting_of (shape_of family) chunk_size) (has_pending_of family)
+        (digest_size_of hash) proof.now
         key.now value.now root.now)) }
-    ensures meaning { or_then (or_then (refusal family hash root.now) (key_refusal key.now))
+    ensures meaning { or_then (or_then (agreed_refusal family hash root.now) (key_refusal key.now))
         (value_refusal (length value.now)) ≡ None → result ≡ yes → IsTrueFixedValueOf
-        (function_of hash) (grafting_of (shape_of family) chunk_size) (pending_of family)
-        (size_of hash) proof.now key.now value.now root.now }
-    ensures refused { or_then (or_then (refusal family hash root.now) (key_refusal key.now))
+        (function_of hash) (grafting_of (shape_of family) chunk_size) (has_pending_of family)
+        (digest_size_of hash) proof.now key.now value.now root.now }
+    ensures refused { or_then (or_then (agreed_refusal family hash root.now) (key_refusal key.now))
         (value_refusal (length value.now)) ≡ None → ¬ IsChunkSize chunk_size → result ≡ no }
 {
     let root = match trusted(family, hash, root) {
@@ -76,11 +77,11 @@ fn of_key<H: Hasher>(
     root: &H::Digest,
 ) -> i32
     ensures exact { Says result (IsAcceptedFixedValueOf H.hash_of
-        (grafting_of (shape_of family) chunk_size) (pending_of family) H.Digest.size proof.now
+        (grafting_of (shape_of family) chunk_size) (has_pending_of family) H.Digest.size proof.now
         (bytes_of key.now) (bytes_of value.now) (H.Digest.text root.now)) }
     ensures meaning { (H.Digest.size ≡ 32) ⊎ (H.Digest.size ≡ 64) → result ≡ yes
         → IsTrueFixedValueOf H.hash_of (grafting_of (shape_of family) chunk_size)
-        (pending_of family) H.Digest.size proof.now (bytes_of key.now) (bytes_of value.now)
+        (has_pending_of family) H.Digest.size proof.now (bytes_of key.now) (bytes_of value.now)
         (H.Digest.text root.now) }
     ensures refused { ¬ IsChunkSize chunk_size → result ≡ no }
 {
@@ -99,11 +100,11 @@ fn of_value<H: Hasher>(
 ) -> Result<bool, NoMemory>
     ensures refused { ¬ IsChunkSize chunk_size → result ≡ Ok false }
     ensures exact { IfOk result (λ yes. IsTrue yes ↔ IsAcceptedFixedValueOf H.hash_of
-        (grafting_of (shape_of family) chunk_size) (pending_of family) H.Digest.size proof.now
+        (grafting_of (shape_of family) chunk_size) (has_pending_of family) H.Digest.size proof.now
         (bytes_of key.now) (bytes_of value.now) (H.Digest.text root.now)) }
     ensures meaning { (H.Digest.size ≡ 32) ⊎ (H.Digest.size ≡ 64)
         → IfOk result (λ yes. IsTrue yes → IsTrueFixedValueOf H.hash_of
-        (grafting_of (shape_of family) chunk_size) (pending_of family) H.Digest.size proof.now
+        (grafting_of (shape_of family) chunk_size) (has_pending_of family) H.Digest.size proof.now
         (bytes_of key.now) (bytes_of value.now) (H.Digest.text root.now)) }
 {
     match value {

@@ -4,7 +4,7 @@ ghost use Rattle.std.specs.Prelude.{◌≡◌, ◌⊎◌, None};
 ghost use Rattle.storage_bitmap.specs.Chunks.{IsChunkSize};
 ghost use Rattle.storage_current.specs.Snapshots.{grafting_of};
 ghost use Rattle.commonware_storage.specs.Light.{IsAcceptedAt, IsTrueAt};
-ghost use Rattle.light_c.specs.Agreed.{function_of, pending_of, refusal, shape_of, size_of};
+ghost use Rattle.light_c.specs.Agreed.{function_of, has_pending_of, agreed_refusal, shape_of, digest_size_of};
 ghost use Rattle.light_c.specs.Answers.{IsTold, Says, no, yes};
 
 use crate::agreed::{MMR, Root, trusted};
@@ -29,13 +29,13 @@ pub extern "C" fn gawerunoa_check_operation(
     operation: &[u8],
     root: &[u8],
 ) -> i32
-    ensures exact { IsTold (refusal family hash root.now) result (Says result (IsAcceptedAt
-        (function_of hash) (grafting_of (shape_of family) chunk_size) (pending_of family)
-        (size_of hash) location proof.now operation.now root.now)) }
-    ensures meaning { refusal family hash root.now ≡ None → result ≡ yes → IsTrueAt
-        (function_of hash) (grafting_of (shape_of family) chunk_size) (pending_of family)
-        (size_of hash) location proof.now operation.now root.now }
-    ensures refused { refusal family hash root.now ≡ None → ¬ IsChunkSize chunk_size
+    ensures exact { IsTold (agreed_refusal family hash root.now) result (Says result (IsAcceptedAt
+        (function_of hash) (grafting_of (shape_of family) chunk_size) (has_pending_of family)
+        (digest_size_of hash) location proof.now operation.now root.now)) }
+    ensures meaning { agreed_refusal family hash root.now ≡ None → result ≡ yes → IsTrueAt
+        (function_of hash) (grafting_of (shape_of family) chunk_size) (has_pending_of family)
+        (digest_size_of hash) location proof.now operation.now root.now }
+    ensures refused { agreed_refusal family hash root.now ≡ None → ¬ IsChunkSize chunk_size
         → result ≡ no }
 {
     match trusted(family, hash, root) {
@@ -60,10 +60,10 @@ fn of_family<H: Hasher>(
     root: &H::Digest,
 ) -> i32
     ensures exact { Says result (IsAcceptedAt H.hash_of (grafting_of (shape_of family) chunk_size)
-        (pending_of family) H.Digest.size location proof.now operation.now
+        (has_pending_of family) H.Digest.size location proof.now operation.now
         (H.Digest.text root.now)) }
     ensures meaning { (H.Digest.size ≡ 32) ⊎ (H.Digest.size ≡ 64) → result ≡ yes → IsTrueAt
-        H.hash_of (grafting_of (shape_of family) chunk_size) (pending_of family) H.Digest.size
+        H.hash_of (grafting_of (shape_of family) chunk_size) (has_pending_of family) H.Digest.size
         location proof.now operation.now (H.Digest.text root.now) }
     ensures refused { ¬ IsChunkSize chunk_size → result ≡ no }
 {

@@ -3,7 +3,7 @@
 ghost use Rattle.std.specs.Prelude.{◌≡◌, ◌⊎◌, None};
 ghost use Rattle.storage_current.specs.Snapshots.{grafting_of};
 ghost use Rattle.commonware_storage.specs.LightRanges.{IsAcceptedRange, IsTrueRange};
-ghost use Rattle.light_c.specs.Agreed.{function_of, pending_of, refusal, shape_of, size_of};
+ghost use Rattle.light_c.specs.Agreed.{function_of, has_pending_of, agreed_refusal, shape_of, digest_size_of};
 ghost use Rattle.light_c.specs.Answers.{IsTold, Says, lengths_refusal, or_then, yes};
 ghost use Rattle.light_c.specs.ByteStrings.{cut};
 
@@ -36,16 +36,17 @@ pub extern "C" fn gawerunoa_check_range<'a>(
     chunk_lengths: &'a [usize],
     root: &[u8],
 ) -> i32
-    ensures exact { let refused = or_then (refusal family hash root.now)
+    ensures exact { let refused = or_then (agreed_refusal family hash root.now)
         (lengths_refusal operations.now operation_lengths.now chunks.now chunk_lengths.now) in
         IsTold refused result (Says result (IsAcceptedRange (function_of hash)
-        (grafting_of (shape_of family) chunk_size) (pending_of family) (size_of hash) max_digests
+        (grafting_of (shape_of family) chunk_size) (has_pending_of family)
+        (digest_size_of hash) max_digests
         start proof.now (cut operation_lengths.now operations.now)
         (cut chunk_lengths.now chunks.now) root.now)) }
-    ensures meaning { or_then (refusal family hash root.now)
+    ensures meaning { or_then (agreed_refusal family hash root.now)
         (lengths_refusal operations.now operation_lengths.now chunks.now chunk_lengths.now) ≡ None
         → result ≡ yes → IsTrueRange (function_of hash) (grafting_of (shape_of family) chunk_size)
-        (pending_of family) (size_of hash) max_digests start proof.now
+        (has_pending_of family) (digest_size_of hash) max_digests start proof.now
         (cut operation_lengths.now operations.now) (cut chunk_lengths.now chunks.now) root.now }
 {
     let root = match trusted(family, hash, root) {
@@ -100,12 +101,12 @@ fn of_family<H: Hasher>(
     root: &H::Digest,
 ) -> i32
     ensures exact { Says result (IsAcceptedRange H.hash_of
-        (grafting_of (shape_of family) chunk_size) (pending_of family) H.Digest.size max_digests
+        (grafting_of (shape_of family) chunk_size) (has_pending_of family) H.Digest.size max_digests
         claim.now.start proof.now
         (cut claim.now.operations.lengths.now claim.now.operations.bytes.now)
         (cut claim.now.chunks.lengths.now claim.now.chunks.bytes.now) (H.Digest.text root.now)) }
     ensures meaning { (H.Digest.size ≡ 32) ⊎ (H.Digest.size ≡ 64) → result ≡ yes → IsTrueRange
-        H.hash_of (grafting_of (shape_of family) chunk_size) (pending_of family) H.Digest.size
+        H.hash_of (grafting_of (shape_of family) chunk_size) (has_pending_of family) H.Digest.size
         max_digests claim.now.start proof.now
         (cut claim.now.operations.lengths.now claim.now.operations.bytes.now)
         (cut claim.now.chunks.lengths.now claim.now.chunks.bytes.now) (H.Digest.text root.now) }

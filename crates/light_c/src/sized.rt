@@ -1,7 +1,7 @@
 //! Byte strings of the sizes that keys, and values of one size, have.
 
 ghost use Rattle.std.specs.Prelude.{◌≡◌, MatchOption, false, length, true};
-ghost use Rattle.light_c.specs.SizedStrings.{bytes_of, is_size, number_of};
+ghost use Rattle.light_c.specs.SizedStrings.{bytes_of, is_size, size_in_bytes};
 
 use commonware_storage::codec::FixedBytes;
 
@@ -58,7 +58,7 @@ pub enum Size {
 /// The size of `bytes` bytes; none where that is no such size.
 pub fn size_of(bytes: usize) -> Option<Size>
     ensures { MatchOption result (is_size bytes ≡ false)
-        (λ size. (is_size bytes ≡ true) × (number_of size ≡ bytes)) }
+        (λ size. (is_size bytes ≡ true) × (size_in_bytes size ≡ bytes)) }
 {
     match bytes {
         4 => Some(Size::Four),

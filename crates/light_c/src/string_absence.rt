@@ -3,7 +3,7 @@
 ghost use Rattle.std.specs.Prelude.{◌≡◌, ◌↔◌, ◌⊎◌, IfOk, IsTrue, None, Ok, false};
 ghost use Rattle.storage_bitmap.specs.Chunks.{IsChunkSize};
 ghost use Rattle.storage_current.specs.Snapshots.{grafting_of};
-ghost use Rattle.light_c.specs.Agreed.{function_of, pending_of, refusal, shape_of, size_of};
+ghost use Rattle.light_c.specs.Agreed.{function_of, has_pending_of, agreed_refusal, shape_of, digest_size_of};
 ghost use Rattle.light_c.specs.Answers.{IsTold, Says, no, yes};
 ghost use Rattle.light_c.specs.StringKeys.{IsAcceptedStringAbsenceOf, IsTrueStringAbsenceOf};
 
@@ -35,15 +35,15 @@ pub extern "C" fn gawerunoa_check_string_absence(
     key: &[u8],
     root: &[u8],
 ) -> i32
-    ensures exact { IsTold (refusal family hash root.now) result (Says result
+    ensures exact { IsTold (agreed_refusal family hash root.now) result (Says result
         (IsAcceptedStringAbsenceOf (function_of hash) (grafting_of (shape_of family) chunk_size)
-        (pending_of family) (size_of hash) proof.now min_key_length max_key_length
+        (has_pending_of family) (digest_size_of hash) proof.now min_key_length max_key_length
         min_value_length max_value_length key.now root.now)) }
-    ensures meaning { refusal family hash root.now ≡ None → result ≡ yes
+    ensures meaning { agreed_refusal family hash root.now ≡ None → result ≡ yes
         → IsTrueStringAbsenceOf (function_of hash) (grafting_of (shape_of family) chunk_size)
-        (pending_of family) (size_of hash) proof.now min_key_length max_key_length
+        (has_pending_of family) (digest_size_of hash) proof.now min_key_length max_key_length
         min_value_length max_value_length key.now root.now }
-    ensures refused { refusal family hash root.now ≡ None → ¬ IsChunkSize chunk_size
+    ensures refused { agreed_refusal family hash root.now ≡ None → ¬ IsChunkSize chunk_size
         → result ≡ no }
 {
     let root = match trusted(family, hash, root) {
@@ -80,11 +80,11 @@ fn of_key<H: Hasher>(
     root: &H::Digest,
 ) -> i32
     ensures exact { Says result (IsAcceptedStringAbsenceOf H.hash_of
-        (grafting_of (shape_of family) chunk_size) (pending_of family) H.Digest.size proof.now
+        (grafting_of (shape_of family) chunk_size) (has_pending_of family) H.Digest.size proof.now
         keys.min keys.max values.min values.max key.now (H.Digest.text root.now)) }
     ensures meaning { (H.Digest.size ≡ 32) ⊎ (H.Digest.size ≡ 64) → result ≡ yes
         → IsTrueStringAbsenceOf H.hash_of (grafting_of (shape_of family) chunk_size)
-        (pending_of family) H.Digest.size proof.now keys.min keys.max values.min values.max
+        (has_pending_of family) H.Digest.size proof.now keys.min keys.max values.min values.max
         key.now (H.Digest.text root.now) }
     ensures refused { ¬ IsChunkSize chunk_size → result ≡ no }
 {
@@ -104,11 +104,11 @@ fn of_copy<H: Hasher>(
 ) -> Result<bool, NoMemory>
     ensures refused { ¬ IsChunkSize chunk_size → result ≡ Ok false }
     ensures exact { IfOk result (λ yes. IsTrue yes ↔ IsAcceptedStringAbsenceOf H.hash_of
-        (grafting_of (shape_of family) chunk_size) (pending_of family) H.Digest.size proof.now
+        (grafting_of (shape_of family) chunk_size) (has_pending_of family) H.Digest.size proof.now
         keys.min keys.max values.min values.max key.now (H.Digest.text root.now)) }
     ensures meaning { (H.Digest.size ≡ 32) ⊎ (H.Digest.size ≡ 64)
         → IfOk result (λ yes. IsTrue yes → IsTrueStringAbsenceOf H.hash_of
-        (grafting_of (shape_of family) chunk_size) (pending_of family) H.Digest.size proof.now
+        (grafting_of (shape_of family) chunk_size) (has_pending_of family) H.Digest.size proof.now
         keys.min keys.max values.min values.max key.now (H.Digest.text root.now)) }
 {
     if chunk_height(chunk_size).is_none() {

@@ -3,9 +3,9 @@
 ghost use Rattle.std.specs.Prelude.{◌≡◌, ◌↔◌, ◌⊎◌, IfOk, IsTrue, None, Ok, false};
 ghost use Rattle.storage_bitmap.specs.Chunks.{IsChunkSize};
 ghost use Rattle.storage_current.specs.Snapshots.{grafting_of};
-ghost use Rattle.light_c.specs.Agreed.{function_of, pending_of, refusal, shape_of, size_of};
+ghost use Rattle.light_c.specs.Agreed.{function_of, has_pending_of, agreed_refusal, shape_of, digest_size_of};
 ghost use Rattle.light_c.specs.Answers.{IsTold, Says, no, or_then, yes};
-ghost use Rattle.light_c.specs.SizedStrings.{number_of, value_refusal};
+ghost use Rattle.light_c.specs.SizedStrings.{size_in_bytes, value_refusal};
 ghost use Rattle.light_c.specs.StringKeys.{IsAcceptedStringSizedAbsenceOf, IsTrueStringSizedAbsenceOf};
 
 use crate::agreed::{Root, trusted};
@@ -36,16 +36,20 @@ pub extern "C" fn gawerunoa_check_string_sized_absence(
     key: &[u8],
     root: &[u8],
 ) -> i32
-    ensures exact { let refused = or_then (refusal family hash root.now)
+    ensures exact { let refused = or_then (agreed_refusal family hash root.now)
         (value_refusal value_size) in
         IsTold refused result (Says result (IsAcceptedStringSizedAbsenceOf (function_of hash)
-        (grafting_of (shape_of family) chunk_size) (pending_of family) (size_of hash) proof.now
+        (grafting_of (shape_of family) chunk_size) (has_pending_of family)
+        (digest_size_of hash) proof.now
         min_key_length max_key_length value_size key.now root.now)) }
-    ensures meaning { or_then (refusal family hash root.now) (value_refusal value_size) ≡ None
+    ensures meaning { or_then (agreed_refusal family hash root.now) (value_refusal value_size)
+        ≡ None
         → result ≡ yes → IsTrueStringSizedAbsenceOf (function_of hash)
-        (grafting_of (shape_of family) chunk_size) (pending_of family) (size_of hash) proof.now
+        (grafting_of (shape_of family) chunk_size) (has_pending_of family)
+        (digest_size_of hash) proof.now
         min_key_length max_key_length value_size key.now root.now }
-    ensures refused { or_then (refusal family hash root.now) (value_refusal value_size) ≡ None
+    ensures refused { or_then (agreed_refusal family hash root.now) (value_refusal value_size)
+        ≡ None
         → ¬ IsChunkSize chunk_size → result ≡ no }
 {
     let root = match trusted(family, hash, root) {
@@ -81,11 +85,11 @@ fn of_key<H: Hasher>(
     root: &H::Digest,
 ) -> i32
     ensures exact { Says result (IsAcceptedStringSizedAbsenceOf H.hash_of
-        (grafting_of (shape_of family) chunk_size) (pending_of family) H.Digest.size proof.now
-        lengths.min lengths.max (number_of size) key.now (H.Digest.text root.now)) }
+        (grafting_of (shape_of family) chunk_size) (has_pending_of family) H.Digest.size proof.now
+        lengths.min lengths.max (size_in_bytes size) key.now (H.Digest.text root.now)) }
     ensures meaning { (H.Digest.size ≡ 32) ⊎ (H.Digest.size ≡ 64) → result ≡ yes
         → IsTrueStringSizedAbsenceOf H.hash_of (grafting_of (shape_of family) chunk_size)
-        (pending_of family) H.Digest.size proof.now lengths.min lengths.max (number_of size)
+        (has_pending_of family) H.Digest.size proof.now lengths.min lengths.max (size_in_bytes size)
         key.now (H.Digest.text root.now) }
     ensures refused { ¬ IsChunkSize chunk_size → result ≡ no }
 {
@@ -105,12 +109,12 @@ fn of_copy<H: Hasher>(
 ) -> Result<bool, NoMemory>
     ensures refused { ¬ IsChunkSize chunk_size → result ≡ Ok false }
     ensures exact { IfOk result (λ yes. IsTrue yes ↔ IsAcceptedStringSizedAbsenceOf H.hash_of
-        (grafting_of (shape_of family) chunk_size) (pending_of family) H.Digest.size proof.now
-        lengths.min lengths.max (number_of size) key.now (H.Digest.text root.now)) }
+        (grafting_of (shape_of family) chunk_size) (has_pending_of family) H.Digest.size proof.now
+        lengths.min lengths.max (size_in_bytes size) key.now (H.Digest.text root.now)) }
     ensures meaning { (H.Digest.size ≡ 32) ⊎ (H.Digest.size ≡ 64)
         → IfOk result (λ yes. IsTrue yes → IsTrueStringSizedAbsenceOf H.hash_of
-        (grafting_of (shape_of family) chunk_size) (pending_of family) H.Digest.size proof.now
-        lengths.min lengths.max (number_of size) key.now (H.Digest.text root.now)) }
+        (grafting_of (shape_of family) chunk_size) (has_pending_of family) H.Digest.size proof.now
+        lengths.min lengths.max (size_in_bytes size) key.now (H.Digest.text root.now)) }
 {
     if chunk_height(chunk_size).is_none() {
         return Ok(false);

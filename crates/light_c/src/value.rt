@@ -2,7 +2,7 @@
 
 ghost use Rattle.std.specs.Prelude.{◌≡◌, ◌↔◌, ◌⊎◌, IfOk, IsTrue, None};
 ghost use Rattle.storage_current.specs.Snapshots.{grafting_of};
-ghost use Rattle.light_c.specs.Agreed.{function_of, pending_of, refusal, shape_of, size_of};
+ghost use Rattle.light_c.specs.Agreed.{function_of, has_pending_of, agreed_refusal, shape_of, digest_size_of};
 ghost use Rattle.light_c.specs.Answers.{IsTold, Says, or_then, yes};
 ghost use Rattle.light_c.specs.KeyBytes.{IsAcceptedValueOf, IsTrueValueOf};
 ghost use Rattle.light_c.specs.SizedStrings.{bytes_of, key_refusal};
@@ -31,13 +31,16 @@ pub extern "C" fn gawerunoa_check_value(
     value: &[u8],
     root: &[u8],
 ) -> i32
-    ensures exact { let refused = or_then (refusal family hash root.now) (key_refusal key.now) in
+    ensures exact { let refused = or_then (agreed_refusal family hash root.now)
+        (key_refusal key.now) in
         IsTold refused result (Says result (IsAcceptedValueOf (function_of hash)
-        (grafting_of (shape_of family) chunk_size) (pending_of family) (size_of hash) proof.now
+        (grafting_of (shape_of family) chunk_size) (has_pending_of family)
+        (digest_size_of hash) proof.now
         key.now value.now root.now)) }
-    ensures meaning { or_then (refusal family hash root.now) (key_refusal key.now) ≡ None
+    ensures meaning { or_then (agreed_refusal family hash root.now) (key_refusal key.now) ≡ None
         → result ≡ yes → IsTrueValueOf (function_of hash)
-        (grafting_of (shape_of family) chunk_size) (pending_of family) (size_of hash) proof.now
+        (grafting_of (shape_of family) chunk_size) (has_pending_of family)
+        (digest_size_of hash) proof.now
         key.now value.now root.now }
 {
     let root = match trusted(family, hash, root) {
@@ -68,10 +71,10 @@ fn of_key<H: Hasher>(
     root: &H::Digest,
 ) -> i32
     ensures exact { Says result (IsAcceptedValueOf H.hash_of
-        (grafting_of (shape_of family) chunk_size) (pending_of family) H.Digest.size proof.now
+        (grafting_of (shape_of family) chunk_size) (has_pending_of family) H.Digest.size proof.now
         (bytes_of key.now) value.now (H.Digest.text root.now)) }
     ensures meaning { (H.Digest.size ≡ 32) ⊎ (H.Digest.size ≡ 64) → result ≡ yes → IsTrueValueOf
-        H.hash_of (grafting_of (shape_of family) chunk_size) (pending_of family) H.Digest.size
+        H.hash_of (grafting_of (shape_of family) chunk_size) (has_pending_of family) H.Digest.size
         proof.now (bytes_of key.now) value.now (H.Digest.text root.now) }
 {
     told(of_copy::<H>(alloc, family, chunk_size, proof, key, value, root))
@@ -88,11 +91,11 @@ fn of_copy<H: Hasher>(
     root: &H::Digest,
 ) -> Result<bool, NoMemory>
     ensures exact { IfOk result (λ yes. IsTrue yes ↔ IsAcceptedValueOf H.hash_of
-        (grafting_of (shape_of family) chunk_size) (pending_of family) H.Digest.size proof.now
+        (grafting_of (shape_of family) chunk_size) (has_pending_of family) H.Digest.size proof.now
         (bytes_of key.now) value.now (H.Digest.text root.now)) }
     ensures meaning { (H.Digest.size ≡ 32) ⊎ (H.Digest.size ≡ 64)
         → IfOk result (λ yes. IsTrue yes → IsTrueValueOf H.hash_of
-        (grafting_of (shape_of family) chunk_size) (pending_of family) H.Digest.size proof.now
+        (grafting_of (shape_of family) chunk_size) (has_pending_of family) H.Digest.size proof.now
         (bytes_of key.now) value.now (H.Digest.text root.now)) }
 {
     let value = Vec::from_slice(alloc, value)?;

@@ -10,12 +10,12 @@ use Rattle.storage_codec.specs.Digests.{HashFunction}
 use Rattle.storage_merkle.specs.Mmr.{mmr}
 use Rattle.storage_merkle.specs.declared.merkle.bagging.Bagging.{Bagging}
 use Rattle.storage_merkle.specs.Trees.{ungrafted, listed}
-use Rattle.storage_merkle.specs.RangeProofs.{RangeProof, own_proof}
+use Rattle.storage_merkle.specs.RangeProofs.{Proof, own_proof}
 use Rattle.storage_merkle.specs.Checks.{IsRecomputed}
 use Rattle.storage_bitmap.specs.BitProofs.{own_bit_digests}
 use Rattle.storage_bitmap.specs.BitRoots.{partial_chunk, partial_string}
-use Rattle.storage_bitmap.specs.BitSteps.{IsBitComputed}
-use Rattle.storage_bitmap.specs.Chunks.{chunk, chunks_from, complete}
+use Rattle.storage_bitmap.specs.BitParts.{IsBitComputed}
+use Rattle.storage_bitmap.specs.Chunks.{chunk, chunks_from, complete_chunks}
 
 -- a bit below a number of bits that fill their chunks is in a complete one
 before : (x y m : ℕ) → x < y → y % m ≡ 0 → eqb (x / m) (y / m) ≡ false
@@ -25,8 +25,8 @@ before x y m l whole = ne_eqb (x / m) (y / m) (λ e.
     let c : x / m * m ≡ y / m * m = ap (λ z. z * m) e in
     omega arith)
 
-module _ (h : HashFunction) (b : Bagging) (n : ℕ) (proof : RangeProof) (bytes : List ℕ) (bit : ℕ) where
-  abbrev over : List (List ℕ) → RangeProof
+module _ (h : HashFunction) (b : Bagging) (n : ℕ) (proof : Proof) (bytes : List ℕ) (bit : ℕ) where
+  abbrev over : List (List ℕ) → Proof
   over ds = record { leaves = proof.leaves / (8 * n); inactive = 0; digests = ds }
 
   -- the bits fill their chunks
@@ -52,7 +52,7 @@ module _ (h : HashFunction) (b : Bagging) (n : ℕ) (proof : RangeProof) (bytes 
       → IsBitComputed h b n proof bytes bit (Some (h (partial_string x proof.leaves last)))
   between_root broken apart ds last x digests r =
       let unaligned = ne_eqb (proof.leaves % (8 * n)) 0 broken in
-      let complete = ne_eqb (bit / (8 * n)) (proof.leaves / (8 * n)) apart in
+      let complete_chunks = ne_eqb (bit / (8 * n)) (proof.leaves / (8 * n)) apart in
       let all : length proof.digests ≡ length (ds ++ last ∷ []) = ap length digests in
       let count : length proof.digests - 1 ≡ length ds = omega (arith, all, length-append ds (last ∷ [])) in
       let front : take (length proof.digests - 1) proof.digests ≡ ds =
@@ -62,10 +62,10 @@ module _ (h : HashFunction) (b : Bagging) (n : ℕ) (proof : RangeProof) (bytes 
         record {
           some = λ e none. let z : length (ds ++ last ∷ []) ≡ 0 = ap length (sym digests ∙ none) in
               omega (arith, length-append ds (last ∷ []));
-          one = λ e. absurd (let f : true ≡ false = sym e ∙ complete in cc);
+          one = λ e. absurd (let f : true ≡ false = sym e ∙ complete_chunks in cc);
           counts = λ e. rw (unaligned, front) r.0;
         },
-        rw (unaligned, complete, end, front) (ap (λ y. h (partial_string y proof.leaves last)) r.1),
+        rw (unaligned, complete_chunks, end, front) (ap (λ y. h (partial_string y proof.leaves last)) r.1),
       )
 
   -- the same from numbers that are equal
@@ -92,7 +92,7 @@ module _ (h : HashFunction) (b : Bagging) (n : ℕ) (proof : RangeProof) (bytes 
 
 -- the digests that bits themselves have for a complete chunk, from the own proof of the chunk in the tree over the chunks
 module _ (h : HashFunction) (b : Bagging) (n : ℕ) (bits : List Bool) (m k place : ℕ) (chunks ds : List (List ℕ)) where
-  pub own_aligned : m ≡ 8 * n → k ≡ 8 * n → place ≢ length bits / m → length bits % k ≡ 0 → chunks ≡ complete n bits
+  pub own_aligned : m ≡ 8 * n → k ≡ 8 * n → place ≢ length bits / m → length bits % k ≡ 0 → chunks ≡ complete_chunks n bits
       → ds ≡ (own_proof h (ungrafted mmr) b (listed chunks) 0 place (place + 1)).digests
       → ds ≡ own_bit_digests h b n bits place
   own_aligned em ek apart whole all own =
@@ -102,7 +102,7 @@ module _ (h : HashFunction) (b : Bagging) (n : ℕ) (bits : List Bool) (m k plac
       rw (elsewhere, full) (own ∙ ap
       (λ (cs : List (List ℕ)). (own_proof h (ungrafted mmr) b (listed cs) 0 place (place + 1)).digests) all)
 
-  pub own_unaligned : m ≡ 8 * n → k ≡ 8 * n → place ≢ length bits / m → length bits % k ≢ 0 → chunks ≡ complete n bits
+  pub own_unaligned : m ≡ 8 * n → k ≡ 8 * n → place ≢ length bits / m → length bits % k ≢ 0 → chunks ≡ complete_chunks n bits
       → ds ≡ (own_proof h (ungrafted mmr) b (listed chunks) 0 place (place + 1)).digests
       → (es : List (List ℕ)) (d : List ℕ) → d ≡ h (partial_chunk n bits) → es ≡ ds ++ d ∷ []
       → es ≡ own_bit_digests h b n bits place

@@ -4,12 +4,12 @@ use Rattle.std.proofs.lemmas.List.{map-append}
 use Rattle.storage_codec.specs.Digests.{HashFunction}
 use Rattle.storage_merkle.specs.Calc.{Site, Values, eval}
 use Rattle.storage_merkle.specs.Hashing.{bagged}
-use Rattle.storage_merkle.specs.HashingLaws.{eval-bag}
-use Rattle.storage_merkle.specs.RangeProofs.{RangeProof, apart, leading, not_leading, up_to, trailing, front_given, back_given, look_up, sites, recomputed_root}
+use Rattle.storage_merkle.specs.Laws.Hashing.{eval-bag}
+use Rattle.storage_merkle.specs.RangeProofs.{Proof, apart, leading, not_leading, up_to, trailing, front_given, back_given, look_up, sites, recomputed_root}
 use Rattle.storage_merkle.specs.Trees.{Layout, Content, Peak, eval_bag, folded, unfolded, part, peaks_of, root_head}
 use Rattle.storage_merkle.specs.declared.merkle.bagging.Bagging.{Bagging}
 use Rattle.reference.specs.Layouts.{valued}
-use Rattle.reference.specs.Sites.{claimed}
+use Rattle.reference.specs.Sites.{bag_of_claim}
 use Rattle.reference.proofs.Sites.{map_twice}
 
 module _ (h : HashFunction) (v : Values) (T : Layout) (low high : ℕ)
@@ -22,7 +22,7 @@ module _ (h : HashFunction) (v : Values) (T : Layout) (low high : ℕ)
       → past ≡ trailing high ys
       → (front rest : List (List ℕ)) (out : List ℕ) → front ≡ map (eval h v) (front_given before) ++ map each others
       → rest ≡ map each reached ++ map (eval h v) (back_given past)
-      → out ≡ bagged h front rest → out ≡ eval_bag h v (claimed T low high xs ys)
+      → out ≡ bagged h front rest → out ≡ eval_bag h v (bag_of_claim T low high xs ys)
   claimed_from eb eo er ep front rest out front_is rest_is e =
       let fs = front_given (leading low xs) in
       let gs = map (part T (apart low high)) (not_leading low xs) in
@@ -39,13 +39,13 @@ module _ (h : HashFunction) (v : Values) (T : Layout) (low high : ℕ)
       e ∙ ap₂ (bagged h) front_all rest_all ∙ sym (eval-bag h v (fs ++ gs) (hs ++ bs))
 
 -- the root that a check recomputes, from what is bagged
-pub recomputed_from : (h : HashFunction) (T : Layout) (b : Bagging) (proof : RangeProof) (start : ℕ) (claim : Content)
+pub recomputed_from : (h : HashFunction) (T : Layout) (b : Bagging) (proof : Proof) (start : ℕ) (claim : Content)
     (n end : ℕ) (ss : List Site) (ds : List (List ℕ)) (ps xs ys : List Peak) (bag root : List ℕ)
     → n ≡ proof.leaves → end ≡ start + length claim.elements → ps ≡ peaks_of T n → xs ≡ folded b proof.inactive ps
     → ys ≡ unfolded b proof.inactive ps
     → ss ≡ sites T start end b n proof.inactive → ds ≡ proof.digests
     → bag ≡ eval_bag h (valued (look_up (h []) ss ds) (λ j. get_or claim.elements (j - start) []) claim.chunk)
-    (claimed T start end xs ys)
+    (bag_of_claim T start end xs ys)
     → root ≡ h (root_head T b n proof.inactive ++ bag) → root ≡ recomputed_root h T b proof start claim
 recomputed_from h T b proof start claim n end ss ds ps xs ys bag root en ee ep ex ey es ed eb e =
     e ∙ rw (eb, ex, ey, ep, es, ed, en, ee) refl

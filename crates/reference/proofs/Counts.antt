@@ -1,11 +1,11 @@
 -- Inactive peaks and heights of chunks, one step each.
 use Rattle.std.proofs.Common.{◌≡◌, ℕ, zero, suc, ◌*◌, ◌<◌, ◌≤◌, ◌^◌, List, [], ◌∷◌, length, take, Bool, true, false, if◌then◌else◌, refl, ap, sym, ◌∙◌, arith, pow_pos}
 use Rattle.storage_bitmap.specs.Chunks.{IsChunkSize}
-use Rattle.storage_merkle.specs.DigitLaws.{floor_log2_bounds}
+use Rattle.storage_merkle.specs.Laws.Digits.{floor_log2_bounds}
 use Rattle.storage_merkle.specs.Digits.{floor_log2}
 use Rattle.storage_merkle.specs.Mmr.{mmr}
-use Rattle.storage_merkle.specs.Shape.{Shape, leaves_of}
-use Rattle.storage_current.specs.GraftingLaws.{chunk_height, height_is}
+use Rattle.storage_merkle.specs.Shape.{Shape, leaves_under}
+use Rattle.storage_current.specs.Laws.Grafting.{chunk_height, height_is}
 use Rattle.storage_current.specs.Snapshots.{greatest, height}
 
 -- the greatest number up to none, up to one that meets the test, and up to one that does not
@@ -26,14 +26,14 @@ greatest_lower P j b r e f h =
     rw e (h ∙ ap (λ (x : Bool). if x then suc j else greatest P j) (sym at))
 
 -- leaves of leading peaks
-pub leaves_take : (b : ℕ) (hs : List ℕ) → leaves_of (take b hs) ≤ leaves_of hs
-unfolding leaves_of
+pub leaves_take : (b : ℕ) (hs : List ℕ) → leaves_under (take b hs) ≤ leaves_under hs
+unfolding leaves_under
 leaves_take zero hs = omega arith
 leaves_take (suc b) [] = omega arith
 leaves_take (suc b) (h ∷ hs) = omega (arith, leaves_take b hs)
 
-pub leaves_none : (hs : List ℕ) → length hs ≡ 0 → 0 ≡ leaves_of hs
-unfolding leaves_of
+pub leaves_none : (hs : List ℕ) → length hs ≡ 0 → 0 ≡ leaves_under hs
+unfolding leaves_under
 leaves_none [] e = refl
 leaves_none (h ∷ hs) e = absurd (omega arith)
 

@@ -4,10 +4,10 @@ use Rattle.std.proofs.lemmas.List.{append-nil}
 use Rattle.storage_merkle.specs.Digits.{digit, floor_log2}
 use Rattle.storage_merkle.specs.Mmr.{mmr, mmr_digits}
 use Rattle.storage_merkle.specs.Mmb.{mmb, mmb_digits}
-use Rattle.storage_merkle.specs.MmrSteps.{mmr_peaks_digits}
-use Rattle.storage_merkle.specs.MmbSteps.{mmb_peaks_digits}
-use Rattle.storage_merkle.specs.DigitLaws.{floor_log2_bounds, floor_log2_is}
-use Rattle.storage_merkle.specs.Multiples.{pow_two, pow_le, pow_below_back}
+use Rattle.storage_merkle.specs.Laws.MmrSteps.{mmr_peaks_digits}
+use Rattle.storage_merkle.specs.Laws.MmbSteps.{mmb_peaks_digits}
+use Rattle.storage_merkle.specs.Laws.Digits.{floor_log2_bounds, floor_log2_is}
+use Rattle.storage_merkle.specs.Laws.Multiples.{pow_two, pow_le, pow_below_back}
 
 -- the 1 digits of no places, and of one place more
 pub mmr_no_places : (places n : ℕ) (xs : List ℕ) → places ≡ 0 → xs ≡ xs ++ mmr_digits places n

@@ -3,10 +3,10 @@ use Rattle.std.proofs.Common.{◌≡◌, ◌↔◌, ℕ, ◌<◌, List, [], ◌�
 use Rattle.storage_codec.specs.Digests.{HashFunction}
 use Rattle.storage_merkle.specs.Calc.{Site, Values, eval}
 use Rattle.storage_merkle.specs.Hashing.{bagged}
-use Rattle.storage_merkle.specs.HashingLaws.{eval-bag}
+use Rattle.storage_merkle.specs.Laws.Hashing.{eval-bag}
 use Rattle.storage_merkle.specs.Multi.{Claim, IsMultiAccepted, element_at, locations, multi_string, needed_sites, own_multi_proof, tree_digest, untouched}
-use Rattle.storage_merkle.specs.MultiSteps.{IsMultiRecomputed}
-use Rattle.storage_merkle.specs.RangeProofs.{RangeProof, look_up}
+use Rattle.storage_merkle.specs.MultiParts.{IsMultiRecomputed}
+use Rattle.storage_merkle.specs.RangeProofs.{Proof, look_up}
 use Rattle.storage_merkle.specs.Trees.{Layout, Content, Peak, bag, eval_bag, folded, unfolded, part, peaks_of, root_head}
 use Rattle.storage_merkle.specs.declared.merkle.bagging.Bagging.{Bagging}
 use Rattle.reference.specs.Layouts.{valued}
@@ -23,7 +23,7 @@ bag_from h v T cut xs ys front rest out front_is rest_is e =
     ∙ sym (eval-bag h v (map (part T cut) xs) (map (part T cut) ys))
 
 -- the root that a check recomputes, from what is bagged
-pub multi_from : (h : HashFunction) (T : Layout) (b : Bagging) (proof : RangeProof) (claims : List Claim)
+pub multi_from : (h : HashFunction) (T : Layout) (b : Bagging) (proof : Proof) (claims : List Claim)
     (chunk : ℕ → List ℕ) (n : ℕ) (ls : List ℕ) (ss : List Site) (ds : List (List ℕ)) (ps xs ys : List Peak)
     (joined root : List ℕ) → n ≡ proof.leaves → ls ≡ locations claims → ps ≡ peaks_of T n
     → xs ≡ folded b proof.inactive ps → ys ≡ unfolded b proof.inactive ps → ss ≡ needed_sites T ls n
@@ -39,12 +39,12 @@ pub own_multi_from : (h : HashFunction) (T : Layout) (content : Content) (i : �
     → ds ≡ map (tree_digest h T content) ss
     → record { leaves = l; inactive = i; digests = ds } ≡ own_multi_proof h T content i ls
 own_multi_from h T content i ls ss ds l n leaves count at digests =
-    let made : ℕ → List (List ℕ) → RangeProof = λ m xs. record { leaves = m; inactive = i; digests = xs } in
+    let made : ℕ → List (List ℕ) → Proof = λ m xs. record { leaves = m; inactive = i; digests = xs } in
     ap₂ made leaves (digests ∙ ap (map (tree_digest h T content)) at)
     ∙ ap (λ (m : ℕ). made m (map (tree_digest h T content) (needed_sites T ls m))) count
 
 -- what a check of some claims answers
-pub multi_answer : (h : HashFunction) (T : Layout) (b : Bagging) (proof : RangeProof) (claims : List Claim)
+pub multi_answer : (h : HashFunction) (T : Layout) (b : Bagging) (proof : Proof) (claims : List Claim)
     (chunk : ℕ → List ℕ) (computed root : List ℕ) (is_same : Bool) → 0 < length claims
     → IsMultiRecomputed h T b proof claims chunk (Some computed) → (IsTrue is_same ↔ (computed ≡ root))
     → IsTrue is_same ↔ IsMultiAccepted h T b proof claims chunk root

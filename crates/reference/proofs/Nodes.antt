@@ -3,8 +3,8 @@ use Rattle.std.proofs.Common.{◌≡◌, ℕ, zero, suc, ◌+◌, ◌^◌, List,
 use Rattle.storage_codec.specs.Digests.{HashFunction}
 use Rattle.storage_merkle.specs.Calc.{given, node, be8, Values, eval, grafted_digest}
 use Rattle.storage_merkle.specs.Hashing.{bagged_peaks}
-use Rattle.storage_merkle.specs.HashingLaws.{eval-join, tree_root-peaks}
-use Rattle.storage_merkle.specs.Shape.{leaves_of}
+use Rattle.storage_merkle.specs.Laws.Hashing.{eval-join, tree_root-peaks}
+use Rattle.storage_merkle.specs.Shape.{leaves_under}
 use Rattle.storage_merkle.specs.Trees.{Layout, Content, Peak, join_calc, node_calc, places, peaks_of, root_head, tree_node, tree_root}
 use Rattle.storage_merkle.specs.declared.merkle.bagging.Bagging.{Bagging}
 
@@ -29,8 +29,8 @@ module _ (h : HashFunction) (T : Layout) (cut : ℕ → ℕ → Bool) (v : Value
       else join_calc T a (suc k) (node_calc T cut k a) (node_calc T cut k (a + 2 ^ k)))) (sym c)
 
 -- what side by side is
-pub leaves_cons : (xs rest : List ℕ) (k : ℕ) → xs ≡ k ∷ rest → leaves_of xs ≡ 2 ^ k + leaves_of rest
-unfolding leaves_of
+pub leaves_cons : (xs rest : List ℕ) (k : ℕ) → xs ≡ k ∷ rest → leaves_under xs ≡ 2 ^ k + leaves_under rest
+unfolding leaves_under
 leaves_cons xs rest k e = rw e refl
 
 pub length-places : (a : ℕ) (ks : List ℕ) → length (places a ks) ≡ length ks

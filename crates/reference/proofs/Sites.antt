@@ -3,10 +3,10 @@ use Rattle.std.proofs.Common.{◌≡◌, ℕ, zero, suc, ◌+◌, ◌^◌, List,
 use Rattle.storage_codec.specs.Digests.{HashFunction}
 use Rattle.storage_merkle.specs.Calc.{Site as CalcSite, Calc, given, leaf, node, be8, eval}
 use Rattle.storage_merkle.specs.Hashing.{folded_forward, folded_backward}
-use Rattle.storage_merkle.specs.HashingLaws.{eval-forward, eval-backward}
-use Rattle.storage_merkle.specs.RangeProofs.{RangeProof, sites, sites_of, leading, trailing, fold_digest, own_digest, own_proof}
+use Rattle.storage_merkle.specs.Laws.Hashing.{eval-forward, eval-backward}
+use Rattle.storage_merkle.specs.RangeProofs.{Proof, sites, sites_of, leading, trailing, fold_digest, own_digest, own_proof}
 use Rattle.storage_merkle.specs.declared.merkle.bagging.Bagging.{Bagging}
-use Rattle.storage_merkle.specs.Trees.{Layout, Content, Peak, bag, folded, unfolded, join_calc, node_calc, never, part, peaks_of, plain, whole}
+use Rattle.storage_merkle.specs.Trees.{Layout, Content, Peak, bag, folded, unfolded, join_calc, node_calc, never, part, peaks_of, plain, whole_peak}
 use Rattle.reference.specs.Sites.{site_of, forward_digest, backward_digest}
 use Rattle.reference.specs.declared.site.Site.{Site}
 use Rattle.reference.specs.declared.site.Site.TheVariants.{Front, Back}
@@ -26,19 +26,19 @@ map_twice g f (p ∷ ps) = ap (λ ds. g (f p) ∷ ds) (map_twice g f ps)
 
 forward_is : (h : HashFunction) (T : Layout) (content : Content) (ps : List Peak)
     → forward_digest h (map (λ p. eval h (plain h content) (part T never p)) ps)
-    ≡ fold_digest h (plain h content) (bag (map (whole T) ps) [])
+    ≡ fold_digest h (plain h content) (bag (map (whole_peak T) ps) [])
 forward_is h T content [] = refl
 forward_is h T content (p ∷ ps) =
-    ap (folded_forward h (eval h (plain h content) (whole T p))) (map_twice (eval h (plain h content)) (whole T) ps)
-    ∙ sym (eval-forward h (plain h content) (whole T p) (map (whole T) ps))
+    ap (folded_forward h (eval h (plain h content) (whole_peak T p))) (map_twice (eval h (plain h content)) (whole_peak T) ps)
+    ∙ sym (eval-forward h (plain h content) (whole_peak T p) (map (whole_peak T) ps))
 
 backward_is : (h : HashFunction) (T : Layout) (content : Content) (ps : List Peak)
     → backward_digest h (map (λ p. eval h (plain h content) (part T never p)) ps)
-    ≡ fold_digest h (plain h content) (bag [] (map (whole T) ps))
+    ≡ fold_digest h (plain h content) (bag [] (map (whole_peak T) ps))
 backward_is h T content [] = refl
 backward_is h T content (p ∷ ps) =
-    ap (folded_backward h (eval h (plain h content) (whole T p))) (map_twice (eval h (plain h content)) (whole T) ps)
-    ∙ sym (eval-backward h (plain h content) (whole T p) (map (whole T) ps))
+    ap (folded_backward h (eval h (plain h content) (whole_peak T p))) (map_twice (eval h (plain h content)) (whole_peak T) ps)
+    ∙ sym (eval-backward h (plain h content) (whole_peak T p) (map (whole_peak T) ps))
 
 module _ (h : HashFunction) (T : Layout) (b : Bagging) (content : Content) (n i low high : ℕ) where
   pub own_front : (s : Site) (ps : List Peak) (ds : List (List ℕ)) (d : List ℕ) → s ≡ Front
@@ -46,7 +46,7 @@ module _ (h : HashFunction) (T : Layout) (b : Bagging) (content : Content) (n i 
       → d ≡ forward_digest h ds → d ≡ own_digest h T b content n i low high (site_of s)
   own_front s ps ds d is peaks digests e =
       e ∙ ap (forward_digest h) digests ∙ forward_is h T content ps
-      ∙ ap (λ (qs : List Peak). fold_digest h (plain h content) (bag (map (whole T) qs) [])) peaks
+      ∙ ap (λ (qs : List Peak). fold_digest h (plain h content) (bag (map (whole_peak T) qs) [])) peaks
       ∙ ap (λ (t : Site). own_digest h T b content n i low high (site_of t)) (sym is)
 
   pub own_back : (s : Site) (ps : List Peak) (ds : List (List ℕ)) (d : List ℕ) → s ≡ Back
@@ -54,7 +54,7 @@ module _ (h : HashFunction) (T : Layout) (b : Bagging) (content : Content) (n i 
       → d ≡ backward_digest h ds → d ≡ own_digest h T b content n i low high (site_of s)
   own_back s ps ds d is peaks digests e =
       e ∙ ap (backward_digest h) digests ∙ backward_is h T content ps
-      ∙ ap (λ (qs : List Peak). fold_digest h (plain h content) (bag [] (map (whole T) qs))) peaks
+      ∙ ap (λ (qs : List Peak). fold_digest h (plain h content) (bag [] (map (whole_peak T) qs))) peaks
       ∙ ap (λ (t : Site). own_digest h T b content n i low high (site_of t)) (sym is)
 
   pub own_from : (ss : List CalcSite) (ds : List (List ℕ)) (l : ℕ) → l ≡ n → n ≡ length content.elements
@@ -63,6 +63,6 @@ module _ (h : HashFunction) (T : Layout) (b : Bagging) (content : Content) (n i 
   own_from ss ds l leaves count at digests =
       let all : ds ≡ map (own_digest h T b content n i low high) (sites T low high b n i) =
       digests ∙ ap (map (own_digest h T b content n i low high)) at in
-      let made : ℕ → List (List ℕ) → RangeProof = λ m xs. record { leaves = m; inactive = i; digests = xs } in
+      let made : ℕ → List (List ℕ) → Proof = λ m xs. record { leaves = m; inactive = i; digests = xs } in
       ap₂ made leaves all
       ∙ ap (λ (m : ℕ). made m (map (own_digest h T b content m i low high) (sites T low high b m i))) count

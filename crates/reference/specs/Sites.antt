@@ -24,6 +24,6 @@ backward_digest h [] = h []
 backward_digest h (x ∷ xs) = folded_backward h x xs
 
 -- what a check bags, where the peaks xs are folded from the left and the peaks ys from the right
-abbrev pub claimed : Layout → ℕ → ℕ → List Peak → List Peak → Option Calc
-claimed T low high xs ys = bag (front_given (leading low xs) ++ map (part T (apart low high)) (not_leading low xs))
+abbrev pub bag_of_claim : Layout → ℕ → ℕ → List Peak → List Peak → Option Calc
+bag_of_claim T low high xs ys = bag (front_given (leading low xs) ++ map (part T (apart low high)) (not_leading low xs))
     (map (part T (apart low high)) (up_to high ys) ++ back_given (trailing high ys))

@@ -3,12 +3,13 @@
 ghost use Rattle.std.specs.Prelude.{◌≡◌, ◌↔◌, ℕ, ◌+◌, ◌*◌, ◌/◌, ◌%◌, ◌^◌, ◌≤◌, ◌<◌, ◌++◌, List, [], ◌∷◌, length, map, option_map, IfOk, OnOk, IsTrue};
 ghost use Rattle.storage_bitmap.specs.BitProofs.{IsBitAccepted, own_bit_digests, own_bit_proof};
 ghost use Rattle.storage_bitmap.specs.BitRoots.{bit_root, chunks_root, partial_chunk, partial_string};
-ghost use Rattle.storage_bitmap.specs.BitSteps.{IsBitComputed};
-ghost use Rattle.storage_bitmap.specs.Chunks.{IsChunkSize, chunks_from, complete};
+ghost use Rattle.storage_bitmap.specs.BitParts.{IsBitComputed};
+ghost use Rattle.storage_bitmap.specs.Chunks.{IsChunkSize, chunks_from, complete_chunks};
 ghost use Rattle.storage_merkle.specs.Checks.{IsRecomputed};
-ghost use Rattle.storage_merkle.specs.Held.{range_of};
+ghost use Rattle.storage_merkle.specs.Held.{proof_of};
 ghost use Rattle.storage_merkle.specs.Mmr.{mmr};
 ghost use Rattle.storage_merkle.specs.Trees.{listed, ungrafted};
+ghost use Rattle.storage_merkle.specs.Shape.{max_leaves};
 
 use crate::check::recomputed_root;
 use crate::chunk::chunk;
@@ -25,7 +26,7 @@ fn bits_in(size: usize) -> u64
     requires { IsChunkSize size }
     ensures value { result ≡ 8 * size }
     ensures some { 0 < result }
-    ensures few { result ≤ 2 ^ 62 }
+    ensures few { result ≤ max_leaves }
 {
     8 * size as u64
 }
@@ -56,7 +57,8 @@ fn push_chunks(
 /// The complete chunks of `bits`, of `size` bytes each. Fails only where memory runs out.
 fn complete(alloc: Global, size: usize, bits: &[bool]) -> Result<Vec<Vec<u8>>, AllocError>
     requires { IsChunkSize size }
-    ensures { IfOk result (λ chunks. map (λ c. c.items) chunks.items ≡ complete size bits.now) }
+    ensures { IfOk result (λ chunks. map (λ c. c.items) chunks.items
+        ≡ complete_chunks size bits.now) }
 {
     let mut chunks = Vec::new(alloc);
     let count = bits.len() as u64 / bits_in(size);
@@ -72,7 +74,7 @@ fn chunks_root<H: Hasher>(
     bits: &[bool],
 ) -> Result<H::Digest, AllocError>
     requires size { IsChunkSize size }
-    requires few { length bits.now ≤ 2 ^ 62 }
+    requires few { length bits.now ≤ max_leaves }
     ensures { IfOk result (λ root.
         H.Digest.text root ≡ chunks_root H.hash_of bagging size bits.now) }
 {
@@ -121,7 +123,7 @@ pub fn bit_root<H: Hasher>(
     bits: &[bool],
 ) -> Result<H::Digest, AllocError>
     requires size { IsChunkSize size }
-    requires few { length bits.now ≤ 2 ^ 62 }
+    requires few { length bits.now ≤ max_leaves }
     ensures { IfOk result (λ root. H.Digest.text root ≡ bit_root H.hash_of bagging size bits.now) }
 {
     let root = chunks_root::<H>(alloc, bagging, size, bits)?;
@@ -142,7 +144,7 @@ fn own_bit_digests<H: Hasher>(
     place: u64,
 ) -> Result<Vec<H::Digest>, AllocError>
     requires size { IsChunkSize size }
-    requires few { length bits.now ≤ 2 ^ 62 }
+    requires few { length bits.now ≤ max_leaves }
     requires early { place < 2 ^ 63 }
     ensures { IfOk result (λ digests. map H.Digest.text digests.items
         ≡ own_bit_digests H.hash_of bagging size bits.now place) }
@@ -178,8 +180,8 @@ pub fn own_bit_proof<H: Hasher>(
     bit: u64,
 ) -> Result<Proof<mmr::Family, H::Digest>, AllocError>
     requires size { IsChunkSize size }
-    requires few { length bits.now ≤ 2 ^ 62 }
-    ensures { IfOk result (λ proof. range_of H.Digest.text proof
+    requires few { length bits.now ≤ max_leaves }
+    ensures { IfOk result (λ proof. proof_of H.Digest.text proof
         ≡ own_bit_proof H.hash_of bagging size bits.now bit) }
 {
     let digests = own_bit_digests::<H>(alloc, bagging, size, bits, bit / bits_in(size))?;
@@ -201,7 +203,7 @@ fn recomputed_chunks_root<H: Hasher>(
     bytes: &[u8],
 ) -> Result<Option<H::Digest>, AllocError>
     ensures { IfOk result (λ root. IsRecomputed H.hash_of (ungrafted mmr) bagging
-        (record { leaves = complete; inactive = 0; digests = map H.Digest.text digests.now }) place
+        (record { leaves = complete_chunks; inactive = 0; digests = map H.Digest.text digests.now }) place
         (listed (bytes.now ∷ [])) (option_map H.Digest.text root)) }
 {
     let mut copies = Vec::new(alloc);
@@ -234,7 +236,7 @@ fn computed_root<H: Hasher>(
     requires size { IsChunkSize size }
     requires below { bit < proof.now.leaves }
     ensures { IfOk result (λ root. IsBitComputed H.hash_of bagging size
-        (range_of H.Digest.text proof.now) bytes.now bit (option_map H.Digest.text root)) }
+        (proof_of H.Digest.text proof.now) bytes.now bit (option_map H.Digest.text root)) }
 {
     let length = proof.leaves.as_u64();
     let complete = length / bits_in(size);
@@ -272,7 +274,7 @@ pub fn is_bit_accepted<H: Hasher>(
 ) -> Result<bool, AllocError>
     requires { IsChunkSize size }
     ensures { IfOk result (λ accepted. IsTrue accepted ↔ IsBitAccepted H.hash_of bagging size
-        (range_of H.Digest.text proof.now) bytes.now bit (H.Digest.text root.now)) }
+        (proof_of H.Digest.text proof.now) bytes.now bit (H.Digest.text root.now)) }
 {
     if bit >= proof.leaves.as_u64() || proof.inactive_peaks != 0 {
         return Ok(false);

@@ -5,10 +5,10 @@ ghost use Rattle.storage_merkle.specs.Calc.{eval};
 ghost use Rattle.storage_merkle.specs.Hashers.{or_nothing};
 ghost use Rattle.storage_merkle.specs.Trees.{eval_bag, content_of};
 ghost use Rattle.storage_merkle.specs.Checks.{IsRecomputed};
-ghost use Rattle.storage_merkle.specs.Held.{range_of};
+ghost use Rattle.storage_merkle.specs.Held.{proof_of};
 ghost use Rattle.storage_merkle.specs.RangeProofs.{IsAccepted, apart, back_given, front_given, look_up};
 ghost use Rattle.reference.specs.Layouts.{laid_out, valued};
-ghost use Rattle.reference.specs.Sites.{claimed, site_of};
+ghost use Rattle.reference.specs.Sites.{bag_of_claim, site_of};
 
 use crate::fold::{bag, root_over};
 use crate::node::{Grafts, Node, Source, push_digests};
@@ -133,7 +133,7 @@ pub fn recomputed_root<F: Digits, H: Hasher, G: Grafts<H>, E: AsSlice<u8>>(
     elements: &[E],
 ) -> Result<Option<H::Digest>, AllocError>
     ensures { IfOk result (λ root. IsRecomputed H.hash_of (laid_out F.shape (G.grafted grafts.now))
-        bagging (range_of H.Digest.text proof.now) start (content_of (map E.items elements.now)
+        bagging (proof_of H.Digest.text proof.now) start (content_of (map E.items elements.now)
         (G.chunk grafts.now)) (option_map H.Digest.text root)) }
 {
     let leaves = proof.leaves.as_u64();
@@ -177,7 +177,7 @@ fn claimed_bag<F: Digits, H: Hasher, G: Grafts<H>, E: AsSlice<u8>>(
         (map H.Digest.text claim.now.digests.now)) (λ j. get_or (map E.items claim.now.elements.now)
         (j - claim.now.low) []) (G.chunk grafts.now) in
         IfOk result (λ found. or_nothing (option_map H.Digest.text found)
-        ≡ eval_bag H.hash_of v (claimed T claim.now.low claim.now.high left.now right.now)) }
+        ≡ eval_bag H.hash_of v (bag_of_claim T claim.now.low claim.now.high left.now right.now)) }
 {
     let (before, others) = split_leading(claim.low, left);
     let (reached, past) = split_up_to(claim.high, right);
@@ -203,7 +203,7 @@ pub fn is_accepted<F: Digits, H: Hasher, G: Grafts<H>, E: AsSlice<u8>>(
     root: &H::Digest,
 ) -> Result<bool, AllocError>
     ensures { IfOk result (λ accepted. IsTrue accepted ↔ IsAccepted H.hash_of
-        (laid_out F.shape (G.grafted grafts.now)) bagging (range_of H.Digest.text proof.now) start
+        (laid_out F.shape (G.grafted grafts.now)) bagging (proof_of H.Digest.text proof.now) start
         (content_of (map E.items elements.now) (G.chunk grafts.now)) (H.Digest.text root.now)) }
 {
     if elements.is_empty() {

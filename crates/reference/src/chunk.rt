@@ -2,7 +2,7 @@
 
 ghost use Rattle.std.specs.Prelude.{◌≡◌, ℕ, ◌+◌, ◌*◌, ◌/◌, ◌%◌, ◌^◌, ◌≤◌, ◌<◌, ◌++◌, Bool, drop, IfOk, OnOk};
 ghost use Rattle.storage_merkle.specs.Calc.{grafted_digest, is_zero};
-ghost use Rattle.storage_bitmap.specs.Chunks.{bytes_of, chunk, digit, number_of};
+ghost use Rattle.storage_bitmap.specs.Chunks.{packed_bytes, chunk, digit_of, number_of};
 ghost use Rattle.storage_current.specs.Grafted.{grafted_over};
 
 use crate::node::{Grafts, Node};
@@ -35,7 +35,7 @@ fn skipped(bits: &[bool], count: u64) -> &[bool]
 
 /// Appends to `bytes` the first `8 * count` of `bits`, as `count` bytes.
 fn push_bytes(bytes: &mut Vec<u8>, count: usize, bits: &[bool]) -> Result<(), AllocError>
-    ensures { OnOk result (bytes.new.items ≡ bytes.old.items ++ bytes_of count bits.now) }
+    ensures { OnOk result (bytes.new.items ≡ bytes.old.items ++ packed_bytes count bits.now) }
 {
     if count == 0 {
         return Ok(());
@@ -62,7 +62,7 @@ fn number_of(bits: &[bool], places: u32) -> u64
 
 /// 1 for a `bit` that is set, else 0.
 fn bit_value(bit: bool) -> u64
-    ensures value { result ≡ digit bit }
+    ensures value { result ≡ digit_of bit }
     ensures small { result ≤ 1 }
 {
     if bit { 1 } else { 0 }

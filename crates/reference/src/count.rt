@@ -2,7 +2,7 @@
 
 ghost use Rattle.std.specs.Prelude.{◌≡◌, ℕ, ◌+◌, ◌*◌, ◌%◌, ◌^◌, ◌≤◌, ◌<◌, ◌&&◌, List, length, take, leb, eqb, IfOk};
 ghost use Rattle.storage_bitmap.specs.Chunks.{IsChunkSize};
-ghost use Rattle.storage_merkle.specs.Shape.{Shape, leaves_of};
+ghost use Rattle.storage_merkle.specs.Shape.{Shape, leaves_under, max_leaves};
 ghost use Rattle.storage_current.specs.Snapshots.{aligned, exact, graftable_at, greatest, height, grafting_of};
 
 use crate::shape::{Digits, highest_place, power};
@@ -35,7 +35,7 @@ pub fn graftable<F: Digits>(leaves: u64, height: u32) -> u64
 /// How many leading peaks of the tree over `leaves` leaves end at or before the leaf `floor`. Fails only where memory
 /// runs out.
 pub(crate) fn exact<F: Digits>(alloc: Global, leaves: u64, floor: u64) -> Result<usize, AllocError>
-    requires { leaves ≤ 2 ^ 62 }
+    requires { leaves ≤ max_leaves }
     ensures { IfOk result (λ count. count ≡ exact F.shape leaves floor) }
 {
     let heights = F::peak_heights(alloc, leaves)?;
@@ -50,7 +50,7 @@ pub(crate) fn aligned<F: Digits>(
     floor: u64,
     height: u32,
 ) -> Result<usize, AllocError>
-    requires few { leaves ≤ 2 ^ 62 }
+    requires few { leaves ≤ max_leaves }
     requires small { height ≤ 62 }
     ensures { IfOk result (λ count. count ≡ aligned F.shape leaves floor height) }
 {
@@ -60,9 +60,9 @@ pub(crate) fn aligned<F: Digits>(
 
 /// The most of the first `bound` peaks, of the heights `heights`, that end at or before the leaf `floor`.
 fn most_exact(heights: &[u32], floor: u64, bound: usize) -> usize
-    requires few { leaves_of heights.now ≤ 2 ^ 62 }
+    requires few { leaves_under heights.now ≤ max_leaves }
     requires within { bound ≤ length heights.now }
-    ensures { result ≡ greatest (λ r. leb (leaves_of (take r heights.now)) floor) bound }
+    ensures { result ≡ greatest (λ r. leb (leaves_under (take r heights.now)) floor) bound }
 {
     if bound == 0 {
         return 0;
@@ -78,11 +78,11 @@ fn most_exact(heights: &[u32], floor: u64, bound: usize) -> usize
 /// The most of the first `bound` peaks, of the heights `heights`, that end at or before the leaf `floor` and on a
 /// multiple of `2^height`.
 fn most_aligned(heights: &[u32], floor: u64, height: u32, bound: usize) -> usize
-    requires few { leaves_of heights.now ≤ 2 ^ 62 }
+    requires few { leaves_under heights.now ≤ max_leaves }
     requires within { bound ≤ length heights.now }
     requires small { height ≤ 62 }
-    ensures { result ≡ greatest (λ r. leb (leaves_of (take r heights.now)) floor && eqb
-        (leaves_of (take r heights.now) % 2 ^ height) 0) bound }
+    ensures { result ≡ greatest (λ r. leb (leaves_under (take r heights.now)) floor && eqb
+        (leaves_under (take r heights.now) % 2 ^ height) 0) bound }
 {
     if bound == 0 {
         return 0;
@@ -105,8 +105,8 @@ fn is_aligned(end: u64, floor: u64, height: u32) -> bool
 
 /// How many leaves peaks of the heights `heights` are over.
 fn leaves_of(heights: &[u32]) -> u64
-    requires { leaves_of heights.now ≤ 2 ^ 62 }
-    ensures { result ≡ leaves_of heights.now }
+    requires { leaves_under heights.now ≤ max_leaves }
+    ensures { result ≡ leaves_under heights.now }
 {
     match heights.split_first() {
         None => 0,

@@ -1,13 +1,14 @@
 //! Multi proofs: a tree's own, and their check.
 
-ghost use Rattle.std.specs.Prelude.{◌≡◌, ◌↔◌, ℕ, ◌+◌, ◌^◌, ◌≤◌, ◌<◌, ◌++◌, List, [], Bool, length, map, option_map, IfOk, OnOk, IsTrue};
+ghost use Rattle.std.specs.Prelude.{◌≡◌, ◌↔◌, ℕ, ◌+◌, ◌≤◌, ◌<◌, ◌++◌, List, [], Bool, length, map, option_map, IfOk, OnOk, IsTrue};
 ghost use Rattle.storage_merkle.specs.Calc.{Calc};
 ghost use Rattle.storage_merkle.specs.Hashers.{or_nothing};
-ghost use Rattle.storage_merkle.specs.Held.{range_of};
+ghost use Rattle.storage_merkle.specs.Held.{proof_of};
 ghost use Rattle.storage_merkle.specs.Multi.{Ascend, IsMultiAccepted, claims_of, default_proof, element_at, locations, needed_sites, own_multi_proof, touched, tree_digest, untouched};
-ghost use Rattle.storage_merkle.specs.MultiSteps.{IsMultiRecomputed};
+ghost use Rattle.storage_merkle.specs.MultiParts.{IsMultiRecomputed};
 ghost use Rattle.storage_merkle.specs.RangeProofs.{look_up};
 ghost use Rattle.storage_merkle.specs.Trees.{bag, content_of, eval_bag, part};
+ghost use Rattle.storage_merkle.specs.Shape.{max_leaves};
 ghost use Rattle.reference.specs.Layouts.{laid_out, valued};
 ghost use Rattle.reference.specs.Sites.{site_of};
 
@@ -55,7 +56,7 @@ fn needed_sites<F: Digits>(
     locations: &[u64],
     leaves: u64,
 ) -> Result<Vec<Site>, AllocError>
-    requires { leaves ≤ 2 ^ 62 }
+    requires { leaves ≤ max_leaves }
     ensures { IfOk result (λ sites. (grafted : ℕ → ℕ → Bool)
         → map site_of sites.items ≡ needed_sites (laid_out F.shape grafted) locations.now leaves) }
 {
@@ -117,8 +118,8 @@ pub fn own_multi_proof<F: Digits, H: Hasher, G: Grafts<H>, E: AsSlice<u8>>(
     inactive: usize,
     locations: &[u64],
 ) -> Result<Proof<F, H::Digest>, AllocError>
-    requires { length elements.now ≤ 2 ^ 62 }
-    ensures { IfOk result (λ proof. range_of H.Digest.text proof
+    requires { length elements.now ≤ max_leaves }
+    ensures { IfOk result (λ proof. proof_of H.Digest.text proof
         ≡ own_multi_proof H.hash_of (laid_out F.shape (G.grafted grafts.now))
         (content_of (map E.items elements.now) (G.chunk grafts.now)) inactive locations.now) }
 {
@@ -244,7 +245,7 @@ fn recomputed_root<F: Digits, H: Hasher, G: Grafts<H>, E: AsSlice<u8>>(
 ) -> Result<Option<H::Digest>, AllocError>
     ensures { IfOk result (λ root. IsMultiRecomputed
         H.hash_of (laid_out F.shape (G.grafted grafts.now)) bagging
-        (range_of H.Digest.text proof.now) (claims_of E.items claims.now) (G.chunk grafts.now)
+        (proof_of H.Digest.text proof.now) (claims_of E.items claims.now) (G.chunk grafts.now)
         (option_map H.Digest.text root)) }
 {
     let leaves = proof.leaves.as_u64();
@@ -286,7 +287,7 @@ pub fn is_multi_accepted<F: Digits, H: Hasher, G: Grafts<H>, E: AsSlice<u8>>(
 ) -> Result<bool, AllocError>
     ensures { IfOk result (λ accepted. IsTrue accepted ↔ IsMultiAccepted
         H.hash_of (laid_out F.shape (G.grafted grafts.now)) bagging
-        (range_of H.Digest.text proof.now) (claims_of E.items claims.now) (G.chunk grafts.now)
+        (proof_of H.Digest.text proof.now) (claims_of E.items claims.now) (G.chunk grafts.now)
         (H.Digest.text root.now)) }
 {
     if claims.is_empty() {
@@ -301,7 +302,7 @@ pub fn is_multi_accepted<F: Digits, H: Hasher, G: Grafts<H>, E: AsSlice<u8>>(
 
 /// Whether `proof` is the one of nothing.
 fn is_default<F: Digits, D: Digest>(proof: &Proof<F, D>) -> bool
-    ensures { IsTrue result ↔ (range_of D.text proof.now ≡ default_proof) }
+    ensures { IsTrue result ↔ (proof_of D.text proof.now ≡ default_proof) }
 {
     proof.leaves.as_u64() == 0 && proof.inactive_peaks == 0 && proof.digests.is_empty()
 }

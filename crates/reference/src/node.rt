@@ -2,7 +2,7 @@
 
 ghost use Rattle.std.specs.Prelude.{◌≡◌, ◌-◌, ◌<◌, ℕ, ◌+◌, ◌*◌, ◌^◌, ◌≤◌, ◌++◌, List, [], map, get_or, Bool, true, false, if◌then◌else◌, IfOk, OnOk, MatchOption};
 ghost use Rattle.storage_merkle.specs.Calc.{Site, node, eval, be8, grafted_digest};
-ghost use Rattle.storage_merkle.specs.Shape.{leaves_of};
+ghost use Rattle.storage_merkle.specs.Shape.{leaves_under, max_leaves};
 ghost use Rattle.storage_merkle.specs.Trees.{Peak, node_calc, never, part, places};
 ghost use Rattle.reference.specs.Layouts.{laid_out, valued};
 
@@ -23,12 +23,13 @@ pub struct Node {
 impl Model for Node {
     ghost use Rattle.std.specs.Prelude.{◌+◌, ◌^◌, ◌≤◌};
     ghost use Rattle.storage_merkle.specs.Trees.{Peak};
+    ghost use Rattle.storage_merkle.specs.Shape.{max_leaves};
 
     ghost Value = { Peak };
 
     ghost view = { λ s. record { first = s.first; height = s.height } };
 
-    ghost invariant = { λ s. s.first + 2 ^ s.height ≤ 2 ^ 62 };
+    ghost invariant = { λ s. s.first + 2 ^ s.height ≤ max_leaves };
 
     ghost inverse = { λ p. record { first = p.first; height = p.height } };
 }
@@ -36,7 +37,7 @@ impl Model for Node {
 impl Node {
     /// The node of height `height` over the leaves from `first` on.
     pub fn new(first: u64, height: u32) -> Self
-        requires { first + 2 ^ height ≤ 2 ^ 62 }
+        requires { first + 2 ^ height ≤ max_leaves }
         ensures { result ≡ record { first = first; height = height } }
     {
         Node { first, height }
@@ -52,7 +53,7 @@ impl Node {
     /// The node's height, from 0 for a leaf.
     pub fn height(&self) -> u32
         ensures value { result ≡ self.now.height }
-        ensures within { self.now.first + 2 ^ self.now.height ≤ 2 ^ 62 }
+        ensures within { self.now.first + 2 ^ self.now.height ≤ max_leaves }
     {
         self.height
     }

@@ -1,10 +1,11 @@
 //! A tree's own range proofs.
 
-ghost use Rattle.std.specs.Prelude.{◌≡◌, ℕ, ◌+◌, ◌-◌, ◌^◌, ◌≤◌, ◌++◌, List, [], length, map, option_map, get_or, IfOk, OnOk};
+ghost use Rattle.std.specs.Prelude.{◌≡◌, ℕ, ◌+◌, ◌-◌, ◌≤◌, ◌++◌, List, [], length, map, option_map, get_or, IfOk, OnOk};
 ghost use Rattle.storage_merkle.specs.Checks.{IsRecomputed};
-ghost use Rattle.storage_merkle.specs.Held.{range_of};
+ghost use Rattle.storage_merkle.specs.Held.{proof_of};
 ghost use Rattle.storage_merkle.specs.RangeProofs.{apart, look_up, own_digest, own_proof};
 ghost use Rattle.storage_merkle.specs.Trees.{Content, part, content_of};
+ghost use Rattle.storage_merkle.specs.Shape.{max_leaves};
 ghost use Rattle.reference.specs.Layouts.{laid_out};
 ghost use Rattle.reference.specs.Sites.{backward_digest, forward_digest, site_of};
 
@@ -61,7 +62,7 @@ pub fn own_digest<F: Digits, H: Hasher, G: Grafts<H>, E: AsSlice<u8>>(
     high: u64,
     site: Site,
 ) -> Result<H::Digest, AllocError>
-    requires few { length tree.now.elements.now ≤ 2 ^ 62 }
+    requires few { length tree.now.elements.now ≤ max_leaves }
     requires inactive { tree.now.inactive ≤ length (F.shape.peaks (length tree.now.elements.now)) }
     ensures { IfOk result (λ d. H.Digest.text d
         ≡ own_digest H.hash_of (laid_out F.shape (G.grafted tree.now.grafts.now)) tree.now.bagging
@@ -101,7 +102,7 @@ fn push_own<F: Digits, H: Hasher, G: Grafts<H>, E: AsSlice<u8>>(
     high: u64,
     sites: &[Site],
 ) -> Result<(), AllocError>
-    requires few { length tree.now.elements.now ≤ 2 ^ 62 }
+    requires few { length tree.now.elements.now ≤ max_leaves }
     requires inactive { tree.now.inactive ≤ length (F.shape.peaks (length tree.now.elements.now)) }
     ensures { OnOk result
         (map H.Digest.text digests.new.items ≡ map H.Digest.text digests.old.items ++ map
@@ -126,9 +127,9 @@ pub fn own_proof<F: Digits, H: Hasher, G: Grafts<H>, E: AsSlice<u8>>(
     low: u64,
     high: u64,
 ) -> Result<Proof<F, H::Digest>, AllocError>
-    requires few { length tree.now.elements.now ≤ 2 ^ 62 }
+    requires few { length tree.now.elements.now ≤ max_leaves }
     requires inactive { tree.now.inactive ≤ length (F.shape.peaks (length tree.now.elements.now)) }
-    ensures { IfOk result (λ p. range_of H.Digest.text p
+    ensures { IfOk result (λ p. proof_of H.Digest.text p
         ≡ own_proof H.hash_of (laid_out F.shape (G.grafted tree.now.grafts.now)) tree.now.bagging
         (content_of (map E.items tree.now.elements.now) (G.chunk tree.now.grafts.now))
         tree.now.inactive low high) }

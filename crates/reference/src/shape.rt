@@ -4,7 +4,7 @@ ghost use Rattle.std.specs.Prelude.{◌≡◌, ℕ, ◌+◌, ◌-◌, ◌*◌, �
 ghost use Rattle.storage_merkle.specs.Digits.{digit, floor_log2, highest_from};
 ghost use Rattle.storage_merkle.specs.Mmr.{mmr, mmr_digits};
 ghost use Rattle.storage_merkle.specs.Mmb.{mmb, mmb_digits};
-ghost use Rattle.storage_merkle.specs.Shape.{Shape, size};
+ghost use Rattle.storage_merkle.specs.Shape.{Shape, size, max_leaves};
 
 use std::alloc::{AllocError, Global};
 use storage_merkle::merkle::{Family, mmb, mmr};
@@ -19,12 +19,12 @@ pub trait Digits: Family {
 
     /// The least number of leaves whose tree has the node of height `height` over the leaves from `first` on.
     fn leaves_at_birth(first: u64, height: u32) -> u64
-        requires { first + 2 ^ height ≤ 2 ^ 62 + 2 ^ 61 }
+        requires { first + 2 ^ height ≤ max_leaves + 2 ^ 61 }
         ensures { result ≡ Self.shape.birth first height };
 
     /// The position of the node of height `height` over the leaves from `first` on. Fails only where memory runs out.
     fn place(alloc: Global, first: u64, height: u32) -> Result<u64, AllocError>
-        requires { first + 2 ^ height ≤ 2 ^ 62 + 2 ^ 61 }
+        requires { first + 2 ^ height ≤ max_leaves + 2 ^ 61 }
         ensures { IfOk result (λ place. place ≡ Self.shape.position first height) };
 }
 

@@ -1,8 +1,9 @@
 //! Which digests a range proof has, in their order.
 
-ghost use Rattle.std.specs.Prelude.{◌≡◌, ℕ, ◌+◌, ◌^◌, ◌≤◌, ◌++◌, List, [], Bool, length, map, take, drop, IfOk, OnOk, ◌∷◌, ◌<◌};
+ghost use Rattle.std.specs.Prelude.{◌≡◌, ℕ, ◌+◌, ◌≤◌, ◌++◌, List, [], Bool, length, map, take, drop, IfOk, OnOk, ◌∷◌, ◌<◌};
 ghost use Rattle.storage_merkle.specs.RangeProofs.{apart, back_sites, by_position, front_sites, leading, not_leading, place_in, position_of, same_site, sites, sites_in, sites_over, sites_of, trailing, up_to};
 ghost use Rattle.storage_merkle.specs.Trees.{Layout, folded, part, unfolded};
+ghost use Rattle.storage_merkle.specs.Shape.{max_leaves};
 ghost use Rattle.reference.specs.Layouts.{laid_out};
 ghost use Rattle.reference.specs.Sites.{site_of};
 
@@ -240,7 +241,7 @@ pub fn sites<F: Digits>(
     leaves: u64,
     inactive: usize,
 ) -> Result<Vec<Site>, AllocError>
-    requires few { leaves ≤ 2 ^ 62 }
+    requires few { leaves ≤ max_leaves }
     requires inactive { inactive ≤ length (F.shape.peaks leaves) }
     ensures { IfOk result (λ v. (grafted : ℕ → ℕ → Bool)
         → map site_of v.items ≡ sites (laid_out F.shape grafted) low high bagging leaves inactive) }

@@ -2,10 +2,11 @@
 
 ghost use Rattle.std.specs.Prelude.{◌≡◌, ℕ, ◌+◌, ◌*◌, ◌/◌, ◌%◌, ◌^◌, ◌≤◌, ◌<◌, ◌++◌, List, [], length, map, option_map, Option, Some, None, ltb, eqb, if◌then◌else◌, IfOk};
 ghost use Rattle.storage_bitmap.specs.Chunks.{IsChunkSize, chunk};
-ghost use Rattle.storage_current.specs.Held.{current_of};
-ghost use Rattle.storage_current.specs.Snapshots.{canonical_root, grafted_root_of, ops_root_of, own_current_proof, grafting_of};
+ghost use Rattle.storage_current.specs.Held.{range_proof_of};
+ghost use Rattle.storage_current.specs.Snapshots.{canonical_root, grafted_root_of, ops_root_of, own_range_proof, grafting_of};
 ghost use Rattle.reference.specs.Layouts.{snapshot};
-ghost use Rattle.storage_merkle.specs.Held.{range_of};
+ghost use Rattle.storage_merkle.specs.Held.{proof_of};
+ghost use Rattle.storage_merkle.specs.Shape.{max_leaves};
 
 use crate::chunk::{Chunks, chunk};
 use crate::count::{aligned, exact, graftable, height};
@@ -39,7 +40,7 @@ fn ops_root<F: Digits, H: Hasher, E: AsSlice<u8>>(
     alloc: Global,
     of: &Snapshot<'_, E>,
 ) -> Result<H::Digest, AllocError>
-    requires { length of.now.operations.now ≤ 2 ^ 62 }
+    requires { length of.now.operations.now ≤ max_leaves }
     ensures { IfOk result (λ root.
         H.Digest.text root ≡ ops_root_of H.hash_of (grafting_of F.shape of.now.chunk_size)
         (snapshot (map E.items of.now.operations.now) of.now.bits.now of.now.floor)) }
@@ -60,7 +61,7 @@ fn grafted_root<F: Digits, H: Hasher, E: AsSlice<u8>>(
     alloc: Global,
     of: &Snapshot<'_, E>,
 ) -> Result<H::Digest, AllocError>
-    requires few { length of.now.operations.now ≤ 2 ^ 62 }
+    requires few { length of.now.operations.now ≤ max_leaves }
     requires size { IsChunkSize of.now.chunk_size }
     ensures { IfOk result (λ root.
         H.Digest.text root ≡ grafted_root_of H.hash_of (grafting_of F.shape of.now.chunk_size)
@@ -94,10 +95,10 @@ fn own_range<F: Digits, H: Hasher, E: AsSlice<u8>>(
     low: u64,
     high: u64,
 ) -> Result<Proof<F, H::Digest>, AllocError>
-    requires few { length of.now.operations.now ≤ 2 ^ 62 }
+    requires few { length of.now.operations.now ≤ max_leaves }
     requires size { IsChunkSize of.now.chunk_size }
-    ensures { IfOk result (λ p. range_of H.Digest.text p
-        ≡ (own_current_proof H.hash_of (grafting_of F.shape of.now.chunk_size) (snapshot
+    ensures { IfOk result (λ p. proof_of H.Digest.text p
+        ≡ (own_range_proof H.hash_of (grafting_of F.shape of.now.chunk_size) (snapshot
         (map E.items of.now.operations.now) of.now.bits.now of.now.floor) low high).range) }
 {
     let leaves = of.operations.len() as u64;
@@ -127,10 +128,10 @@ pub fn own_current<F: Digits, H: Hasher, E: AsSlice<u8>>(
     low: u64,
     high: u64,
 ) -> Result<RangeProof<F, H::Digest>, AllocError>
-    requires few { length of.now.operations.now ≤ 2 ^ 62 }
+    requires few { length of.now.operations.now ≤ max_leaves }
     requires size { IsChunkSize of.now.chunk_size }
-    ensures { IfOk result (λ p. current_of H.Digest.text p
-        ≡ own_current_proof H.hash_of (grafting_of F.shape of.now.chunk_size)
+    ensures { IfOk result (λ p. range_proof_of H.Digest.text p
+        ≡ own_range_proof H.hash_of (grafting_of F.shape of.now.chunk_size)
         (snapshot (map E.items of.now.operations.now) of.now.bits.now of.now.floor) low high) }
 {
     let leaves = of.operations.len() as u64;
@@ -196,7 +197,7 @@ pub fn canonical_root<F: Digits, H: Hasher, E: AsSlice<u8>>(
     alloc: Global,
     of: &Snapshot<'_, E>,
 ) -> Result<H::Digest, AllocError>
-    requires few { length of.now.operations.now ≤ 2 ^ 62 }
+    requires few { length of.now.operations.now ≤ max_leaves }
     requires size { IsChunkSize of.now.chunk_size }
     ensures { IfOk result (λ root.
         H.Digest.text root ≡ canonical_root H.hash_of (grafting_of F.shape of.now.chunk_size)

@@ -1,7 +1,7 @@
 //! Peaks and roots of whole trees.
 
-ghost use Rattle.std.specs.Prelude.{◌≡◌, ◌+◌, ◌^◌, ◌≤◌, ◌++◌, length, map, IfOk, OnOk};
-ghost use Rattle.storage_merkle.specs.Shape.{leaves_of};
+ghost use Rattle.std.specs.Prelude.{◌≡◌, ◌+◌, ◌≤◌, ◌++◌, length, map, IfOk, OnOk};
+ghost use Rattle.storage_merkle.specs.Shape.{leaves_under, max_leaves};
 ghost use Rattle.storage_merkle.specs.Trees.{places, tree_root, content_of};
 ghost use Rattle.reference.specs.Layouts.{laid_out};
 
@@ -15,7 +15,7 @@ use storage_merkle::merkle::Bagging;
 
 /// The peaks of the tree over `leaves` leaves, at most `2^62`, from the first leaf on. Fails only where memory runs out.
 pub fn peaks<F: Digits>(alloc: Global, leaves: u64) -> Result<Vec<Node>, AllocError>
-    requires { leaves ≤ 2 ^ 62 }
+    requires { leaves ≤ max_leaves }
     ensures { IfOk result (λ peaks. peaks.items ≡ places 0 (F.shape.peaks leaves)) }
 {
     let heights = F::peak_heights(alloc, leaves)?;
@@ -26,7 +26,7 @@ pub fn peaks<F: Digits>(alloc: Global, leaves: u64) -> Result<Vec<Node>, AllocEr
 
 /// Appends to `nodes` nodes of the heights `heights` side by side, from the leaf `first` on.
 fn push_places(nodes: &mut Vec<Node>, first: u64, heights: &[u32]) -> Result<(), AllocError>
-    requires { first + leaves_of heights.now ≤ 2 ^ 62 }
+    requires { first + leaves_under heights.now ≤ max_leaves }
     ensures { OnOk result (nodes.new.items ≡ nodes.old.items ++ places first heights.now) }
 {
     let Some((height, rest)) = heights.split_first() else {
@@ -45,7 +45,7 @@ pub(crate) fn tree_root<F: Digits, H: Hasher, G: Grafts<H>, E: AsSlice<u8>>(
     elements: &[E],
     inactive: usize,
 ) -> Result<H::Digest, AllocError>
-    requires few { length elements.now ≤ 2 ^ 62 }
+    requires few { length elements.now ≤ max_leaves }
     requires inactive { inactive ≤ length (F.shape.peaks (length elements.now)) }
     ensures { IfOk result (λ root.
         H.Digest.text root ≡ tree_root H.hash_of (laid_out F.shape (G.grafted grafts.now)) bagging

@@ -7,14 +7,14 @@ use Rattle.storage_codec.specs.Digests.{HashFunction}
 use Rattle.storage_merkle.specs.Mmr.{mmr}
 use Rattle.storage_merkle.specs.declared.merkle.bagging.Bagging.{Bagging}
 use Rattle.storage_merkle.specs.Trees.{Content, ungrafted, listed}
-use Rattle.storage_merkle.specs.RangeProofs.{RangeProof, CountsFit, recomputed_root}
+use Rattle.storage_merkle.specs.RangeProofs.{Proof, CountsFit, recomputed_root}
 use Rattle.storage_merkle.specs.Checks.{IsRecomputed}
 use Rattle.storage_bitmap.specs.BitRoots.{partial_string, is_aligned}
 use Rattle.storage_bitmap.specs.BitProofs.{last_digest, computed_bit_root, IsBitAccepted}
-use Rattle.storage_bitmap.specs.BitSteps.{BitCountsFit, IsBitComputed}
+use Rattle.storage_bitmap.specs.BitParts.{BitCountsFit, IsBitComputed}
 use Rattle.storage_bitmap.proofs.BitStrings.{neq-eqb, take_front, get_last, some_length, before_end}
 
-module _ (h : HashFunction) (b : Bagging) (n : ℕ) (proof : RangeProof) (bytes : List ℕ) (bit : ℕ) where
+module _ (h : HashFunction) (b : Bagging) (n : ℕ) (proof : Proof) (bytes : List ℕ) (bit : ℕ) where
   abbrev at : ℕ
   at = bit / (8 * n)
 
@@ -22,7 +22,7 @@ module _ (h : HashFunction) (b : Bagging) (n : ℕ) (proof : RangeProof) (bytes 
   claim = listed (bytes ∷ [])
 
   -- the proof of the chunk from some digests
-  abbrev over : List (List ℕ) → RangeProof
+  abbrev over : List (List ℕ) → Proof
   over ds = record { leaves = proof.leaves / (8 * n); inactive = 0; digests = ds }
 
   abbrev front : Bool → List (List ℕ)

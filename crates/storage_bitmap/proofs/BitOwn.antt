@@ -3,12 +3,12 @@ use Rattle.std.proofs.Common.{◌≡◌, ◌≢◌, ℕ, ◌+◌, ◌-◌, ◌*�
 use Rattle.std.proofs.Math.Nat.{div-le_self}
 use Rattle.storage_codec.specs.Digests.{HashFunction}
 use Rattle.storage_merkle.specs.Mmr.{mmr}
-use Rattle.storage_merkle.specs.MmrLaws.{mmr_laws}
+use Rattle.storage_merkle.specs.Laws.Mmr.{mmr_laws}
 use Rattle.storage_merkle.specs.declared.merkle.bagging.Bagging.{Bagging}
 use Rattle.storage_merkle.specs.Trees.{ungrafted, listed}
-use Rattle.storage_merkle.specs.RangeProofs.{RangeProof, CountsFit, recomputed_root, own_proof, IsOwn}
+use Rattle.storage_merkle.specs.RangeProofs.{Proof, CountsFit, recomputed_root, own_proof, IsOwn}
 use Rattle.storage_merkle.specs.Soundness.{OwnRangeProofsAreAccepted}
-use Rattle.storage_bitmap.specs.Chunks.{chunk, complete}
+use Rattle.storage_bitmap.specs.Chunks.{chunk, complete_chunks}
 use Rattle.storage_bitmap.specs.BitRoots.{partial_string, is_aligned, chunks_root, partial_chunk, unaligned_string, bit_root}
 use Rattle.storage_bitmap.specs.BitProofs.{IsBitAccepted, own_bit_proof}
 use Rattle.storage_bitmap.proofs.BitStrings.{eqb-neq, length_chunks, chunks_at, take_front, get_last, before_end, div_at_most}
@@ -19,7 +19,7 @@ module _ (own_accepted : OwnRangeProofsAreAccepted) (h : HashFunction) (b : Bagg
   at = bit / (8 * n)
 
   abbrev C : List (List ℕ)
-  C = complete n bits
+  C = complete_chunks n bits
 
   abbrev root : List ℕ
   root = chunks_root h b n bits
@@ -36,7 +36,7 @@ module _ (own_accepted : OwnRangeProofsAreAccepted) (h : HashFunction) (b : Bagg
   abbrev digests : Bool → Bool → List (List ℕ)
   digests p l = if p then root ∷ [] else (if l then inner else inner ++ h last ∷ [])
 
-  abbrev over : Bool → Bool → RangeProof
+  abbrev over : Bool → Bool → Proof
   over p l = record {
     leaves = length bits / (8 * n);
     inactive = 0;

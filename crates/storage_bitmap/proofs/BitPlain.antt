@@ -7,10 +7,10 @@ use Rattle.storage_codec.specs.Digests.{HashFunction}
 use Rattle.storage_merkle.specs.Shape.{Shape}
 use Rattle.storage_merkle.specs.Calc.{Site, node, Calc, given, leaf, Values, be8, eval}
 use Rattle.storage_merkle.specs.Hashing.{bagged}
-use Rattle.storage_merkle.specs.HashingLaws.{eval-bag}
+use Rattle.storage_merkle.specs.Laws.Hashing.{eval-bag}
 use Rattle.storage_merkle.specs.declared.merkle.bagging.Bagging.{Bagging}
 use Rattle.storage_merkle.specs.Trees.{Layout, Content, Peak, ungrafted, listed, node_calc, join_calc, part, peaks_of, folded, unfolded, eval_bag, root_head}
-use Rattle.storage_merkle.specs.RangeProofs.{RangeProof, CountsFit, apart, leading, not_leading, up_to, trailing, front_given, back_given, check_bag, check_values, recomputed_root}
+use Rattle.storage_merkle.specs.RangeProofs.{Proof, CountsFit, apart, leading, not_leading, up_to, trailing, front_given, back_given, check_bag, check_values, recomputed_root}
 use Rattle.storage_merkle.specs.Checks.{IsRecomputed}
 
 module _ (h : HashFunction) (S : Shape) (digest : Site → List ℕ) (element : ℕ → List ℕ) (c d : ℕ → List ℕ) where
@@ -72,7 +72,7 @@ module _ (h : HashFunction) (S : Shape) (digest : Site → List ℕ) (element : 
       (parts_plain cut (up_to high ys)) (back_plain (trailing high ys)))
       ∙ sym (eval-bag h w first second))
 
-module _ (h : HashFunction) (S : Shape) (b : Bagging) (proof : RangeProof) (start : ℕ) (es : List (List ℕ))
+module _ (h : HashFunction) (S : Shape) (b : Bagging) (proof : Proof) (start : ℕ) (es : List (List ℕ))
     (c : ℕ → List ℕ) where
   abbrev claim : Content
   claim = record { elements = es; chunk = c }

@@ -7,8 +7,8 @@ use Rattle.storage_merkle.specs.Hashing.{leaf_digests, node_over}
 use Rattle.storage_merkle.specs.Kept.{Kept, StandsFor}
 use Rattle.storage_merkle.specs.declared.merkle.bagging.Bagging.{Bagging}
 use Rattle.storage_merkle.specs.Trees.{Layout, Content, ungrafted, listed}
-use Rattle.storage_merkle.specs.RangeProofs.{RangeProof, own_proof}
-use Rattle.storage_bitmap.specs.Chunks.{Retained, IsRest, bit_count, chunk, chunks_from, complete}
+use Rattle.storage_merkle.specs.RangeProofs.{Proof, own_proof}
+use Rattle.storage_bitmap.specs.Chunks.{Retained, IsRest, bit_count, chunk, chunks_from, complete_chunks}
 use Rattle.storage_bitmap.specs.BitRoots.{is_aligned, chunks_root, partial_chunk}
 use Rattle.storage_bitmap.specs.BitProofs.{IsOwnBit, own_bit_digests}
 use Rattle.storage_bitmap.specs.StandsForBits.{chunk_digests, chunk_nodes}
@@ -22,7 +22,7 @@ module _ (h : HashFunction) (b : Bagging) (n place len : ℕ) (r : Retained) (bi
   all = len_is ∙ count_of n r bits rest
 
   abbrev inner : List (List ℕ)
-  inner = (own_proof h (ungrafted mmr) b (listed (complete n bits)) 0 place (place + 1)).digests
+  inner = (own_proof h (ungrafted mmr) b (listed (complete_chunks n bits)) 0 place (place + 1)).digests
 
   abbrev by : Bool → Bool → List (List ℕ)
   by p l = if p then chunks_root h b n bits ∷ [] else (if l then inner else inner ++ h (partial_chunk n bits) ∷ [])
@@ -52,11 +52,11 @@ module _ (h : HashFunction) (b : Bagging) (n place len : ℕ) (r : Retained) (bi
     inner_is : map text items ≡ inner
     inner_is =
         let e : tree.leaves ≡ length bits / (8 * n) = whole ∙ ap (λ m. m / (8 * n)) (count_of n r bits rest) in
-        let s : StandsFor text mmr (chunk_nodes h) tree (leaf_digests h (ungrafted mmr) 0 (complete n bits)) =
+        let s : StandsFor text mmr (chunk_nodes h) tree (leaf_digests h (ungrafted mmr) 0 (complete_chunks n bits)) =
         subst (λ m. StandsFor text mmr (chunk_nodes h) tree
         (leaf_digests h (ungrafted mmr) 0 (chunks_from n bits m 0))) e stands in
-        ap (λ (p : RangeProof). p.digests) (own (ungrafted mmr) (listed (complete n bits)) refl s)
-        ∙ ap₂ (λ x y. (own_proof h (ungrafted mmr) b (listed (complete n bits)) 0 x y).digests) start_is end_is
+        ap (λ (p : Proof). p.digests) (own (ungrafted mmr) (listed (complete_chunks n bits)) refl s)
+        ∙ ap₂ (λ x y. (own_proof h (ungrafted mmr) b (listed (complete_chunks n bits)) 0 x y).digests) start_is end_is
 
     -- no partial chunk
     pub aligned_own : len % (8 * n) ≡ 0 → map text items ≡ own_bit_digests h b n bits place

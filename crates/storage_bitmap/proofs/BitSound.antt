@@ -4,35 +4,35 @@ use Rattle.std.proofs.Math.Nat.{div-le_self}
 use Rattle.std.proofs.lemmas.List.Elements.{Contains-append_right}
 use Rattle.storage_codec.specs.Digests.{HashFunction, IsSized, Cross}
 use Rattle.storage_merkle.specs.Mmr.{mmr}
-use Rattle.storage_merkle.specs.MmrLaws.{mmr_laws}
+use Rattle.storage_merkle.specs.Laws.Mmr.{mmr_laws}
 use Rattle.storage_merkle.specs.Calc.{be8}
-use Rattle.storage_merkle.specs.CalcLaws.{heads, cross_wider, split_append, be8_length, be8_same}
+use Rattle.storage_merkle.specs.Laws.Calc.{heads, cross_wider, split_append, be8_length, be8_same}
 use Rattle.storage_merkle.specs.declared.merkle.bagging.Bagging.{Bagging}
 use Rattle.storage_merkle.specs.Trees.{Content, ungrafted, listed, plain, tree_string, tree_strings}
-use Rattle.storage_merkle.specs.RangeProofs.{RangeProof, CountsFit, check_values, check_string, check_strings, range_sites, own_proof, AreDigests}
+use Rattle.storage_merkle.specs.RangeProofs.{Proof, CountsFit, check_values, check_string, check_strings, range_sites, own_proof, AreDigests}
 use Rattle.storage_merkle.specs.Soundness.{RangeProofsAreSound}
-use Rattle.storage_bitmap.specs.Chunks.{chunk, complete}
+use Rattle.storage_bitmap.specs.Chunks.{chunk, complete_chunks}
 use Rattle.storage_bitmap.specs.BitRoots.{partial_string, is_aligned, chunks_root, partial_chunk, unaligned_string, bit_root, bit_strings}
 use Rattle.storage_bitmap.specs.BitProofs.{last_digest, IsBitAccepted, IsOwnBit, bit_check_strings}
 use Rattle.storage_bitmap.proofs.BitStrings.{neq-eqb, eqb-neq, length_chunks, chunks_at, look_up-wide, root_length, partial_length, apart_lengths, are_taken, is_digest, some_length, front_last, lone, same_multiple, before_end}
 
-abbrev proof_of : ℕ → ℕ → List (List ℕ) → RangeProof
+abbrev proof_of : ℕ → ℕ → List (List ℕ) → Proof
 proof_of l i ds = record { leaves = l; inactive = i; digests = ds }
 
-pub same_proof : (p : RangeProof) (l i : ℕ) (ds : List (List ℕ)) → p.leaves ≡ l → p.inactive ≡ i → p.digests ≡ ds
+pub same_proof : (p : Proof) (l i : ℕ) (ds : List (List ℕ)) → p.leaves ≡ l → p.inactive ≡ i → p.digests ≡ ds
     → p ≡ proof_of l i ds
 same_proof p l i ds e f g =
     ap (λ x. proof_of x p.inactive p.digests) e ∙ (ap (λ x. proof_of l x p.digests) f ∙ ap (λ x. proof_of l i x) g)
 
 module _ (range_sound : RangeProofsAreSound) (d : ℕ) (h : HashFunction) (size : (d ≡ 32) ⊎ (d ≡ 64))
-    (sized : IsSized d h) (b : Bagging) (n : ℕ) (some : 0 < n) (proof : RangeProof) (bytes : List ℕ) (bit : ℕ)
+    (sized : IsSized d h) (b : Bagging) (n : ℕ) (some : 0 < n) (proof : Proof) (bytes : List ℕ) (bit : ℕ)
     (wide : AreDigests d proof.digests) (fits : proof.leaves < 2 ^ 64) (bits : List Bool)
     (few : length bits ≤ 2 ^ 62) where
   abbrev at : ℕ
   at = bit / (8 * n)
 
   abbrev C : List (List ℕ)
-  C = complete n bits
+  C = complete_chunks n bits
 
   abbrev root : List ℕ
   root = chunks_root h b n bits
@@ -56,7 +56,7 @@ module _ (range_sound : RangeProofsAreSound) (d : ℕ) (h : HashFunction) (size 
   abbrev front : Bool → List (List ℕ)
   front a = if a then proof.digests else take (length proof.digests - 1) proof.digests
 
-  abbrev over : Bool → RangeProof
+  abbrev over : Bool → Proof
   over a = record { leaves = proof.leaves / (8 * n); inactive = 0; digests = front a }
 
   abbrev claim : Content
@@ -102,14 +102,14 @@ module _ (range_sound : RangeProofsAreSound) (d : ℕ) (h : HashFunction) (size 
       elim (range_sound d 0 h sized (omega arith) mmr mmr_laws mmr.position (λ m x k. false) b (over a) at claim (front_wide a)
       (λ x k o g m i c. refl) (listed C) 0 (λ x k o g m i c. refl) few_chunks (omega arith) (inl (ok, same))) [
         | inl o ↦
-            let le : proof.leaves / (8 * n) ≡ length C = ap (λ (p : RangeProof). p.leaves) o.proof_is in
+            let le : proof.leaves / (8 * n) ≡ length C = ap (λ (p : Proof). p.leaves) o.proof_is in
             let within : at + 1 ≤ length C = o.elements_are.within in
             inl (record {
               leaves = le ∙ let_length;
               bytes_are = o.elements_are.each 0 (omega arith) ∙ (ap (λ i. get_or C i []) (add-zero at)
                   ∙ (chunks_at n bits (length bits / (8 * n)) 0 at (omega (arith, let_length))
                   ∙ ap (chunk n bits) (let e : 0 + at ≡ at = omega arith in e)));
-              digests = ap (λ (p : RangeProof). p.digests) o.proof_is;
+              digests = ap (λ (p : Proof). p.digests) o.proof_is;
             })
         | inr c ↦ inr c
       ]

@@ -5,7 +5,7 @@ use Rattle.std.proofs.lemmas.Nat.{div-add-mod', le-div}
 use Rattle.std.proofs.lemmas.Bool.Decides.{eqb_tells}
 use Rattle.storage_codec.specs.Digests.{HashFunction, IsSized}
 use Rattle.storage_merkle.specs.Calc.{Site, Calc, Values, be8}
-use Rattle.storage_merkle.specs.CalcLaws.{IsWide, eval_length, be8_length}
+use Rattle.storage_merkle.specs.Laws.Calc.{IsWide, eval_length, be8_length}
 use Rattle.storage_merkle.specs.declared.merkle.bagging.Bagging.{Bagging}
 use Rattle.storage_merkle.specs.Trees.{Layout, eval_bag, root_string}
 use Rattle.storage_merkle.specs.RangeProofs.{AreDigests, look_up, same_site}

@@ -11,10 +11,10 @@ use Rattle.std.proofs.lemmas.Nat.{div-mul-add, mod-mul-add}
 use Rattle.std.proofs.Math.Seq.{drop-nil}
 use Rattle.std.proofs.lemmas.List.{length-replicate, nil_from_length, take_all, get_or-take, length-take-le}
 use Rattle.std.specs.Array.{IsFirstChunk, IsWholeChunk}
-use Rattle.storage_bitmap.specs.Chunks.{digit, number_of, bytes_of, chunk, IsChunkSize, pruned_to}
+use Rattle.storage_bitmap.specs.Chunks.{digit_of, number_of, packed_bytes, chunk, IsChunkSize, pruned_to}
 use Rattle.storage_bitmap.specs.Packed.{bit_in, bits_in, IsPacked, IsWritten, HasRoom}
 
-digit-below : (b : Bool) → digit b < 2
+digit-below : (b : Bool) → digit_of b < 2
 digit-below true = omega arith
 digit-below false = omega arith
 
@@ -27,22 +27,22 @@ number_of-below (suc k) (b ∷ bs) = omega (arith, number_of-below k bs, digit-b
 halved : (d m : ℕ) → d < 2 → (d + 2 * m) / 2 ≡ m
 halved d m h = omega arith
 
-pub bit_at-number_of : (k i : ℕ) (bs : List Bool) → i < k → bit_at (number_of k bs) i ≡ digit (get_or bs i false)
+pub bit_at-number_of : (k i : ℕ) (bs : List Bool) → i < k → bit_at (number_of k bs) i ≡ digit_of (get_or bs i false)
 unfolding number_of
 bit_at-number_of zero i bs h = absurd (omega arith)
 bit_at-number_of (suc k) i [] h = bit_at-zero i
-bit_at-number_of (suc k) zero (b ∷ bs) h = bit_at_lowest (digit b + 2 * number_of k bs) ∙ omega (arith, digit-below b)
+bit_at-number_of (suc k) zero (b ∷ bs) h = bit_at_lowest (digit_of b + 2 * number_of k bs) ∙ omega (arith, digit-below b)
 bit_at-number_of (suc k) (suc i) (b ∷ bs) h =
-    bit_at-suc (digit b + 2 * number_of k bs) i ∙ (ap (λ (x : ℕ). bit_at x i)
-    (halved (digit b) (number_of k bs) (digit-below b)) ∙ bit_at-number_of k i bs (omega arith))
+    bit_at-suc (digit_of b + 2 * number_of k bs) i ∙ (ap (λ (x : ℕ). bit_at x i)
+    (halved (digit_of b) (number_of k bs) (digit-below b)) ∙ bit_at-number_of k i bs (omega arith))
 
-pub length-bytes_of : (n : ℕ) (bs : List Bool) → length (bytes_of n bs) ≡ n
-unfolding bytes_of
+pub length-bytes_of : (n : ℕ) (bs : List Bool) → length (packed_bytes n bs) ≡ n
+unfolding packed_bytes
 length-bytes_of zero bs = refl
 length-bytes_of (suc n) bs = ap suc (length-bytes_of n (drop 8 bs))
 
-pub get_or-bytes_of : (n m : ℕ) (bs : List Bool) → m < n → get_or (bytes_of n bs) m 0 ≡ number_of 8 (drop (8 * m) bs)
-unfolding bytes_of
+pub get_or-bytes_of : (n m : ℕ) (bs : List Bool) → m < n → get_or (packed_bytes n bs) m 0 ≡ number_of 8 (drop (8 * m) bs)
+unfolding packed_bytes
 get_or-bytes_of zero m bs h = absurd (omega arith)
 get_or-bytes_of (suc n) zero bs h = refl
 get_or-bytes_of (suc n) (suc m) bs h =
@@ -66,16 +66,16 @@ bit_of bytes count clear i =
       | inr h ↦ get_or_past (bits_in bytes count) i false (rw length-bits_in h) ∙ sym (clear i h)
     ]
 
-eqb-digit : (b : Bool) → eqb (digit b) 1 ≡ b
+eqb-digit : (b : Bool) → eqb (digit_of b) 1 ≡ b
 eqb-digit true = refl
 eqb-digit false = refl
 
-digit-eqb : (x : ℕ) → x < 2 → digit (eqb x 1) ≡ x
+digit-eqb : (x : ℕ) → x < 2 → digit_of (eqb x 1) ≡ x
 digit-eqb zero h = refl
 digit-eqb (suc zero) h = refl
 digit-eqb (suc (suc x)) h = absurd (omega arith)
 
-pub digit-bit_in : (bytes : List ℕ) (p k : ℕ) → k < 8 → digit (bit_in bytes (8 * p + k)) ≡ bit_at (get_or bytes p 0) k
+pub digit-bit_in : (bytes : List ℕ) (p k : ℕ) → k < 8 → digit_of (bit_in bytes (8 * p + k)) ≡ bit_at (get_or bytes p 0) k
 unfolding bit_in
 digit-bit_in bytes p k h =
     let q : (8 * p + k) / 8 ≡ p = omega arith in
@@ -90,7 +90,7 @@ byte_is bytes count narrow clear p =
     same_from_bits_below 8 (get_or bytes p 0) (number_of 8 (drop (8 * p) (bits_in bytes count))) (narrow p)
     (number_of-below 8 (drop (8 * p) (bits_in bytes count)))
     (λ k h. sym (bit_at-number_of 8 k (drop (8 * p) (bits_in bytes count)) h
-    ∙ (ap digit (get_or-drop (8 * p) (bits_in bytes count) k false ∙ bit_of bytes count clear (8 * p + k))
+    ∙ (ap digit_of (get_or-drop (8 * p) (bits_in bytes count) k false ∙ bit_of bytes count clear (8 * p + k))
     ∙ digit-bit_in bytes p k h)))
 
 -- ---- the steps of a bitmap
@@ -372,7 +372,7 @@ pruned_some n pruned kept chunks old new h e w =
 
 -- a byte that is written
 pub written : (bytes : List ℕ) (place byte : ℕ) (bit : Bool) → place / 8 < length bytes → byte < 256
-    → bit_at byte (place % 8) ≡ digit bit
+    → bit_at byte (place % 8) ≡ digit_of bit
     → ((i : ℕ) → i < 8 → i ≢ place % 8 → bit_at byte i ≡ bit_at (get_or bytes (place / 8) 0) i)
     → IsWritten bytes (set bytes (place / 8) byte) place bit
 unfolding bit_in
@@ -499,8 +499,8 @@ resized n count len old new e l is =
     is ∙ ap₂ (λ (xs ys : List ℕ). xs ++ ys) (take_all (count + n) old (omega arith))
     (ap (λ (m : ℕ). replicate m 0) (let f : count + n - len ≡ n = omega arith in f))
 
-clear_bytes_of : (n : ℕ) → bytes_of n [] ≡ replicate n 0
-unfolding bytes_of number_of
+clear_bytes_of : (n : ℕ) → packed_bytes n [] ≡ replicate n 0
+unfolding packed_bytes number_of
 clear_bytes_of zero = refl
 clear_bytes_of (suc n) = ap (λ (xs : List ℕ). 0 ∷ xs) (clear_bytes_of n)
 
@@ -510,5 +510,5 @@ pub clear_chunk : (n : ℕ) (r : List ℕ) (bits : List Bool) → bits ≡ [] �
 unfolding chunk
 clear_chunk n r bits e is =
     is ∙ (sym (clear_bytes_of n)
-    ∙ sym (ap (λ (xs : List Bool). bytes_of n (drop ((length bits - 1) / (8 * n) * (8 * n)) xs)) e
-    ∙ ap (bytes_of n) (drop-nil ((length bits - 1) / (8 * n) * (8 * n)))))
+    ∙ sym (ap (λ (xs : List Bool). packed_bytes n (drop ((length bits - 1) / (8 * n) * (8 * n)) xs)) e
+    ∙ ap (packed_bytes n) (drop-nil ((length bits - 1) / (8 * n) * (8 * n)))))

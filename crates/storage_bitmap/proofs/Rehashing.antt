@@ -7,14 +7,14 @@ use Rattle.std.proofs.Math.Dec.{eqb-suc-zero}
 use Rattle.storage_codec.specs.Digests.{HashFunction}
 use Rattle.storage_merkle.specs.Shape.{Shape, size}
 use Rattle.storage_merkle.specs.Mmr.{mmr}
-use Rattle.storage_merkle.specs.MmrLaws.{mmr_laws}
+use Rattle.storage_merkle.specs.Laws.Mmr.{mmr_laws}
 use Rattle.storage_merkle.specs.Calc.{be8}
 use Rattle.storage_merkle.specs.declared.merkle.bagging.Bagging.{Bagging}
 use Rattle.storage_merkle.specs.Trees.{Layout, ungrafted, listed}
 use Rattle.storage_merkle.specs.Hashing.{leaf_digests, node_over, peak_digests, root_of}
-use Rattle.storage_merkle.specs.HashingLaws.{tree_root-leaves}
-use Rattle.storage_merkle.specs.Kept.{IsFirstAway, Kept, StandsBut, StandsFor, at_peaks, updated}
-use Rattle.storage_bitmap.specs.Chunks.{chunk, chunks_from, complete, IsRest, Retained, bit_count}
+use Rattle.storage_merkle.specs.Laws.Hashing.{tree_root-leaves}
+use Rattle.storage_merkle.specs.Kept.{IsFirstAway, Kept, StandsBut, StandsFor, at_peaks, list_updated}
+use Rattle.storage_bitmap.specs.Chunks.{chunk, chunks_from, complete_chunks, IsRest, Retained, bit_count}
 use Rattle.storage_bitmap.specs.BitRoots.{partial_string, chunks_root, partial_chunk, bit_root}
 use Rattle.storage_bitmap.specs.StandsForBits.{chunk_digests, chunk_nodes}
 use Rattle.storage_bitmap.proofs.Standing.{rest_chunk, digest_at, digests-more, length-digests, count_of, length-chunks_from}
@@ -79,14 +79,14 @@ module _ {D : Type 0} (text : D → List ℕ) (digest : ℕ → List ℕ) where
   -- leaves that are written as they were
   unchanged : (list : List (List ℕ)) (keys : List ℕ) (us : List (ℕ × D)) → AllZip IsLeafOf keys us
       → ((j : ℕ) → (e : get_or list j [] ≡ digest j) → set list j (digest j) ≡ list)
-      → All (λ c. get_or list c [] ≡ digest c) keys → updated list (map (λ u. (u.0, text u.1)) us) ≡ list
+      → All (λ c. get_or list c [] ≡ digest c) keys → list_updated list (map (λ u. (u.0, text u.1)) us) ≡ list
   unchanged list [] [] z same all = refl
   unchanged list [] (u ∷ us) z same all = absurd z
   unchanged list (k ∷ keys) [] z same all = absurd z
   unchanged list (k ∷ keys) (u ∷ us) z same all =
       let P : ℕ → Type 0 = λ c. get_or list c [] ≡ digest c in
       let e : set list u.0 (text u.1) ≡ list = ap₂ (set list) z.0.0 z.0.1 ∙ same k (All-head P k keys all) in
-      ap (λ xs. updated xs (map (λ u. (u.0, text u.1)) us)) e ∙ unchanged list keys us z.1 same (All-tail P k keys all)
+      ap (λ xs. list_updated xs (map (λ u. (u.0, text u.1)) us)) e ∙ unchanged list keys us z.1 same (All-tail P k keys all)
 
   pub leaves_there : (keys : List ℕ) (us : List (ℕ × D)) → AllZip IsLeafOf keys us → map (λ u. u.0) us ≡ keys
   leaves_there = places
@@ -110,7 +110,7 @@ none_away text digest keys us leaves boundary pruned away zip there low first ou
 pub rewritten : {D : Type 0} (text : D → List ℕ) (h : HashFunction) (T : Layout) (c : ℕ → List ℕ) (n : ℕ) (r : Retained)
     (old new : Kept D) (keys : List ℕ) (us : List (ℕ × D)) → T ≡ ungrafted mmr
     → ((list : List (List ℕ)) (dirty : List ℕ) → StandsBut text mmr (node_over h T c) (map (λ u. u.0) us ++ dirty) old
-    list → StandsBut text mmr (node_over h T c) dirty new (updated list (map (λ u. (u.0, text u.1)) us)))
+    list → StandsBut text mmr (node_over h T c) dirty new (list_updated list (map (λ u. (u.0, text u.1)) us)))
     → AllZip (λ k u. (u.0 ≡ k) × (text u.1 ≡ h (be8 (size mmr k) ++ chunk n r.bits (k - r.pruned)))) keys us
     → All (λ k. (r.pruned ≤ k) × (k < old.leaves)) keys
     → (bits : List Bool) → IsRest n r bits
@@ -160,14 +160,14 @@ tree_rooted text h T c b n r tree root plain is whole bits rest s =
     let list = chunk_digests h n bits tree.leaves in
     let U = ungrafted mmr in
     let e : tree.leaves ≡ length bits / (8 * n) = whole ∙ ap (λ m. m / (8 * n)) (count_of n r bits rest) in
-    let all : list ≡ leaf_digests h U 0 (complete n bits) = ap (λ m. leaf_digests h U 0 (chunks_from n bits m 0)) e in
-    let len : length list ≡ length (complete n bits) =
+    let all : list ≡ leaf_digests h U 0 (complete_chunks n bits) = ap (λ m. leaf_digests h U 0 (chunks_from n bits m 0)) e in
+    let len : length list ≡ length (complete_chunks n bits) =
     length-digests h n bits tree.leaves ∙ e ∙ sym (length-chunks_from n bits (length bits / (8 * n)) 0) in
     is list (from_plain text h T c [] tree list plain s)
     ∙ ap (λ V. root_of h V b (length list) 0 (peak_digests h V c list (length list))) plain
     ∙ ap (root_of h U b (length list) 0) (peaks_any h mmr c (λ a. []) list 0 (mmr.peaks (length list)))
     ∙ ap₂ (λ xs m. root_of h U b m 0 (peak_digests h U (λ a. []) xs m)) all len
-    ∙ sym (tree_root-leaves h U mmr_laws b (listed (complete n bits)) 0)
+    ∙ sym (tree_root-leaves h U mmr_laws b (listed (complete_chunks n bits)) 0)
 
 pub aligned_root : (h : HashFunction) (b : Bagging) (n : ℕ) (bits : List Bool) → length bits % (8 * n) ≡ 0
     → chunks_root h b n bits ≡ bit_root h b n bits

@@ -9,19 +9,19 @@ use Rattle.std.proofs.Math.Nat.{div-mul-le_self}
 use Rattle.storage_codec.specs.Digests.{HashFunction}
 use Rattle.storage_merkle.specs.Shape.{size}
 use Rattle.storage_merkle.specs.Mmr.{mmr}
-use Rattle.storage_merkle.specs.MmrLaws.{mmr_laws}
+use Rattle.storage_merkle.specs.Laws.Mmr.{mmr_laws}
 use Rattle.storage_merkle.specs.Calc.{be8}
 use Rattle.storage_merkle.specs.Trees.{ungrafted}
 use Rattle.storage_merkle.specs.Hashing.{leaf_digests}
-use Rattle.storage_merkle.specs.HashingLaws.{length-leaf_digests, get-leaf_digests, leaf_digests-append}
+use Rattle.storage_merkle.specs.Laws.Hashing.{length-leaf_digests, get-leaf_digests, leaf_digests-append}
 use Rattle.storage_merkle.specs.Kept.{Kept, NodesOver, StandsBut, StandsFor, at_peaks, pins}
-use Rattle.storage_merkle.specs.KeptLaws.{node_same, peaks_same, length_at_peaks}
+use Rattle.storage_merkle.specs.Laws.Kept.{node_same, peaks_same, length_at_peaks}
 use Rattle.storage_merkle.specs.declared.merkle.bagging.Bagging.{Bagging}
-use Rattle.storage_bitmap.specs.Chunks.{IsChunkSize, digit, number_of, bytes_of, chunk, chunks_from, IsRest, Retained, bit_count, pruned_to}
+use Rattle.storage_bitmap.specs.Chunks.{IsChunkSize, digit_of, number_of, packed_bytes, chunk, chunks_from, IsRest, Retained, bit_count, pruned_to}
 use Rattle.storage_merkle.specs.declared.merkle.error.Error.{Error}
 use Rattle.storage_merkle.specs.declared.merkle.error.Error.TheVariants.{LocationOverflow, MissingNode, Memory}
 use Rattle.storage_bitmap.specs.BitRoots.{bit_root}
-use Rattle.storage_bitmap.specs.StandsForBits.{Authenticated, IsWholeMap, StandsForBits, StandsMerkleized, IsPrunedState, IsRefused, chunk_digests, chunk_nodes}
+use Rattle.storage_bitmap.specs.StandsForBits.{Authenticated, IsWholeMap, StandsForBits, StandsMerkleized, IsPrunedState, IsBitmapRefused, chunk_digests, chunk_nodes}
 
 -- ---- chunks read their own bits alone
 
@@ -30,7 +30,7 @@ unfolding number_of
 number_zero zero bs z = refl
 number_zero (suc k) [] z = refl
 number_zero (suc k) (b ∷ bs) z =
-    let e : digit b ≡ 0 = ap digit (z 0 (omega arith)) in
+    let e : digit_of b ≡ 0 = ap digit_of (z 0 (omega arith)) in
     omega (arith, e, number_zero k bs (λ t l. z (suc t) (omega arith)))
 
 number_same : (k : ℕ) (xs ys : List Bool) → ((t : ℕ) → t < k → get_or xs t false ≡ get_or ys t false)
@@ -41,11 +41,11 @@ number_same (suc k) [] [] same = refl
 number_same (suc k) [] (y ∷ ys) same = sym (number_zero (suc k) (y ∷ ys) (λ t l. sym (same t l)))
 number_same (suc k) (x ∷ xs) [] same = number_zero (suc k) (x ∷ xs) same
 number_same (suc k) (x ∷ xs) (y ∷ ys) same =
-    ap₂ (λ u v. digit u + 2 * v) (same 0 (omega arith)) (number_same k xs ys (λ t l. same (suc t) (omega arith)))
+    ap₂ (λ u v. digit_of u + 2 * v) (same 0 (omega arith)) (number_same k xs ys (λ t l. same (suc t) (omega arith)))
 
 bytes_same : (n : ℕ) (xs ys : List Bool) → ((t : ℕ) → t < 8 * n → get_or xs t false ≡ get_or ys t false)
-    → bytes_of n xs ≡ bytes_of n ys
-unfolding bytes_of
+    → packed_bytes n xs ≡ packed_bytes n ys
+unfolding packed_bytes
 bytes_same zero xs ys same = refl
 bytes_same (suc n) xs ys same =
     ap₂ (λ x y. x ∷ y)
@@ -64,9 +64,9 @@ pub rest_chunk : (n : ℕ) (r : Retained) (bits : List Bool) (j : ℕ) → IsRes
     → chunk n r.bits (j - r.pruned) ≡ chunk n bits j
 unfolding chunk
 rest_chunk n r bits j rest kept =
-    ap (λ xs. bytes_of n (drop ((j - r.pruned) * (8 * n)) xs)) rest.rest
-    ∙ ap (bytes_of n) (drop-drop ((j - r.pruned) * (8 * n)) (r.pruned * (8 * n)) bits)
-    ∙ ap (λ m. bytes_of n (drop m bits)) (along (8 * n) r.pruned (j - r.pruned) j (omega arith)) where
+    ap (λ xs. packed_bytes n (drop ((j - r.pruned) * (8 * n)) xs)) rest.rest
+    ∙ ap (packed_bytes n) (drop-drop ((j - r.pruned) * (8 * n)) (r.pruned * (8 * n)) bits)
+    ∙ ap (λ m. packed_bytes n (drop m bits)) (along (8 * n) r.pruned (j - r.pruned) j (omega arith)) where
       along : (m p c j : ℕ) → p + c ≡ j → p * m + c * m ≡ j * m
       along m p c j e = rw (← e) (grind arith)
 
@@ -421,7 +421,7 @@ pub refused : {F : Type 0} (n count boundary given : ℕ) (error : Error F) → 
     → ((2 ^ 62 < boundary) × (error ≡ LocationOverflow boundary)) ⊎ ((boundary ≤ 2 ^ 62)
     × (((given < length (mmr.peaks boundary)) × (error ≡ MissingNode (slice_index (pins mmr boundary) given)))
     ⊎ ((length (mmr.peaks boundary) ≤ given) × (error ≡ Memory))))
-    → IsRefused n count given error
+    → IsBitmapRefused n count given error
 refused n count boundary given error at within (inl over) =
     absurd (omega (arith, at, within, div-le_self (2 ^ 62) (8 * n), over.0))
 refused n count boundary given error at within (inr (few, inl missing)) =

@@ -3,13 +3,14 @@ use Rattle.std.specs.Prelude.{◌≡◌, ◌≢◌, ℕ, ◌+◌, ◌-◌, ◌*�
 use Rattle.storage_codec.specs.Digests.{HashFunction, IsSized, Cross}
 use Rattle.storage_merkle.specs.Mmr.{mmr}
 use Rattle.storage_merkle.specs.Trees.{ungrafted, listed}
-use Rattle.storage_merkle.specs.RangeProofs.{RangeProof, CountsFit, recomputed_root, check_strings, own_proof, AreDigests}
+use Rattle.storage_merkle.specs.RangeProofs.{Proof, CountsFit, recomputed_root, check_strings, own_proof, AreDigests}
 use Rattle.storage_merkle.specs.declared.merkle.bagging.Bagging.{Bagging}
-use Rattle.storage_bitmap.specs.Chunks.{chunk, complete}
+use Rattle.storage_merkle.specs.Shape.{max_leaves}
+use Rattle.storage_bitmap.specs.Chunks.{chunk, complete_chunks}
 use Rattle.storage_bitmap.specs.BitRoots.{partial_string, is_aligned, chunks_root, partial_chunk, bit_root, bit_strings}
 
 -- the leaves of a proof of a bit are the number of bits, and chunks have n bytes
-module _ (h : HashFunction) (b : Bagging) (n : ℕ) (proof : RangeProof) (bytes : List ℕ) (bit : ℕ) where
+module _ (h : HashFunction) (b : Bagging) (n : ℕ) (proof : Proof) (bytes : List ℕ) (bit : ℕ) where
   -- the bit stands past the complete chunks
   abbrev pub in_partial : Bool
   in_partial = eqb (bit / (8 * n)) (proof.leaves / (8 * n))
@@ -19,7 +20,7 @@ module _ (h : HashFunction) (b : Bagging) (n : ℕ) (proof : RangeProof) (bytes 
   last_digest = get_or proof.digests (length proof.digests - 1) []
 
   -- the proof of the chunk in the tree over the complete chunks
-  abbrev pub chunk_proof : RangeProof
+  abbrev pub chunk_proof : Proof
   chunk_proof = record {
     leaves = proof.leaves / (8 * n);
     inactive = 0;
@@ -59,12 +60,12 @@ module _ (h : HashFunction) (b : Bagging) (n : ℕ) (proof : RangeProof) (bytes 
 -- the digests that a list of bits itself has for the bits of a chunk
 abbrev pub own_bit_digests : HashFunction → Bagging → ℕ → List Bool → ℕ → List (List ℕ)
 own_bit_digests h b n bits place =
-    let inner = (own_proof h (ungrafted mmr) b (listed (complete n bits)) 0 place (place + 1)).digests in
+    let inner = (own_proof h (ungrafted mmr) b (listed (complete_chunks n bits)) 0 place (place + 1)).digests in
     if eqb place (length bits / (8 * n)) then chunks_root h b n bits ∷ []
     else (if is_aligned n (length bits) then inner else inner ++ h (partial_chunk n bits) ∷ [])
 
 -- the proof that a list of bits itself has of a bit
-abbrev pub own_bit_proof : HashFunction → Bagging → ℕ → List Bool → ℕ → RangeProof
+abbrev pub own_bit_proof : HashFunction → Bagging → ℕ → List Bool → ℕ → Proof
 own_bit_proof h b n bits bit = record {
   leaves = length bits;
   inactive = 0;
@@ -72,7 +73,7 @@ own_bit_proof h b n bits bit = record {
 }
 
 -- the proof is the list's own, field for field, of a bit that it has, and the chunk is the list's
-pub record IsOwnBit (h : HashFunction) (b : Bagging) (n : ℕ) (proof : RangeProof) (bytes : List ℕ) (bit : ℕ)
+pub record IsOwnBit (h : HashFunction) (b : Bagging) (n : ℕ) (proof : Proof) (bytes : List ℕ) (bit : ℕ)
     (bits : List Bool) : Type 0 where
   pub proof_is : proof ≡ own_bit_proof h b n bits bit
   pub within : bit < length bits
@@ -80,16 +81,16 @@ pub record IsOwnBit (h : HashFunction) (b : Bagging) (n : ℕ) (proof : RangePro
 
 -- Of each list of bits with that root, the proof is the list's own and the chunk is the list's, or a string of the
 -- check and a different one of the list have one digest. Digests have d bytes.
-abbrev pub IsBitProved : ℕ → HashFunction → Bagging → ℕ → RangeProof → List ℕ → ℕ → List ℕ → Type 0
+abbrev pub IsBitProved : ℕ → HashFunction → Bagging → ℕ → Proof → List ℕ → ℕ → List ℕ → Type 0
 IsBitProved d h b n proof bytes bit root =
-    (d ≡ 32) ⊎ (d ≡ 64) → (bits : List Bool) → length bits ≤ 2 ^ 62 → bit_root h b n bits ≡ root →
+    (d ≡ 32) ⊎ (d ≡ 64) → (bits : List Bool) → length bits ≤ max_leaves → bit_root h b n bits ≡ root →
     IsOwnBit h b n proof bytes bit bits ⊎ Cross h (bit_check_strings h b n proof bytes bit) (bit_strings h b n bits)
 
 -- An accepted bit proof is that of each list of bits with the root, or two strings have one digest.
 abbrev pub BitProofsAreSound : Type 0
 BitProofsAreSound =
     (d : ℕ) (h : HashFunction) → IsSized d h → (b : Bagging) (n : ℕ) → 0 < n →
-    (proof : RangeProof) (bytes : List ℕ) (bit : ℕ) (root : List ℕ) → AreDigests d proof.digests
+    (proof : Proof) (bytes : List ℕ) (bit : ℕ) (root : List ℕ) → AreDigests d proof.digests
     → proof.leaves < 2 ^ 64 →
     IsBitAccepted h b n proof bytes bit root → IsBitProved d h b n proof bytes bit root
 
@@ -97,5 +98,5 @@ BitProofsAreSound =
 abbrev pub OwnBitProofsAreAccepted : Type 0
 OwnBitProofsAreAccepted =
     (h : HashFunction) (b : Bagging) (n : ℕ) → 0 < n
-    → (proof : RangeProof) (bytes : List ℕ) (bit : ℕ) (bits : List Bool) → length bits ≤ 2 ^ 62 →
+    → (proof : Proof) (bytes : List ℕ) (bit : ℕ) (bits : List Bool) → length bits ≤ max_leaves →
     IsOwnBit h b n proof bytes bit bits → IsBitAccepted h b n proof bytes bit (bit_root h b n bits)

@@ -5,7 +5,7 @@ use Rattle.storage_merkle.specs.Calc.{be8}
 use Rattle.storage_merkle.specs.Mmr.{mmr}
 use Rattle.storage_merkle.specs.Trees.{ungrafted, listed, tree_root, tree_strings}
 use Rattle.storage_merkle.specs.declared.merkle.bagging.Bagging.{Bagging}
-use Rattle.storage_bitmap.specs.Chunks.{chunk, complete}
+use Rattle.storage_bitmap.specs.Chunks.{chunk, complete_chunks}
 
 -- the string of a root where the last chunk is partial: the root of the tree, the number of bits, the partial chunk's
 -- digest
@@ -24,7 +24,7 @@ partial_chunk n bits = chunk n bits (length bits / (8 * n))
 module _ (h : HashFunction) (b : Bagging) (n : ℕ) (bits : List Bool) where
   -- the root of the tree over the complete chunks
   abbrev pub chunks_root : List ℕ
-  chunks_root = tree_root h (ungrafted mmr) b (listed (complete n bits)) 0
+  chunks_root = tree_root h (ungrafted mmr) b (listed (complete_chunks n bits)) 0
 
   -- the string of the root of these bits where they do not fill their chunks
   abbrev pub unaligned_string : List ℕ
@@ -36,5 +36,5 @@ module _ (h : HashFunction) (b : Bagging) (n : ℕ) (bits : List Bool) where
   -- each string given to the digest function there
   abbrev pub bit_strings : List (List ℕ)
   bit_strings =
-      if is_aligned n (length bits) then tree_strings h (ungrafted mmr) b (listed (complete n bits)) 0
-      else unaligned_string ∷ (partial_chunk n bits ∷ tree_strings h (ungrafted mmr) b (listed (complete n bits)) 0)
+      if is_aligned n (length bits) then tree_strings h (ungrafted mmr) b (listed (complete_chunks n bits)) 0
+      else unaligned_string ∷ (partial_chunk n bits ∷ tree_strings h (ungrafted mmr) b (listed (complete_chunks n bits)) 0)

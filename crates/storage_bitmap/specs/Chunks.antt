@@ -10,25 +10,25 @@ halves (suc times) n = eqb n 1 || (eqb (n % 2) 0 && halves times (n / 2))
 abbrev pub IsChunkSize : ℕ → Type 0
 IsChunkSize n = IsTrue (halves n n) × (n ≤ 2 ^ 59)
 
-abbrev pub digit : Bool → ℕ
-digit true = 1
-digit false = 0
+abbrev pub digit_of : Bool → ℕ
+digit_of true = 1
+digit_of false = 0
 
 -- the number of the first k bits, low to high, where missing bits are 0
 unfoldable pub number_of : ℕ → List Bool → ℕ
 number_of zero bs = 0
 number_of (suc k) [] = 0
-number_of (suc k) (b ∷ bs) = digit b + 2 * number_of k bs
+number_of (suc k) (b ∷ bs) = digit_of b + 2 * number_of k bs
 
 -- the first bits as n bytes
-unfoldable pub bytes_of : ℕ → List Bool → List ℕ
-bytes_of zero bs = []
-bytes_of (suc n) bs = number_of 8 bs ∷ bytes_of n (drop 8 bs)
+unfoldable pub packed_bytes : ℕ → List Bool → List ℕ
+packed_bytes zero bs = []
+packed_bytes (suc n) bs = number_of 8 bs ∷ packed_bytes n (drop 8 bs)
 
 -- chunk j, of n bytes: bit b stands in chunk b / 8n, byte (b mod 8n) / 8, at the place b mod 8, and what is past the
 -- bits is 0
 unfoldable pub chunk : ℕ → List Bool → ℕ → List ℕ
-chunk n bits j = bytes_of n (drop (j * (8 * n)) bits)
+chunk n bits j = packed_bytes n (drop (j * (8 * n)) bits)
 
 -- the first c chunks from chunk j on
 unfoldable pub chunks_from : ℕ → List Bool → ℕ → ℕ → List (List ℕ)
@@ -36,8 +36,8 @@ chunks_from n bits zero j = []
 chunks_from n bits (suc c) j = chunk n bits j ∷ chunks_from n bits c (suc j)
 
 -- the complete chunks
-abbrev pub complete : ℕ → List Bool → List (List ℕ)
-complete n bits = chunks_from n bits (length bits / (8 * n)) 0
+abbrev pub complete_chunks : ℕ → List Bool → List (List ℕ)
+complete_chunks n bits = chunks_from n bits (length bits / (8 * n)) 0
 
 -- what is left of a list of bits once whole chunks in front are pruned
 pub record Retained : Type 0 where

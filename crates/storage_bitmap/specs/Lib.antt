@@ -2,5 +2,5 @@ pub mod Chunks
 pub mod Packed
 pub mod BitRoots
 pub mod BitProofs
-pub mod BitSteps
+pub mod BitParts
 pub mod StandsForBits

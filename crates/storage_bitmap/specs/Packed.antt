@@ -1,7 +1,8 @@
 -- Bits packed into bytes, low bit first.
-use Rattle.std.specs.Prelude.{◌≡◌, ◌≢◌, ℕ, ◌+◌, ◌*◌, ◌/◌, ◌%◌, ◌<◌, ◌≤◌, ◌^◌, List, length, map, slice_index, Bool, false, eqb}
+use Rattle.std.specs.Prelude.{◌≡◌, ◌≢◌, ℕ, ◌+◌, ◌*◌, ◌/◌, ◌%◌, ◌<◌, ◌≤◌, List, length, map, slice_index, Bool, false, eqb}
 use Rattle.std.specs.List.{range_with_len}
 use Rattle.std.specs.Int.{bit_at}
+use Rattle.storage_merkle.specs.Shape.{max_leaves}
 use Rattle.storage_bitmap.specs.Chunks.{IsChunkSize}
 
 -- the bit at a place
@@ -15,7 +16,7 @@ bits_in bytes count = map (bit_in bytes) (range_with_len 0 count)
 -- so many bits are kept in as few chunks of n bytes as have room for them, and the rest of the last chunk is clear
 pub record IsPacked (n pruned kept : ℕ) (bytes : List ℕ) : Type 0 where
   pub size : IsChunkSize n
-  pub few : pruned * (8 * n) + kept ≤ 2 ^ 62
+  pub few : pruned * (8 * n) + kept ≤ max_leaves
   pub chunks : ℕ
   pub room : length bytes ≡ chunks * n
   pub enough : kept ≤ chunks * (8 * n)

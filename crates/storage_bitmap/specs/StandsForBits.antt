@@ -1,5 +1,5 @@
 -- What an authenticated bitmap keeps, and for which lists of bits it stands.
-use Rattle.std.specs.Prelude.{◌≡◌, ℕ, ◌*◌, ◌/◌, ◌<◌, ◌≤◌, ◌^◌, ◌⊎◌, List, [], length, map, take, slice_index, Bool}
+use Rattle.std.specs.Prelude.{◌≡◌, ℕ, ◌*◌, ◌/◌, ◌<◌, ◌≤◌, ◌⊎◌, List, [], length, map, take, slice_index, Bool}
 use Rattle.storage_codec.specs.Digests.{HashFunction}
 use Rattle.storage_merkle.specs.Mmr.{mmr}
 use Rattle.storage_merkle.specs.Trees.{ungrafted}
@@ -8,6 +8,7 @@ use Rattle.storage_merkle.specs.Kept.{Kept, NodesOver, StandsBut, at_peaks, pins
 use Rattle.storage_merkle.specs.declared.merkle.bagging.Bagging.{Bagging}
 use Rattle.storage_merkle.specs.declared.merkle.error.Error.{Error}
 use Rattle.storage_merkle.specs.declared.merkle.error.Error.TheVariants.{MissingNode, DataCorrupted, Memory}
+use Rattle.storage_merkle.specs.Shape.{max_leaves}
 use Rattle.storage_bitmap.specs.Chunks.{IsChunkSize, Retained, IsRest, bit_count, chunks_from}
 use Rattle.storage_bitmap.specs.BitRoots.{bit_root}
 
@@ -24,7 +25,7 @@ pub record Authenticated (D M : Type 0) : Type 0 where
 pub record IsWholeMap {D : Type 0} (n : ℕ) (retained : Retained) (tree : Kept D)
     (fits : ℕ → ℕ → ℕ → Type 0) : Type 0 where
   pub size : IsChunkSize n
-  pub few : bit_count n retained ≤ 2 ^ 62
+  pub few : bit_count n retained ≤ max_leaves
   pub boundary : tree.boundary ≡ retained.pruned
   pub order : tree.boundary ≤ tree.leaves
   pub leaves : tree.leaves ≤ bit_count n retained / (8 * n)
@@ -39,24 +40,24 @@ abbrev pub chunk_nodes : HashFunction → NodesOver
 chunk_nodes h = node_over h (ungrafted mmr) (λ a. [])
 
 -- the retained bits are these bits' rest, and the digests of the tree are those over their chunks, save over dirty
--- chunks; a digest's bytes are told by `text`
-pub record StandsForBits {D M : Type 0} (text : D → List ℕ) (h : HashFunction) (n : ℕ) (b : Authenticated D M)
+-- chunks; a digest's bytes are told by `bytes_of`
+pub record StandsForBits {D M : Type 0} (bytes_of : D → List ℕ) (h : HashFunction) (n : ℕ) (b : Authenticated D M)
     (dirty : List ℕ) (bits : List Bool) : Type 0 where
   pub rest : IsRest n b.retained bits
-  pub digests : StandsBut text mmr (chunk_nodes h) dirty b.tree (chunk_digests h n bits b.tree.leaves)
+  pub digests : StandsBut bytes_of mmr (chunk_nodes h) dirty b.tree (chunk_digests h n bits b.tree.leaves)
 
 -- no chunk is dirty, each complete chunk is in the tree, and the root is that of these bits
-pub record StandsMerkleized {D M : Type 0} (text : D → List ℕ) (h : HashFunction) (bagging : Bagging) (n : ℕ)
+pub record StandsMerkleized {D M : Type 0} (bytes_of : D → List ℕ) (h : HashFunction) (bagging : Bagging) (n : ℕ)
     (b : Authenticated D M) (root : D) (bits : List Bool) : Type 0 where
-  pub stands : StandsForBits text h n b [] bits
+  pub stands : StandsForBits bytes_of h n b [] bits
   pub whole : b.tree.leaves ≡ length bits / (8 * n)
-  pub root_is : text root ≡ bit_root h bagging n bits
+  pub root_is : bytes_of root ≡ bit_root h bagging n bits
 
 -- the digests are those of the peaks over so many chunks, which these bits fill; digests past those say nothing
-pub record IsPrunedState {D : Type 0} (text : D → List ℕ) (h : HashFunction) (n count : ℕ) (pinned : List D)
+pub record IsPrunedState {D : Type 0} (bytes_of : D → List ℕ) (h : HashFunction) (n count : ℕ) (pinned : List D)
     (bits : List Bool) : Type 0 where
   pub filled : length bits ≡ count * (8 * n)
-  pub peaks : map text (take (length (mmr.peaks count)) pinned)
+  pub peaks : map bytes_of (take (length (mmr.peaks count)) pinned)
       ≡ at_peaks (chunk_nodes h (chunk_digests h n bits count)) 0 (mmr.peaks count)
 
 -- the text of the refusal is not told
@@ -66,17 +67,17 @@ IsCorrupted _ = ⊥
 
 -- why no bitmap is made from so many pruned chunks and so many digests: the bits are too many; a peak has no digest,
 -- the first of which is named; memory
-abbrev pub IsRefused : {F : Type 0} → ℕ → ℕ → ℕ → Error F → Type 0
-IsRefused n count given error =
-    ((2 ^ 62 < count * (8 * n)) × IsCorrupted error)
-    ⊎ ((count * (8 * n) ≤ 2 ^ 62) × (given < length (mmr.peaks count))
+abbrev pub IsBitmapRefused : {F : Type 0} → ℕ → ℕ → ℕ → Error F → Type 0
+IsBitmapRefused n count given error =
+    ((max_leaves < count * (8 * n)) × IsCorrupted error)
+    ⊎ ((count * (8 * n) ≤ max_leaves) × (given < length (mmr.peaks count))
     × (error ≡ MissingNode (slice_index (pins mmr count) given)))
-    ⊎ ((count * (8 * n) ≤ 2 ^ 62) × (length (mmr.peaks count) ≤ given) × (error ≡ Memory))
+    ⊎ ((count * (8 * n) ≤ max_leaves) × (length (mmr.peaks count) ≤ given) × (error ≡ Memory))
 
 -- Two bitmaps that stand for the same bits under one digest function and bagging have the same root, whatever is
 -- pruned of either.
 abbrev pub EqualBitsHaveEqualRoots : Type 0 → Type 0 → Type 0
 EqualBitsHaveEqualRoots D M =
-    (text : D → List ℕ) (h : HashFunction) (bagging : Bagging) (n : ℕ) (a b : Authenticated D M) (root other : D)
-    (bits : List Bool) → StandsMerkleized text h bagging n a root bits → StandsMerkleized text h bagging n b other bits
-    → text root ≡ text other
+    (bytes_of : D → List ℕ) (h : HashFunction) (bagging : Bagging) (n : ℕ) (a b : Authenticated D M) (root other : D)
+    (bits : List Bool) → StandsMerkleized bytes_of h bagging n a root bits → StandsMerkleized bytes_of h bagging n b other bits
+    → bytes_of root ≡ bytes_of other

@@ -2,11 +2,5 @@ pub mod Faults
 pub mod Parts
 pub mod Codec
 pub mod Digests
-pub mod PartsLaws
-pub mod Laws
-pub mod VarintLaws
-pub mod SpellingLaws
-pub mod OrderLaws
-pub mod CodecLaws
-pub mod DigestLaws
 pub mod DigestValues
+pub mod Laws

@@ -6,8 +6,8 @@ ghost use Rattle.std.proofs.Common.{lit<};
 ghost use Rattle.std.proofs.lemmas.Slice.Eq.{bytes_eq-Decides};
 ghost use Rattle.storage_codec.specs.Codec.{Gives, front_at, option_at};
 ghost use Rattle.storage_codec.specs.Digests.{HashFunction, IsPlain, IsSized};
-ghost use Rattle.storage_codec.specs.DigestLaws.{fixed_plain};
-ghost use Rattle.storage_codec.specs.DigestValues.{one_digest};
+ghost use Rattle.storage_codec.specs.Laws.Digests.{fixed_plain};
+ghost use Rattle.storage_codec.specs.Laws.DigestValues.{one_digest};
 ghost use Rattle.storage_codec.specs.Parts.{IsEnding};
 
 use crate::codec::{Buf, Canonical, EncodeSize, Error, FixedBytes, Read, Small};
@@ -45,7 +45,7 @@ pub trait Digest: Copy + Eq + Canonical + EncodeSize + Small + Read<Cfg = ()> {
 
     /// Reads an option of a digest from the front of `buf`: a truth value, then the digest where it is true. Refuses
     /// as they do; then `buf` is at an ending of what it held.
-    #[tactic(auto, using(crate::specs::PartsLaws::ends_then))]
+    #[tactic(auto, using(crate::specs::Laws::Parts::ends_then))]
     final fn read_option<B: Buf>(alloc: Global, buf: &mut B) -> Result<Option<Self>, Error>
         ensures gives { Gives (option_map Self.text) result (B.unread buf.new)
             (option_at (front_at Self.size) (B.unread buf.old)) }

@@ -12,7 +12,7 @@ use Rattle.storage_merkle.specs.RangeProofs.{AreDigests, CountsFit, recomputed_r
 use Rattle.storage_merkle.specs.Checks.{IsRecomputed}
 use Rattle.storage_current.specs.declared.qmdb.current.proof.window.Window.{Window}
 use Rattle.storage_current.specs.Grafted.{grafted_over, supplied}
-use Rattle.storage_current.specs.Snapshots.{Grafting, height, graftable, view, canonical_string, first_chunk, CurrentProof, OperationProof}
+use Rattle.storage_current.specs.Snapshots.{Grafting, height, graftable, view, canonical_string, first_chunk, RangeProof, OperationProof}
 use Rattle.storage_current.specs.CurrentProofs.{claim, IsCurrent, IsActiveCurrent}
 use Rattle.storage_current.specs.CurrentSoundness.{CurrentProofsAreSound, OperationProofsAreSound, HasDigests, MeansCurrent, MeansActive}
 use Rattle.storage_current.specs.Windows.{IsWindowOf, IsMatched}
@@ -25,7 +25,7 @@ pub seen_lengths : {X Y : Type 0} (f : X → List ℕ) (k : Y → List ℕ) (xs 
     → IsWindowOf g leaves start (length (map f xs)) (length (map k ys)) w
 seen_lengths f k xs ys g leaves start w of = rw (length-map xs f, length-map ys k) of
 
-module _ (h : HashFunction) (g : Grafting) (proof : CurrentProof) (start : ℕ) (operations chunks : List (List ℕ))
+module _ (h : HashFunction) (g : Grafting) (proof : RangeProof) (start : ℕ) (operations chunks : List (List ℕ))
     (w : Window) (of : IsWindowOf g proof.range.leaves start (length operations) (length chunks) w) where
   -- the slots as the window has them
   abbrev pub Slots : Type 0
@@ -92,7 +92,7 @@ module _ (h : HashFunction) (g : Grafting) (proof : CurrentProof) (start : ℕ) 
 -- from where a check says yes, what its yes means
 pub current_means : CurrentProofsAreSound → (d : ℕ) (h : HashFunction) → (d ≡ 32) ⊎ (d ≡ 64) → IsSized d h
     → (g : Grafting) → Laws g.shape
-    → (proof : CurrentProof) (start : ℕ) (operations chunks : List (List ℕ)) → HasDigests d proof
+    → (proof : RangeProof) (start : ℕ) (operations chunks : List (List ℕ)) → HasDigests d proof
     → {E : Type 0} (root : List ℕ) (answer : Result Bool E)
     → IfOk answer (λ yes. (IsTrue yes → IsCurrent h g proof start operations chunks root)
     × (IsCurrent h g proof start operations chunks root → IsTrue yes))

@@ -5,16 +5,16 @@ use Rattle.std.proofs.lemmas.Bool.{ltb-true, not-false}
 use Rattle.std.proofs.lemmas.List.Elements.{All-head, All-tail}
 use Rattle.storage_codec.specs.Digests.{HashFunction}
 use Rattle.storage_merkle.specs.Shape.{Shape, Laws, Inside}
-use Rattle.storage_merkle.specs.Multiples.{quotient, out_of_units}
+use Rattle.storage_merkle.specs.Laws.Multiples.{quotient, out_of_units}
 use Rattle.storage_merkle.specs.declared.merkle.bagging.Bagging.TheVariants.{BackwardFold}
 use Rattle.storage_merkle.specs.Extracted.{HoldsOfEach}
 use Rattle.storage_merkle.specs.Trees.{Layout, Content, content_of}
 use Rattle.storage_merkle.specs.Chunked.{AreChunks}
 use Rattle.storage_merkle.specs.Multi.{Claim, IsMultiOwn, IsMultiProved, locations, multi_strings, touched, untouched}
-use Rattle.storage_merkle.specs.RangeProofs.{AreDigests, RangeProof, apart}
+use Rattle.storage_merkle.specs.RangeProofs.{AreDigests, Proof, apart}
 use Rattle.storage_current.specs.Combined.{over_chunks}
 use Rattle.storage_current.specs.Grafted.{grafted_over, supplied}
-use Rattle.storage_current.specs.GraftingLaws.{and-true, or-true}
+use Rattle.storage_current.specs.Laws.Grafting.{and-true, or-true}
 use Rattle.storage_current.specs.HeldOfViews.{AreSupplied, HoldsOfViews, view_at}
 use Rattle.storage_current.specs.Snapshots.{graftable_at}
 use Rattle.storage_current.proofs.Padding.{supplied-whole}
@@ -96,7 +96,7 @@ module _ (size height r start : ℕ) (chunks : List (List ℕ)) (S : Shape) wher
     of_views low elements given holds =
         holds size over same other (range_chunks leaves low (low + length elements) given)
 
-  pub of_multi_views : (d : ℕ) (h : HashFunction) → size ≢ 8 + d → (proof : RangeProof)
+  pub of_multi_views : (d : ℕ) (h : HashFunction) → size ≢ 8 + d → (proof : Proof)
       → r ≡ graftable_at S height proof.leaves → (claims : List Claim) (root : List ℕ)
       → All (λ l. AreSupplied size height start chunks l (l + 1)) (locations claims)
       → IsMultiProved d h layout BackwardFold proof claims chunk root

@@ -6,15 +6,15 @@ use Rattle.std.proofs.Math.Nat.{add-mul}
 use Rattle.storage_codec.specs.Digests.{HashFunction}
 use Rattle.storage_merkle.specs.Shape.{Shape, Laws, size}
 use Rattle.storage_merkle.specs.Nodes.{IsNode, CoversSame}
-use Rattle.storage_merkle.specs.Multiples.{pow_two, in_units}
+use Rattle.storage_merkle.specs.Laws.Multiples.{pow_two, in_units}
 use Rattle.storage_merkle.specs.Pace.{ChunksKeepPace}
-use Rattle.storage_merkle.specs.ShapeLaws.{grows_at_most}
+use Rattle.storage_merkle.specs.Laws.Shape.{grows_at_most}
 use Rattle.storage_merkle.specs.Calc.{be8}
 use Rattle.storage_merkle.specs.Trees.{ungrafted}
 use Rattle.storage_merkle.specs.Hashing.{node_over}
 use Rattle.storage_current.specs.Combined.{over_chunks}
 use Rattle.storage_current.specs.CombinedViews.{AnswersAreTrue, AreAnswersOf, AreGraftedLeaves, both, chunk_node, operations_node}
-use Rattle.storage_current.specs.GraftingLaws.{graftable_by_birth}
+use Rattle.storage_current.specs.Laws.Grafting.{graftable_by_birth}
 use Rattle.storage_current.specs.Snapshots.{Grafting, IsGrafting, height, graftable_at, Snapshot, IsSnapshot, view_node}
 use Rattle.storage_current.proofs.Joined.{joined_below, joined_above}
 use Rattle.storage_current.proofs.NodeSteps.{view_low, view_above}

@@ -4,12 +4,12 @@ use Rattle.std.specs.Prelude.{replicate}
 use Rattle.storage_merkle.specs.Calc.{be8}
 use Rattle.storage_merkle.specs.Mmr.{mmr}
 use Rattle.storage_merkle.specs.Mmb.{mmb}
-use Rattle.storage_bitmap.specs.Chunks.{chunk, bytes_of, number_of}
+use Rattle.storage_bitmap.specs.Chunks.{chunk, packed_bytes, number_of}
 use Rattle.storage_current.specs.Snapshots.{graftable_at, counted_slot, canonical_string}
 
 -- bit b stands in byte b / 8, under the mask 1 << (b mod 8); what is past the bits is 0
 nine_bits : chunk 2 (true ∷ false ∷ false ∷ true ∷ false ∷ false ∷ false ∷ false ∷ true ∷ []) 0 ≡ 9 ∷ 1 ∷ []
-unfolding chunk bytes_of number_of
+unfolding chunk packed_bytes number_of
 nine_bits = refl
 
 -- chunks of 8 operations: the second one of an MMB is graftable from 19 operations on, of an MMR from 16

@@ -4,18 +4,18 @@ use Rattle.std.specs.Option.{option_eq}
 use Rattle.std.specs.Cmp.Derive.{both_true}
 use Rattle.std.proofs.lemmas.Bool.{and_parts}
 use Rattle.storage_merkle.specs.Equality.{AnswersAs, EqualAsSeen}
-use Rattle.storage_merkle.specs.EqualityLaws.{equal_options}
+use Rattle.storage_merkle.specs.Laws.Equality.{equal_options}
 use Rattle.storage_ops.specs.declared.qmdb.any.operation.update.ordered.Update.{Update}
 use Rattle.storage_current.specs.declared.qmdb.current.ordered.exclusion.ExclusionProof.{ExclusionProof}
 use Rattle.storage_current.specs.declared.qmdb.current.ordered.exclusion.ExclusionProof.TheVariants as code
 use Rattle.storage_current.specs.declared.qmdb.current.proof.operation.Proof.{Proof}
 use Rattle.storage_current.specs.Equality.{exclusion_eq}
-use Rattle.storage_current.specs.Held.{operation_of}
+use Rattle.storage_current.specs.Held.{operation_proof_of}
 use Rattle.storage_current.specs.HeldKeys.{exclusion_of, exclusion_seen}
 use Rattle.storage_current.specs.KeyProofs.{KeyValue, Commit}
 
 module _ {F K V D C A W B X Y : Type 0} (text : D → List ℕ) (bytes : C → List ℕ) (key : K → X) (value : W → Y)
-    {proof_eq : Proof F D C → Proof F D C → Bool} (proofs : EqualAsSeen proof_eq (operation_of text bytes))
+    {proof_eq : Proof F D C → Proof F D C → Bool} (proofs : EqualAsSeen proof_eq (operation_proof_of text bytes))
     {update_eq : Update K V A W B → Update K V A W B → Bool}
     (updates : EqualAsSeen {X = X × Y × X} update_eq (λ u. (key u.key, value u.value, key u.next_key)))
     {value_eq : W → W → Bool} (values : EqualAsSeen value_eq value) where

@@ -11,8 +11,8 @@ use Rattle.storage_merkle.specs.Extracted.{ExtractedDigestsAreTrue, ExtractedPos
 use Rattle.storage_current.specs.CurrentProofs.{IsCurrent, claim}
 use Rattle.storage_current.specs.CurrentSoundness.{HasDigests}
 use Rattle.storage_current.specs.ExtractedCurrent.{AreExtractedCurrent, ExtractedCurrentDigestsAreTrue, IsNotExtracted, MeansExtracted, extracted_current}
-use Rattle.storage_current.specs.GraftingLaws.{aligned-le, chunk_apart}
-use Rattle.storage_current.specs.Snapshots.{CurrentProof, Grafting, aligned_of, canonical_root, content, height, view}
+use Rattle.storage_current.specs.Laws.Grafting.{aligned-le, chunk_apart}
+use Rattle.storage_current.specs.Snapshots.{RangeProof, Grafting, aligned_of, canonical_root, content, height, view}
 use Rattle.storage_current.proofs.RangeSound.{chunk-length, grafted_accepted, padded, same_parts, fewer, wider}
 use Rattle.storage_current.proofs.Padding.{pad-length, same_extracted}
 
@@ -49,7 +49,7 @@ pub unequal : (b : Bool) → true ≡ not b → b ≡ true → ⊥
 unequal true e f = cc
 unequal false e f = cc
 
-module _ {V F : Type 0} (h : HashFunction) (g : Grafting) (proof : CurrentProof) (start : ℕ) (root : List ℕ)
+module _ {V F : Type 0} (h : HashFunction) (g : Grafting) (proof : RangeProof) (start : ℕ) (root : List ℕ)
     (digests : V → List (ℕ × List ℕ)) (answer : Result V (Error F)) where
   -- digests are handed out just as the check says
   abbrev pub Told : List (List ℕ) → List (List ℕ) → Type 0
@@ -59,7 +59,7 @@ module _ {V F : Type 0} (h : HashFunction) (g : Grafting) (proof : CurrentProof)
   pub told : {xs ys cs ds : List (List ℕ)} → xs ≡ ys → cs ≡ ds → Told xs cs → Told ys ds
   told {xs} {ys} {cs} {ds} e f t = subst (Told ys) f (subst (λ zs. Told zs cs) e t)
 
-pub handed : {V F : Type 0} (h : HashFunction) (g : Grafting) → Laws g.shape → (proof : CurrentProof) (start : ℕ)
+pub handed : {V F : Type 0} (h : HashFunction) (g : Grafting) → Laws g.shape → (proof : RangeProof) (start : ℕ)
     (operations chunks : List (List ℕ)) (root : List ℕ) (digests : V → List (ℕ × List ℕ)) (answer : Result V (Error F))
     → ExtractedPositionsAscend → Told h g proof start root digests answer operations chunks
     → IfOk answer (λ v. AreExtractedCurrent h g proof start operations chunks root (digests v))
@@ -71,9 +71,9 @@ handed h g laws proof start operations chunks root digests (Ok v) law t = record
 }
 handed h g laws proof start operations chunks root digests (Err e) law t = tt
 
-pub means : ExtractedCurrentDigestsAreTrue → (d : ℕ) (h : HashFunction) → (d ≡ 32) ⊎ (d ≡ 64) → IsSized d h
+pub meaning : ExtractedCurrentDigestsAreTrue → (d : ℕ) (h : HashFunction) → (d ≡ 32) ⊎ (d ≡ 64) → IsSized d h
     → {V F : Type 0} (g : Grafting) → Laws g.shape
-    → (proof : CurrentProof) (start : ℕ) (operations chunks : List (List ℕ)) → HasDigests d proof
+    → (proof : RangeProof) (start : ℕ) (operations chunks : List (List ℕ)) → HasDigests d proof
     → (root : List ℕ) (digests : V → List (ℕ × List ℕ)) (answer : Result V (Error F))
     → Told h g proof start root digests answer operations chunks
     → IfOk answer (λ v. MeansExtracted h g proof start operations chunks root (digests v))

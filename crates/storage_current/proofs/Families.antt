@@ -5,11 +5,11 @@ use Rattle.std.proofs.Math.Nat.{div-lt_iff_lt-mul, add-div_right}
 use Rattle.storage_merkle.specs.Shape.{Shape, Laws}
 use Rattle.storage_merkle.specs.Mmr.{mmr}
 use Rattle.storage_merkle.specs.Mmb.{mmb}
-use Rattle.storage_merkle.specs.MmrLaws.{mmr_laws}
-use Rattle.storage_merkle.specs.MmbLaws.{mmb_laws}
+use Rattle.storage_merkle.specs.Laws.Mmr.{mmr_laws}
+use Rattle.storage_merkle.specs.Laws.Mmb.{mmb_laws}
 use Rattle.storage_current.specs.Snapshots.{graftable_at}
 use Rattle.storage_current.specs.CurrentSoundness.{AreLawful}
-use Rattle.storage_current.specs.GraftingLaws.{graftable_by_birth, one_pending}
+use Rattle.storage_current.specs.Laws.Grafting.{graftable_by_birth, one_pending}
 
 lawful : (S : Shape) → Laws S → (k : ℕ) → AreLawful S k
 lawful S L k = record { laws = L; graftable = graftable_by_birth S L k; one_pending = one_pending S L k }

@@ -18,7 +18,7 @@ use Rattle.storage_merkle.specs.declared.merkle.error.Error.{Error as Refusal}
 use Rattle.storage_merkle.specs.declared.merkle.error.Error.TheVariants as tree
 use Rattle.storage_current.specs.BuiltProofs.{ArePartsOf, AreAnswered, IsNotBuilt}
 use Rattle.storage_current.specs.Served.{held_at, Counts, IsNotRead, IsUnread}
-use Rattle.storage_current.specs.Snapshots.{Grafting, Snapshot, CurrentProof, own_current_proof}
+use Rattle.storage_current.specs.Snapshots.{Grafting, Snapshot, RangeProof, own_range_proof}
 
 -- ---- a digest by its position
 
@@ -184,9 +184,9 @@ on_ok (Err e) P p = tt
 
 pub why_from : {X F D : Type 0} (answers : ℕ → Option D → Type 0) (r : Result X (Error F)) (text : D → List ℕ)
     (h : HashFunction) (g : Grafting) (plan : PlanOf) (status : Retained) (floor : ℕ) (ops_root : List ℕ)
-    (held : X → CurrentProof)
+    (held : X → RangeProof)
     → IfOk r (λ x. (s : Snapshot) → ArePartsOf text answers h g plan status floor ops_root s
-    → held x ≡ own_current_proof h g s plan.start plan.end)
+    → held x ≡ own_range_proof h g s plan.start plan.end)
     → IfErr r (IsNotBuilt answers g plan status)
     → (node : ℕ → Option D) (ps : List ℕ) (ds : List D) → ps ≡ planned g.shape plan.leaves plan.start plan.end
     → map Some ds ≡ map node ps → AreTold answers node ps

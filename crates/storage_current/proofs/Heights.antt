@@ -3,7 +3,7 @@ use Rattle.std.proofs.Common.{◌≡◌, ℕ, zero, suc, ◌+◌, ◌*◌, ◌/�
 use Rattle.std.proofs.lemmas.Bool.{eqb-true, or_cases, and_parts}
 use Rattle.std.proofs.lemmas.Nat.{pow_pos, pow-add, mul-le, shr_split, div-add-mod'}
 use Rattle.std.proofs.Math.Nat.{div-mul-le_self}
-use Rattle.storage_merkle.specs.Multiples.{log_unique, pow_two, pow_order, pow_le, below_pow}
+use Rattle.storage_merkle.specs.Laws.Multiples.{log_unique, pow_two, pow_order, pow_le, below_pow}
 use Rattle.storage_bitmap.specs.Chunks.{IsChunkSize, halves}
 
 pub halves_power : (times n : ℕ) → halves times n ≡ true → (k : ℕ) × (n ≡ 2 ^ k)

@@ -4,9 +4,9 @@ use Rattle.std.proofs.lemmas.Bool.{cases_lt, lt-leb}
 use Rattle.std.proofs.lemmas.Nat.{shl-shr}
 use Rattle.storage_merkle.specs.Shape.{Shape, Laws, size}
 use Rattle.storage_merkle.specs.Nodes.{IsNode, CoversSame}
-use Rattle.storage_merkle.specs.Multiples.{multiple_down, zero_multiple}
+use Rattle.storage_merkle.specs.Laws.Multiples.{multiple_down, zero_multiple}
 use Rattle.storage_current.specs.Snapshots.{greatest}
-use Rattle.storage_current.specs.GraftingLaws.{and-true, greatest-meets, greatest-is}
+use Rattle.storage_current.specs.Laws.Grafting.{and-true, greatest-meets, greatest-is}
 use Rattle.storage_current.specs.Combined.{first_at, height_at, lowered, is_within, joined}
 
 module _ (S : Shape) (L : Laws S) where

@@ -9,7 +9,7 @@ use Rattle.storage_current.specs.Snapshots.{Grafting, Snapshot, IsSnapshot, IsAc
 use Rattle.storage_current.specs.CurrentProofs.{IsActiveCurrent}
 use Rattle.storage_current.specs.CurrentSoundness.{MeansActive}
 use Rattle.storage_current.specs.Keys.{Keyed, update_text, IsWellFormed, IsValue, IsAbsent, UpdatesAreValues}
-use Rattle.storage_current.specs.KeyProofs.{Means, MeansValue, MeansAbsent, Exclusion, IsExcluded, proof_of, shown_text}
+use Rattle.storage_current.specs.KeyProofs.{Means, MeansValue, MeansAbsent, Exclusion, IsExcluded, proof_in, shown_text}
 
 module _ (h : HashFunction) (g : Grafting) (proof : OperationProof) (root : List ℕ) {E : Type 0}
     (answer : Result Bool E) where
@@ -65,11 +65,11 @@ means_value h g proof root answer e key value next a same law means =
 pub means_absent : {E K V : Type 0} (h : HashFunction) (g : Grafting) (root : List ℕ) (answer : Result Bool E)
     (e : Keyed K V) (x : Exclusion (K × V × K) V) (key : K) (a : List ℕ)
     → a ≡ shown_text e x → ((s : Snapshot) → IsSnapshot s → IsWellFormed e s
-    → IsActive s (proof_of x).location (shown_text e x) → IsAbsent e s key)
-    → IfOk answer (λ yes. IsTrue yes → MeansActive h g (proof_of x) a root)
+    → IsActive s (proof_in x).location (shown_text e x) → IsAbsent e s key)
+    → IfOk answer (λ yes. IsTrue yes → MeansActive h g (proof_in x) a root)
     → IfOk answer (λ yes. IsTrue yes → MeansAbsent e h g x key root)
 means_absent h g root answer e x key a same law means =
-    means_claim h g (proof_of x) root answer a (shown_text e x) same (λ s. IsWellFormed e s → IsAbsent e s key)
+    means_claim h g (proof_in x) root answer a (shown_text e x) same (λ s. IsWellFormed e s → IsAbsent e s key)
     (λ s snapshot active well. law s snapshot well active) means
 
 -- an update with the same next key, an update with the same parts, a commit with the same value
@@ -88,7 +88,7 @@ commit_same operation floor m n e = ap (λ (t : Option (List ℕ)). operation (C
 module _ {E K V : Type 0} (h : HashFunction) (S : Shape) (e : Keyed K V) (key : K) (root : List ℕ)
     (answer : Result Bool E) (x y : Exclusion (K × V × K) V) (same : x ≡ y) where
   abbrev over : Exclusion (K × V × K) V → Grafting
-  over z = record { shape = S; bytes = length (proof_of z).chunk }
+  over z = record { shape = S; bytes = length (proof_in z).chunk }
 
   -- the same of the same exclusion
   pub excluded_exactly : IfOk answer (λ yes. IsTrue yes ↔ IsExcluded e h (over x) x key root)

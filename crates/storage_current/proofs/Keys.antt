@@ -6,7 +6,7 @@ use Rattle.std.specs.Ordering.{is_eq, ordering_reverse}
 use Rattle.std.proofs.lemmas.Bool.{false≢true}
 use Rattle.storage_ops.specs.Operations.{OperationView, Update, CommitFloor, operation_map, operation_floor}
 use Rattle.storage_ops.specs.PrefixFree.{IsPrefixFree}
-use Rattle.storage_ops.specs.PrefixFreeLaws.{three_parts}
+use Rattle.storage_ops.specs.Laws.PrefixFree.{three_parts}
 use Rattle.storage_current.specs.Snapshots.{Snapshot, IsActive}
 use Rattle.storage_current.specs.Keys.{Keyed, update_text, commit_text, before, UpdatesAreValues, ExcludedAreAbsent, NoneAtItsFloor}
 

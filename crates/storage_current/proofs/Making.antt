@@ -3,7 +3,7 @@ use Rattle.std.proofs.Common.{◌≡◌, ℕ, ◌+◌, ◌^◌, ◌⊎◌, List,
 use Rattle.std.proofs.lemmas.Bool.{cases_lt}
 use Rattle.storage_codec.specs.Digests.{HashFunction}
 use Rattle.storage_merkle.specs.Shape.{Shape, Laws, size}
-use Rattle.storage_merkle.specs.ShapeLaws.{size_order}
+use Rattle.storage_merkle.specs.Laws.Shape.{size_order}
 use Rattle.storage_merkle.specs.Plans.{PlanOf, refusal}
 use Rattle.storage_merkle.specs.declared.merkle.error.Error.{Error as Refusal}
 use Rattle.storage_merkle.specs.declared.merkle.error.Error.TheVariants as tree
@@ -12,7 +12,7 @@ use Rattle.storage_ops.specs.declared.qmdb.error.Error.{Error}
 use Rattle.storage_ops.specs.declared.qmdb.error.Error.TheVariants.{Merkle}
 use Rattle.storage_current.specs.BuiltProofs.{ArePartsOf, AreAnswered, AreBitsOf}
 use Rattle.storage_current.specs.Served.{held_at, plan_over, IsNotRead, IsNotMade, IsServable, AreServedOf}
-use Rattle.storage_current.specs.Snapshots.{Grafting, Snapshot, CurrentProof, own_current_proof}
+use Rattle.storage_current.specs.Snapshots.{Grafting, Snapshot, RangeProof, own_range_proof}
 
 -- ---- plans
 
@@ -97,17 +97,17 @@ module _ {D : Type 0} (nodes : ℕ) (node : ℕ → Option D) (g : Grafting) (lo
   }
 
   pub served_own : Laws g.shape → (n : ℕ) (plan : PlanOf) (text : D → List ℕ) (h : HashFunction) (floor : ℕ)
-      (ops_root : List ℕ) (range : CurrentProof) → size g.shape n ≡ nodes → plan ≡ plan_over n low high
+      (ops_root : List ℕ) (range : RangeProof) → size g.shape n ≡ nodes → plan ≡ plan_over n low high
       → ((s : Snapshot) → ArePartsOf text (held_at node) h g plan status floor ops_root s
-      → range ≡ own_current_proof h g s plan.start plan.end)
+      → range ≡ own_range_proof h g s plan.start plan.end)
       → (s : Snapshot) → AreServedOf nodes node g low high status text h floor ops_root s
-      → range ≡ own_current_proof h g s low high
+      → range ≡ own_range_proof h g s low high
   served_own laws n plan text h floor ops_root range count is own s served =
       let leaves : length s.operations ≡ n =
       same_count g.shape laws (length s.operations) n (served.tree ∙ sym count) in
       let same : plan_over (length s.operations) low high ≡ plan = ap (λ m. plan_over m low high) leaves ∙ sym is in
       let own_plan : (p : PlanOf) → plan ≡ p → ArePartsOf text (held_at node) h g p status floor ops_root s
-      → range ≡ own_current_proof h g s p.start p.end =
-      λ p e parts. subst (λ (q : PlanOf). range ≡ own_current_proof h g s q.start q.end) e
+      → range ≡ own_range_proof h g s p.start p.end =
+      λ p e parts. subst (λ (q : PlanOf). range ≡ own_range_proof h g s q.start q.end) e
       (own s (subst (λ q. ArePartsOf text (held_at node) h g q status floor ops_root s) (sym e) parts)) in
       own_plan (plan_over (length s.operations) low high) (sym same) served.parts

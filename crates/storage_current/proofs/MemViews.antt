@@ -13,15 +13,15 @@ use Rattle.storage_merkle.specs.Nodes.{IsNode}
 use Rattle.storage_merkle.specs.Pace.{ChunksKeepPace}
 use Rattle.storage_merkle.specs.Calc.{be8, grafted_digest}
 use Rattle.storage_merkle.specs.Hashing.{leaf_digests}
-use Rattle.storage_merkle.specs.HashingLaws.{leaf_digests-append, length-leaf_digests, node_over-tree}
+use Rattle.storage_merkle.specs.Laws.Hashing.{leaf_digests-append, length-leaf_digests, node_over-tree}
 use Rattle.storage_merkle.specs.Kept.{Kept, NodesOver, StandsBut, StandsFor, kept_at}
-use Rattle.storage_merkle.specs.Multiples.{is_multiple}
-use Rattle.storage_merkle.specs.ShapeLaws.{every, grows_at_most, no_peaks}
+use Rattle.storage_merkle.specs.Laws.Multiples.{is_multiple}
+use Rattle.storage_merkle.specs.Laws.Shape.{every, grows_at_most, no_peaks}
 use Rattle.storage_merkle.specs.Trees.{ungrafted, listed, tree_node}
 use Rattle.storage_bitmap.specs.Chunks.{chunk}
 use Rattle.storage_current.specs.CombinedViews.{AnswersAreTrue, AreGraftedLeaves, chunk_node}
 use Rattle.storage_current.specs.GraftedTrees.{KeptChunks, Keeps, regrafted, join_over, tree_at}
-use Rattle.storage_current.specs.GraftingLaws.{graftable_by_birth}
+use Rattle.storage_current.specs.Laws.Grafting.{graftable_by_birth}
 use Rattle.storage_current.specs.NodeLists.{AreHad, AreNodes, IsGrown, IsOver, IsTreeOver, KeptTree, plain_over, seen_in, seen_list}
 use Rattle.storage_current.specs.Snapshots.{Grafting, IsGrafting, Snapshot, IsSnapshot, graftable, graftable_at, height, view_node}
 use Rattle.storage_current.proofs.CombinedViews.{cover, joined_true}

@@ -5,39 +5,39 @@ use Rattle.std.proofs.lemmas.List.{map-append}
 use Rattle.std.proofs.lemmas.Option.{get_or_from_slice_get}
 use Rattle.storage_merkle.specs.Shape.{Shape, Laws, size, Inside, AreAligned}
 use Rattle.storage_merkle.specs.Nodes.{placed}
-use Rattle.storage_merkle.specs.ShapeLaws.{inside_before}
+use Rattle.storage_merkle.specs.Laws.Shape.{inside_before}
 use Rattle.storage_merkle.specs.Trees.{places}
 use Rattle.storage_current.specs.CombinedViews.{AreAnswersOf, AnswersAreTrue}
-use Rattle.storage_current.specs.NodeLists.{AreHad, AreNodes, text_of, texts_from}
+use Rattle.storage_current.specs.NodeLists.{AreHad, AreNodes, bytes_or_none, bytes_from}
 use Rattle.storage_current.proofs.Places.{AreBelow, peaks_below, length-placed}
 
 -- ---- what is had at each position
 
 module _ {D : Type 0} (text : D → List ℕ) (answers : ℕ → Option D) where
-  pub length-texts : (n p : ℕ) → length (texts_from text answers p n) ≡ n
+  pub length-texts : (n p : ℕ) → length (bytes_from text answers p n) ≡ n
   length-texts zero p = refl
   length-texts (suc n) p = ap suc (length-texts n (p + 1))
 
-  get-texts : (n p i : ℕ) → i < n → slice_get (texts_from text answers p n) i ≡ Some (text_of text (answers (p + i)))
+  get-texts : (n p i : ℕ) → i < n → slice_get (bytes_from text answers p n) i ≡ Some (bytes_or_none text (answers (p + i)))
   get-texts zero p i l = absurd (omega arith)
-  get-texts (suc n) p zero l = let e : p ≡ p + 0 = omega arith in ap (λ q. Some (text_of text (answers q))) e
+  get-texts (suc n) p zero l = let e : p ≡ p + 0 = omega arith in ap (λ q. Some (bytes_or_none text (answers q))) e
   get-texts (suc n) p (suc i) l = let e : p + 1 + i ≡ p + suc i = omega arith in
-      get-texts n (p + 1) i (omega arith) ∙ ap (λ q. Some (text_of text (answers q))) e
+      get-texts n (p + 1) i (omega arith) ∙ ap (λ q. Some (bytes_or_none text (answers q))) e
 
-  some_text : (o : Option D) → IsSome o → Some (text_of text o) ≡ option_map text o
+  some_text : (o : Option D) → IsSome o → Some (bytes_or_none text o) ≡ option_map text o
   some_text None e = absurd (cc)
   some_text (Some d) e = refl
 
   -- a digest that is had stands in the list
   pub had_text : (n p : ℕ) → AreHad answers n → p < n
-      → slice_get (texts_from text answers 0 n) p ≡ option_map text (answers p)
+      → slice_get (bytes_from text answers 0 n) p ≡ option_map text (answers p)
   had_text n p had l = let e : 0 + p ≡ p = omega arith in
-      get-texts n 0 p l ∙ ap (λ q. Some (text_of text (answers q))) e ∙ some_text (answers p) (had p l)
+      get-texts n 0 p l ∙ ap (λ q. Some (bytes_or_none text (answers q))) e ∙ some_text (answers p) (had p l)
 
   pub read_had : (n p : ℕ) (o : Option D) (d : D) → AreHad answers n → p < n → o ≡ answers p → o ≡ Some d
-      → get_or (texts_from text answers 0 n) p [] ≡ text d
+      → get_or (bytes_from text answers 0 n) p [] ≡ text d
   read_had n p o d had l eo ed =
-      get_or_from_slice_get (texts_from text answers 0 n) p (text d) []
+      get_or_from_slice_get (bytes_from text answers 0 n) p (text d) []
       (had_text n p had l ∙ ap (option_map text) (sym eo ∙ ed))
 
   -- where each is had and what is had is true, each digest is answered
@@ -52,13 +52,13 @@ module _ {D : Type 0} (text : D → List ℕ) (answers : ℕ → Option D) where
 
   -- and the list is that of the nodes
   pub are_nodes : (S : Shape) (n : ℕ) (node : ℕ → ℕ → List ℕ) → AreHad answers (size S n)
-      → AreAnswersOf text S n node answers → AreNodes S node (texts_from text answers 0 (size S n))
+      → AreAnswersOf text S n node answers → AreNodes S node (bytes_from text answers 0 (size S n))
   are_nodes S n node had are = record {
     are = λ p a k at within.
         let l : p < size S n = rw (length-texts (size S n) 0) at within in
-        let e : slice_get (texts_from text answers 0 (size S n)) p ≡ Some (node a k) =
+        let e : slice_get (bytes_from text answers 0 (size S n)) p ≡ Some (node a k) =
         had_text (size S n) p had l ∙ are p a k l at in
-        get_or_from_slice_get (texts_from text answers 0 (size S n)) p (node a k) [] e;
+        get_or_from_slice_get (bytes_from text answers 0 (size S n)) p (node a k) [] e;
   }
 
 -- ---- peaks

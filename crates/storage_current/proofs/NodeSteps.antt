@@ -2,15 +2,15 @@
 use Rattle.std.proofs.Common.{◌≡◌, ℕ, zero, suc, ◌+◌, ◌-◌, ◌*◌, ◌/◌, ◌%◌, ◌^◌, ◌<◌, ◌≤◌, ◌++◌, List, length, true, false, ◌&&◌, eqb, ltb, refl, sym, ap, ap₂, ◌∙◌, subst, arith, eq-eqb, ne_eqb, lt-ltb}
 use Rattle.storage_codec.specs.Digests.{HashFunction}
 use Rattle.storage_merkle.specs.Shape.{Laws, Inside}
-use Rattle.storage_merkle.specs.Multiples.{quotient}
+use Rattle.storage_merkle.specs.Laws.Multiples.{quotient}
 use Rattle.storage_merkle.specs.Calc.{be8, grafted_digest}
 use Rattle.storage_merkle.specs.Trees.{Layout, ungrafted, Content, listed, node_calc, never, plain, tree_node}
 use Rattle.storage_merkle.specs.Hashing.{join_digest}
-use Rattle.storage_merkle.specs.HashingLaws.{eval-join}
+use Rattle.storage_merkle.specs.Laws.Hashing.{eval-join}
 use Rattle.storage_bitmap.specs.Chunks.{chunk}
 use Rattle.storage_current.specs.Grafted.{grafted_over}
 use Rattle.storage_current.specs.Snapshots.{Grafting, height, graftable, view, Snapshot, content, view_node}
-use Rattle.storage_current.specs.GraftingLaws.{graftable_by_birth}
+use Rattle.storage_current.specs.Laws.Grafting.{graftable_by_birth}
 
 -- a node from its children
 pub tree_join : (h : HashFunction) (T : Layout) (content : Content) (a k : ℕ) → 1 ≤ k

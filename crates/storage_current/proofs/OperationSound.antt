@@ -5,10 +5,10 @@ use Rattle.std.proofs.Math.Nat.{mod-lt}
 use Rattle.storage_codec.specs.Digests.{HashFunction}
 use Rattle.storage_bitmap.specs.Chunks.{IsChunkSize, chunk, chunks_from}
 use Rattle.storage_bitmap.specs.Packed.{bit_in}
-use Rattle.storage_current.specs.Snapshots.{Grafting, IsGrafting, height, Snapshot, IsSnapshot, canonical_root, first_chunk, last_chunk, Holds, IsActive, OperationProof, own_current_proof, own_operation_proof}
+use Rattle.storage_current.specs.Snapshots.{Grafting, IsGrafting, height, Snapshot, IsSnapshot, canonical_root, first_chunk, last_chunk, Holds, IsActive, OperationProof, own_range_proof, own_operation_proof}
 use Rattle.storage_current.specs.CurrentProofs.{IsActiveCurrent}
 use Rattle.storage_current.specs.CurrentSoundness.{CurrentProofsAreSound, OperationProofsAreSound, OwnCurrentProofsAreAccepted}
-use Rattle.storage_current.specs.GraftingLaws.{chunk_height}
+use Rattle.storage_current.specs.Laws.Grafting.{chunk_height}
 use Rattle.storage_current.proofs.Bits.{bit_in-chunk, one_chunk}
 
 module _ (h : HashFunction) (g : Grafting) (size : IsChunkSize g.bytes) (s : Snapshot) where
@@ -41,7 +41,7 @@ module _ (h : HashFunction) (g : Grafting) (size : IsChunkSize g.bytes) (s : Sna
   head_is x y e = cc
 
   pub operation_is : (proof : OperationProof) (operation : List ℕ) → bit_in proof.chunk (proof.location % 2 ^ height g)
-      ≡ true → (proof.range ≡ own_current_proof h g s proof.location (proof.location + 1))
+      ≡ true → (proof.range ≡ own_range_proof h g s proof.location (proof.location + 1))
       → Holds g s proof.location (operation ∷ []) (proof.chunk ∷ [])
       → (proof ≡ own_operation_proof h g s proof.location) × IsActive s proof.location operation
   operation_is proof operation bit range holds =

@@ -1,8 +1,8 @@
 -- How many digests the proof of one leaf has.
 use Rattle.std.proofs.Common.{◌≡◌, ℕ, zero, suc, ◌+◌, ◌<◌, ◌≤◌, ◌^◌, List, [], ◌∷◌, ◌++◌, length, take, drop, Bool, true, false, if◌then◌else◌, ◌||◌, leb, le-leb, ◌⊎◌, inl, inr, refl, ap, ◌∙◌, arith, length-append}
 use Rattle.std.proofs.lemmas.Bool.{cases_lt, lt-leb}
-use Rattle.storage_merkle.specs.Shape.{Laws, leaves_of}
-use Rattle.storage_merkle.specs.Multiples.{pow_two, pow_order}
+use Rattle.storage_merkle.specs.Shape.{Laws, leaves_under}
+use Rattle.storage_merkle.specs.Laws.Multiples.{pow_two, pow_order}
 use Rattle.storage_merkle.specs.Calc.{Site, Calc, pair, graft, be8}
 use Rattle.storage_merkle.specs.declared.merkle.bagging.Bagging.{Bagging}
 use Rattle.storage_merkle.specs.declared.merkle.bagging.Bagging.TheVariants.{ForwardFold, BackwardFold}
@@ -78,8 +78,8 @@ module _ (T : Layout) (low : ℕ) where
       (sites_in T cut (places (s + 2 ^ k) hs)) in
       omega (arith, here, rest, both)
 
-  counted : (hs : List ℕ) (s : ℕ) → leaves_of hs ≤ 2 ^ 62 → count (places s hs) ≤ length hs + 62
-  unfolding leaves_of
+  counted : (hs : List ℕ) (s : ℕ) → leaves_under hs ≤ 2 ^ 62 → count (places s hs) ≤ length hs + 62
+  unfolding leaves_under
   counted [] s few = omega arith
   counted (k ∷ hs) s few =
       let both = length-append (sites_of (part T cut (record { first = s; height = k })))
@@ -175,7 +175,7 @@ module _ (T : Layout) (low : ℕ) where
       let ux = upped (not_leading low xs) in
       let uy = upped (not_leading low ys) in
       let parts = both_folds b i ps in
-      let sum : leaves_of (T.shape.peaks n) ≤ 2 ^ 62 = omega (arith, laws.sum n) in
+      let sum : leaves_under (T.shape.peaks n) ≤ 2 ^ 62 = omega (arith, laws.sum n) in
       let most = counted (T.shape.peaks n) 0 sum in
       let peaks = laws.few n few in
       omega (arith, a, d, ef, g, dg, cdg, bcdg, whole, lx, ly, ux, uy, parts, most, peaks)

@@ -9,17 +9,17 @@ use Rattle.storage_merkle.specs.declared.merkle.bagging.Bagging.{Bagging}
 use Rattle.storage_merkle.specs.declared.merkle.bagging.Bagging.TheVariants.{BackwardFold}
 use Rattle.storage_merkle.specs.Shape.{Shape}
 use Rattle.storage_merkle.specs.Calc.{Site, front, back, node, Calc}
-use Rattle.storage_merkle.specs.CalcLaws.{eval_length}
+use Rattle.storage_merkle.specs.Laws.Calc.{eval_length}
 use Rattle.storage_merkle.specs.Trees.{Layout, Content, node_calc, never, plain}
 use Rattle.storage_merkle.specs.RangeProofs.{fold_digest, own_digest, sites}
-use Rattle.storage_merkle.specs.ProofWireLaws.{all_digests}
-use Rattle.storage_merkle.specs.Wire.{IsSlot}
-use Rattle.storage_current.specs.Snapshots.{Grafting, IsGrafting, height, graftable, graftable_at, view, Snapshot, IsSnapshot, content, aligned_of, pending_of, own_current_proof, own_operation_proof}
+use Rattle.storage_merkle.specs.Laws.ProofWire.{all_digests}
+use Rattle.storage_merkle.specs.Wire.{IsPendingSlot}
+use Rattle.storage_current.specs.Snapshots.{Grafting, IsGrafting, height, graftable, graftable_at, view, Snapshot, IsSnapshot, content, aligned_of, pending_of, own_range_proof, own_operation_proof}
 use Rattle.storage_current.specs.CurrentProofs as check
 use Rattle.storage_current.specs.CurrentSoundness.{HasDigests}
-use Rattle.storage_current.specs.CurrentWire.{current_text, current_at, operation_text, sized_operation_at, IsAdmittedCurrent}
-use Rattle.storage_current.specs.CurrentWireLaws.{current_again, sized_again}
-use Rattle.storage_current.specs.GraftingLaws.{aligned-le}
+use Rattle.storage_current.specs.CurrentWire.{range_proof_text, range_proof_at, operation_text, sized_operation_at, IsAdmittedRangeProof}
+use Rattle.storage_current.specs.Laws.CurrentWire.{current_again, sized_again}
+use Rattle.storage_current.specs.Laws.Grafting.{aligned-le}
 use Rattle.storage_current.specs.OwnWire.{IsPrompt}
 use Rattle.storage_current.proofs.RangeSound.{chunk-length}
 use Rattle.storage_current.proofs.OwnSites.{few_sites}
@@ -58,14 +58,14 @@ none_pending S prompt k n =
 
 module _ (d : ℕ) (h : HashFunction) (sized : IsSized d h) (g : Grafting) (grafting : IsGrafting g) (has_pending : Bool)
     (prompt : IsPrompt has_pending g.shape) (s : Snapshot) (snapshot : IsSnapshot s) where
-  slot_fits : (there : Bool) → IsPrompt there g.shape → IsSlot there (option_map h (pending_of h g s))
+  slot_fits : (there : Bool) → IsPrompt there g.shape → IsPendingSlot there (option_map h (pending_of h g s))
   slot_fits true none = tt
   slot_fits false none =
       let n = length s.operations in
       let same : n / 2 ^ height g ≡ graftable g n = none_pending g.shape (none refl) (height g) n in
       rw (le-ltb (graftable g n) (n / 2 ^ height g) (omega arith)) refl
 
-  own_digests : (low high : ℕ) → HasDigests d (own_current_proof h g s low high)
+  own_digests : (low high : ℕ) → HasDigests d (own_range_proof h g s low high)
   own_digests low high = record {
     range = all_digests (own_digest h (view g (length s.operations)) BackwardFold (content h g s) (length s.operations)
         (aligned_of h g s) low high) d (own_sized d h (view g (length s.operations)) BackwardFold (content h g s)
@@ -75,8 +75,8 @@ module _ (d : ℕ) (h : HashFunction) (sized : IsSized d h) (g : Grafting) (graf
     partial = slot_sized d h sized _;
   }
 
-  own_admitted : (low high most : ℕ) → length (own_current_proof h g s low high).range.digests ≤ most → most < 2 ^ 64
-      → IsAdmittedCurrent has_pending most (own_current_proof h g s low high)
+  own_admitted : (low high most : ℕ) → length (own_range_proof h g s low high).range.digests ≤ most → most < 2 ^ 64
+      → IsAdmittedRangeProof has_pending most (own_range_proof h g s low high)
   own_admitted low high most count small =
       let n = length s.operations in
       let few = snapshot.few in
@@ -92,16 +92,16 @@ module _ (d : ℕ) (h : HashFunction) (sized : IsSized d h) (g : Grafting) (graf
         pending = slot_fits has_pending prompt;
       }
 
-  pub own_current_again : (low high most : ℕ) → length (own_current_proof h g s low high).range.digests ≤ most
+  pub own_current_again : (low high most : ℕ) → length (own_range_proof h g s low high).range.digests ≤ most
       → most < 2 ^ 64 → (rest : List ℕ) →
-      current_at has_pending d most (current_text has_pending (own_current_proof h g s low high) ++ rest)
-      ≡ Ok (own_current_proof h g s low high, rest)
+      range_proof_at has_pending d most (range_proof_text has_pending (own_range_proof h g s low high) ++ rest)
+      ≡ Ok (own_range_proof h g s low high, rest)
   own_current_again low high most count small rest =
-      current_again has_pending d most (own_current_proof h g s low high) rest (own_digests low high)
+      current_again has_pending d most (own_range_proof h g s low high) rest (own_digests low high)
       (own_admitted low high most count small)
 
   -- the proof of one operation has at most 127 digests
-  own_count : (low : ℕ) → length (own_current_proof h g s low (low + 1)).range.digests ≤ 128
+  own_count : (low : ℕ) → length (own_range_proof h g s low (low + 1)).range.digests ≤ 128
   own_count low =
       let n = length s.operations in
       let T = view g n in

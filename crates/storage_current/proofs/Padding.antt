@@ -5,7 +5,7 @@ use Rattle.storage_codec.specs.Digests.{HashFunction}
 use Rattle.storage_merkle.specs.declared.merkle.bagging.Bagging.TheVariants.{BackwardFold}
 use Rattle.storage_merkle.specs.Calc.{Site, front, back, node, Calc, given, leaf, pair, graft, be8, is_zero, grafted_digest, grafted_strings, Values, eval, strings}
 use Rattle.storage_merkle.specs.Trees.{Layout, Content, node_calc, eval_bag, strings_bag, root_head}
-use Rattle.storage_merkle.specs.RangeProofs.{RangeProof, AreDigests, apart, position_of, check_bag, check_values, check_string, check_strings, CountsFit}
+use Rattle.storage_merkle.specs.RangeProofs.{Proof, AreDigests, apart, position_of, check_bag, check_values, check_string, check_strings, CountsFit}
 use Rattle.storage_merkle.specs.Extracted.{checked, digest_at, extracted, extracted_sites}
 use Rattle.storage_current.specs.Grafted.{supplied}
 
@@ -56,7 +56,7 @@ module _ (h : HashFunction) (digest : Site → List ℕ) (element c e : ℕ → 
   bag_strings (Some t) = same_strings t
 
 -- two claims that differ in such chunks alone
-module _ (h : HashFunction) (T : Layout) (proof : RangeProof) (start : ℕ) (elements : List (List ℕ)) (c e : ℕ → List ℕ)
+module _ (h : HashFunction) (T : Layout) (proof : Proof) (start : ℕ) (elements : List (List ℕ)) (c e : ℕ → List ℕ)
     (good : (a : ℕ) → AsGood (c a) (e a)) where
   abbrev first : Content
   first = record { elements = elements; chunk = c }

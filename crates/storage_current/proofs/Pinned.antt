@@ -10,8 +10,8 @@ use Rattle.std.proofs.lemmas.Option.{slice_get-get_or}
 use Rattle.std.proofs.Math.Nat.{mod-lt}
 use Rattle.storage_merkle.specs.Shape.{Shape, Laws, size, Inside, AreAligned}
 use Rattle.storage_merkle.specs.Nodes.{placed}
-use Rattle.storage_merkle.specs.Multiples.{pow_two, pow_order, next, multiple_add, multiple_down, power_multiple, is_multiple}
-use Rattle.storage_merkle.specs.ShapeLaws.{inside_between, grows_at_most, grows_below, leaves_of_size}
+use Rattle.storage_merkle.specs.Laws.Multiples.{pow_two, pow_order, next, multiple_add, multiple_down, power_multiple, is_multiple}
+use Rattle.storage_merkle.specs.Laws.Shape.{inside_between, grows_at_most, grows_below, leaves_of_size}
 use Rattle.storage_merkle.specs.Kept.{at_peaks, paired, pins}
 use Rattle.storage_current.specs.GraftedTrees.{IsCoverable, IsKeptIn, IsUnder, leaf_places, tree_at}
 

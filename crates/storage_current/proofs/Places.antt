@@ -2,7 +2,7 @@
 use Rattle.std.proofs.Common.{◌≡◌, ℕ, suc, ◌+◌, ◌^◌, ◌<◌, List, [], ◌∷◌, length, refl, ap, arith, inl, inr}
 use Rattle.storage_merkle.specs.Shape.{Shape, Laws, size, Inside, AreAligned}
 use Rattle.storage_merkle.specs.Nodes.{placed}
-use Rattle.storage_merkle.specs.ShapeLaws.{inside_before}
+use Rattle.storage_merkle.specs.Laws.Shape.{inside_before}
 
 pub length-placed : (S : Shape) (s : ℕ) (hs : List ℕ) → length (placed S s hs) ≡ length hs
 length-placed S s [] = refl

@@ -9,8 +9,8 @@ use Rattle.storage_merkle.specs.Shape.{Shape, Laws, size}
 use Rattle.storage_merkle.specs.Nodes.{IsNode}
 use Rattle.storage_merkle.specs.Trees.{ungrafted}
 use Rattle.storage_merkle.specs.Hashing.{join_digest}
-use Rattle.storage_merkle.specs.Multiples.{in_units}
-use Rattle.storage_merkle.specs.ShapeLaws.{grows_at_most, covers_down}
+use Rattle.storage_merkle.specs.Laws.Multiples.{in_units}
+use Rattle.storage_merkle.specs.Laws.Shape.{grows_at_most, covers_down}
 use Rattle.storage_current.specs.Combined.{first_at, height_at, over_chunks}
 use Rattle.storage_current.specs.CombinedViews.{AnswersAreTrue, chunk_node}
 use Rattle.storage_current.specs.GraftedTrees.{IsCoverable, IsKeptIn, KeptChunks, Keeps, join_over, rebuilt, regrafted, tree_at}

@@ -7,7 +7,7 @@ use Rattle.storage_codec.specs.Digests.{HashFunction}
 use Rattle.storage_merkle.specs.Shape.{Shape, Laws}
 use Rattle.storage_merkle.specs.Trees.{Layout}
 use Rattle.storage_merkle.specs.Hashing.{join_digest, node_over}
-use Rattle.storage_merkle.specs.ShapeLaws.{no_peaks, step}
+use Rattle.storage_merkle.specs.Laws.Shape.{no_peaks, step}
 use Rattle.storage_merkle.specs.Kept.{NodesOver, at_peaks}
 use Rattle.storage_current.specs.GraftedTrees.{KeptChunks, Keeps, rebuilt, tree_at}
 use Rattle.storage_current.proofs.Pinned.{Walk, peak_covered, tree_at-map, tree_true, walk_aligned, walk_here}

@@ -4,7 +4,7 @@ use Rattle.std.proofs.lemmas.Nat.{pow-add, mul-le}
 use Rattle.std.proofs.Math.Nat.{add-mul}
 use Rattle.storage_merkle.specs.Shape.{Shape, Laws, size}
 use Rattle.storage_merkle.specs.Nodes.{IsNode, CoversSame}
-use Rattle.storage_merkle.specs.ShapeLaws.{grows_at_most}
+use Rattle.storage_merkle.specs.Laws.Shape.{grows_at_most}
 use Rattle.storage_current.specs.Combined.{IsRaised}
 
 module _ (S : Shape) (L : Laws S) where

@@ -9,9 +9,9 @@ use Rattle.storage_merkle.specs.Trees.{Layout}
 use Rattle.storage_merkle.specs.RangeProofs.{IsOwn, AreDigests, CountsFit, recomputed_root}
 use Rattle.storage_merkle.specs.Soundness.{OwnRangeProofsAreAccepted}
 use Rattle.storage_bitmap.specs.Chunks.{chunk, chunks_from}
-use Rattle.storage_current.specs.Snapshots.{Grafting, IsGrafting, height, graftable, view, Snapshot, IsSnapshot, canonical_string, content, aligned_of, ops_root_of, grafted_root_of, pending_of, partial_of, canonical_root, first_chunk, last_chunk, Holds, CurrentProof, own_current_proof}
+use Rattle.storage_current.specs.Snapshots.{Grafting, IsGrafting, height, graftable, view, Snapshot, IsSnapshot, canonical_string, content, aligned_of, ops_root_of, grafted_root_of, pending_of, partial_of, canonical_root, first_chunk, last_chunk, Holds, RangeProof, own_range_proof}
 use Rattle.storage_current.specs.CurrentProofs.{claimed, claim, IsCurrent}
-use Rattle.storage_current.specs.GraftingLaws.{and-true, one_pending, aligned-le}
+use Rattle.storage_current.specs.Laws.Grafting.{and-true, one_pending, aligned-le}
 use Rattle.storage_current.proofs.Padding.{supplied-get}
 use Rattle.storage_current.proofs.Bits.{get_or-chunks_from, length-chunks_from}
 use Rattle.storage_current.proofs.RangeSound.{chunk-length}
@@ -48,8 +48,8 @@ chunk_lengths n bits (suc count) j = (chunk-length n bits j, chunk_lengths n bit
 module _ (accepted : OwnRangeProofsAreAccepted) (h : HashFunction) (g : Grafting) (grafting : IsGrafting g)
     (s : Snapshot) (snapshot : IsSnapshot s) (start : ℕ) (operations chunks : List (List ℕ))
     (holds : Holds g s start operations chunks) where
-  abbrev own : CurrentProof
-  own = own_current_proof h g s start (start + length operations)
+  abbrev own : RangeProof
+  own = own_range_proof h g s start (start + length operations)
 
   there : (j : ℕ) → first_chunk g start ≤ j → j ≤ last_chunk g start (length operations)
       → claimed h g own start operations chunks j ≡ chunk g.bytes s.bits j

@@ -8,16 +8,16 @@ use Rattle.storage_codec.specs.Digests.{HashFunction, IsSized, Cross}
 use Rattle.storage_merkle.specs.declared.merkle.bagging.Bagging.TheVariants.{BackwardFold}
 use Rattle.storage_merkle.specs.Shape.{Laws}
 use Rattle.storage_merkle.specs.Calc.{be8}
-use Rattle.storage_merkle.specs.CalcLaws.{split_append, be8_length, heads, same_or_cross, cross_wider}
+use Rattle.storage_merkle.specs.Laws.Calc.{split_append, be8_length, heads, same_or_cross, cross_wider}
 use Rattle.storage_merkle.specs.Trees.{Content, ungrafted, listed, tree_strings}
 use Rattle.storage_merkle.specs.RangeProofs.{IsAccepted, IsOwn, own_proof, check_strings, recomputed_root, apart}
 use Rattle.storage_merkle.specs.Soundness.{RangeProofsAreSound}
-use Rattle.storage_bitmap.specs.Chunks.{chunk, chunks_from, bytes_of}
-use Rattle.storage_current.specs.Snapshots.{Grafting, height, complete, graftable, view, Snapshot, IsSnapshot, slot, counted_slot, canonical_string, content, aligned_of, exact_of, ops_root_of, grafted_root_of, pending_of, partial_of, snapshot_string, snapshot_strings, canonical_root, first_chunk, last_chunk, Holds, CurrentProof, own_current_proof}
+use Rattle.storage_bitmap.specs.Chunks.{chunk, chunks_from, packed_bytes}
+use Rattle.storage_current.specs.Snapshots.{Grafting, height, complete, graftable, view, Snapshot, IsSnapshot, slot, counted_slot, canonical_string, content, aligned_of, exact_of, ops_root_of, grafted_root_of, pending_of, partial_of, snapshot_string, snapshot_strings, canonical_root, first_chunk, last_chunk, Holds, RangeProof, own_range_proof}
 use Rattle.storage_current.specs.CurrentProofs.{claimed, claim, touches_pending, touches_partial, current_string, current_strings, IsCurrent, IsSlot}
 use Rattle.storage_current.specs.CurrentSoundness.{HasDigests}
 use Rattle.storage_current.proofs.Padding.{AsGood, pad, pad-length, pad-whole, pad-good, supplied-length, supplied-get, supplied-whole, same_string, same_check_strings, same_fit}
-use Rattle.storage_current.specs.GraftingLaws.{chunk_height, chunk_apart, graftable_by_birth, aligned-le}
+use Rattle.storage_current.specs.Laws.Grafting.{chunk_height, chunk_apart, graftable_by_birth, aligned-le}
 
 counted_length : (d n : ℕ) (q : Option (List ℕ)) → IsSlot d q
     → (length (counted_slot n q) ≡ 0) ⊎ (length (counted_slot n q) ≡ 8 + d)
@@ -96,8 +96,8 @@ slot_decided h xs ys o c y true e f mx my =
 slot_decided h xs ys o c y false e f mx my = inl (λ t. absurd (cc))
 
 -- the bytes of a chunk
-length-bytes_of : (n : ℕ) (bits : List Bool) → length (bytes_of n bits) ≡ n
-unfolding bytes_of
+length-bytes_of : (n : ℕ) (bits : List Bool) → length (packed_bytes n bits) ≡ n
+unfolding packed_bytes
 length-bytes_of zero bits = refl
 length-bytes_of (suc n) bits = ap suc (length-bytes_of n _)
 
@@ -119,7 +119,7 @@ all_chunks n bits none (suc count) j (x ∷ xs) l f =
     cc
 
 -- the grafted tree's part of an accepted check
-module _ (d : ℕ) (h : HashFunction) (sized : IsSized d h) (g : Grafting) (proof : CurrentProof) (start : ℕ)
+module _ (d : ℕ) (h : HashFunction) (sized : IsSized d h) (g : Grafting) (proof : RangeProof) (start : ℕ)
     (operations chunks : List (List ℕ)) (s : Snapshot) where
   -- the claim, with chunks that are not supplied filled up with zeros
   abbrev pub padded : Content
@@ -190,7 +190,7 @@ module _ (d : ℕ) (h : HashFunction) (sized : IsSized d h) (g : Grafting) (proo
       cross_wider into_first into_second (subst (λ zs. Cross h zs ys) (sym hashes) c)
 
 module _ (sound : RangeProofsAreSound) (d : ℕ) (h : HashFunction) (width : (d ≡ 32) ⊎ (d ≡ 64)) (sized : IsSized d h)
-    (g : Grafting) (laws : Laws g.shape) (proof : CurrentProof) (start : ℕ) (operations chunks : List (List ℕ))
+    (g : Grafting) (laws : Laws g.shape) (proof : RangeProof) (start : ℕ) (operations chunks : List (List ℕ))
     (digests : HasDigests d proof) (s : Snapshot) (snapshot : IsSnapshot s) where
   -- the range proof in it is the tree's own
   abbrev IsRangeOwn : Type 0
@@ -287,7 +287,7 @@ module _ (sound : RangeProofsAreSound) (d : ℕ) (h : HashFunction) (width : (d 
 
   proof_is : IsRangeOwn → proof.ops_root ≡ ops_root_of h g s → proof.pending ≡ option_map h (pending_of h g s)
       → proof.partial ≡ option_map h (partial_of h g s)
-      → proof ≡ own_current_proof h g s start (start + length operations)
+      → proof ≡ own_range_proof h g s start (start + length operations)
   proof_is own o p q =
       let a : proof ≡ (record {
         range = own_proof h (view g (length s.operations)) BackwardFold (content h g s)
@@ -303,14 +303,14 @@ module _ (sound : RangeProofsAreSound) (d : ℕ) (h : HashFunction) (width : (d 
       }) own.proof_is in
       let range = own_proof h (view g (length s.operations)) BackwardFold (content h g s) (aligned_of h g s) start
       (start + length operations) in
-      let G : Option (List ℕ) → Option (List ℕ) → List ℕ → CurrentProof =
+      let G : Option (List ℕ) → Option (List ℕ) → List ℕ → RangeProof =
       λ x y z. record { range = range; pending = x; partial = y; ops_root = z } in
       a ∙ ap (λ x. G x proof.partial proof.ops_root) p
       ∙ ap (λ y. G (option_map h (pending_of h g s)) y proof.ops_root) q
       ∙ ap (λ z. G (option_map h (pending_of h g s)) (option_map h (partial_of h g s)) z) o
 
   pub current_sound : IsCurrent h g proof start operations chunks (canonical_root h g s)
-      → (proof ≡ own_current_proof h g s start (start + length operations)) × Holds g s start operations chunks
+      → (proof ≡ own_range_proof h g s start (start + length operations)) × Holds g s start operations chunks
       ⊎ Cross h (current_strings h g proof start operations chunks) (snapshot_strings h g s)
   current_sound ok =
       let n = proof.range.leaves in

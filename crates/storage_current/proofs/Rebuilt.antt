@@ -2,7 +2,7 @@
 use Rattle.std.proofs.Common.{◌≡◌, ◌≢◌, ℕ, zero, suc, ◌+◌, ◌-◌, ◌%◌, ◌^◌, ◌<◌, ◌≤◌, ◌⊎◌, inl, inr, List, Option, Some, None, option_map, true, false, refl, sym, ap, ap₂, ◌∙◌, arith}
 use Rattle.std.specs.Option.{option_or, is_some}
 use Rattle.storage_merkle.specs.Shape.{Shape, Laws, size}
-use Rattle.storage_merkle.specs.Multiples.{pow_two, multiple_down, multiple_add, power_multiple}
+use Rattle.storage_merkle.specs.Laws.Multiples.{pow_two, multiple_down, multiple_add, power_multiple}
 use Rattle.std.proofs.lemmas.Nat.{pow_pos}
 use Rattle.storage_current.specs.GraftedTrees.{IsCoverable, IsKeptIn, made_of, rebuilt}
 

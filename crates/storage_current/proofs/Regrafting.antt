@@ -8,8 +8,8 @@ use Rattle.storage_merkle.specs.Shape.{Shape, Laws, size}
 use Rattle.storage_merkle.specs.Nodes.{CoversSame}
 use Rattle.storage_merkle.specs.Trees.{ungrafted}
 use Rattle.storage_merkle.specs.Hashing.{join_digest}
-use Rattle.storage_merkle.specs.Multiples.{in_units, multiple_add, multiple_down, next, out_of_units, pow_le, pow_order, pow_two, power_multiple}
-use Rattle.storage_merkle.specs.ShapeLaws.{covers_down, covers_once, valid_height, valid_leaves}
+use Rattle.storage_merkle.specs.Laws.Multiples.{in_units, multiple_add, multiple_down, next, out_of_units, pow_le, pow_order, pow_two, power_multiple}
+use Rattle.storage_merkle.specs.Laws.Shape.{covers_down, covers_once, valid_height, valid_leaves}
 use Rattle.storage_current.specs.Combined.{IsRaised, over_chunks}
 use Rattle.storage_current.specs.GraftedTrees.{IsUnder, join_over, rebuilt, regrafted}
 use Rattle.storage_current.proofs.PrunedViews.{regrafted_is}

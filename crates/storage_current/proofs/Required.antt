@@ -7,7 +7,7 @@ use Rattle.std.specs.List.{Contains}
 use Rattle.std.proofs.lemmas.List.Elements.{Contains-push, Contains-push_cases, Contains-append_left, Contains-append_right, Contains-append_cases}
 use Rattle.storage_merkle.specs.Shape.{Shape, Laws}
 use Rattle.storage_merkle.specs.Nodes.{AreGraftable}
-use Rattle.storage_current.specs.GraftingLaws.{graftable_is, height_of_power}
+use Rattle.storage_current.specs.Laws.Grafting.{graftable_is, height_of_power}
 use Rattle.storage_current.specs.Snapshots.{graftable_at, Grafting, height, complete, graftable, first_chunk}
 use Rattle.storage_current.specs.Required.{graftable_of, IsRequired, AreConsistent, IsThere}
 

@@ -15,9 +15,9 @@ use Rattle.storage_merkle.specs.Nodes.{IsNode}
 use Rattle.storage_merkle.specs.Inactive.{IsExact, IsAligned}
 use Rattle.storage_merkle.specs.Trees.{Layout, ungrafted, Content, listed, places, tree_node, tree_root}
 use Rattle.storage_merkle.specs.Hashing.{leaf_digests, peak_digests, root_of}
-use Rattle.storage_merkle.specs.HashingLaws.{length-leaf_digests, tree_root-leaves, tree_root-peaks}
-use Rattle.storage_bitmap.specs.Chunks.{Retained, IsRest, bytes_of, chunk}
-use Rattle.storage_current.specs.GraftingLaws.{exact_is, aligned_is}
+use Rattle.storage_merkle.specs.Laws.Hashing.{length-leaf_digests, tree_root-leaves, tree_root-peaks}
+use Rattle.storage_bitmap.specs.Chunks.{Retained, IsRest, packed_bytes, chunk}
+use Rattle.storage_current.specs.Laws.Grafting.{exact_is, aligned_is}
 use Rattle.storage_current.specs.NodeLists.{AreNodes}
 use Rattle.storage_current.specs.Snapshots.{Grafting, height, complete as complete_over, graftable as graftable_over, graftable_at, Snapshot, canonical_string, exact_of, aligned_of, ops_root_of, grafted_root_of, pending_of, partial_of, canonical_root}
 
@@ -58,7 +58,7 @@ kept_chunk n r bits rest j kept =
     let m : ℕ = 8 * n in
     let there : r.pruned * m + (j - r.pruned) * m ≡ j * m = sym (add-mul r.pruned (j - r.pruned) m)
     ∙ ap (λ i. i * m) (let e : r.pruned + (j - r.pruned) ≡ j = omega arith in e) in
-    rw rest.rest (ap (bytes_of n) (drop-drop ((j - r.pruned) * m) (r.pruned * m) bits ∙ ap (λ i. drop i bits) there))
+    rw rest.rest (ap (packed_bytes n) (drop-drop ((j - r.pruned) * m) (r.pruned * m) bits ∙ ap (λ i. drop i bits) there))
 
 pub unpruned_rest : (n : ℕ) (r : Retained) → r.pruned ≡ 0 → IsRest n r r.bits
 unpruned_rest n r none =

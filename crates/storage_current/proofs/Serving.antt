@@ -4,11 +4,11 @@ use Rattle.std.specs.List.{All, range_with_len}
 use Rattle.std.proofs.lemmas.List.FromFn.{length-range_with_len, get_or-range_with_len, length-map-range_with_len, get_or-map-range_with_len}
 use Rattle.std.proofs.lemmas.Nat.{pow_pos}
 use Rattle.std.proofs.Math.Nat.{le-div_iff_mul-le}
-use Rattle.storage_merkle.specs.Multiples.{pow_order}
+use Rattle.storage_merkle.specs.Laws.Multiples.{pow_order}
 use Rattle.storage_merkle.specs.Shape.{Shape}
 use Rattle.storage_bitmap.specs.Chunks.{Retained, IsChunkSize, IsRest, chunk, chunks_from}
 use Rattle.storage_ops.specs.declared.qmdb.error.Error.{Error}
-use Rattle.storage_current.specs.GraftingLaws.{height_of_power}
+use Rattle.storage_current.specs.Laws.Grafting.{height_of_power}
 use Rattle.storage_current.specs.Served.{HoldsRange, IsLogFault, Counts}
 use Rattle.storage_current.specs.Snapshots.{Grafting, Snapshot, Holds, height, first_chunk}
 use Rattle.storage_current.proofs.Fetching.{counts_as}

@@ -6,7 +6,7 @@ use Rattle.storage_codec.specs.Codec.{Answer}
 use Rattle.storage_bitmap.specs.Chunks.{IsChunkSize}
 use Rattle.storage_current.specs.CurrentWire.{operation_at, sized_operation_at}
 use Rattle.storage_current.specs.KeyWire.{pair_at, exclusion_at}
-use Rattle.storage_current.specs.SharedChunks.{Agree}
+use Rattle.storage_current.specs.SharedChunks.{AgreeWhereSeenAlike}
 use Rattle.storage_current.specs.Snapshots.{OperationProof}
 
 module _ (there : Bool) (d size most : ℕ) (is : IsChunkSize size) where
@@ -37,7 +37,7 @@ module _ (there : Bool) (d size most : ℕ) (is : IsChunkSize size) where
 
 -- proofs agree that are written and checked by what is seen of them alone
 pub agreeing : {A B X Claim : Type 0} (seen : A → X) (other_seen : B → X) (text : X → List ℕ) (Yes : Claim → X → Type 0)
-    → Agree (λ a. text (seen a)) (λ b. text (other_seen b)) seen other_seen Yes
+    → AgreeWhereSeenAlike (λ a. text (seen a)) (λ b. text (other_seen b)) seen other_seen Yes
 agreeing seen other_seen text Yes = record {
   written = λ a b same. ap text same;
   checked = λ a b same claim yes other is so.

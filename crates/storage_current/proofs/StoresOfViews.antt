@@ -8,7 +8,7 @@ use Rattle.storage_merkle.specs.Nodes.{IsNode, CoversSame}
 use Rattle.storage_merkle.specs.Pace.{ChunksKeepPace}
 use Rattle.storage_merkle.specs.Plans.{GreatestNodesArePlanned, planned}
 use Rattle.storage_bitmap.specs.Chunks.{Retained, IsRest}
-use Rattle.storage_current.specs.CombinedViews.{AnswersAreTrue, AreAnswersOf, AreGraftedLeaves, IsStoreOf, ServesRange, both}
+use Rattle.storage_current.specs.CombinedViews.{AnswersAreTrue, AreAnswersOf, AreGraftedLeaves, ServesSnapshot, ServesRange, both}
 use Rattle.storage_current.specs.Served.{AreServedOf, held_at}
 use Rattle.storage_current.specs.Snapshots.{Grafting, IsGrafting, Snapshot, IsSnapshot, height, ops_root_of, view_node}
 use Rattle.storage_current.proofs.CombinedViews.{joined_at}
@@ -66,7 +66,7 @@ module _ {D : Type 0} (text : D → List ℕ) (h : HashFunction) (g : Grafting) 
       )
 
   pub store_of_view : AreAnswersOf text g.shape (length s.operations) (view_node h g s) node
-      → IsStoreOf text h g (size g.shape (length s.operations)) node s
+      → ServesSnapshot text h g (size g.shape (length s.operations)) node s
   store_of_view are low high =
       serves low high
       (λ p a k digest within is at. text_of text (node p) (view_node h g s a k) digest (are p a k within is) at)

@@ -7,10 +7,10 @@ use Rattle.storage_codec.specs.Digests.{HashFunction}
 use Rattle.storage_merkle.specs.Shape.{Shape, Laws}
 use Rattle.storage_merkle.specs.declared.merkle.bagging.Bagging.TheVariants.{BackwardFold}
 use Rattle.storage_merkle.specs.RangeProofs.{AreDigests, CountsFit, recomputed_root}
-use Rattle.storage_current.specs.Snapshots.{Grafting, height, complete, graftable, graftable_at, view, canonical_string, first_chunk, last_chunk, CurrentProof}
+use Rattle.storage_current.specs.Snapshots.{Grafting, height, complete, graftable, graftable_at, view, canonical_string, first_chunk, last_chunk, RangeProof}
 use Rattle.storage_current.specs.CurrentProofs.{claimed, claim, IsCurrent}
 use Rattle.storage_current.specs.Windows.{IsWindow, IsMatched}
-use Rattle.storage_current.specs.GraftingLaws.{and-true}
+use Rattle.storage_current.specs.Laws.Grafting.{and-true}
 
 -- a graftable chunk is complete
 pub graftable_within : (S : Shape) → Laws S → (k n : ℕ) → graftable_at S k n ≤ n / 2 ^ k
@@ -30,7 +30,7 @@ graftable_within S L k n =
     added : (q m x n : ℕ) → q * m ≤ x → x + m ≤ n → (q + 1) * m ≤ n
     added q m x n l f = let e : (q + 1) * m ≡ q * m + m = grind arith in omega arith
 
-module _ (h : HashFunction) (g : Grafting) (proof : CurrentProof) (start : ℕ) (operations chunks : List (List ℕ)) where
+module _ (h : HashFunction) (g : Grafting) (proof : RangeProof) (start : ℕ) (operations chunks : List (List ℕ)) where
   abbrev leaves : ℕ
   leaves = proof.range.leaves
 

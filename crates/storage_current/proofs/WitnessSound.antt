@@ -5,7 +5,7 @@ use Rattle.std.proofs.lemmas.List.{append_cancel_left}
 use Rattle.std.proofs.lemmas.Nat.{div-add-mod'}
 use Rattle.storage_codec.specs.Digests.{HashFunction}
 use Rattle.storage_merkle.specs.Calc.{be8}
-use Rattle.storage_merkle.specs.CalcLaws.{split_append, be8_length, be8_same, heads}
+use Rattle.storage_merkle.specs.Laws.Calc.{split_append, be8_length, be8_same, heads}
 use Rattle.storage_current.specs.Snapshots.{Grafting, height, Snapshot, slot, counted_slot, ops_root_of, grafted_root_of, pending_of, partial_of, snapshot_string, canonical_root, Witness, own_witness}
 use Rattle.storage_current.specs.CurrentProofs.{counted, witness_string, IsSlot}
 use Rattle.storage_current.specs.CurrentSoundness.{WitnessesAreSound}

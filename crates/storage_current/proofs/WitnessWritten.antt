@@ -5,7 +5,7 @@ use Rattle.storage_codec.specs.Digests.{HashFunction, IsSized}
 use Rattle.storage_codec.specs.Parts.{option_text}
 use Rattle.storage_current.specs.CurrentProofs.{witness_string}
 use Rattle.storage_current.specs.CurrentSoundness.{WitnessesAreSound}
-use Rattle.storage_current.specs.CurrentWireLaws.{held_slot}
+use Rattle.storage_current.specs.Laws.CurrentWire.{held_slot}
 use Rattle.storage_current.specs.Snapshots.{Grafting, Snapshot, Witness, height, grafted_root_of, pending_of, partial_of, own_witness}
 use Rattle.storage_current.specs.WitnessWire.{counted_text, witness_of, witness_with, MeansWitness}
 use Rattle.storage_current.specs.declared.qmdb.current.proof.witness.OpsRootWitness.{OpsRootWitness}

@@ -13,13 +13,13 @@ use Rattle.storage_current.specs.Snapshots.{Grafting, Snapshot, graftable, view,
 
 -- these are a snapshot's: its length, what is left of its bits, its floor (one past the length counts as the length), its operations
 -- root, and for each planned position the digest of its grafted view's node
-pub record ArePartsOf {D : Type 0} (text : D → List ℕ) (answers : ℕ → Option D → Type 0) (h : HashFunction)
+pub record ArePartsOf {D : Type 0} (bytes_of : D → List ℕ) (answers : ℕ → Option D → Type 0) (h : HashFunction)
     (g : Grafting) (plan : PlanOf) (status : Retained) (floor : ℕ) (ops_root : List ℕ) (s : Snapshot) : Type 0 where
   pub count : length s.operations ≡ plan.leaves
   pub bits : IsRest g.bytes status s.bits
   pub floor_is : s.floor ≡ min floor plan.leaves
   pub ops_root_is : ops_root ≡ ops_root_of h g s
-  pub nodes : AnswersAre text answers (planned g.shape plan.leaves plan.start plan.end) h (view g (length s.operations))
+  pub nodes : AnswersAre bytes_of answers (planned g.shape plan.leaves plan.start plan.end) h (view g (length s.operations))
       (content h g s)
 
 -- there is a bit for each leaf, and no chunk is pruned that is not graftable

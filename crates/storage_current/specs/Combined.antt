@@ -1,6 +1,6 @@
 -- Trees over chunks, whose leaves are the chunks' nodes of the tree over the operations; and both trees read as one.
 use Rattle.std.specs.Prelude.{ℕ, ◌+◌, ◌-◌, ◌*◌, ◌/◌, ◌%◌, ◌^◌, ◌<◌, ◌≤◌, ◌&&◌, eqb, ltb, leb, if◌then◌else◌, Bool, Option, None}
-use Rattle.storage_merkle.specs.Shape.{Shape, size}
+use Rattle.storage_merkle.specs.Shape.{Shape, size, max_leaves}
 use Rattle.storage_merkle.specs.Nodes.{IsNode, CoversSame}
 use Rattle.storage_merkle.specs.Trees.{Layout}
 use Rattle.storage_current.specs.Snapshots.{greatest}
@@ -17,8 +17,8 @@ over_chunks g T = record {
 -- the node at a position of a tree over chunks has a valid position in the tree over the leaves, and one that is taken
 pub record IsRaised (S : Shape) (takes : ℕ → Type 0) (g p : ℕ) : Type 0 where
   pub low : 1 ≤ g
-  pub valid : p ≤ size S (2 ^ 62)
-  pub fits : (q : ℕ) → CoversSame S g p q → q ≤ size S (2 ^ 62)
+  pub valid : p ≤ size S max_leaves
+  pub fits : (q : ℕ) → CoversSame S g p q → q ≤ size S max_leaves
   pub taken : (q : ℕ) → CoversSame S g p q → takes q
 
 -- ---- both trees as one
@@ -26,7 +26,7 @@ pub record IsRaised (S : Shape) (takes : ℕ → Type 0) (g p : ℕ) : Type 0 wh
 -- the position is valid, one of so many, and of a node below the height g: of one of the operations' nodes
 pub record IsOfOperations (S : Shape) (g nodes p : ℕ) : Type 0 where
   pub within : p < nodes
-  pub valid : p ≤ size S (2 ^ 62)
+  pub valid : p ≤ size S max_leaves
   pub below : (a : ℕ) × (k : ℕ) × IsNode S p a k × (k < g)
 
 -- the height of the node at a position, and the first leaf of a node of that height
@@ -42,7 +42,7 @@ lowered S g p = S.position (first_at S (height_at S p) p / 2 ^ g) (height_at S p
 
 -- the position is valid, and one of so many
 abbrev pub is_within : Shape → ℕ → ℕ → Bool
-is_within S nodes p = ltb p nodes && leb p (size S (2 ^ 62))
+is_within S nodes p = ltb p nodes && leb p (size S max_leaves)
 
 -- the digest at a position: below the height g what is kept of the operations' nodes, else what is kept over chunks
 abbrev pub joined : {D : Type 0} → Shape → ℕ → ℕ → (ℕ → Option D) → (ℕ → Option D) → ℕ → Option D

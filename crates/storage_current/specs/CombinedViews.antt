@@ -15,13 +15,13 @@ use Rattle.storage_current.specs.Snapshots.{Grafting, IsGrafting, height, grafta
 
 -- the digest of each node of the tree over n leaves is answered
 abbrev pub AreAnswersOf : {D : Type 0} → (D → List ℕ) → Shape → ℕ → (ℕ → ℕ → List ℕ) → (ℕ → Option D) → Type 0
-AreAnswersOf text S n node answers =
-    (p a k : ℕ) → p < size S n → IsNode S p a k → option_map text (answers p) ≡ Some (node a k)
+AreAnswersOf bytes_of S n node answers =
+    (p a k : ℕ) → p < size S n → IsNode S p a k → option_map bytes_of (answers p) ≡ Some (node a k)
 
 -- what is answered for a node of the tree over n leaves is its digest
 abbrev pub AnswersAreTrue : {D : Type 0} → (D → List ℕ) → Shape → ℕ → (ℕ → ℕ → List ℕ) → (ℕ → Option D) → Type 0
-AnswersAreTrue {D} text S n node answers =
-    (p a k : ℕ) (digest : D) → p < size S n → IsNode S p a k → answers p ≡ Some digest → text digest ≡ node a k
+AnswersAreTrue {D} bytes_of S n node answers =
+    (p a k : ℕ) (digest : D) → p < size S n → IsNode S p a k → answers p ≡ Some digest → bytes_of digest ≡ node a k
 
 -- the digests of the graftable chunks' nodes of a snapshot's grafted view
 pub record AreGraftedLeaves (h : HashFunction) (g : Grafting) (s : Snapshot) (leaves : List (List ℕ)) : Type 0 where
@@ -42,44 +42,44 @@ both g s chunks operations = joined g.shape (height g) (size g.shape (length s.o
 -- Where a tree over chunks has each node over the digests of a snapshot's graftable chunks, and a tree over operations each over
 -- the snapshot's operations, both as one have each digest of the grafted view.
 abbrev pub JoinedTreesAreTheView : {D : Type 0} → (D → List ℕ) → HashFunction → Grafting → Type 0
-JoinedTreesAreTheView {D} text h g =
+JoinedTreesAreTheView {D} bytes_of h g =
     IsGrafting g → (s : Snapshot) → IsSnapshot s → (leaves : List (List ℕ)) → AreGraftedLeaves h g s leaves →
     (chunks operations : ℕ → Option D) →
-    AreAnswersOf text g.shape (length leaves) (chunk_node h g leaves) chunks →
-    AreAnswersOf text g.shape (length s.operations) (operations_node h g s) operations →
-    AreAnswersOf text g.shape (length s.operations) (view_node h g s) (both g s chunks operations)
+    AreAnswersOf bytes_of g.shape (length leaves) (chunk_node h g leaves) chunks →
+    AreAnswersOf bytes_of g.shape (length s.operations) (operations_node h g s) operations →
+    AreAnswersOf bytes_of g.shape (length s.operations) (view_node h g s) (both g s chunks operations)
 
 -- Where they have some of these nodes, what both as one have is of the grafted view.
 abbrev pub JoinedTreesAnswerTheView : {D : Type 0} → (D → List ℕ) → HashFunction → Grafting → Type 0
-JoinedTreesAnswerTheView {D} text h g =
+JoinedTreesAnswerTheView {D} bytes_of h g =
     IsGrafting g → (s : Snapshot) → IsSnapshot s → (leaves : List (List ℕ)) → AreGraftedLeaves h g s leaves →
     (chunks operations : ℕ → Option D) →
-    AnswersAreTrue text g.shape (length leaves) (chunk_node h g leaves) chunks →
-    AnswersAreTrue text g.shape (length s.operations) (operations_node h g s) operations →
-    AnswersAreTrue text g.shape (length s.operations) (view_node h g s) (both g s chunks operations)
+    AnswersAreTrue bytes_of g.shape (length leaves) (chunk_node h g leaves) chunks →
+    AnswersAreTrue bytes_of g.shape (length s.operations) (operations_node h g s) operations →
+    AnswersAreTrue bytes_of g.shape (length s.operations) (view_node h g s) (both g s chunks operations)
 
 -- A store with these nodes answers each planned position of a snapshot's operations from low to before high, and with what is left
 -- of the snapshot's bits, its floor and its operations root all of it is the snapshot's.
 abbrev pub ServesRange : {D : Type 0} → (D → List ℕ) → HashFunction → Grafting → ℕ → (ℕ → Option D) → Snapshot → ℕ → ℕ
     → Type 0
-ServesRange text h g nodes node s low high =
+ServesRange bytes_of h g nodes node s low high =
     (floor : ℕ) (status : Retained) (ops_root : List ℕ) → IsRest g.bytes status s.bits
     → s.floor ≡ min floor (length s.operations) → ops_root ≡ ops_root_of h g s →
     AreAnswered (held_at node) g.shape (plan_over (length s.operations) low high)
-    × AreServedOf nodes node g low high status text h floor ops_root s
+    × AreServedOf nodes node g low high status bytes_of h floor ops_root s
 
 -- It does so for each range.
-abbrev pub IsStoreOf : {D : Type 0} → (D → List ℕ) → HashFunction → Grafting → ℕ → (ℕ → Option D) → Snapshot → Type 0
-IsStoreOf text h g nodes node s = (low high : ℕ) → ServesRange text h g nodes node s low high
+abbrev pub ServesSnapshot : {D : Type 0} → (D → List ℕ) → HashFunction → Grafting → ℕ → (ℕ → Option D) → Snapshot → Type 0
+ServesSnapshot bytes_of h g nodes node s = (low high : ℕ) → ServesRange bytes_of h g nodes node s low high
 
 -- Two such trees as one are a store of the snapshot.
 abbrev pub JoinedTreesServeTheView : {D : Type 0} → (D → List ℕ) → HashFunction → Grafting → Type 0
-JoinedTreesServeTheView {D} text h g =
+JoinedTreesServeTheView {D} bytes_of h g =
     IsGrafting g → (s : Snapshot) → IsSnapshot s → (leaves : List (List ℕ)) → AreGraftedLeaves h g s leaves →
     (chunks operations : ℕ → Option D) →
-    AreAnswersOf text g.shape (length leaves) (chunk_node h g leaves) chunks →
-    AreAnswersOf text g.shape (length s.operations) (operations_node h g s) operations →
-    IsStoreOf text h g (size g.shape (length s.operations)) (both g s chunks operations) s
+    AreAnswersOf bytes_of g.shape (length leaves) (chunk_node h g leaves) chunks →
+    AreAnswersOf bytes_of g.shape (length s.operations) (operations_node h g s) operations →
+    ServesSnapshot bytes_of h g (size g.shape (length s.operations)) (both g s chunks operations) s
 
 -- of each planned position of n leaves from low to before high, the tree over the operations has it where its node is below the
 -- height of chunks, else the tree over chunks has the position of the node over the same leaves
@@ -89,10 +89,10 @@ pub record HavePlanned {D : Type 0} (S : Shape) (g n low high : ℕ) (chunks ope
 
 -- What is planned of a range suffices to serve that range.
 abbrev pub PlannedNodesServeARange : {D : Type 0} → (D → List ℕ) → HashFunction → Grafting → Type 0
-PlannedNodesServeARange {D} text h g =
+PlannedNodesServeARange {D} bytes_of h g =
     IsGrafting g → (s : Snapshot) → IsSnapshot s → (leaves : List (List ℕ)) → AreGraftedLeaves h g s leaves →
     (chunks operations : ℕ → Option D) →
-    AnswersAreTrue text g.shape (length leaves) (chunk_node h g leaves) chunks →
-    AnswersAreTrue text g.shape (length s.operations) (operations_node h g s) operations →
+    AnswersAreTrue bytes_of g.shape (length leaves) (chunk_node h g leaves) chunks →
+    AnswersAreTrue bytes_of g.shape (length s.operations) (operations_node h g s) operations →
     (low high : ℕ) → HavePlanned g.shape (height g) (length s.operations) low high chunks operations →
-    ServesRange text h g (size g.shape (length s.operations)) (both g s chunks operations) s low high
+    ServesRange bytes_of h g (size g.shape (length s.operations)) (both g s chunks operations) s low high

@@ -7,9 +7,9 @@ use Rattle.storage_merkle.specs.RangeProofs.{AreDigests, CountsFit, check_string
 use Rattle.storage_bitmap.specs.Chunks.{IsChunkSize}
 use Rattle.storage_bitmap.specs.Packed.{bit_in}
 use Rattle.storage_current.specs.Grafted.{supplied}
-use Rattle.storage_current.specs.Snapshots.{Grafting, height, complete, graftable, view, slot, counted_slot, canonical_string, first_chunk, last_chunk, CurrentProof, OperationProof, Witness}
+use Rattle.storage_current.specs.Snapshots.{Grafting, height, complete, graftable, view, slot, counted_slot, canonical_string, first_chunk, last_chunk, RangeProof, OperationProof, Witness}
 
-module _ (h : HashFunction) (g : Grafting) (proof : CurrentProof) (start : ℕ) (operations chunks : List (List ℕ)) where
+module _ (h : HashFunction) (g : Grafting) (proof : RangeProof) (start : ℕ) (operations chunks : List (List ℕ)) where
   -- chunk j as claimed
   abbrev pub claimed : ℕ → List ℕ
   claimed j = supplied (first_chunk g start) chunks j

@@ -6,11 +6,11 @@ use Rattle.storage_merkle.specs.Nodes.{AreGraftable}
 use Rattle.storage_merkle.specs.Mmr.{mmr}
 use Rattle.storage_merkle.specs.Mmb.{mmb}
 use Rattle.storage_merkle.specs.RangeProofs.{AreDigests}
-use Rattle.storage_current.specs.Snapshots.{Grafting, IsGrafting, graftable_at, Snapshot, IsSnapshot, canonical_root, snapshot_strings, ops_root_of, Holds, IsActive, CurrentProof, OperationProof, Witness, own_current_proof, own_operation_proof, own_witness}
+use Rattle.storage_current.specs.Snapshots.{Grafting, IsGrafting, graftable_at, Snapshot, IsSnapshot, canonical_root, snapshot_strings, ops_root_of, Holds, IsActive, RangeProof, OperationProof, Witness, own_range_proof, own_operation_proof, own_witness}
 use Rattle.storage_current.specs.CurrentProofs.{IsCurrent, current_strings, IsActiveCurrent, operation_strings, witness_string, IsSlot}
 
 -- the digests of a proof have d bytes
-pub record HasDigests (d : ℕ) (proof : CurrentProof) : Type 0 where
+pub record HasDigests (d : ℕ) (proof : RangeProof) : Type 0 where
   pub range : AreDigests d proof.range.digests
   pub ops_root : length proof.ops_root ≡ d
   pub pending : IsSlot d proof.pending
@@ -21,17 +21,17 @@ pub record HasDigests (d : ℕ) (proof : CurrentProof) : Type 0 where
 abbrev pub CurrentProofsAreSound : Type 0
 CurrentProofsAreSound =
     (d : ℕ) (h : HashFunction) → (d ≡ 32) ⊎ (d ≡ 64) → IsSized d h → (g : Grafting) → Laws g.shape →
-    (proof : CurrentProof) (start : ℕ) (operations chunks : List (List ℕ)) → HasDigests d proof →
+    (proof : RangeProof) (start : ℕ) (operations chunks : List (List ℕ)) → HasDigests d proof →
     (s : Snapshot) → IsSnapshot s → IsCurrent h g proof start operations chunks (canonical_root h g s) →
-    (proof ≡ own_current_proof h g s start (start + length operations)) × Holds g s start operations chunks
+    (proof ≡ own_range_proof h g s start (start + length operations)) × Holds g s start operations chunks
     ⊎ Cross h (current_strings h g proof start operations chunks) (snapshot_strings h g s)
 
 -- What a yes of that check against a root means: of each snapshot with that root, the proof is the snapshot's own, field for field,
 -- and its operations and chunks are the snapshot's, or two strings cross.
-abbrev pub MeansCurrent : HashFunction → Grafting → CurrentProof → ℕ → List (List ℕ) → List (List ℕ) → List ℕ → Type 0
+abbrev pub MeansCurrent : HashFunction → Grafting → RangeProof → ℕ → List (List ℕ) → List (List ℕ) → List ℕ → Type 0
 MeansCurrent h g proof start operations chunks root =
     (s : Snapshot) → IsSnapshot s → canonical_root h g s ≡ root →
-    (proof ≡ own_current_proof h g s start (start + length operations)) × Holds g s start operations chunks
+    (proof ≡ own_range_proof h g s start (start + length operations)) × Holds g s start operations chunks
     ⊎ Cross h (current_strings h g proof start operations chunks) (snapshot_strings h g s)
 
 -- The same of an operation proof, which says moreover that the operation is active.
@@ -65,7 +65,7 @@ abbrev pub OwnCurrentProofsAreAccepted : Type 0
 OwnCurrentProofsAreAccepted =
     (h : HashFunction) (g : Grafting) → IsGrafting g → (s : Snapshot) → IsSnapshot s →
     (start : ℕ) (operations chunks : List (List ℕ)) → Holds g s start operations chunks →
-    IsCurrent h g (own_current_proof h g s start (start + length operations)) start operations chunks
+    IsCurrent h g (own_range_proof h g s start (start + length operations)) start operations chunks
     (canonical_root h g s)
 
 -- A snapshot's own proof of an active operation is accepted.

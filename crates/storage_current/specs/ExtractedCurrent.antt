@@ -9,14 +9,14 @@ use Rattle.storage_merkle.specs.Extracted.{extracted, tree_entries}
 use Rattle.storage_merkle.specs.Shape.{Laws}
 use Rattle.storage_current.specs.CurrentProofs.{IsCurrent, claim, current_strings}
 use Rattle.storage_current.specs.CurrentSoundness.{HasDigests}
-use Rattle.storage_current.specs.Snapshots.{CurrentProof, Grafting, IsSnapshot, Snapshot, canonical_root, content, snapshot_strings, view}
+use Rattle.storage_current.specs.Snapshots.{RangeProof, Grafting, IsSnapshot, Snapshot, canonical_root, content, snapshot_strings, view}
 
 -- with their positions, ascending: what a snapshot's grafted view has at each node that a check of a range reads or computes in a
 -- peak over one of its operations
 abbrev pub view_entries : HashFunction → Grafting → Snapshot → ℕ → ℕ → List (ℕ × List ℕ)
 view_entries h g s low high = tree_entries h (view g (length s.operations)) (content h g s) low high
 
-module _ (h : HashFunction) (g : Grafting) (proof : CurrentProof) (start : ℕ) (operations chunks : List (List ℕ)) where
+module _ (h : HashFunction) (g : Grafting) (proof : RangeProof) (start : ℕ) (operations chunks : List (List ℕ)) where
   -- what a check has there
   abbrev pub extracted_current : List (ℕ × List ℕ)
   extracted_current = extracted h (view g proof.range.leaves) BackwardFold proof.range start
@@ -52,6 +52,6 @@ module _ (h : HashFunction) (g : Grafting) (proof : CurrentProof) (start : ℕ) 
 abbrev pub ExtractedCurrentDigestsAreTrue : Type 0
 ExtractedCurrentDigestsAreTrue =
     (d : ℕ) (h : HashFunction) → (d ≡ 32) ⊎ (d ≡ 64) → IsSized d h → (g : Grafting) → Laws g.shape →
-    (proof : CurrentProof) (start : ℕ) (operations chunks : List (List ℕ)) → HasDigests d proof →
+    (proof : RangeProof) (start : ℕ) (operations chunks : List (List ℕ)) → HasDigests d proof →
     (root : List ℕ) → IsCurrent h g proof start operations chunks root →
     MeansExtracted h g proof start operations chunks root (extracted_current h g proof start operations chunks)

@@ -1,7 +1,7 @@
 -- Trees over chunks that keep pins and leaves alone; and nodes that are rebuilt from those that are kept.
 use Rattle.std.specs.Prelude.{◌≡◌, ℕ, zero, suc, ◌+◌, ◌*◌, ◌%◌, ◌<◌, ◌≤◌, ◌^◌, ◌⊎◌, List, [], ◌∷◌, ◌++◌, length, map, drop, Option, Some, None, IsSome, leb, if◌then◌else◌}
 use Rattle.std.specs.Option.{option_or}
-use Rattle.storage_merkle.specs.Shape.{Shape, size}
+use Rattle.storage_merkle.specs.Shape.{Shape, size, max_leaves}
 use Rattle.storage_merkle.specs.Calc.{be8}
 use Rattle.storage_merkle.specs.Kept.{NodesOver, at_peaks, paired, pins}
 use Rattle.storage_current.specs.Combined.{first_at, height_at}
@@ -17,17 +17,17 @@ pub record KeptChunks (D : Type 0) : Type 0 where
   pub leaves : List D
 
 -- true of every tree over chunks, also of one that keeps no list's digests
-pub record IsWhole (S : Shape) (pruned pinned leaves : ℕ) : Type 0 where
-  pub few : pruned + leaves ≤ 2 ^ 62
+pub record IsWholeGrafted (S : Shape) (pruned pinned leaves : ℕ) : Type 0 where
+  pub few : pruned + leaves ≤ max_leaves
   pub pins : pinned ≡ length (S.peaks pruned)
 
 -- The tree keeps a list of chunks' digests: those of the peaks over the pruned chunks, and the list from there on. A digest's bytes
--- are told by `text`.
-pub record Keeps {D : Type 0} (text : D → List ℕ) (S : Shape) (N : NodesOver) (t : KeptChunks D) (list : List (List ℕ))
+-- are told by `bytes_of`.
+pub record Keeps {D : Type 0} (bytes_of : D → List ℕ) (S : Shape) (N : NodesOver) (t : KeptChunks D) (list : List (List ℕ))
     : Type 0 where
   pub count : t.pruned + length t.leaves ≡ length list
-  pub pins : map text t.pinned ≡ at_peaks (N list) 0 (S.peaks t.pruned)
-  pub leaves : map text t.leaves ≡ drop t.pruned list
+  pub pins : map bytes_of t.pinned ≡ at_peaks (N list) 0 (S.peaks t.pruned)
+  pub leaves : map bytes_of t.leaves ≡ drop t.pruned list
 
 -- the positions of leaves side by side, from leaf a on, one for each of a list
 abbrev pub leaf_places : {D : Type 0} → Shape → ℕ → List D → List ℕ
@@ -72,9 +72,9 @@ rebuilt S join kept (suc k) a = option_or (kept (S.position a (suc k)))
 -- the digest of a node over chunks of 2 ^ g leaves from those of its halves: it is hashed with the position of the node over the same
 -- leaves
 abbrev pub join_over : {D : Type 0} → (List ℕ → D) → (D → List ℕ) → Shape → ℕ → ℕ → ℕ → D → D → D
-join_over digest text S g a k l r = digest (be8 (S.position (a * 2 ^ g) (k + g)) ++ (text l ++ text r))
+join_over digest bytes_of S g a k l r = digest (be8 (S.position (a * 2 ^ g) (k + g)) ++ (bytes_of l ++ bytes_of r))
 
 -- the digest that can be had at a position of a tree over chunks
 abbrev pub regrafted : {D : Type 0} → (List ℕ → D) → (D → List ℕ) → Shape → ℕ → (ℕ → Option D) → ℕ → Option D
-regrafted digest text S g kept p =
-    rebuilt S (join_over digest text S g) kept (height_at S p) (first_at S (height_at S p) p)
+regrafted digest bytes_of S g kept p =
+    rebuilt S (join_over digest bytes_of S g) kept (height_at S p) (first_at S (height_at S p) p)

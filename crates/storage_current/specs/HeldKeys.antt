@@ -1,6 +1,6 @@
 -- The proofs about keys of the definitions that proof values hold.
 use Rattle.std.specs.Prelude.{ℕ, List, option_map}
-use Rattle.storage_current.specs.Held.{operation_of}
+use Rattle.storage_current.specs.Held.{operation_proof_of}
 use Rattle.storage_current.specs.KeyProofs.{Exclusion}
 use Rattle.storage_current.specs.KeyProofs as of
 use Rattle.storage_current.specs.declared.qmdb.current.ordered.exclusion.ExclusionProof.{ExclusionProof}
@@ -9,9 +9,9 @@ use Rattle.storage_current.specs.declared.qmdb.current.ordered.exclusion.Exclusi
 -- an exclusion proof, its operation proof by its bytes
 abbrev pub exclusion_of : {F K V D C A W B : Type 0} → (D → List ℕ) → (C → List ℕ) → ExclusionProof F K V D C A W B
     → Exclusion (K × W × K) W
-exclusion_of text bytes (code.KeyValue proof update) = of.KeyValue (operation_of text bytes proof)
+exclusion_of bytes_of bytes (code.KeyValue proof update) = of.KeyValue (operation_proof_of bytes_of bytes proof)
     (update.key, update.value, update.next_key)
-exclusion_of text bytes (code.Commit proof value) = of.Commit (operation_of text bytes proof) value
+exclusion_of bytes_of bytes (code.Commit proof value) = of.Commit (operation_proof_of bytes_of bytes proof) value
 
 -- an exclusion as its keys and values are seen
 abbrev pub exclusion_seen : {K W A B : Type 0} → (K → A) → (W → B) → Exclusion (K × W × K) W → Exclusion (A × B × A) B

@@ -1,7 +1,7 @@
 -- Checks under supplied chunks: what holds of each grafted view with a root.
 use Rattle.std.specs.Prelude.{ℕ, ◌+◌, ◌*◌, ◌≡◌, ◌≤◌, ◌^◌, ◌⊎◌, List, length}
 use Rattle.storage_codec.specs.Digests.{HashFunction, Cross}
-use Rattle.storage_merkle.specs.Shape.{Shape}
+use Rattle.storage_merkle.specs.Shape.{Shape, max_leaves}
 use Rattle.storage_merkle.specs.declared.merkle.bagging.Bagging.TheVariants.{BackwardFold}
 use Rattle.storage_merkle.specs.RangeProofs.{AreDigests}
 use Rattle.storage_merkle.specs.Trees.{Layout, Content, never, tree_root, tree_strings}
@@ -26,7 +26,7 @@ abbrev pub HoldsOfViews : ℕ → HashFunction → Shape → ℕ → List (List 
 HoldsOfViews N h S height strings root P =
     (content : Content) (inactive : ℕ) →
     AreChunks N (view_at S height (length content.elements)) (length content.elements) never content.chunk →
-    length content.elements ≤ 2 ^ 62 → inactive ≤ length (S.peaks (length content.elements)) →
+    length content.elements ≤ max_leaves → inactive ≤ length (S.peaks (length content.elements)) →
     tree_root h (view_at S height (length content.elements)) BackwardFold content inactive ≡ root →
     P (view_at S height (length content.elements)) content inactive
     ⊎ Cross h strings (tree_strings h (view_at S height (length content.elements)) BackwardFold content inactive)

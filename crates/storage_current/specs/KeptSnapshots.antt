@@ -1,9 +1,9 @@
 -- Snapshots in memory: what is kept of one, and why there is none.
-use Rattle.std.specs.Prelude.{◌≡◌, ℕ, ◌^◌, ◌<◌, ◌≤◌, ◌⊎◌, List, length}
+use Rattle.std.specs.Prelude.{◌≡◌, ℕ, ◌<◌, ◌≤◌, ◌⊎◌, List, length}
 use Rattle.storage_codec.specs.Digests.{HashFunction}
 use Rattle.storage_merkle.specs.declared.merkle.error.Error.TheVariants.{RangeOutOfBounds, LocationOverflow}
 use Rattle.storage_merkle.specs.Kept.{Kept}
-use Rattle.storage_merkle.specs.Shape.{size}
+use Rattle.storage_merkle.specs.Shape.{size, max_leaves}
 use Rattle.storage_bitmap.specs.Chunks.{IsChunkSize, Retained, bit_count}
 use Rattle.storage_ops.specs.declared.qmdb.error.Error.{Error}
 use Rattle.storage_ops.specs.declared.qmdb.error.Error.TheVariants.{DataCorrupted, Merkle, Memory}
@@ -21,7 +21,7 @@ pub record KeptSnapshot : Type 0 where
   pub witness : Witness
 
 -- these are the snapshot's
-pub record StandsFor (h : HashFunction) (g : Grafting) (kept : KeptSnapshot) (s : Snapshot) : Type 0 where
+pub record StandsForSnapshot (h : HashFunction) (g : Grafting) (kept : KeptSnapshot) (s : Snapshot) : Type 0 where
   pub count : length kept.nodes ≡ size g.shape (length s.operations)
   pub nodes : AreNodes g.shape (view_node h g s) kept.nodes
   pub status : kept.status ≡ record { pruned = 0; bits = s.bits }
@@ -46,9 +46,9 @@ IsCorrupted (DataCorrupted text) = Unit {0}
 IsCorrupted _ = ⊥
 
 -- why there is no snapshot of so many operations with these bits and this floor: the first reason that holds, else want of memory
-abbrev pub IsRefused : {F : Type 0} → ℕ → ℕ → Retained → ℕ → Error F → Type 0
-IsRefused n count bits floor error =
+abbrev pub IsSnapshotRefused : {F : Type 0} → ℕ → ℕ → Retained → ℕ → Error F → Type 0
+IsSnapshotRefused n count bits floor error =
     ((HasEachBit n count bits → ⊥) × IsCorrupted error)
     ⊎ (HasEachBit n count bits × (count < floor) × (error ≡ Merkle (RangeOutOfBounds floor)))
-    ⊎ (HasEachBit n count bits × (floor ≤ count) × (2 ^ 62 < count) × (error ≡ Merkle (LocationOverflow count)))
-    ⊎ (HasEachBit n count bits × (floor ≤ count) × (count ≤ 2 ^ 62) × (error ≡ Memory))
+    ⊎ (HasEachBit n count bits × (floor ≤ count) × (max_leaves < count) × (error ≡ Merkle (LocationOverflow count)))
+    ⊎ (HasEachBit n count bits × (floor ≤ count) × (count ≤ max_leaves) × (error ≡ Memory))

@@ -17,9 +17,9 @@ pub data Exclusion (U V : Type 0) : Type 0 where
   KeyValue : OperationProof → U → Exclusion U V
   Commit : OperationProof → Option V → Exclusion U V
 
-abbrev pub proof_of : {U V : Type 0} → Exclusion U V → OperationProof
-proof_of (KeyValue proof update) = proof
-proof_of (Commit proof value) = proof
+abbrev pub proof_in : {U V : Type 0} → Exclusion U V → OperationProof
+proof_in (KeyValue proof update) = proof
+proof_in (Commit proof value) = proof
 
 module _ {K V : Type 0} (e : Keyed K V) where
   -- that update as it is written, or the commit whose floor is the proof's own location
@@ -36,7 +36,7 @@ module _ {K V : Type 0} (e : Keyed K V) where
   pub record IsExcluded (h : HashFunction) (g : Grafting) (x : Exclusion (K × V × K) V) (key : K)
       (root : List ℕ) : Type 0 where
     pub allowed : Allows x key
-    pub accepted : IsActiveCurrent h g (proof_of x) (shown_text x) root
+    pub accepted : IsActiveCurrent h g (proof_in x) (shown_text x) root
 
   -- an update of the key to the value, which of a well-formed snapshot is its value
   abbrev pub MeansValue : HashFunction → Grafting → OperationProof → K → V → K → List ℕ → Type 0
@@ -45,4 +45,4 @@ module _ {K V : Type 0} (e : Keyed K V) where
 
   -- an operation of an exclusion of the key, which of a well-formed snapshot is absent
   abbrev pub MeansAbsent : HashFunction → Grafting → Exclusion (K × V × K) V → K → List ℕ → Type 0
-  MeansAbsent h g x key root = Means h g (proof_of x) (shown_text x) root (λ s. IsWellFormed e s → IsAbsent e s key)
+  MeansAbsent h g x key root = Means h g (proof_in x) (shown_text x) root (λ s. IsWellFormed e s → IsAbsent e s key)

@@ -6,6 +6,7 @@ use Rattle.storage_codec.specs.Parts.{option_text}
 use Rattle.storage_current.specs.Snapshots.{OperationProof}
 use Rattle.storage_current.specs.CurrentWire.{operation_text}
 use Rattle.storage_current.specs.KeyProofs.{Exclusion, KeyValue, Commit}
+use Rattle.storage_current.specs.CurrentSoundness.{HasDigests}
 
 -- one part, and then another
 abbrev pub pair_at : {A B : Type 0} → (List ℕ → Answer A) → (List ℕ → Answer B) → List ℕ → Answer (A × B)
@@ -33,3 +34,7 @@ abbrev pub IsAdmittedExclusion : {U V : Type 0} → (OperationProof → Type 0) 
     → Exclusion U V → Type 0
 IsAdmittedExclusion proof update value (KeyValue p u) = proof p × update u
 IsAdmittedExclusion proof update value (Commit p v) = proof p × IfSome v value
+
+-- an operation proof with digests of d bytes, of which P holds
+abbrev pub WithDigests : ℕ → (OperationProof → Type 0) → OperationProof → Type 0
+WithDigests d P p = HasDigests d p.range × P p

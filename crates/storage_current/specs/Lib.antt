@@ -4,9 +4,7 @@ pub mod KeyProofs
 pub mod HeldKeys
 pub mod Equality
 pub mod KeyWire
-pub mod KeyWireLaws
 pub mod CurrentProofs
-pub mod GraftingLaws
 pub mod CurrentSoundness
 pub mod ExtractedCurrent
 pub mod Grafted
@@ -20,13 +18,12 @@ pub mod Held
 pub mod NodeLists
 pub mod KeptSnapshots
 pub mod CurrentWire
-pub mod CurrentWireLaws
 pub mod BuiltProofs
 pub mod Served
 pub mod OwnWire
 pub mod Required
 pub mod WitnessWire
-pub mod WitnessWireLaws
 pub mod HeldOfViews
 pub mod SharedChunks
 pub mod HashedLengths
+pub mod Laws

@@ -1,10 +1,10 @@
 -- Digests of nodes, listed by position, and trees over operations that have such a list.
-use Rattle.std.specs.Prelude.{◌≡◌, ℕ, zero, suc, ◌+◌, ◌^◌, ◌<◌, ◌≤◌, List, [], ◌∷◌, length, get_or, Option, Some, None, IsSome}
+use Rattle.std.specs.Prelude.{◌≡◌, ℕ, zero, suc, ◌+◌, ◌<◌, ◌≤◌, List, [], ◌∷◌, length, get_or, Option, Some, None, IsSome}
 use Rattle.storage_codec.specs.Digests.{HashFunction}
 use Rattle.storage_merkle.specs.Hashing.{leaf_digests, node_over}
-use Rattle.storage_merkle.specs.Kept.{Kept, NodesOver, Holds, StandsFor, kept_at}
+use Rattle.storage_merkle.specs.Kept.{Kept, NodesOver, HoldsDigests, StandsFor, kept_at}
 use Rattle.storage_merkle.specs.Nodes.{IsNode}
-use Rattle.storage_merkle.specs.Shape.{Shape, size}
+use Rattle.storage_merkle.specs.Shape.{Shape, size, max_leaves}
 use Rattle.storage_merkle.specs.Trees.{ungrafted}
 use Rattle.storage_current.specs.Combined.{joined}
 use Rattle.storage_current.specs.GraftedTrees.{KeptChunks, regrafted, tree_at}
@@ -20,16 +20,16 @@ abbrev pub plain_over : HashFunction → Shape → NodesOver
 plain_over h S = node_over h (ungrafted S) (λ a. [])
 
 -- nothing of the tree in memory is forgotten, and it is over some leaves
-pub record IsGrown {D : Type 0} (text : D → List ℕ) (h : HashFunction) (S : Shape) (m : Kept D) : Type 0 where
-  pub few : m.leaves ≤ 2 ^ 62
+pub record IsGrown {D : Type 0} (bytes_of : D → List ℕ) (h : HashFunction) (S : Shape) (m : Kept D) : Type 0 where
+  pub few : m.leaves ≤ max_leaves
   pub unpruned : m.boundary ≡ 0
   pub unpinned : m.pinned ≡ []
   pub list : List (List ℕ)
-  pub stands : StandsFor text S (plain_over h S) m list
+  pub stands : StandsFor bytes_of S (plain_over h S) m list
 
 -- it is over these operations
 abbrev pub IsOver : {D : Type 0} → (D → List ℕ) → HashFunction → Shape → Kept D → List (List ℕ) → Type 0
-IsOver text h S m operations = StandsFor text S (plain_over h S) m (leaf_digests h (ungrafted S) 0 operations)
+IsOver bytes_of h S m operations = StandsFor bytes_of S (plain_over h S) m (leaf_digests h (ungrafted S) 0 operations)
 
 -- a tree over operations in memory: how many there are, and the digests of its nodes by position
 pub record KeptTree : Type 0 where
@@ -39,29 +39,29 @@ pub record KeptTree : Type 0 where
 -- it is the tree over these operations
 pub record IsTreeOver (h : HashFunction) (S : Shape) (tree : KeptTree) (operations : List (List ℕ)) : Type 0 where
   pub leaves : tree.leaves ≡ length operations
-  pub holds : Holds S (plain_over h S (leaf_digests h (ungrafted S) 0 operations)) [] 0 (size S tree.leaves) [] tree.nodes
+  pub holds : HoldsDigests S (plain_over h S (leaf_digests h (ungrafted S) 0 operations)) [] 0 (size S tree.leaves) [] tree.nodes
 
 -- ---- what a tree over operations and one over their chunks have as one, by position
 
 -- the digest at a position, where chunks are over nodes of the height g
 abbrev pub seen_in : {D : Type 0} → (List ℕ → D) → (D → List ℕ) → Shape → ℕ → Kept D → KeptChunks D → ℕ → Option D
-seen_in digest text S g m t = joined S g (size S m.leaves)
-    (regrafted digest text S g (tree_at S t.pruned t.pinned t.leaves)) (kept_at S m.boundary m.pinned m.nodes)
+seen_in digest bytes_of S g m t = joined S g (size S m.leaves)
+    (regrafted digest bytes_of S g (tree_at S t.pruned t.pinned t.leaves)) (kept_at S m.boundary m.pinned m.nodes)
 
 -- each position of so many has a digest
 abbrev pub AreHad : {D : Type 0} → (ℕ → Option D) → ℕ → Type 0
 AreHad answers n = (p : ℕ) → p < n → IsSome (answers p)
 
 -- a digest by its bytes: no bytes for none
-abbrev pub text_of : {D : Type 0} → (D → List ℕ) → Option D → List ℕ
-text_of text None = []
-text_of text (Some digest) = text digest
+abbrev pub bytes_or_none : {D : Type 0} → (D → List ℕ) → Option D → List ℕ
+bytes_or_none bytes_of None = []
+bytes_or_none bytes_of (Some digest) = bytes_of digest
 
 -- the digests at so many positions from p on
-abbrev pub texts_from : {D : Type 0} → (D → List ℕ) → (ℕ → Option D) → ℕ → ℕ → List (List ℕ)
-texts_from text answers p zero = []
-texts_from text answers p (suc n) = text_of text (answers p) ∷ texts_from text answers (p + 1) n
+abbrev pub bytes_from : {D : Type 0} → (D → List ℕ) → (ℕ → Option D) → ℕ → ℕ → List (List ℕ)
+bytes_from bytes_of answers p zero = []
+bytes_from bytes_of answers p (suc n) = bytes_or_none bytes_of (answers p) ∷ bytes_from bytes_of answers (p + 1) n
 
 -- all that both as one have
 abbrev pub seen_list : {D : Type 0} → (List ℕ → D) → (D → List ℕ) → Shape → ℕ → Kept D → KeptChunks D → List (List ℕ)
-seen_list digest text S g m t = texts_from text (seen_in digest text S g m t) 0 (size S m.leaves)
+seen_list digest bytes_of S g m t = bytes_from bytes_of (seen_in digest bytes_of S g m t) 0 (size S m.leaves)

@@ -67,10 +67,10 @@ module _ {D : Type 0} (nodes : ℕ) (node : ℕ → Option D) (g : Grafting) (lo
       ⊎ (error ≡ Memory)
 
   -- the store is a snapshot's, and the other parts are its own
-  pub record AreServedOf (text : D → List ℕ) (h : HashFunction) (floor : ℕ) (ops_root : List ℕ)
+  pub record AreServedOf (bytes_of : D → List ℕ) (h : HashFunction) (floor : ℕ) (ops_root : List ℕ)
       (s : Snapshot) : Type 0 where
     pub tree : size g.shape (length s.operations) ≡ nodes
-    pub parts : ArePartsOf text (held_at node) h g (plan_over (length s.operations) low high) status floor ops_root s
+    pub parts : ArePartsOf bytes_of (held_at node) h g (plan_over (length s.operations) low high) status floor ops_root s
 
 -- ---- with the operations
 

@@ -8,7 +8,7 @@ ReadAlike read other = (bytes : List ℕ) → read bytes ≡ other bytes
 
 -- Values of two types, with what they are written as and what they are seen as, agree where they are seen alike: they are written
 -- alike, and two checks of a claim whose yes is exactly this answer alike.
-pub record Agree {A B X Claim : Type 0} (text : A → List ℕ) (other_text : B → List ℕ) (seen : A → X) (other_seen : B → X)
+pub record AgreeWhereSeenAlike {A B X Claim : Type 0} (text : A → List ℕ) (other_text : B → List ℕ) (seen : A → X) (other_seen : B → X)
     (Yes : Claim → X → Type 0) : Type 0 where
   pub written : (a : A) (b : B) → seen a ≡ other_seen b → text a ≡ other_text b
   pub checked : (a : A) (b : B) → seen a ≡ other_seen b → (claim : Claim) (yes other : Bool)

@@ -2,11 +2,11 @@
 use Rattle.std.specs.Prelude.{◌≡◌, ℕ, zero, suc, ◌+◌, ◌-◌, ◌*◌, ◌/◌, ◌%◌, ◌<◌, ◌≤◌, ◌^◌, List, [], ◌∷◌, ◌++◌, length, take, get_or, Bool, true, false, if◌then◌else◌, ◌&&◌, leb, ltb, eqb, Option, Some, None, option_map, option_to_list}
 use Rattle.storage_codec.specs.Digests.{HashFunction}
 use Rattle.storage_merkle.specs.declared.merkle.bagging.Bagging.TheVariants.{BackwardFold}
-use Rattle.storage_merkle.specs.Shape.{Shape, Laws, leaves_of}
+use Rattle.storage_merkle.specs.Shape.{Shape, Laws, leaves_under, max_leaves}
 use Rattle.storage_merkle.specs.Nodes.{IsNode}
 use Rattle.storage_merkle.specs.Calc.{be8}
 use Rattle.storage_merkle.specs.Trees.{Layout, ungrafted, Content, listed, tree_node, tree_root, tree_strings}
-use Rattle.storage_merkle.specs.RangeProofs.{RangeProof, own_proof, StandAt}
+use Rattle.storage_merkle.specs.RangeProofs.{Proof, own_proof, StandAt}
 use Rattle.storage_bitmap.specs.Chunks.{IsChunkSize, chunk, chunks_from}
 use Rattle.storage_current.specs.Grafted.{grafted_over}
 
@@ -50,11 +50,11 @@ view g n = record { shape = g.shape; position = g.shape.position; grafted = graf
 
 -- how many leading peaks over n leaves end at or before the floor; and how many such, the last of which ends on a multiple of 2 ^ k
 abbrev pub exact : Shape → ℕ → ℕ → ℕ
-exact S n floor = greatest (λ r. leb (leaves_of (take r (S.peaks n))) floor) (length (S.peaks n))
+exact S n floor = greatest (λ r. leb (leaves_under (take r (S.peaks n))) floor) (length (S.peaks n))
 
 abbrev pub aligned : Shape → ℕ → ℕ → ℕ → ℕ
 aligned S n floor k =
-    greatest (λ r. leb (leaves_of (take r (S.peaks n))) floor && eqb (leaves_of (take r (S.peaks n)) % 2 ^ k) 0)
+    greatest (λ r. leb (leaves_under (take r (S.peaks n))) floor && eqb (leaves_under (take r (S.peaks n)) % 2 ^ k) 0)
     (length (S.peaks n))
 
 -- ---- snapshots
@@ -67,7 +67,7 @@ pub record Snapshot : Type 0 where
 pub record IsSnapshot (s : Snapshot) : Type 0 where
   pub bit_each : length s.bits ≡ length s.operations
   pub floor_within : s.floor ≤ length s.operations
-  pub few : length s.operations ≤ 2 ^ 62
+  pub few : length s.operations ≤ max_leaves
 
 -- what a canonical root is the digest of
 abbrev pub slot : Option (List ℕ) → List ℕ
@@ -153,8 +153,8 @@ pub record IsActive (s : Snapshot) (location : ℕ) (operation : List ℕ) : Typ
 -- ---- proofs, and the snapshot's own ones
 
 -- a range proof, the digests of the pending and of the partial chunk, and the operations root
-pub record CurrentProof : Type 0 where
-  pub range : RangeProof
+pub record RangeProof : Type 0 where
+  pub range : Proof
   pub pending : Option (List ℕ)
   pub partial : Option (List ℕ)
   pub ops_root : List ℕ
@@ -163,7 +163,7 @@ pub record CurrentProof : Type 0 where
 pub record OperationProof : Type 0 where
   pub location : ℕ
   pub chunk : List ℕ
-  pub range : CurrentProof
+  pub range : RangeProof
 
 -- the parts of a canonical root beside the operations root: with the digest of the partial chunk goes how many bits it has
 pub record Witness : Type 0 where
@@ -173,8 +173,8 @@ pub record Witness : Type 0 where
 
 module _ (h : HashFunction) (g : Grafting) (s : Snapshot) where
   -- the proof of the operations from low to high - 1
-  abbrev pub own_current_proof : ℕ → ℕ → CurrentProof
-  own_current_proof low high = record {
+  abbrev pub own_range_proof : ℕ → ℕ → RangeProof
+  own_range_proof low high = record {
     range = own_proof h (view g (length s.operations)) BackwardFold (content h g s) (aligned_of h g s) low high;
     pending = option_map h (pending_of h g s);
     partial = option_map h (partial_of h g s);
@@ -185,7 +185,7 @@ module _ (h : HashFunction) (g : Grafting) (s : Snapshot) where
   own_operation_proof location = record {
     location = location;
     chunk = chunk g.bytes s.bits (first_chunk g location);
-    range = own_current_proof location (location + 1);
+    range = own_range_proof location (location + 1);
   }
 
   abbrev pub own_witness : Witness

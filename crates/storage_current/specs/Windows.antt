@@ -1,6 +1,7 @@
 -- Where a claimed range stands among the chunks, and the digests of chunks under no node of their own.
 use Rattle.std.specs.Prelude.{◌≡◌, ℕ, ◌+◌, ◌-◌, ◌%◌, ◌<◌, ◌≤◌, ◌^◌, List, [], get_or, Bool, true, Option, Some, is_some}
 use Rattle.storage_codec.specs.Digests.{HashFunction}
+use Rattle.storage_merkle.specs.Shape.{max_leaves}
 use Rattle.storage_bitmap.specs.Chunks.{IsChunkSize}
 use Rattle.storage_current.specs.declared.qmdb.current.proof.window.Window.{Window}
 use Rattle.storage_current.specs.Snapshots.{Grafting, height, complete, graftable, first_chunk, last_chunk}
@@ -9,7 +10,7 @@ use Rattle.storage_current.specs.Snapshots.{Grafting, height, complete, graftabl
 pub record IsWindow (g : Grafting) (leaves start count chunks : ℕ) : Type 0 where
   pub size : IsChunkSize g.bytes
   pub some : 0 < count
-  pub few : leaves ≤ 2 ^ 62
+  pub few : leaves ≤ max_leaves
   pub within : start + count ≤ leaves
   pub chunk_count : chunks ≡ last_chunk g start count - first_chunk g start + 1
   pub one_pending : complete g leaves ≤ graftable g leaves + 1

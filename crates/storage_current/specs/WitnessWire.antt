@@ -4,7 +4,7 @@ use Rattle.storage_codec.specs.Codec.{Answer, front_at, option_at, varint_at}
 use Rattle.storage_codec.specs.Digests.{HashFunction, Cross}
 use Rattle.storage_codec.specs.Faults.{◌>>=◌}
 use Rattle.storage_codec.specs.Parts.{option_text, varint_text}
-use Rattle.storage_merkle.specs.Wire.{slot_text, slot_at, IsSlot}
+use Rattle.storage_merkle.specs.Wire.{slot_text, slot_at, IsPendingSlot}
 use Rattle.storage_current.specs.CurrentProofs.{witness_string}
 use Rattle.storage_current.specs.CurrentWire.{as_is}
 use Rattle.storage_current.specs.Snapshots.{Grafting, Snapshot, IsSnapshot, canonical_root, snapshot_strings, ops_root_of, Witness, own_witness}
@@ -12,10 +12,10 @@ use Rattle.storage_current.specs.declared.qmdb.current.proof.witness.OpsRootWitn
 
 -- the witness that a value holds, its digests by their bytes
 abbrev pub witness_of : {F D : Type 0} → (D → List ℕ) → OpsRootWitness F D → Witness
-witness_of text w = record {
-  grafted_root = text w.grafted_root;
-  pending = option_map text w.pending_chunk_digest;
-  partial = option_map (λ p. (p.0, text p.1)) w.partial_chunk;
+witness_of bytes_of w = record {
+  grafted_root = bytes_of w.grafted_root;
+  pending = option_map bytes_of w.pending_chunk_digest;
+  partial = option_map (λ p. (p.0, bytes_of p.1)) w.partial_chunk;
 }
 
 -- that of these parts: with the digest of the partial chunk goes how many bits it has
@@ -55,5 +55,5 @@ witness_at has_pending d bytes =
 
 -- a witness that can be read again: a family without pending chunks has none, and the number of bits is a u64
 pub record IsAdmittedWitness (has_pending : Bool) (w : Witness) : Type 0 where
-  pub pending : IsSlot has_pending w.pending
+  pub pending : IsPendingSlot has_pending w.pending
   pub bits : IfSome w.partial (λ p. p.0 < 2 ^ 64)

@@ -5,20 +5,20 @@ use Rattle.std.specs.List.{AllZip}
 use Rattle.std.proofs.lemmas.List.{length-append}
 use Rattle.storage_codec.specs.Digests.{HashFunction}
 use Rattle.storage_current.specs.Keys.{Keyed, commit_text}
-use Rattle.storage_current.specs.KeptSnapshots.{StandsFor}
+use Rattle.storage_current.specs.KeptSnapshots.{StandsForSnapshot}
 use Rattle.storage_current.specs.Snapshots.{Grafting, Snapshot, IsSnapshot}
 use Rattle.storage_db.specs.declared.db.active.Active.{Active}
 use Rattle.storage_db.specs.declared.db.log.Log.{Log}
 use Rattle.storage_db.specs.Databases.{Committed, Database, least_location, commit}
 use Rattle.storage_db.specs.Logs.{cleared_at}
 use Rattle.storage_db.specs.Parts.{texts, database_of}
-use Rattle.storage_db.specs.Kept.{Kept, KeptCommit, IsCopy, Keeps}
+use Rattle.storage_db.specs.Kept.{KeptDatabase, KeptCommit, IsCopy, Keeps}
 use Rattle.storage_db.proofs.Changing.{same_database}
 use Rattle.storage_db.proofs.Keeping.{kept_of, same_kept, committed_of}
 use Rattle.storage_db.proofs.Told.{no_more}
 
 module _ {K W : Type 0} (e : Keyed K W) (h : HashFunction) (g : Grafting) where
-  module _ (log room after : Log) (m : List (K × Active W)) (last : Option (KeptCommit K W)) (old : Kept K W)
+  module _ (log room after : Log) (m : List (K × Active W)) (last : Option (KeptCommit K W)) (old : KeptDatabase K W)
       (is : kept_of log m last ≡ old) (operations : room.operations.items ≡ log.operations.items)
       (bits : room.bits.items ≡ log.bits.items) (metadata : Option W) (floor : ℕ) (bytes : Vec ℕ) (text : List ℕ)
       (before : Option ℕ) (c : KeptCommit K W) where
@@ -26,7 +26,7 @@ module _ {K W : Type 0} (e : Keyed K W) (h : HashFunction) (g : Grafting) where
     keeps_with_room d keeps =
         let same : kept_of room m last ≡ old
         = same_kept log room m m last (λ l. same_database log room operations bits m l) ∙ is in
-        subst (λ (k : Kept K W). Keeps e h g k d) (sym same) keeps
+        subst (λ (k : KeptDatabase K W). Keeps e h g k d) (sym same) keeps
 
     abbrev snapshot_with : List ℕ → ℕ → Snapshot
     snapshot_with t f = record {
@@ -36,7 +36,7 @@ module _ {K W : Type 0} (e : Keyed K W) (h : HashFunction) (g : Grafting) where
     }
 
     abbrev IsKeptWith : List ℕ → ℕ → Type 0
-    IsKeptWith t f = IsSnapshot (snapshot_with t f) × StandsFor h g c.snapshot (snapshot_with t f)
+    IsKeptWith t f = IsSnapshot (snapshot_with t f) × StandsForSnapshot h g c.snapshot (snapshot_with t f)
 
     pub committed_with : floor ≡ least_location m (length room.operations.items) → bytes.items ≡ commit_text e metadata floor
         → text ≡ bytes.items → before ≡ option_map (λ (k : KeptCommit K W). k.count - 1) last

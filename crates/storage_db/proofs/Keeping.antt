@@ -7,7 +7,7 @@ use Rattle.std.proofs.lemmas.Bool.{le-ltb}
 use Rattle.std.proofs.lemmas.List.{length-append, length-map}
 use Rattle.storage_codec.specs.Digests.{HashFunction}
 use Rattle.storage_current.specs.Keys.{Keyed, commit_text}
-use Rattle.storage_current.specs.KeptSnapshots.{StandsFor}
+use Rattle.storage_current.specs.KeptSnapshots.{StandsForSnapshot}
 use Rattle.storage_current.specs.Snapshots.{Grafting, Snapshot, IsSnapshot}
 use Rattle.storage_db.specs.declared.db.active.Active.{Active}
 use Rattle.storage_db.specs.declared.db.error.Error.{Error}
@@ -15,11 +15,11 @@ use Rattle.storage_db.specs.declared.db.log.Log.{Log}
 use Rattle.storage_db.specs.Databases.{Committed, Database, without_commit, least_location, commit}
 use Rattle.storage_db.specs.Logs.{IsTooMany, cleared_at}
 use Rattle.storage_db.specs.Parts.{texts, database_of}
-use Rattle.storage_db.specs.Kept.{Kept, KeptCommit, IsCopy, Keeps, KeepsCommit}
+use Rattle.storage_db.specs.Kept.{KeptDatabase, KeptCommit, IsCopy, Keeps, KeepsCommit}
 use Rattle.storage_db.proofs.Changing.{same_parts, texts_more, count_of_texts}
 
 module _ {K W : Type 0} where
-  abbrev pub kept_of : Log → List (K × Active W) → Option (KeptCommit K W) → Kept K W
+  abbrev pub kept_of : Log → List (K × Active W) → Option (KeptCommit K W) → KeptDatabase K W
   kept_of log entries last = record {
     operations = texts log;
     bits = log.bits.items;
@@ -73,9 +73,9 @@ module _ {K W : Type 0} (e : Keyed K W) (h : HashFunction) (g : Grafting) where
 
   -- the same of what a call answers
   module _ (step : Database K W → Database K W) (log after : Log) (m n : List (K × Active W)) (last : Option (KeptCommit K W))
-      (old : Kept K W) (is : kept_of log m last ≡ old) where
+      (old : KeptDatabase K W) (is : kept_of log m last ≡ old) where
     keeps_inside : (d : Database K W) → Keeps e h g old d → Keeps e h g (kept_of log m last) d
-    keeps_inside d keeps = subst (λ (k : Kept K W). Keeps e h g k d) (sym is) keeps
+    keeps_inside d keeps = subst (λ (k : KeptDatabase K W). Keeps e h g k d) (sym is) keeps
 
     pub done_from : ((l : Option (Committed K W)) → database_of after n l ≡ step (database_of log m l))
         → length after.operations.items ≤ 2 ^ 62 → (d : Database K W) → Keeps e h g old d
@@ -143,7 +143,7 @@ module _ {K W : Type 0} (e : Keyed K W) (h : HashFunction) (g : Grafting) where
         → after.operations.items ≡ log.operations.items ++ bytes ∷ []
         → after.bits.items ≡ cleared_at before log.bits.items ++ true ∷ []
         → c.metadata ≡ metadata → c.floor ≡ floor_of → c.count ≡ length log.operations.items + 1
-        → AllZip (IsCopy e) m c.entries → IsSnapshot snapshot_of → StandsFor h g c.snapshot snapshot_of
+        → AllZip (IsCopy e) m c.entries → IsSnapshot snapshot_of → StandsForSnapshot h g c.snapshot snapshot_of
         → length after.operations.items ≤ 2 ^ 62
         → (nat_lt (2 ^ 62) (length (commit e d metadata).operations) ≡ false)
         × Keeps e h g (kept_of after m (Some c)) (commit e d metadata)
@@ -181,7 +181,7 @@ module _ {K W : Type 0} (e : Keyed K W) (h : HashFunction) (g : Grafting) where
             count = count_is ∙ place;
             entries = copies;
             whole = subst IsSnapshot one whole;
-            snapshot = subst (λ (x : Snapshot). StandsFor h g c.snapshot x) one stands;
+            snapshot = subst (λ (x : Snapshot). StandsForSnapshot h g c.snapshot x) one stands;
           };
         } in
         let P : Database K W → Type 0 = λ x. (nat_lt (2 ^ 62) (length (commit e x metadata).operations) ≡ false)

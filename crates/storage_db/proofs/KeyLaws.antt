@@ -5,7 +5,7 @@ use Rattle.std.specs.Cmp.{IsTotalOrder}
 use Rattle.std.specs.Ordering.{is_eq}
 use Rattle.storage_ops.specs.Operations.{OperationView, Update, CommitFloor, operation_map, operation_floor}
 use Rattle.storage_ops.specs.PrefixFree.{IsPrefixFree}
-use Rattle.storage_ops.specs.PrefixFreeLaws.{three_parts}
+use Rattle.storage_ops.specs.Laws.PrefixFree.{three_parts}
 use Rattle.storage_db.specs.Keyed.{IsKeyed}
 use Rattle.storage_db.proofs.Cases.{equal_of}
 

@@ -4,12 +4,12 @@ use Rattle.std.specs.Prelude.{MatchOption, IsSomeAnd, option_and_then}
 use Rattle.std.specs.List.{AllZip}
 use Rattle.storage_codec.specs.Digests.{HashFunction}
 use Rattle.storage_current.specs.Keys.{Keyed}
-use Rattle.storage_current.specs.KeptSnapshots.{KeptSnapshot, StandsFor}
+use Rattle.storage_current.specs.KeptSnapshots.{KeptSnapshot, StandsForSnapshot}
 use Rattle.storage_current.specs.Snapshots.{Grafting, Snapshot, canonical_root}
 use Rattle.storage_db.specs.declared.db.active.Active.{Active}
 use Rattle.storage_db.specs.Databases.{Committed, Database, active_at, value_at}
 use Rattle.storage_db.specs.Keyed.{IsKeyed}
-use Rattle.storage_db.specs.Kept.{Kept, KeptCommit, IsCopy, Keeps, KeepsCommit}
+use Rattle.storage_db.specs.Kept.{KeptDatabase, KeptCommit, IsCopy, Keeps, KeepsCommit}
 use Rattle.storage_db.proofs.Cases.{some_not_none}
 use Rattle.storage_db.proofs.Copies.{seen_of, lookup_copy}
 
@@ -44,7 +44,7 @@ module _ {K W : Type 0} (e : Keyed K W) (is : IsKeyed e) where
     value_committed (Some commit) (Some c) last key = value_copied commit.entries c.entries last.entries key
 
     -- of a database in memory, as its parts and as its value
-    module _ (inside kept : Kept K W) (view : inside ≡ kept) (d : Database K W) (keeps : Keeps e h g kept d) (key : K) where
+    module _ (inside kept : KeptDatabase K W) (view : inside ≡ kept) (d : Database K W) (keeps : Keeps e h g kept d) (key : K) where
       abbrev committed_value : Option (List ℕ)
       committed_value = option_map e.value
           (option_and_then (λ (commit : Committed K W). value_at e commit.entries key) d.last)
@@ -52,7 +52,7 @@ module _ {K W : Type 0} (e : Keyed K W) (is : IsKeyed e) where
       told_of_last : option_map e.value (option_and_then (λ (c : KeptCommit K W). value_at e c.entries key) inside.last)
           ≡ committed_value
       told_of_last = value_committed d.last inside.last
-          (subst (λ (k : Kept K W). AreLast d.last k.last) (sym view) keeps.last) key
+          (subst (λ (k : KeptDatabase K W). AreLast d.last k.last) (sym view) keeps.last) key
 
       pub told_at_last : (c : KeptCommit K W) → inside.last ≡ Some c → {A : Type 0} (f : A → W) (o : Option A)
           → option_map f o ≡ value_at e c.entries key → option_map (λ (x : A). e.value (f x)) o ≡ committed_value
@@ -72,13 +72,13 @@ module _ {K W : Type 0} (e : Keyed K W) (is : IsKeyed e) where
 module _ {K W S : Type 0} (h : HashFunction) (g : Grafting) (kept : S → KeptSnapshot) (told : Option S) where
   abbrev AreTold : Option (Committed K W) → Option S → Type 0
   AreTold last shown = MatchOption last (shown ≡ None)
-      (λ commit. IsSomeAnd shown (λ s. StandsFor h g (kept s) commit.snapshot))
+      (λ commit. IsSomeAnd shown (λ s. StandsForSnapshot h g (kept s) commit.snapshot))
 
   abbrev root_of : Option (Committed K W) → Option (List ℕ)
   root_of last = option_map (λ (commit : Committed K W). canonical_root h g commit.snapshot) last
 
   pub root_at_last : (last : Option (Committed K W)) → AreTold last told → (s : S) → told ≡ Some s → (root : List ℕ)
-      → ((x : Snapshot) → StandsFor h g (kept s) x → root ≡ canonical_root h g x) → Some root ≡ root_of last
+      → ((x : Snapshot) → StandsForSnapshot h g (kept s) x → root ≡ canonical_root h g x) → Some root ≡ root_of last
   root_at_last None none s there root stands = absurd (some_not_none s (sym there ∙ none))
   root_at_last (Some commit) held s there root stands =
       ap Some (stands commit.snapshot (subst (AreTold (Some commit)) there held))

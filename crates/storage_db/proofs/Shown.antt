@@ -11,7 +11,7 @@ use Rattle.storage_db.specs.declared.db.active.Active.{Active}
 use Rattle.storage_db.specs.Keyed.{IsKeyed}
 use Rattle.storage_db.specs.Rings.{next_key, previous}
 use Rattle.storage_db.specs.Databases.{Committed, Database, active_at}
-use Rattle.storage_db.specs.Kept.{Kept, KeptCommit, IsCopy, Keeps, KeepsCommit}
+use Rattle.storage_db.specs.Kept.{KeptDatabase, KeptCommit, IsCopy, Keeps, KeepsCommit}
 use Rattle.storage_db.specs.Shown.{IsValueProof, IsAbsenceProof, absence_by}
 use Rattle.storage_db.proofs.Cases.{by_option, some_not_none, somes, none_if}
 use Rattle.storage_db.proofs.Copies.{seen_of, lookup_copy, next_copy, AreCopied, previous_copy}
@@ -135,13 +135,13 @@ module _ {K W : Type 0} (e : Keyed K W) (is : IsKeyed e) where
         (sym (present_of commit.entries inside.entries within.entries k a found).1) q
 
 -- the last commit of a database in memory, as its parts and as its value
-module _ {K W : Type 0} (e : Keyed K W) (h : HashFunction) (g : Grafting) (inside kept : Kept K W) (view : inside ≡ kept)
+module _ {K W : Type 0} (e : Keyed K W) (h : HashFunction) (g : Grafting) (inside kept : KeptDatabase K W) (view : inside ≡ kept)
     (d : Database K W) (keeps : Keeps e h g kept d) where
   abbrev AreLast : Option (Committed K W) → Option (KeptCommit K W) → Type 0
   AreLast last copy = MatchOption last (copy ≡ None) (λ commit. IsSomeAnd copy (λ c. KeepsCommit e h g c commit))
 
   are_last : AreLast d.last inside.last
-  are_last = subst (λ (k : Kept K W). AreLast d.last k.last) (sym view) keeps.last
+  are_last = subst (λ (k : KeptDatabase K W). AreLast d.last k.last) (sym view) keeps.last
 
   -- what holds of each commit that is kept as this one holds of the last one, and there is one
   module _ (c : KeptCommit K W) (there : inside.last ≡ Some c) where

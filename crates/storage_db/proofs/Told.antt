@@ -8,7 +8,7 @@ use Rattle.storage_db.specs.declared.db.active.Active.{Active}
 use Rattle.storage_db.specs.declared.db.log.Log.{Log}
 use Rattle.storage_db.specs.Rings.{next_key, previous}
 use Rattle.storage_db.specs.Databases.{Database, active_at, relinked, removed, delete}
-use Rattle.storage_db.specs.Kept.{Kept, KeptCommit, Keeps}
+use Rattle.storage_db.specs.Kept.{KeptDatabase, KeptCommit, Keeps}
 use Rattle.storage_db.proofs.Cases.{cond_no}
 use Rattle.storage_db.proofs.Changing.{count_of_texts}
 use Rattle.storage_db.proofs.Keeping.{kept_of}
@@ -19,19 +19,19 @@ no_more log = omega arith
 
 module _ {K W : Type 0} (e : Keyed K W) where
   -- whether a key has a value
-  pub held_now : (h : HashFunction) (g : Grafting) (old : Kept K W) (d : Database K W) → Keeps e h g old d → (key : K)
+  pub held_now : (h : HashFunction) (g : Grafting) (old : KeptDatabase K W) (d : Database K W) → Keeps e h g old d → (key : K)
       → is_some (active_at e old.entries key) ≡ is_some (active_at e d.entries key)
   held_now h g old d keeps key = ap (λ (entries : List (K × Active W)). is_some (active_at e entries key)) keeps.entries
 
   -- a deletion of a key that has none changes nothing
   pub nothing_deleted : (h : HashFunction) (g : Grafting) (log : Log) (m : List (K × Active W)) (last : Option (KeptCommit K W))
-      (old : Kept K W) → kept_of log m last ≡ old → (key : K)
+      (old : KeptDatabase K W) → kept_of log m last ≡ old → (key : K)
       → is_some (active_at e m key) ≡ false → (d : Database K W) → Keeps e h g old d
       → (nat_lt (2 ^ 62) (length (delete e d key).operations) ≡ false) × Keeps e h g old (delete e d key)
   nothing_deleted h g log m last old is key absent d keeps =
-      let entries : m ≡ d.entries = ap (λ (k : Kept K W). k.entries) is ∙ keeps.entries in
+      let entries : m ≡ d.entries = ap (λ (k : KeptDatabase K W). k.entries) is ∙ keeps.entries in
       let operations : length log.operations.items ≡ length d.operations
-      = count_of_texts log ∙ ap (λ (k : Kept K W). length k.operations) is
+      = count_of_texts log ∙ ap (λ (k : KeptDatabase K W). length k.operations) is
       ∙ ap (λ (l : List (List ℕ)). length l) keeps.operations in
       let none : is_some (active_at e d.entries key) ≡ false
       = ap (λ (es : List (K × Active W)). is_some (active_at e es key)) (sym entries) ∙ absent in

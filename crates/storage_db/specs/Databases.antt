@@ -1,8 +1,9 @@
 -- An ordered database as a machine: what it keeps, and what each command does to it.
-use Rattle.std.specs.Prelude.{ℕ, ◌-◌, ◌^◌, min, Bool, true, false, List, [], ◌∷◌, ◌++◌, length, map, slice_set, fold, Option, Some, None, is_some, option_map, nat_lt, if◌then◌else◌}
+use Rattle.std.specs.Prelude.{ℕ, ◌-◌, min, Bool, true, false, List, [], ◌∷◌, ◌++◌, length, map, slice_set, fold, Option, Some, None, is_some, option_map, nat_lt, if◌then◌else◌}
 use Rattle.std.specs.Ordering.{eq_by_cmp}
 use Rattle.std.specs.BTreeMap.{insert_entry, is_at}
 use Rattle.std.specs.Map.{lookup, remove_entry, update, values_of}
+use Rattle.storage_merkle.specs.Shape.{max_leaves}
 use Rattle.storage_ops.specs.Operations as operation
 use Rattle.storage_current.specs.Keys.{Keyed, update_text, commit_text}
 use Rattle.storage_current.specs.Snapshots.{Snapshot}
@@ -127,7 +128,7 @@ module _ {K W : Type 0} (e : Keyed K W) where
 
   -- the operations with those that the command appends would pass 2^62
   abbrev pub is_full : Database K W → Command K W → Bool
-  is_full d command = nat_lt (2 ^ 62) (length (done d command).operations)
+  is_full d command = nat_lt max_leaves (length (done d command).operations)
 
   -- what commands leave, one after the other; one that is refused changes nothing
   abbrev pub run : Database K W → List (Command K W) → Database K W

@@ -3,7 +3,7 @@ use Rattle.std.specs.Prelude.{◌≡◌, ℕ, Bool, false, List, length, Option,
 use Rattle.std.specs.List.{AllZip}
 use Rattle.storage_codec.specs.Digests.{HashFunction}
 use Rattle.storage_current.specs.Keys.{Keyed}
-use Rattle.storage_current.specs.KeptSnapshots.{KeptSnapshot, StandsFor}
+use Rattle.storage_current.specs.KeptSnapshots.{KeptSnapshot, StandsForSnapshot}
 use Rattle.storage_current.specs.Snapshots.{Grafting, IsSnapshot}
 use Rattle.storage_db.specs.declared.db.active.Active.{Active}
 use Rattle.storage_db.specs.declared.db.error.Error.{Error}
@@ -20,7 +20,7 @@ pub record KeptCommit (K W : Type 0) : Type 0 where
   pub snapshot : KeptSnapshot
 
 -- what the operations are written as, of each whether it is active, the active keys in their order, and the last commit
-pub record Kept (K W : Type 0) : Type 0 where
+pub record KeptDatabase (K W : Type 0) : Type 0 where
   pub operations : List (List ℕ)
   pub bits : List Bool
   pub entries : List (K × Active W)
@@ -41,21 +41,21 @@ module _ {K W : Type 0} (e : Keyed K W) where
       pub count : kept.count ≡ length commit.snapshot.operations
       pub entries : AllZip IsCopy commit.entries kept.entries
       pub whole : IsSnapshot commit.snapshot
-      pub snapshot : StandsFor h g kept.snapshot commit.snapshot
+      pub snapshot : StandsForSnapshot h g kept.snapshot commit.snapshot
 
     -- it is this database in memory
-    pub record Keeps (kept : Kept K W) (d : Database K W) : Type 0 where
+    pub record Keeps (kept : KeptDatabase K W) (d : Database K W) : Type 0 where
       pub operations : kept.operations ≡ d.operations
       pub bits : kept.bits ≡ d.bits
       pub entries : kept.entries ≡ d.entries
       pub last : MatchOption d.last (kept.last ≡ None) (λ commit. IsSomeAnd kept.last (λ c. KeepsCommit c commit))
 
     -- The command is not one too many, and leaves what it gives.
-    abbrev pub IsDone : Kept K W → Kept K W → Command K W → Type 0
+    abbrev pub IsDone : KeptDatabase K W → KeptDatabase K W → Command K W → Type 0
     IsDone old new command = (d : Database K W) → Keeps old d
         → (is_full e d command ≡ false) × Keeps new (done e d command)
 
     -- why a command is refused: it is one too many, else want of memory
-    abbrev pub IsRefused : {F : Type 0} → Kept K W → Command K W → Error F → Type 0
-    IsRefused old command error = (d : Database K W) → Keeps old d
+    abbrev pub IsCommandRefused : {F : Type 0} → KeptDatabase K W → Command K W → Error F → Type 0
+    IsCommandRefused old command error = (d : Database K W) → Keeps old d
         → error ≡ (if is_full e d command then Full (length d.operations) else Memory)

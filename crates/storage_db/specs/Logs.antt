@@ -1,10 +1,11 @@
 -- Operations and their bits in two vectors.
-use Rattle.std.specs.Prelude.{◌≡◌, ℕ, ◌+◌, ◌<◌, ◌≤◌, ◌^◌, Bool, false, List, slice_set, Option, Some, None, nat_lt, if◌then◌else◌}
+use Rattle.std.specs.Prelude.{◌≡◌, ℕ, ◌+◌, ◌<◌, ◌≤◌, Bool, false, List, slice_set, Option, Some, None, nat_lt, if◌then◌else◌}
+use Rattle.storage_merkle.specs.Shape.{max_leaves}
 use Rattle.storage_db.specs.declared.db.error.Error.{Error}
 use Rattle.storage_db.specs.declared.db.error.Error.TheVariants.{Full, Memory}
 
 -- vectors of so many operations and bits have room for some more
-pub record HasRoom (count length operations bits : ℕ) : Type 0 where
+pub record HaveRoom (count length operations bits : ℕ) : Type 0 where
   pub operation_room : length + count ≤ operations
   pub bit_room : length + count ≤ bits
 
@@ -20,4 +21,4 @@ cleared_at (Some location) bits = slice_set bits location false
 
 -- why so many operations can't become so many: these would pass 2^62; else want of memory
 abbrev pub IsTooMany : {F : Type 0} → ℕ → ℕ → Error F → Type 0
-IsTooMany count after error = error ≡ (if nat_lt (2 ^ 62) after then Full count else Memory)
+IsTooMany count after error = error ≡ (if nat_lt max_leaves after then Full count else Memory)

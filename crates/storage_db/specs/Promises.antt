@@ -2,7 +2,7 @@
 use Rattle.std.specs.Prelude.{◌≡◌, ◌⊎◌, List, Option, Some, None, MatchOption, option_map}
 use Rattle.storage_codec.specs.Digests.{HashFunction, Cross}
 use Rattle.storage_current.specs.CurrentProofs.{IsActiveCurrent, operation_strings}
-use Rattle.storage_current.specs.KeyProofs.{Exclusion, IsExcluded, MeansValue, MeansAbsent, proof_of, shown_text}
+use Rattle.storage_current.specs.KeyProofs.{Exclusion, IsExcluded, MeansValue, MeansAbsent, proof_in, shown_text}
 use Rattle.storage_current.specs.Keys.{Keyed, update_text, IsWellFormed, IsValue, IsAbsent}
 use Rattle.storage_current.specs.Snapshots.{Grafting, IsGrafting, Snapshot, IsSnapshot, OperationProof, canonical_root, snapshot_strings}
 use Rattle.storage_db.specs.Databases.{Command, Committed, empty, run, value_at, no_maps, maps_after}
@@ -46,7 +46,7 @@ module _ {K W : Type 0} (e : Keyed K W) where
         → (option_map e.value (map key) ≡ Some (e.value value))
         ⊎ Cross h (operation_strings h g proof (update_text e key value next)) (snapshot_strings h g s)
     pub absences : (key : K) (x : Exclusion (K × W × K) W) → MeansAbsent e h g x key (canonical_root h g s)
-        → (map key ≡ None) ⊎ Cross h (operation_strings h g (proof_of x) (shown_text e x)) (snapshot_strings h g s)
+        → (map key ≡ None) ⊎ Cross h (operation_strings h g (proof_in x) (shown_text e x)) (snapshot_strings h g s)
 
   -- Whatever commands were given, a yes against the root of the last commit states what the map had at that commit.
   abbrev pub EachYesIsTrue : HashFunction → Grafting → Type 0

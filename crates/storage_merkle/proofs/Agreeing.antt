@@ -3,11 +3,11 @@ use Rattle.std.proofs.Common.{◌≡◌, ℕ, zero, suc, ◌+◌, ◌<◌, ◌�
 use Rattle.std.proofs.lemmas.Bool.{lt-leb, cases_lt}
 use Rattle.std.proofs.lemmas.Nat.{le-div}
 use Rattle.storage_merkle.specs.Calc.{Site, node, Calc, given, leaf, pair, graft, be8, Values, Agree}
-use Rattle.storage_merkle.specs.Shape.{leaves_of, Inside, AreAligned}
+use Rattle.storage_merkle.specs.Shape.{leaves_under, Inside, AreAligned}
 use Rattle.storage_merkle.specs.Trees.{Layout, Peak, node_calc, part, fold_forward, fold_backward, bag, join_calc, places}
 use Rattle.storage_merkle.specs.RangeProofs.{apart, front_given, back_given, leading, not_leading, up_to, trailing, sites_of, position_of, place_in, by_position, front_sites, back_sites, sites_in}
-use Rattle.storage_merkle.specs.ShapeLaws.{inside_between}
-use Rattle.storage_merkle.specs.Multiples.{multiple_down, pow_order, quotient}
+use Rattle.storage_merkle.specs.Laws.Shape.{inside_between}
+use Rattle.storage_merkle.specs.Laws.Multiples.{multiple_down, pow_order, quotient}
 
 le_zero : (m : ℕ) → m < 1 → m ≡ 0
 le_zero m h = omega arith
@@ -105,9 +105,9 @@ module _ (v w : Values) where
   module _ (T : Layout) (cut : ℕ → ℕ → Bool) (j : ℕ) (P : Type 0) (Q : Peak → Type 0)
       (found : (p : Peak) → Q p → p.first ≤ j → j < p.first + 2 ^ p.height → Agree v w (part T cut p) → P) where
     -- in all of the peaks
-    pub agree_parts : (a : ℕ) (ks : List ℕ) → AllPeaks Q (places a ks) → a ≤ j → j < a + leaves_of ks
+    pub agree_parts : (a : ℕ) (ks : List ℕ) → AllPeaks Q (places a ks) → a ≤ j → j < a + leaves_under ks
         → AgreeAll (map (part T cut) (places a ks)) → P
-    unfolding leaves_of
+    unfolding leaves_under
     agree_parts a [] q l u g = absurd (omega arith)
     agree_parts a (k ∷ ks) q l u g =
         elim (cases_lt j (a + 2 ^ k)) [
@@ -116,8 +116,8 @@ module _ (v w : Values) where
         ]
 
     pub agree_front : (low : ℕ) → low ≤ j → (a : ℕ) (ks : List ℕ) → AllPeaks Q (places a ks) → a ≤ j
-        → j < a + leaves_of ks → AgreeAll (map (part T cut) (not_leading low (places a ks))) → P
-    unfolding leaves_of
+        → j < a + leaves_under ks → AgreeAll (map (part T cut) (not_leading low (places a ks))) → P
+    unfolding leaves_under
     agree_front low above a [] q l u g = absurd (omega arith)
     agree_front low above a (k ∷ ks) q l u g =
         let p : Peak = record { first = a; height = k } in
@@ -130,8 +130,8 @@ module _ (v w : Values) where
         ]
 
     pub agree_back : (high : ℕ) → j < high → (a : ℕ) (ks : List ℕ) → AllPeaks Q (places a ks) → a ≤ j
-        → j < a + leaves_of ks → AgreeAll (map (part T cut) (up_to high (places a ks))) → P
-    unfolding leaves_of
+        → j < a + leaves_under ks → AgreeAll (map (part T cut) (up_to high (places a ks))) → P
+    unfolding leaves_under
     agree_back high below a [] q l u g = absurd (omega arith)
     agree_back high below a (k ∷ ks) q l u g =
         let p : Peak = record { first = a; height = k } in

@@ -3,7 +3,7 @@ use Rattle.std.proofs.Common.{◌≡◌, ℕ, List, ◌∷◌, ◌++◌, length,
 use Rattle.storage_merkle.specs.declared.merkle.bagging.Bagging.{Bagging}
 use Rattle.storage_merkle.specs.declared.merkle.bagging.Bagging.TheVariants.{ForwardFold, BackwardFold}
 use Rattle.storage_merkle.specs.Calc.{be8}
-use Rattle.storage_merkle.specs.CalcLaws.{split_append, be8_length, be8_same, heads}
+use Rattle.storage_merkle.specs.Laws.Calc.{split_append, be8_length, be8_same, heads}
 use Rattle.storage_merkle.specs.Trees.{bagging_byte, eval_bag, strings_bag, plain, tree_bag, tree_string}
 use Rattle.storage_merkle.specs.Soundness.{RootsBindTheirTrees}
 

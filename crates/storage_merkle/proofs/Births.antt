@@ -1,7 +1,7 @@
 -- When a node comes, wherever it stands.
 use Rattle.std.proofs.Common.{◌≡◌, ℕ, ◌+◌, ◌-◌, ◌<◌, ◌≤◌, sym, ◌∙◌, arith}
 use Rattle.storage_merkle.specs.Shape.{Shape, Laws, size}
-use Rattle.storage_merkle.specs.ShapeLaws.{brought}
+use Rattle.storage_merkle.specs.Laws.Shape.{brought}
 use Rattle.storage_merkle.specs.Nodes.{IsNode}
 
 module _ (S : Shape) (L : Laws S) (n p a k : ℕ) (x : IsNode S p a k) (low : size S n ≤ p) (high : p < size S (n + 1)) where

@@ -4,18 +4,18 @@ use Rattle.storage_codec.specs.Digests.{HashFunction, IsSized}
 use Rattle.storage_merkle.specs.Shape.{Laws}
 use Rattle.storage_merkle.specs.declared.merkle.bagging.Bagging.{Bagging}
 use Rattle.storage_merkle.specs.Trees.{Layout, Content, tree_root}
-use Rattle.storage_merkle.specs.RangeProofs.{RangeProof, AreDigests, IsAccepted, IsOwn, SameChunks, own_digest, own_proof, sites}
+use Rattle.storage_merkle.specs.RangeProofs.{Proof, AreDigests, IsAccepted, IsOwn, SameChunks, own_digest, own_proof, sites}
 use Rattle.storage_merkle.specs.Plans.{PlanOf, IsOwnOfEach}
 use Rattle.storage_merkle.specs.ProofWire.{proof_text, proof_at}
-use Rattle.storage_merkle.specs.ProofWireLaws.{all_digests, proof_again}
-use Rattle.storage_merkle.specs.Built.{IsServed}
+use Rattle.storage_merkle.specs.Laws.ProofWire.{all_digests, proof_again}
+use Rattle.storage_merkle.specs.Built.{IsPlanServed}
 use Rattle.storage_merkle.proofs.RangeOwn.{own_accepted}
 use Rattle.storage_merkle.proofs.RangeSound.{own-wide}
 
 module _ {D : Type 0} (text : D → List ℕ) (answers : ℕ → Option D → Type 0) (h : HashFunction) (T : Layout)
-    (L : Laws T.shape) (b : Bagging) (plan : PlanOf) (inactive : ℕ) (proof : RangeProof) (claim content : Content)
+    (L : Laws T.shape) (b : Bagging) (plan : PlanOf) (inactive : ℕ) (proof : Proof) (claim content : Content)
     (own : IsOwnOfEach text answers h T.shape b plan inactive proof)
-    (is : IsServed text answers h T plan inactive claim content) where
+    (is : IsPlanServed text answers h T plan inactive claim content) where
   proof_is : proof ≡ own_proof h T b content inactive plan.start plan.end
   proof_is = own T content refl is.leaves is.nodes_are
 
@@ -37,15 +37,15 @@ module _ {D : Type 0} (text : D → List ℕ) (answers : ℕ → Option D → Ty
   wide : (d : ℕ) → IsSized d h → AreDigests d proof.digests
   wide d sized =
       let n = length content.elements in
-      subst (λ (p : RangeProof). AreDigests d p.digests) (sym proof_is)
+      subst (λ (p : Proof). AreDigests d p.digests) (sym proof_is)
       (all_digests (own_digest h T b content n inactive plan.start plan.end) d
       (own-wide d h T b content n inactive plan.start plan.end sized) (sites T plan.start plan.end b n inactive))
 
   pub built_again : (d : ℕ) → IsSized d h → (most : ℕ) (rest : List ℕ) → length proof.digests ≤ most → most < 2 ^ 64
       → proof_at d most (proof_text proof ++ rest) ≡ Ok (proof, rest)
   built_again d sized most rest all fits =
-      let leaves : proof.leaves ≡ length content.elements = ap (λ (p : RangeProof). p.leaves) proof_is in
-      let count : proof.inactive ≡ inactive = ap (λ (p : RangeProof). p.inactive) proof_is in
+      let leaves : proof.leaves ≡ length content.elements = ap (λ (p : Proof). p.leaves) proof_is in
+      let count : proof.inactive ≡ inactive = ap (λ (p : Proof). p.inactive) proof_is in
       proof_again d most proof rest (wide d sized) (record {
         leaves = omega (arith, leaves, few);
         inactive = omega (arith, count, is.peaks, L.few plan.leaves is.few);

@@ -2,7 +2,7 @@
 use Rattle.std.proofs.Common.{◌≡◌, ℕ, zero, suc, ◌+◌, ◌≤◌, ◌^◌, List, [], ◌∷◌, ◌++◌, length, map, Bool, true, false, if◌then◌else◌, refl, arith, Option, Some, None}
 use Rattle.storage_merkle.specs.Shape.{AreAligned}
 use Rattle.storage_merkle.specs.Calc.{node, Calc, given, leaf, pair, graft, be8, Values}
-use Rattle.storage_merkle.specs.CalcLaws.{IsChunked}
+use Rattle.storage_merkle.specs.Laws.Calc.{IsChunked}
 use Rattle.storage_merkle.specs.Chunked.{AreChunks}
 use Rattle.storage_merkle.specs.declared.merkle.bagging.Bagging.{Bagging}
 use Rattle.storage_merkle.specs.Trees.{Layout, Peak, peaks_of, folded, unfolded, part, bag, fold_forward, fold_backward, join_calc, node_calc, never}

@@ -4,11 +4,11 @@ use Rattle.std.proofs.lemmas.Bool.{cases_lt}
 use Rattle.std.proofs.lemmas.Nat.{pow_pos, ones_cat}
 use lib.Count.{ones, ones-ones}
 use Rattle.storage_merkle.specs.Shape.{Shape, Laws, size}
-use Rattle.storage_merkle.specs.ShapeLaws.{size_order}
+use Rattle.storage_merkle.specs.Laws.Shape.{size_order}
 use Rattle.storage_merkle.specs.Mmr.{mmr}
-use Rattle.storage_merkle.specs.MmrLaws.{mmr_size_is, mmr_grows}
+use Rattle.storage_merkle.specs.Laws.Mmr.{mmr_size_is, mmr_grows}
 use Rattle.storage_merkle.specs.Mmb.{mmb}
-use Rattle.storage_merkle.specs.MmbLaws.{mmb_size_sum}
+use Rattle.storage_merkle.specs.Laws.Mmb.{mmb_size_sum}
 
 -- where no number between two neighbours has a size, none has
 pub no_tree : (S : Shape) → Laws S → (low high nodes : ℕ) → high ≤ low + 1 → size S low < nodes → nodes < size S high

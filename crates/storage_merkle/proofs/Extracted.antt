@@ -6,13 +6,13 @@ use Rattle.std.proofs.lemmas.List.{map-append}
 use Rattle.std.proofs.lemmas.List.Sorted.{IsPermutation-map}
 use Rattle.storage_codec.specs.Digests.{HashFunction, Cross}
 use Rattle.storage_merkle.specs.Shape.{Laws}
-use Rattle.storage_merkle.specs.ShapeLaws.{no_peaks}
-use Rattle.storage_merkle.specs.Multiples.{multiple_down, multiple_add, power_multiple}
+use Rattle.storage_merkle.specs.Laws.Shape.{no_peaks}
+use Rattle.storage_merkle.specs.Laws.Multiples.{multiple_down, multiple_add, power_multiple}
 use Rattle.storage_merkle.specs.Calc.{Site, front, back, node, given, Values, eval, Agree}
 use Rattle.storage_merkle.specs.declared.merkle.bagging.Bagging.{Bagging}
 use Rattle.storage_merkle.specs.Trees.{Layout, Content, Peak, node_calc, join_calc, never, places, peaks_of, folded, unfolded, part, plain, tree_root, tree_strings}
 use Rattle.storage_merkle.specs.Chunked.{AreChunks}
-use Rattle.storage_merkle.specs.RangeProofs.{RangeProof, apart, leading, not_leading, up_to, trailing, front_given, check_bag, position_of, by_position, same_site, check_values, check_strings, IsAccepted}
+use Rattle.storage_merkle.specs.RangeProofs.{Proof, apart, leading, not_leading, up_to, trailing, front_given, check_bag, position_of, by_position, same_site, check_values, check_strings, IsAccepted}
 use Rattle.storage_merkle.specs.Multi.{tree_digest}
 use Rattle.storage_merkle.specs.Extracted.{nodes_under, nodes_in, overlapped, checked_sites, extracted_sites, entries, digest_at, extracted, tree_entries, ExtractedDigestsAreTrue, ExtractedPositionsAscend}
 use Rattle.storage_merkle.proofs.Prune.{prunes_node, leading-all, up_to-all}
@@ -113,7 +113,7 @@ module _ (h : HashFunction) (v w : Values) (T : Layout) (cut : ℕ → ℕ → B
   same_in (p ∷ ps) a = agree_at_append checked trees (nodes_under cut p.height p.first) (nodes_in cut ps)
       (same_under p.height p.first a.0) (same_in ps a.1)
 
-pub extracted_same : (h : HashFunction) (T : Layout) (b : Bagging) (proof : RangeProof) (start : ℕ)
+pub extracted_same : (h : HashFunction) (T : Layout) (b : Bagging) (proof : Proof) (start : ℕ)
     (claim content : Content) → 0 < length claim.elements → proof.leaves ≡ length content.elements
     → AgreeBag (check_values h T b proof start claim)
     (own_values h T b content proof.leaves proof.inactive start (start + length claim.elements))
@@ -168,7 +168,7 @@ extracted_true d h T b proof start claim root sized L wide accepted N grafted sa
           inactive few peaks (inr ok)) [
             | inr c ↦ inr c
             | inl own ↦
-                let leaves : proof.leaves ≡ m = ap (λ (p : RangeProof). p.leaves) own.proof_is in
+                let leaves : proof.leaves ≡ m = ap (λ (p : Proof). p.leaves) own.proof_is in
                 let U = over proof.leaves in
                 inl (no_entries U _ proof.leaves start high none ok.0.no_leaves
                 ∙ sym (no_entries (over m) _ m start high none (sym leaves ∙ ok.0.no_leaves)))

@@ -5,23 +5,23 @@ use Rattle.storage_merkle.specs.Hashing.{folded_forward, folded_backward, bagged
 use Rattle.std.proofs.lemmas.List.{take-map, drop-map}
 use Rattle.storage_merkle.specs.declared.merkle.bagging.Bagging.{Bagging}
 use Rattle.storage_merkle.specs.declared.merkle.bagging.Bagging.TheVariants.{ForwardFold, BackwardFold}
-use Rattle.storage_merkle.specs.Hashers.{or_nothing, joined, folded_onto, forward_of}
+use Rattle.storage_merkle.specs.Hashers.{or_nothing, prepended, folded_onto, forward_of}
 
 -- the last of some items is folded first
 pub onto_last : (h : HashFunction) (xs : List (List ℕ)) (x : List ℕ) (onto : Option (List ℕ))
-    → folded_onto h (xs ++ x ∷ []) onto ≡ folded_onto h xs (Some (joined h x onto))
+    → folded_onto h (xs ++ x ∷ []) onto ≡ folded_onto h xs (Some (prepended h x onto))
 onto_last h [] x onto = refl
-onto_last h (y ∷ xs) x onto = ap (λ r. Some (joined h y r)) (onto_last h xs x onto)
+onto_last h (y ∷ xs) x onto = ap (λ r. Some (prepended h y r)) (onto_last h xs x onto)
 
 pub onto_none : (h : HashFunction) (x : List ℕ) (xs : List (List ℕ))
     → folded_onto h (x ∷ xs) None ≡ Some (folded_backward h x xs)
 onto_none h x [] = refl
-onto_none h x (y ∷ xs) = ap (λ r. Some (joined h x r)) (onto_none h y xs)
+onto_none h x (y ∷ xs) = ap (λ r. Some (prepended h x r)) (onto_none h y xs)
 
-pub joined_none : (h : HashFunction) (x : List ℕ) (xs : List (List ℕ))
-    → joined h x (folded_onto h xs None) ≡ folded_backward h x xs
-joined_none h x [] = refl
-joined_none h x (y ∷ xs) = ap (joined h x) (onto_none h y xs)
+pub prepended_none : (h : HashFunction) (x : List ℕ) (xs : List (List ℕ))
+    → prepended h x (folded_onto h xs None) ≡ folded_backward h x xs
+prepended_none h x [] = refl
+prepended_none h x (y ∷ xs) = ap (prepended h x) (onto_none h y xs)
 
 pub bagged_rest : (h : HashFunction) (ys : List (List ℕ)) → or_nothing (folded_onto h ys None) ≡ bagged h [] ys
 bagged_rest h [] = refl
@@ -34,11 +34,11 @@ bagged_none h [] ys r e f = ap or_nothing f ∙ bagged_rest h ys
 bagged_none h (x ∷ xs) ys r e f = absurd cc
 
 pub bagged_some : (h : HashFunction) (xs ys : List (List ℕ)) (a : List ℕ) (r : Option (List ℕ))
-    → Some a ≡ forward_of h xs → r ≡ folded_onto h ys None → joined h a r ≡ bagged h xs ys
+    → Some a ≡ forward_of h xs → r ≡ folded_onto h ys None → prepended h a r ≡ bagged h xs ys
 bagged_some h [] ys a r e f = absurd cc
 bagged_some h (x ∷ xs) ys a r e f =
     let same : a ≡ folded_forward h x xs = cc in
-    ap (joined h a) f ∙ joined_none h a ys ∙ ap (λ b. folded_backward h b ys) same
+    ap (prepended h a) f ∙ prepended_none h a ys ∙ ap (λ b. folded_backward h b ys) same
 
 pub peaks_forward : (h : HashFunction) (b : Bagging) (i : ℕ) (ds : List (List ℕ)) → b ≡ ForwardFold
     → bagged_peaks h b i ds ≡ bagged h ds []

@@ -4,8 +4,8 @@ use Rattle.std.specs.List.{Contains}
 use Rattle.std.proofs.lemmas.Bool.{cases_lt}
 use Rattle.storage_merkle.specs.Shape.{Shape, Laws, Inside}
 use Rattle.storage_merkle.specs.Peaks.{HasPeak}
-use Rattle.storage_merkle.specs.PeakLaws.{peak_node, peak_inside, inside_of_peak}
-use Rattle.storage_merkle.specs.Multiples.{pow_two, pow_order, pow_le, next, multiple_add, multiple_down, power_multiple}
+use Rattle.storage_merkle.specs.Laws.Peaks.{peak_node, peak_inside, inside_of_peak}
+use Rattle.storage_merkle.specs.Laws.Multiples.{pow_two, pow_order, pow_le, next, multiple_add, multiple_down, power_multiple}
 use Rattle.storage_merkle.specs.Calc.{Site, front, back, node, given, leaf, be8}
 use Rattle.storage_merkle.specs.Trees.{Layout, ungrafted, places, peaks_of, node_calc, join_calc}
 use Rattle.storage_merkle.specs.RangeProofs.{apart, sites_of, sites_in, position_of, by_position, same_site}

@@ -7,8 +7,8 @@ use Rattle.std.proofs.lemmas.List.Sorted.{All-permutation, IsPermutation-map}
 use Rattle.storage_merkle.specs.Shape.{Laws}
 use Rattle.storage_merkle.specs.Calc.{Site}
 use Rattle.storage_merkle.specs.Trees.{Layout}
-use Rattle.storage_merkle.specs.RangeProofs.{RangeProof, position_of, by_position, same_site}
-use Rattle.storage_merkle.specs.Extracted.{entries, texts}
+use Rattle.storage_merkle.specs.RangeProofs.{Proof, position_of, by_position, same_site}
+use Rattle.storage_merkle.specs.Extracted.{entries, by_bytes}
 use Rattle.storage_merkle.proofs.Agreeing.{AgreeAt, agree_by_position}
 use Rattle.storage_merkle.proofs.Distinct.{times, one_if, same_itself}
 use Rattle.storage_merkle.proofs.Siblings.{positions, positions_sorted}
@@ -55,26 +55,26 @@ module _ (T : Layout) (L : Laws T.shape) (f : Site → List ℕ) where
   paired-entries r (s ∷ ss) = ap (λ es. (position_of T s, r (position_of T s)) ∷ es) (paired-entries r ss)
 
   module _ {D : Type 0} (text : D → List ℕ) where
-    firsts : (r : ℕ → List ℕ) (xs : List (ℕ × D)) (ps : List ℕ) → texts text xs ≡ paired r ps → map (λ e. e.0) xs ≡ ps
+    firsts : (r : ℕ → List ℕ) (xs : List (ℕ × D)) (ps : List ℕ) → by_bytes text xs ≡ paired r ps → map (λ e. e.0) xs ≡ ps
     firsts r [] [] e = refl
     firsts r [] (p ∷ ps) e = cc
     firsts r (x ∷ xs) [] e = cc
     firsts r (x ∷ xs) (p ∷ ps) e =
         let here : Pair (x.0, text x.1) (p, r p) = cc in
-        let later : texts text xs ≡ paired r ps = cc in
+        let later : by_bytes text xs ≡ paired r ps = cc in
         ap₂ (λ y ys. y ∷ ys) (ap (λ z. z.0) here) (firsts r xs ps later)
 
-    seconds : (r : ℕ → List ℕ) (xs : List (ℕ × D)) (ps : List ℕ) → texts text xs ≡ paired r ps
+    seconds : (r : ℕ → List ℕ) (xs : List (ℕ × D)) (ps : List ℕ) → by_bytes text xs ≡ paired r ps
         → All (λ e. text e.1 ≡ r e.0) xs
     seconds r [] ps e = All-nil (λ z. text z.1 ≡ r z.0)
     seconds r (x ∷ xs) [] e = cc
     seconds r (x ∷ xs) (p ∷ ps) e =
         let here : Pair (x.0, text x.1) (p, r p) = cc in
-        let later : texts text xs ≡ paired r ps = cc in
+        let later : by_bytes text xs ≡ paired r ps = cc in
         All-cons (λ z. text z.1 ≡ r z.0) x xs (ap (λ z. z.1) here ∙ ap (λ z. r z.0) (sym here)) (seconds r xs ps later)
 
     again : (r : ℕ → List ℕ) (ys : List (ℕ × D)) → All (λ e. text e.1 ≡ r e.0) ys
-        → texts text ys ≡ paired r (map (λ e. e.0) ys)
+        → by_bytes text ys ≡ paired r (map (λ e. e.0) ys)
     again r [] a = refl
     again r (y ∷ ys) a =
         ap₂ (λ d es. (y.0, d) ∷ es) (a 0 y (omega arith)) (again r ys (λ i d l. a (suc i) d (omega arith)))
@@ -89,12 +89,12 @@ module _ (T : Layout) (L : Laws T.shape) (f : Site → List ℕ) where
 
     -- what is sorted by position is the list by position
     pub sorted_entries : (ss : List Site) → AllSites IsAlignedNode ss → (xs ys : List (ℕ × D))
-        → texts text xs ≡ entries T f ss → IsPermutation xs ys → IsNonDecreasingBy (λ e. e.0) ys
-        → texts text ys ≡ entries T f (by_position T ss)
+        → by_bytes text xs ≡ entries T f ss → IsPermutation xs ys → IsNonDecreasingBy (λ e. e.0) ys
+        → by_bytes text ys ≡ entries T f (by_position T ss)
     sorted_entries ss al xs ys e p up =
         let r = read T f ss in
         let here = reads ss ss al al (λ t. omega arith) in
-        let xs_are : texts text xs ≡ paired r (positions T ss) =
+        let xs_are : by_bytes text xs ≡ paired r (positions T ss) =
         e ∙ entries_agree T f (λ s. r (position_of T s)) ss here ∙ paired-entries r ss in
         let all = All-permutation (λ x. text x.1 ≡ r x.0) xs ys p (seconds r xs (positions T ss) xs_are) in
         let moved : IsPermutation (positions T ss) (map (λ x. x.0) ys) =
@@ -118,7 +118,7 @@ taken g o v m root r xs er em eo a =
     same ∙ ap (λ ys. ys ++ xs) eo
 
 -- a claim on a proof, part by part
-pub on_proof : (P : RangeProof → Type 0) (n m i j : ℕ) (ds es : List (List ℕ)) → n ≡ m → i ≡ j → ds ≡ es
+pub on_proof : (P : Proof → Type 0) (n m i j : ℕ) (ds es : List (List ℕ)) → n ≡ m → i ≡ j → ds ≡ es
     → P (record { leaves = n; inactive = i; digests = ds }) → P (record { leaves = m; inactive = j; digests = es })
 on_proof P n m i j ds es en ei ed x =
     subst (λ z. P (record { leaves = m; inactive = j; digests = z })) ed

@@ -3,16 +3,16 @@ use Rattle.std.proofs.Common.{◌≡◌, ◌≢◌, ℕ, ◌+◌, ◌<◌, ◌�
 use Rattle.std.specs.List.Sorted.{IsStrictlyIncreasing}
 use Rattle.storage_codec.specs.Digests.{HashFunction, IsSized}
 use Rattle.storage_merkle.specs.Shape.{Laws}
-use Rattle.storage_merkle.specs.ShapeLaws.{no_peaks}
+use Rattle.storage_merkle.specs.Laws.Shape.{no_peaks}
 use Rattle.storage_merkle.specs.declared.merkle.bagging.Bagging.{Bagging}
 use Rattle.storage_merkle.specs.Trees.{Layout, Content, empty_root}
-use Rattle.storage_merkle.specs.RangeProofs.{RangeProof, AreDigests, CountsFit, IsEmptyProof, IsAccepted}
+use Rattle.storage_merkle.specs.RangeProofs.{Proof, AreDigests, CountsFit, IsEmptyProof, IsAccepted}
 use Rattle.storage_merkle.specs.Checks.{IsRecomputed}
 use Rattle.storage_merkle.specs.Extracted.{AreHandedOut, Fits, extracted}
 use Rattle.storage_merkle.proofs.Siblings.{not_both}
 use Rattle.storage_merkle.proofs.Extracted.{extracted_true, extracted_ascend, no_entries}
 
-module _ (h : HashFunction) (T : Layout) (b : Bagging) (proof : RangeProof) (start : ℕ) (claim : Content)
+module _ (h : HashFunction) (T : Layout) (b : Bagging) (proof : Proof) (start : ℕ) (claim : Content)
     (root : List ℕ) where
   -- what is handed out
   pub handed : (d : ℕ) → IsSized d h → Laws T.shape → AreDigests d proof.digests

@@ -9,13 +9,13 @@ use Rattle.std.proofs.lemmas.List.{get_or_append_left, length-map}
 use Rattle.std.proofs.Math.Seq.{get_or-append_seam, take-append_seam}
 use Rattle.storage_codec.specs.Digests.{HashFunction}
 use Rattle.storage_merkle.specs.Shape.{Shape, Laws, size, Inside, AreAligned}
-use Rattle.storage_merkle.specs.Nodes.{IsNode, placed}
+use Rattle.storage_merkle.specs.Nodes.{IsNode, placed, Children}
 use Rattle.storage_merkle.specs.Trees.{Layout}
 use Rattle.storage_merkle.specs.Hashing.{join_digest, node_over}
-use Rattle.storage_merkle.specs.ShapeLaws.{leaves_of_size, same_node, grows_at_most, Children, children}
-use Rattle.storage_merkle.specs.Multiples.{pow_two, pow_order, next, multiple_add, multiple_down, power_multiple}
-use Rattle.storage_merkle.specs.Kept.{pins, paired, kept_at, IsClean, Holds, at_peaks}
-use Rattle.storage_merkle.specs.KeptLaws.{node_same, peaks_same}
+use Rattle.storage_merkle.specs.Laws.Shape.{leaves_of_size, same_node, grows_at_most, children}
+use Rattle.storage_merkle.specs.Laws.Multiples.{pow_two, pow_order, next, multiple_add, multiple_down, power_multiple}
+use Rattle.storage_merkle.specs.Kept.{pins, paired, kept_at, IsClean, HoldsDigests, at_peaks}
+use Rattle.storage_merkle.specs.Laws.Kept.{node_same, peaks_same}
 
 -- the node is one of the peaks, which begin at the leaf s
 abbrev pub IsPeak : List ℕ → ℕ → ℕ → ℕ → Type 0
@@ -235,7 +235,7 @@ module _ (S : Shape) where
         i.there
 
     pub kept_is : (node : ℕ → ℕ → List ℕ) (dirty : List ℕ) (b p a k : ℕ) (pinned nodes : List (List ℕ)) → IsKept b p a k
-        → length nodes + size S b ≡ p → Holds S node dirty b p pinned nodes → IsClean dirty a k
+        → length nodes + size S b ≡ p → HoldsDigests S node dirty b p pinned nodes → IsClean dirty a k
         → kept_at S b pinned nodes (S.position a k) ≡ Some (node k a)
     kept_is node dirty b p a k pinned nodes i count holds clean =
         kept_value node b p a k pinned nodes i count holds.peaks (λ l. holds.from a k i.aligned l i.below clean)
@@ -291,7 +291,7 @@ module _ (S : Shape) where
     near n o l m = omega (arith, grows_at_most (size S) L.grows (n + 1) (2 ^ 62) (omega arith))
 
     pub children_of : (n o a h : ℕ) → n < 2 ^ 62 → size S n + o < size S (n + 1) → IsNode S (size S n + o) a h → h ≢ 0
-        → Children S L a h
+        → Children S a h
     children_of n o a h l m i ne = children S L a h (size S n + o) i (omega arith) (near n o l m)
 
     pub leaf_place : (n o a h : ℕ) → h ≡ 0 → size S n + o < size S (n + 1) → IsNode S (size S n + o) a h → o ≡ 0
@@ -303,8 +303,8 @@ module _ (S : Shape) where
     leaf_place n o a (suc h) z l i = absurd (omega arith)
 
     pub holds_more : (node : ℕ → ℕ → List ℕ) (dirty : List ℕ) (b p a k : ℕ) (pinned nodes : List (List ℕ)) (d : List ℕ)
-        → Holds S node dirty b p pinned nodes → length nodes + size S b ≡ p → IsNode S p a k
-        → (IsClean dirty a k → d ≡ node k a) → Holds S node dirty b (p + 1) pinned (nodes ++ d ∷ [])
+        → HoldsDigests S node dirty b p pinned nodes → length nodes + size S b ≡ p → IsNode S p a k
+        → (IsClean dirty a k → d ≡ node k a) → HoldsDigests S node dirty b (p + 1) pinned (nodes ++ d ∷ [])
     holds_more node dirty b p a k pinned nodes d h count i e = record {
       peaks = h.peaks;
       from = λ c j al lo hi clean.
@@ -324,9 +324,9 @@ module _ (S : Shape) where
 
     -- ---- pruning
     pub holds_pruned : (node : ℕ → ℕ → List ℕ) (dirty : List ℕ) (b m n : ℕ)
-        (pinned pinned' nodes nodes' : List (List ℕ)) → b ≤ m → m ≤ n → Holds S node dirty b (size S n) pinned nodes
+        (pinned pinned' nodes nodes' : List (List ℕ)) → b ≤ m → m ≤ n → HoldsDigests S node dirty b (size S n) pinned nodes
         → pinned' ≡ at_peaks node 0 (S.peaks m) → nodes' ≡ drop (size S m - size S b) nodes
-        → Holds S node dirty m (size S n) pinned' nodes'
+        → HoldsDigests S node dirty m (size S n) pinned' nodes'
     holds_pruned node dirty b m n pinned pinned' nodes nodes' lo hi h peaks rest =
         let low : size S b ≤ size S m = grows_at_most (size S) L.grows b m lo in
         record {
@@ -339,7 +339,7 @@ module _ (S : Shape) where
         }
 
     pub holds_at : (node : ℕ → ℕ → List ℕ) (dirty : List ℕ) (b p q : ℕ) (pinned nodes : List (List ℕ)) → p ≡ q
-        → Holds S node dirty b p pinned nodes → Holds S node dirty b q pinned nodes
+        → HoldsDigests S node dirty b p pinned nodes → HoldsDigests S node dirty b q pinned nodes
     holds_at node dirty b p q pinned nodes e h =
         record { peaks = h.peaks; from = λ a k al lo hi clean. h.from a k al lo (omega arith) clean }
 
@@ -360,8 +360,8 @@ module _ (S : Shape) where
       module _ (list : List (List ℕ)) (x : List ℕ) (n : ℕ) (len : length list ≡ n) where
         -- what was held is held for the longer list
         pub holds_old : (dirty : List ℕ) (b : ℕ) (pinned nodes : List (List ℕ)) → b ≤ n
-            → Holds S (node_over h T chunk list) dirty b (size S n) pinned nodes
-            → Holds S (node_over h T chunk (list ++ x ∷ [])) dirty b (size S n) pinned nodes
+            → HoldsDigests S (node_over h T chunk list) dirty b (size S n) pinned nodes
+            → HoldsDigests S (node_over h T chunk (list ++ x ∷ [])) dirty b (size S n) pinned nodes
         holds_old dirty b pinned nodes le held = record {
           peaks = held.peaks ∙ peaks_same h T chunk list (list ++ x ∷ []) (S.peaks b) 0
               (λ j u w. sym (get_or_append_left list (x ∷ []) [] j (omega (arith, L.sum b))));

@@ -6,12 +6,12 @@ use Rattle.storage_merkle.specs.Shape.{Laws}
 use Rattle.storage_merkle.specs.declared.merkle.bagging.Bagging.{Bagging}
 use Rattle.storage_merkle.specs.Trees.{Layout, Content, empty_root, tree_root, tree_strings}
 use Rattle.storage_merkle.specs.Chunked.{AreChunks}
-use Rattle.storage_merkle.specs.RangeProofs.{RangeProof, apart, AreDigests, IsEmptyProof, IsAccepted, IsOwn, check_strings}
+use Rattle.storage_merkle.specs.RangeProofs.{Proof, apart, AreDigests, IsEmptyProof, IsAccepted, IsOwn, check_strings}
 use Rattle.storage_merkle.specs.Checks.{IsRecomputed, IsProved}
 use Rattle.storage_merkle.proofs.RangeSound.{range_sound}
 use Rattle.storage_merkle.proofs.Siblings.{not_both}
 
-module _ (h : HashFunction) (T : Layout) (b : Bagging) (proof : RangeProof) (start : ℕ) (claim : Content)
+module _ (h : HashFunction) (T : Layout) (b : Bagging) (proof : Proof) (start : ℕ) (claim : Content)
     (root : List ℕ) where
   -- an accepted proof is one of each tree with that root
   pub accepted_proved : (d : ℕ) → IsSized d h → Laws T.shape → AreDigests d proof.digests

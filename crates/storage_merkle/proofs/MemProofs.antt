@@ -9,13 +9,13 @@ use Rattle.storage_merkle.specs.declared.merkle.bagging.Bagging.{Bagging}
 use Rattle.storage_merkle.specs.declared.merkle.error.Error.{Error}
 use Rattle.storage_merkle.specs.declared.merkle.error.Error.TheVariants.{ElementPruned, InvalidProof, Memory}
 use Rattle.storage_merkle.specs.Shape.{Shape, Laws, Inside, AreAligned, size}
-use Rattle.storage_merkle.specs.ShapeLaws.{inside_between}
+use Rattle.storage_merkle.specs.Laws.Shape.{inside_between}
 use Rattle.storage_merkle.specs.Nodes.{IsNode, placed}
 use Rattle.storage_merkle.specs.Hashing.{leaf_digests, node_over}
-use Rattle.storage_merkle.specs.HashingLaws.{node_over-tree, length-leaf_digests}
-use Rattle.storage_merkle.specs.Kept.{Kept, IsWhole, Holds, StandsFor, at_peaks, kept_at, paired, pins}
+use Rattle.storage_merkle.specs.Laws.Hashing.{node_over-tree, length-leaf_digests}
+use Rattle.storage_merkle.specs.Kept.{Kept, IsWhole, HoldsDigests, StandsFor, at_peaks, kept_at, paired, pins}
 use Rattle.storage_merkle.specs.Plans.{InTree, IsFirstAbsent, IsOwnOfEach, PlanOf, planned}
-use Rattle.storage_merkle.specs.RangeProofs.{RangeProof, apart, own_proof}
+use Rattle.storage_merkle.specs.RangeProofs.{Proof, apart, own_proof}
 use Rattle.storage_merkle.specs.Trees.{Layout, Content}
 use Rattle.storage_merkle.proofs.Greatest.{greatest_nodes_are_planned}
 use Rattle.storage_merkle.proofs.Keeping.{IsKept, kept_some, clean_none, seen}
@@ -85,7 +85,7 @@ module _ (S : Shape) (L : Laws S) where
 
   -- a kept digest is the list's
   kept_is_node : (node : ℕ → ℕ → List ℕ) (b n a k : ℕ) (pinned nodes : List (List ℕ)) (d : List ℕ) → a % 2 ^ k ≡ 0
-      → S.position a k < size S n → length nodes + size S b ≡ size S n → Holds S node [] b (size S n) pinned nodes
+      → S.position a k < size S n → length nodes + size S b ≡ size S n → HoldsDigests S node [] b (size S n) pinned nodes
       → kept_at S b pinned nodes (S.position a k) ≡ Some d → d ≡ node k a
   kept_is_node node b n a k pinned nodes d aligned inside count holds e = go (leb (size S b) (S.position a k)) refl e
     where
@@ -110,7 +110,7 @@ module _ (S : Shape) (L : Laws S) where
     -- a proof from what is kept is the own one of each tree for which the tree in memory stands
     pub range_own : (answers : ℕ → Option D → Type 0)
         → ((p : ℕ) (d : D) → p < 2 ^ 64 → answers p (Some d) → Some d ≡ kept_at S m.boundary m.pinned m.nodes p) →
-        (h : HashFunction) (b : Bagging) (plan : PlanOf) (inactive low high : ℕ) (proof : RangeProof)
+        (h : HashFunction) (b : Bagging) (plan : PlanOf) (inactive low high : ℕ) (proof : Proof)
         → plan ≡ record { leaves = m.leaves; start = low; end = high }
         → IsOwnOfEach text answers h S b plan inactive proof →
         (T : Layout) (content : Content) → T.shape ≡ S → StandsFor text S (node_over h T content.chunk) m

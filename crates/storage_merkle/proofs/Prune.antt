@@ -4,7 +4,7 @@ use Rattle.std.proofs.lemmas.List.{map-append}
 use Rattle.std.proofs.lemmas.List.Elements.{Contains-append_left, Contains-append_right, Contains-append_cases}
 use Rattle.storage_codec.specs.Digests.{HashFunction}
 use Rattle.storage_merkle.specs.Calc.{Site, front, back, node, Calc, given, leaf, pair, graft, be8, grafted_digest, grafted_strings, Values, eval, strings}
-use Rattle.storage_merkle.specs.Trees.{Layout, Peak, node_calc, never, whole, part, fold_forward, fold_backward, bag, eval_bag, strings_bag, join_calc}
+use Rattle.storage_merkle.specs.Trees.{Layout, Peak, node_calc, never, whole_peak, part, fold_forward, fold_backward, bag, eval_bag, strings_bag, join_calc}
 use Rattle.storage_merkle.specs.RangeProofs.{front_given, back_given, leading, not_leading, up_to, trailing}
 
 pub record Prunes (h : HashFunction) (v w : Values) (t u : Calc) : Type 0 where
@@ -136,42 +136,42 @@ up_to-all high (p ∷ ps) =
 module _ (h : HashFunction) (v w : Values) (T : Layout) (cut : ℕ → ℕ → Bool) (chunks : (a : ℕ) → v.chunk a ≡ w.chunk a)
     (elements : (j : ℕ) → v.element j ≡ w.element j)
     (nodes : (a k : ℕ) → v.digest (node a k) ≡ eval h w (node_calc T never k a)) where
-  prunes_part : (p : Peak) → Prunes h v w (part T cut p) (whole T p)
+  prunes_part : (p : Peak) → Prunes h v w (part T cut p) (whole_peak T p)
   prunes_part p = prunes_node h v w T cut chunks elements nodes p.height p.first
 
-  prunes_parts : (ps : List Peak) → PrunesAll h v w (map (part T cut) ps) (map (whole T) ps)
+  prunes_parts : (ps : List Peak) → PrunesAll h v w (map (part T cut) ps) (map (whole_peak T) ps)
   prunes_parts [] = tt
   prunes_parts (p ∷ ps) = (prunes_part p, prunes_parts ps)
 
   -- the peaks in front
   prunes_front : (p : Peak) (ps qs : List Peak)
-      → v.digest front ≡ eval h w (fold_forward (whole T p) (map (whole T) ps)) → Prunes h v w
-      (fold_forward (given front) (map (part T cut) qs)) (fold_forward (whole T p) (map (whole T) (ps ++ qs)))
+      → v.digest front ≡ eval h w (fold_forward (whole_peak T p) (map (whole_peak T) ps)) → Prunes h v w
+      (fold_forward (given front) (map (part T cut) qs)) (fold_forward (whole_peak T p) (map (whole_peak T) (ps ++ qs)))
   prunes_front p ps qs e =
-      let split : fold_forward (whole T p) (map (whole T) (ps ++ qs))
-      ≡ fold_forward (fold_forward (whole T p) (map (whole T) ps)) (map (whole T) qs) =
-      ap (fold_forward (whole T p)) (map-append (whole T) ps qs)
-      ∙ fold_forward-append _ (map (whole T) ps) (map (whole T) qs) in
+      let split : fold_forward (whole_peak T p) (map (whole_peak T) (ps ++ qs))
+      ≡ fold_forward (fold_forward (whole_peak T p) (map (whole_peak T) ps)) (map (whole_peak T) qs) =
+      ap (fold_forward (whole_peak T p)) (map-append (whole_peak T) ps qs)
+      ∙ fold_forward-append _ (map (whole_peak T) ps) (map (whole_peak T) qs) in
       subst (λ u. Prunes h v w (fold_forward (given front) (map (part T cut) qs)) u) (sym split)
       (prunes_forward h v w _ _ _ _ (prunes_given h v w front _ e) (prunes_parts qs))
 
   -- the peaks behind, after an item
   prunes_back : (t u : Calc) (ps qs : List Peak) → Prunes h v w t u → ((q : Peak) (rest : List Peak) → qs ≡ q ∷ rest
-      → v.digest back ≡ eval h w (fold_backward (whole T q) (map (whole T) rest))) → Prunes h v w
-      (fold_backward t (map (part T cut) ps ++ back_given qs)) (fold_backward u (map (whole T) (ps ++ qs)))
+      → v.digest back ≡ eval h w (fold_backward (whole_peak T q) (map (whole_peak T) rest))) → Prunes h v w
+      (fold_backward t (map (part T cut) ps ++ back_given qs)) (fold_backward u (map (whole_peak T) (ps ++ qs)))
   prunes_back t u [] [] p e = p
   prunes_back t u [] (q ∷ qs) p e = prunes_pair h v w [] _ _ _ _ p (prunes_given h v w back _ (e q qs refl))
   prunes_back t u (x ∷ ps) qs p e =
-      prunes_pair h v w [] _ _ _ _ p (prunes_back (part T cut x) (whole T x) ps qs (prunes_part x) e)
+      prunes_pair h v w [] _ _ _ _ p (prunes_back (part T cut x) (whole_peak T x) ps qs (prunes_part x) e)
 
   to_bag : (t u : Calc) → Prunes h v w t u → PrunesBag h v w (Some t) (Some u)
   to_bag t u p = record { same = p.same; fewer = p.fewer }
 
   pub prunes_bag : (ls ns us ts : List Peak) → ((p : Peak) (rest : List Peak) → ls ≡ p ∷ rest
-      → v.digest front ≡ eval h w (fold_forward (whole T p) (map (whole T) rest))) → ((q : Peak) (rest : List Peak)
-      → ts ≡ q ∷ rest → v.digest back ≡ eval h w (fold_backward (whole T q) (map (whole T) rest)))
+      → v.digest front ≡ eval h w (fold_forward (whole_peak T p) (map (whole_peak T) rest))) → ((q : Peak) (rest : List Peak)
+      → ts ≡ q ∷ rest → v.digest back ≡ eval h w (fold_backward (whole_peak T q) (map (whole_peak T) rest)))
       → PrunesBag h v w (bag (front_given ls ++ map (part T cut) ns) (map (part T cut) us ++ back_given ts))
-      (bag (map (whole T) (ls ++ ns)) (map (whole T) (us ++ ts)))
+      (bag (map (whole_peak T) (ls ++ ns)) (map (whole_peak T) (us ++ ts)))
   prunes_bag (l ∷ ls) ns us ts f b = to_bag _ _ (prunes_back _ _ us ts (prunes_front l ls ns (f l ls refl)) b)
   prunes_bag [] (n ∷ ns) us ts f b =
       to_bag _ _ (prunes_back _ _ us ts (prunes_forward h v w _ _ _ _ (prunes_part n) (prunes_parts ns)) b)

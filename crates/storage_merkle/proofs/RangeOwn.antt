@@ -3,12 +3,12 @@ use Rattle.std.proofs.Common.{◌≡◌, ℕ, zero, suc, ◌+◌, ◌-◌, ◌%�
 use Rattle.std.proofs.lemmas.List.{length-map}
 use Rattle.storage_codec.specs.Digests.{HashFunction}
 use Rattle.storage_merkle.specs.Shape.{Laws, Inside, AreAligned}
-use Rattle.storage_merkle.specs.Multiples.{pow_two, multiple_down, multiple_add, power_multiple}
+use Rattle.storage_merkle.specs.Laws.Multiples.{pow_two, multiple_down, multiple_add, power_multiple}
 use Rattle.storage_merkle.specs.Calc.{Site, front, back, node, Calc, given, leaf, pair, graft, be8, grafted_digest, Values, eval, Agree}
 use Rattle.storage_merkle.specs.declared.merkle.bagging.Bagging.{Bagging}
 use Rattle.storage_merkle.specs.declared.merkle.bagging.Bagging.TheVariants.{ForwardFold, BackwardFold}
 use Rattle.storage_merkle.specs.Trees.{Layout, Content, Peak, places, peaks_of, folded, unfolded, bag, eval_bag, part, tree_root, root_head, node_calc, join_calc, fold_forward, fold_backward}
-use Rattle.storage_merkle.specs.RangeProofs.{RangeProof, apart, leading, not_leading, up_to, trailing, front_given, back_given, check_bag, own_proof, IsAccepted, IsOwn, check_values, look_up, same_site, sites_of, sites_over, sites_in, front_sites, back_sites, by_position}
+use Rattle.storage_merkle.specs.RangeProofs.{Proof, apart, leading, not_leading, up_to, trailing, front_given, back_given, check_bag, own_proof, IsAccepted, IsOwn, check_values, look_up, same_site, sites_of, sites_over, sites_in, front_sites, back_sites, by_position}
 use Rattle.storage_merkle.proofs.Prune.{up_to-all}
 use Rattle.storage_merkle.proofs.Agreeing.{AllPeaks, AgreeAll, AgreeBag, up_to-leading}
 use Rattle.storage_merkle.proofs.Distinct.{times, one_if, times-append, times-join, times-by_position, times-in, same_itself}
@@ -206,10 +206,10 @@ module _ (v w : Values) where
 
 module _ (h : HashFunction) (T : Layout) (L : Laws T.shape) (b : Bagging) (start : ℕ) (claim content : Content)
     (inactive : ℕ) where
-  abbrev own : RangeProof
+  abbrev own : Proof
   own = own_proof h T b content inactive start (start + length claim.elements)
 
-  pub own_agrees : 0 < length claim.elements → (proof : RangeProof) → IsOwn h T b proof start claim content inactive
+  pub own_agrees : 0 < length claim.elements → (proof : Proof) → IsOwn h T b proof start claim content inactive
       → AgreeBag (check_values h T b own start claim)
       (own_values h T b content (length content.elements) inactive start (start + length claim.elements))
       (check_bag T start (start + length claim.elements) b (length content.elements) inactive)
@@ -233,7 +233,7 @@ module _ (h : HashFunction) (T : Layout) (L : Laws T.shape) (b : Bagging) (start
       (λ a k u out t. is.chunks_are a (suc k) (omega arith) t u.0 u.1 out)
       (omega arith) xs ys q.0 q.1 (λ s l. found (h []) w.digest (sites_over T start high xs ys) s l)
 
-  pub own_accepted : (proof : RangeProof) → length content.elements ≤ 2 ^ 62
+  pub own_accepted : (proof : Proof) → length content.elements ≤ 2 ^ 62
       → inactive ≤ length (T.shape.peaks (length content.elements)) → 0 < length claim.elements
       → IsOwn h T b proof start claim content inactive
       → IsAccepted h T b proof start claim (tree_root h T b content inactive)

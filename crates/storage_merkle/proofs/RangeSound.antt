@@ -4,15 +4,15 @@ use Rattle.std.proofs.lemmas.List.{map-append}
 use Rattle.std.proofs.lemmas.List.Elements.{Contains-append_right}
 use Rattle.std.proofs.lemmas.Bool.{cases_lt}
 use Rattle.storage_codec.specs.Digests.{HashFunction, Cross, IsSized}
-use Rattle.storage_merkle.specs.Shape.{Shape, Laws, leaves_of, Inside}
-use Rattle.storage_merkle.specs.ShapeLaws.{length_at_most, no_peaks}
+use Rattle.storage_merkle.specs.Shape.{Shape, Laws, leaves_under, Inside}
+use Rattle.storage_merkle.specs.Laws.Shape.{length_at_most, no_peaks}
 use Rattle.storage_merkle.specs.Calc.{Site, front, back, node, Calc, Values, Agree}
 use Rattle.storage_merkle.specs.declared.merkle.bagging.Bagging.{Bagging}
 use Rattle.storage_merkle.specs.declared.merkle.bagging.Bagging.TheVariants.{ForwardFold, BackwardFold}
-use Rattle.storage_merkle.specs.Trees.{Layout, Content, Peak, places, peaks_of, folded, unfolded, bag, eval_bag, strings_bag, whole, part, tree_bag, plain, node_calc, never, root_head, tree_string, tree_strings, tree_root, empty_root}
+use Rattle.storage_merkle.specs.Trees.{Layout, Content, Peak, places, peaks_of, folded, unfolded, bag, eval_bag, strings_bag, whole_peak, part, tree_bag, plain, node_calc, never, root_head, tree_string, tree_strings, tree_root, empty_root}
 use Rattle.storage_merkle.specs.Chunked.{AreChunks}
-use Rattle.storage_merkle.specs.RangeProofs.{RangeProof, apart, leading, not_leading, up_to, trailing, front_given, back_given, check_bag, sites, sites_over, range_sites, look_up, same_site, check_values, check_string, check_strings, CountsFit, IsEmptyProof, IsAccepted, fold_digest, own_digest, IsOwn, AreDigests}
-use Rattle.storage_merkle.specs.CalcLaws.{IsWide, law, eval_length, cross_wider, heads, same_head}
+use Rattle.storage_merkle.specs.RangeProofs.{Proof, apart, leading, not_leading, up_to, trailing, front_given, back_given, check_bag, sites, sites_over, range_sites, look_up, same_site, check_values, check_string, check_strings, CountsFit, IsEmptyProof, IsAccepted, fold_digest, own_digest, IsOwn, AreDigests}
+use Rattle.storage_merkle.specs.Laws.Calc.{IsWide, law, eval_length, cross_wider, heads, same_head}
 use Rattle.storage_merkle.proofs.Prune.{PrunesBag, prunes_bag, leading-all, up_to-all}
 use Rattle.storage_merkle.proofs.Agreeing.{AllPeaks, AgreeAll, AgreeBag, agree_leaf, agree_chunk, AgreeAt, agree_bag, agree_append, agree_front, agree_back, agree_sites_in, agree_front_sites, agree_back_sites, agree_at_append, agree_by_position, up_to-leading, not_apart, Holds, holds_inside}
 use Rattle.storage_merkle.proofs.Distinct.{each_once, read_all}
@@ -76,10 +76,10 @@ own-prunes h T b content n i low high =
     let v = own_values h T b content n i low high in
     let p = prunes_bag h v w T (apart low high) (λ a. refl) (λ j. refl) (λ a k. refl) (leading low xs)
     (not_leading low xs) (up_to high ys) (trailing high ys)
-    (λ q rest e. ap (λ ps. fold_digest h w (bag (map (whole T) ps) [])) e)
-    (λ q rest e. ap (λ ps. fold_digest h w (bag [] (map (whole T) ps))) e) in
+    (λ q rest e. ap (λ ps. fold_digest h w (bag (map (whole_peak T) ps) [])) e)
+    (λ q rest e. ap (λ ps. fold_digest h w (bag [] (map (whole_peak T) ps))) e) in
     let F : List Peak → List Peak → Type 0 =
-    λ us vs. PrunesBag h v w (check_bag T low high b n i) (bag (map (whole T) us) (map (whole T) vs)) in
+    λ us vs. PrunesBag h v w (check_bag T low high b n i) (bag (map (whole_peak T) us) (map (whole_peak T) vs)) in
     subst (λ us. F us ys) (leading-all low xs)
     (subst (λ vs. F (leading low xs ++ not_leading low xs) vs) (up_to-all high ys) p)
 
@@ -88,15 +88,15 @@ places-take zero a ks = refl
 places-take (suc i) a [] = refl
 places-take (suc i) a (k ∷ ks) = ap (λ ps. (record { first = a; height = k }) ∷ ps) (places-take i (a + 2 ^ k) ks)
 
-pub places-drop : (i a : ℕ) (ks : List ℕ) → drop i (places a ks) ≡ places (a + leaves_of (take i ks)) (drop i ks)
-unfolding leaves_of
+pub places-drop : (i a : ℕ) (ks : List ℕ) → drop i (places a ks) ≡ places (a + leaves_under (take i ks)) (drop i ks)
+unfolding leaves_under
 places-drop zero a ks = rw add-zero refl
 places-drop (suc i) a [] = refl
 places-drop (suc i) a (k ∷ ks) =
-    places-drop i (a + 2 ^ k) ks ∙ ap (λ c. places c (drop i ks)) (add_assoc a (2 ^ k) (leaves_of (take i ks)))
+    places-drop i (a + 2 ^ k) ks ∙ ap (λ c. places c (drop i ks)) (add_assoc a (2 ^ k) (leaves_under (take i ks)))
 
-pub leaves-split : (i : ℕ) (ks : List ℕ) → leaves_of (take i ks) + leaves_of (drop i ks) ≡ leaves_of ks
-unfolding leaves_of
+pub leaves-split : (i : ℕ) (ks : List ℕ) → leaves_under (take i ks) + leaves_under (drop i ks) ≡ leaves_under ks
+unfolding leaves_under
 leaves-split zero ks = omega arith
 leaves-split (suc i) [] = refl
 leaves-split (suc i) (k ∷ ks) = omega (arith, leaves-split i ks)
@@ -108,7 +108,7 @@ all_any (p ∷ ps) = (tt, all_any ps)
 module _ (T : Layout) (v w : Values) (low high : ℕ) where
   -- what the peak over a leaf of the range gives
   from_peak : (P : Type 0) (Q : Peak → Type 0) (b : Bagging) (i : ℕ) (ks : List ℕ) (j : ℕ) → low ≤ j → j < high
-      → j < leaves_of ks → AllPeaks Q (places 0 ks)
+      → j < leaves_under ks → AllPeaks Q (places 0 ks)
       → ((p : Peak) → Q p → p.first ≤ j → j < p.first + 2 ^ p.height → Agree v w (part T (apart low high) p) → P)
       → AgreeAll v w (map (part T (apart low high)) (not_leading low (folded b i (places 0 ks))))
       → AgreeAll v w (map (part T (apart low high)) (up_to high (unfolded b i (places 0 ks)))) → P
@@ -117,10 +117,10 @@ module _ (T : Layout) (v w : Values) (low high : ℕ) where
   from_peak P Q BackwardFold i ks j l u m q found f g =
       let f' = subst (λ ps. AgreeAll v w (map (part T (apart low high)) (not_leading low ps))) (places-take i 0 ks) f in
       let g' = subst (λ ps. AgreeAll v w (map (part T (apart low high)) (up_to high ps))) (places-drop i 0 ks) g in
-      elim (cases_lt j (leaves_of (take i ks))) [
+      elim (cases_lt j (leaves_under (take i ks))) [
         | inl here ↦ agree_front v w T (apart low high) j P Q found low l 0 (take i ks)
             (subst (AllPeaks Q) (places-take i 0 ks) (all_take Q i (places 0 ks) q)) (omega arith) (omega arith) f'
-        | inr later ↦ agree_back v w T (apart low high) j P Q found high u (0 + leaves_of (take i ks)) (drop i ks)
+        | inr later ↦ agree_back v w T (apart low high) j P Q found high u (0 + leaves_under (take i ks)) (drop i ks)
             (subst (AllPeaks Q) (places-drop i 0 ks) (all_drop Q i (places 0 ks) q)) (omega arith)
             (omega (arith, leaves-split i ks)) g'
       ]
@@ -145,14 +145,14 @@ module _ (T : Layout) (v w : Values) (low high : ℕ) where
       (agree_at_append v w _ _ (agree_sites_in v w T (apart low high) (trailing high ns) n''.1)
       (agree_at_append v w _ _ (agree_back_sites v w (trailing high ys) t) (agree_by_position v w T _ inside))))
 
-pub peaks-le : (ks : List ℕ) → length ks ≤ leaves_of ks
-unfolding leaves_of
+pub peaks-le : (ks : List ℕ) → length ks ≤ leaves_under ks
+unfolding leaves_under
 peaks-le [] = omega arith
 peaks-le (k ∷ ks) = omega (arith, peaks-le ks, pow_pos k)
 
 -- two calculations of one tree that give one digest
 module _ (d N : ℕ) (h : HashFunction) (sized : IsSized d h) (other : N ≢ 8 + d) (T : Layout) (L : Laws T.shape)
-    (b : Bagging) (proof : RangeProof) (start : ℕ) (claim : Content) (wide : AreDigests d proof.digests)
+    (b : Bagging) (proof : Proof) (start : ℕ) (claim : Content) (wide : AreDigests d proof.digests)
     (chunked : AreChunks N T proof.leaves (apart start (start + length claim.elements)) claim.chunk)
     (content : Content) (chunks : AreChunks N T proof.leaves never content.chunk) where
   pub core : eval_bag h (check_values h T b proof start claim) (check_bag T start (start + length claim.elements) b
@@ -179,7 +179,7 @@ module _ (d N : ℕ) (h : HashFunction) (sized : IsSized d h) (other : N ≢ 8 +
       ]
 
 -- what agreement gives
-module _ (h : HashFunction) (T : Layout) (L : Laws T.shape) (b : Bagging) (proof : RangeProof) (start : ℕ)
+module _ (h : HashFunction) (T : Layout) (L : Laws T.shape) (b : Bagging) (proof : Proof) (start : ℕ)
     (claim : Content) (content : Content) where
   record_is : (m j low high : ℕ) → proof.leaves ≡ m → proof.inactive ≡ j → proof.digests ≡ map
       (own_digest h T b content proof.leaves proof.inactive low high) (sites T low high b proof.leaves proof.inactive)
@@ -189,7 +189,7 @@ module _ (h : HashFunction) (T : Layout) (L : Laws T.shape) (b : Bagging) (proof
         digests = map (own_digest h T b content m j low high) (sites T low high b m j);
       })
   record_is m j low high en ei ed =
-      let F : ℕ → ℕ → RangeProof = λ n i. record {
+      let F : ℕ → ℕ → Proof = λ n i. record {
         leaves = n;
         inactive = i;
         digests = map (own_digest h T b content n i low high) (sites T low high b n i);
@@ -267,7 +267,7 @@ module _ (h : HashFunction) (S : Shape) (L : Laws S) (position : ℕ → ℕ →
   abbrev layout : ℕ → Layout
   layout n = record { shape = S; position = position; grafted = grafted n }
 
-  abbrev nothing : RangeProof
+  abbrev nothing : Proof
   nothing = record { leaves = 0; inactive = 0; digests = [] }
 
   abbrev no_claim : Content
@@ -309,7 +309,7 @@ module _ (h : HashFunction) (S : Shape) (L : Laws S) (position : ℕ → ℕ →
 
 -- an accepted proof of some elements agrees with the tree at each slot, or two strings cross; which nodes are grafted may depend on the number of leaves
 module _ (d N : ℕ) (h : HashFunction) (sized : IsSized d h) (other : N ≢ 8 + d) (S : Shape) (L : Laws S)
-    (position : ℕ → ℕ → ℕ) (grafted : ℕ → ℕ → ℕ → Bool) (b : Bagging) (proof : RangeProof) (start : ℕ) (claim : Content)
+    (position : ℕ → ℕ → ℕ) (grafted : ℕ → ℕ → ℕ → Bool) (b : Bagging) (proof : Proof) (start : ℕ) (claim : Content)
     (wide : AreDigests d proof.digests)
     (chunked : AreChunks N (record { shape = S; position = position; grafted = grafted proof.leaves }) proof.leaves (apart start (start + length claim.elements)) claim.chunk)
     (content : Content)
@@ -371,7 +371,7 @@ module _ (d N : ℕ) (h : HashFunction) (sized : IsSized d h) (other : N ≢ 8 +
   -- no elements
   Outcome : ℕ → ℕ → List (List ℕ) → ℕ → List (List ℕ) → Type 0
   Outcome n i ds at es =
-      let p : RangeProof = record { leaves = n; inactive = i; digests = ds } in
+      let p : Proof = record { leaves = n; inactive = i; digests = ds } in
       let c : Content = record { elements = es; chunk = claim.chunk } in
       IsOwn h (over (length content.elements)) b p at c content inactive ⊎ Cross h (check_strings h (over n) b p at c)
       (tree_strings h (over (length content.elements)) b content inactive)

@@ -5,12 +5,12 @@ use Rattle.std.proofs.lemmas.Option.{slice_get-get_or, slice_get-map}
 use Rattle.std.proofs.lemmas.List.{length-map}
 use Rattle.storage_merkle.specs.Shape.{Shape, size}
 use Rattle.storage_merkle.specs.Nodes.{IsNode}
-use Rattle.storage_merkle.specs.Kept.{Kept, Holds, kept_at, paired, pins}
+use Rattle.storage_merkle.specs.Kept.{Kept, HoldsDigests, kept_at, paired, pins}
 use Rattle.storage_merkle.proofs.Keeping.{clean_none}
 
 pub retained : {D : Type 0} (text : D → List ℕ) (S : Shape) (node : ℕ → ℕ → List ℕ) (list : List (List ℕ)) (m : Kept D)
     → length m.nodes + size S m.boundary ≡ size S m.leaves → m.leaves ≡ length list
-    → Holds S node [] m.boundary (size S m.leaves) (map text m.pinned) (map text m.nodes)
+    → HoldsDigests S node [] m.boundary (size S m.leaves) (map text m.pinned) (map text m.nodes)
     → (p a k : ℕ) → IsNode S p a k → size S m.boundary ≤ p → p < size S (length list)
     → option_map text (kept_at S m.boundary m.pinned m.nodes p) ≡ Some (node k a)
 retained text S node list m count leaves holds p a k n from within =

@@ -5,13 +5,13 @@ use Rattle.std.proofs.lemmas.Nat.{pow_pos, div-add-mod'}
 use Rattle.std.proofs.Math.Nat.{mod-lt}
 use Rattle.std.proofs.lemmas.List.{get_or-set_same, get_or-set_other, get_or_append_left, length-append, length-set}
 use Rattle.storage_merkle.specs.Shape.{Shape, Laws, size, Inside}
-use Rattle.storage_merkle.specs.ShapeLaws.{early_fits}
-use Rattle.storage_merkle.specs.Multiples.{pow_two, next, multiple_add, multiple_down, power_multiple, is_multiple}
+use Rattle.storage_merkle.specs.Laws.Shape.{early_fits}
+use Rattle.storage_merkle.specs.Laws.Multiples.{pow_two, next, multiple_add, multiple_down, power_multiple, is_multiple}
 use Rattle.storage_codec.specs.Digests.{HashFunction}
 use Rattle.storage_merkle.specs.Trees.{Layout}
 use Rattle.storage_merkle.specs.Hashing.{join_digest, node_over}
-use Rattle.storage_merkle.specs.Kept.{kept_at, updated, IsClean, Holds}
-use Rattle.storage_merkle.specs.KeptLaws.{node_same, peaks_same}
+use Rattle.storage_merkle.specs.Kept.{kept_at, list_updated, IsClean, HoldsDigests}
+use Rattle.storage_merkle.specs.Laws.Kept.{node_same, peaks_same}
 use Rattle.storage_merkle.specs.Rewriting.{over, WrittenBelow, IsNext, Reaches}
 use Rattle.storage_merkle.proofs.Keeping.{IsKept, child, kept_value, clean_none}
 
@@ -131,7 +131,7 @@ module _ (S : Shape) (L : Laws S) where
   -- no node over the leaf is left
   pub written_all : (node : ℕ → ℕ → List ℕ) (rest : List ℕ) (b n place h : ℕ) (pinned nodes : List (List ℕ))
       → n < S.birth (over place h) h → WrittenBelow S node rest place h b (size S n) pinned nodes
-      → Holds S node rest b (size S n) pinned nodes
+      → HoldsDigests S node rest b (size S n) pinned nodes
   written_all node rest b n place h pinned nodes none w = record {
     peaks = w.peaks;
     from = λ a k al lo up clean. w.from a k al lo up clean
@@ -200,7 +200,7 @@ module _ (S : Shape) (L : Laws S) where
 
   pub written_first : (node : ℕ → ℕ → List ℕ) (rest : List ℕ) (b p place : ℕ) (pinned nodes : List (List ℕ))
       (x : List ℕ) (i : ℕ) → i ≡ size S place - size S b → b ≤ place → length nodes + size S b ≡ p → size S place < p
-      → Holds S node (place ∷ rest) b p pinned nodes → node 0 place ≡ x
+      → HoldsDigests S node (place ∷ rest) b p pinned nodes → node 0 place ≡ x
       → WrittenBelow S node rest place 1 b p pinned (set nodes i x)
   written_first node rest b p place pinned nodes x i at le count below h e =
       let o = over_is place 0 in
@@ -248,7 +248,7 @@ module _ (S : Shape) (L : Laws S) where
   -- the rest is left to the next leaf, which is below the same node
   pub written_until : (node : ℕ → ℕ → List ℕ) (rest : List ℕ) (coming : Option ℕ) (b n place h : ℕ)
       (pinned nodes : List (List ℕ)) → IsNext coming rest → Reaches coming (over place h) h
-      → WrittenBelow S node rest place h b (size S n) pinned nodes → Holds S node rest b (size S n) pinned nodes
+      → WrittenBelow S node rest place h b (size S n) pinned nodes → HoldsDigests S node rest b (size S n) pinned nodes
   written_until node rest coming b n place h pinned nodes is reaches w = record {
     peaks = w.peaks;
     from = λ a k al lo up clean. w.from a k al lo up clean
@@ -284,15 +284,15 @@ contains_front xs ys n c = (c.0, omega (arith, length-append xs ys, c.1), get_or
 
 -- what is known of some leaves is known of fewer
 pub holds_less : (S : Shape) (node : ℕ → ℕ → List ℕ) (dirty : List ℕ) (b p : ℕ) (pinned nodes : List (List ℕ))
-    → Holds S node [] b p pinned nodes → Holds S node dirty b p pinned nodes
+    → HoldsDigests S node [] b p pinned nodes → HoldsDigests S node dirty b p pinned nodes
 holds_less S node dirty b p pinned nodes h =
     record { peaks = h.peaks; from = λ a k al lo up clean. h.from a k al lo up (clean_none a k) }
 
 module _ (S : Shape) (L : Laws S) (h : HashFunction) (T : Layout) (chunk : ℕ → List ℕ) where
   -- a dirty leaf's digest is changed in the list
   pub holds_set : (list : List (List ℕ)) (place : ℕ) (d : List ℕ) (dirty : List ℕ) (b p : ℕ)
-      (pinned nodes : List (List ℕ)) → b ≤ place → Holds S (node_over h T chunk list) (place ∷ dirty) b p pinned nodes
-      → Holds S (node_over h T chunk (set list place d)) (place ∷ dirty) b p pinned nodes
+      (pinned nodes : List (List ℕ)) → b ≤ place → HoldsDigests S (node_over h T chunk list) (place ∷ dirty) b p pinned nodes
+      → HoldsDigests S (node_over h T chunk (set list place d)) (place ∷ dirty) b p pinned nodes
   holds_set list place d dirty b p pinned nodes le held = record {
     peaks = held.peaks ∙ peaks_same h T chunk list (set list place d) (S.peaks b) 0
         (λ j u w. sym (get_or-set_other list place j d [] (λ e. absurd (omega (arith, L.sum b)))));
@@ -306,27 +306,27 @@ module _ (S : Shape) (L : Laws S) (h : HashFunction) (T : Layout) (chunk : ℕ �
       (dirty : List ℕ) (b n : ℕ) (pinned nodes : List (List ℕ)) : Type 0 where
     pub now : List (List ℕ)
     pub len : length now ≡ n
-    pub same : updated now (map (λ u. (u.0, text u.1)) left) ≡ updated list (map (λ u. (u.0, text u.1)) updates)
-    pub holds : Holds S (node_over h T chunk now) (map (λ u. u.0) left ++ dirty) b (size S n) pinned nodes
+    pub same : list_updated now (map (λ u. (u.0, text u.1)) left) ≡ list_updated list (map (λ u. (u.0, text u.1)) updates)
+    pub holds : HoldsDigests S (node_over h T chunk now) (map (λ u. u.0) left ++ dirty) b (size S n) pinned nodes
 
   pub halfway_next : {D : Type 0} (text : D → List ℕ) (list : List (List ℕ)) (updates left rest : List (ℕ × D))
       (u : ℕ × D) (dirty : List ℕ) (b n place : ℕ) (pinned nodes nodes' : List (List ℕ)) (coming : Option ℕ)
       → left ≡ u ∷ rest → place ≡ u.0 → b ≤ place → place < n → IsNext coming (map (λ v. v.0) rest)
       → ((list : List (List ℕ)) (dirty : List ℕ) → IsNext coming dirty
-      → Holds S (node_over h T chunk list) (place ∷ dirty) b (size S n) pinned nodes
-      → get_or list place [] ≡ text u.1 → Holds S (node_over h T chunk list) dirty b (size S n) pinned nodes')
+      → HoldsDigests S (node_over h T chunk list) (place ∷ dirty) b (size S n) pinned nodes
+      → get_or list place [] ≡ text u.1 → HoldsDigests S (node_over h T chunk list) dirty b (size S n) pinned nodes')
       → Halfway text list updates left dirty b n pinned nodes → Halfway text list updates rest dirty b n pinned nodes'
   halfway_next text list updates left rest u dirty b n place pinned nodes nodes' coming e at lo hi is write w =
       let d = text u.1 in
       let w' : Halfway text list updates (u ∷ rest) dirty b n pinned nodes =
       subst (λ us. Halfway text list updates us dirty b n pinned nodes) e w in
-      let held : Holds S (node_over h T chunk w'.now) (place ∷ (map (λ v. v.0) rest ++ dirty)) b
-      (size S n) pinned nodes = subst (λ m. Holds S (node_over h T chunk w'.now)
+      let held : HoldsDigests S (node_over h T chunk w'.now) (place ∷ (map (λ v. v.0) rest ++ dirty)) b
+      (size S n) pinned nodes = subst (λ m. HoldsDigests S (node_over h T chunk w'.now)
       (m ∷ (map (λ v. v.0) rest ++ dirty)) b (size S n) pinned nodes) (sym at) w'.holds in
       record {
         now = set w'.now place d;
         len = length-set w'.now place d ∙ w'.len;
-        same = ap (λ m. updated (set w'.now m d) (map (λ v. (v.0, text v.1)) rest)) at ∙ w'.same;
+        same = ap (λ m. list_updated (set w'.now m d) (map (λ v. (v.0, text v.1)) rest)) at ∙ w'.same;
         holds = write (set w'.now place d) (map (λ v. v.0) rest ++ dirty)
             (λ m f. contains_front (map (λ v. v.0) rest) dirty m (is m f))
             (holds_set w'.now place d (map (λ v. v.0) rest ++ dirty) b (size S n) pinned nodes lo held)
@@ -335,12 +335,12 @@ module _ (S : Shape) (L : Laws S) (h : HashFunction) (T : Layout) (chunk : ℕ �
 
   pub halfway_end : {D : Type 0} (text : D → List ℕ) (list : List (List ℕ)) (updates left : List (ℕ × D))
       (dirty : List ℕ) (b n : ℕ) (pinned nodes : List (List ℕ)) → length left ≡ 0
-      → Halfway text list updates left dirty b n pinned nodes → Holds S
-      (node_over h T chunk (updated list (map (λ u. (u.0, text u.1)) updates))) dirty b (size S n) pinned nodes
+      → Halfway text list updates left dirty b n pinned nodes → HoldsDigests S
+      (node_over h T chunk (list_updated list (map (λ u. (u.0, text u.1)) updates))) dirty b (size S n) pinned nodes
   halfway_end text list updates [] dirty b n pinned nodes e w =
-      subst (λ xs. Holds S (node_over h T chunk xs) dirty b (size S n) pinned nodes) w.same w.holds
+      subst (λ xs. HoldsDigests S (node_over h T chunk xs) dirty b (size S n) pinned nodes) w.same w.holds
   halfway_end text list updates (u ∷ left) dirty b n pinned nodes e w = absurd (omega arith)
 
-pub length_updated : (list : List (List ℕ)) (es : List (ℕ × List ℕ)) → length (updated list es) ≡ length list
+pub length_updated : (list : List (List ℕ)) (es : List (ℕ × List ℕ)) → length (list_updated list es) ≡ length list
 length_updated list [] = refl
 length_updated list (e ∷ es) = length_updated (set list e.0 e.1) es ∙ length-set list e.0 e.1

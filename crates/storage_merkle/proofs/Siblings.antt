@@ -3,7 +3,7 @@ use Rattle.std.proofs.Common.{◌≡◌, ◌≢◌, ℕ, zero, suc, ◌+◌, ◌
 use Rattle.std.specs.List.Sorted.{IsPermutation, IsNonDecreasing}
 use Rattle.std.proofs.lemmas.Bool.{lt-leb, cases_lt}
 use Rattle.std.proofs.lemmas.List.{map-append}
-use Rattle.storage_merkle.specs.Multiples.{pow_two}
+use Rattle.storage_merkle.specs.Laws.Multiples.{pow_two}
 use Rattle.storage_merkle.specs.Calc.{Site, node, Calc, pair, graft, be8}
 use Rattle.storage_merkle.specs.Trees.{Layout, places, peaks_of, node_calc, join_calc}
 use Rattle.storage_merkle.specs.RangeProofs.{apart, not_leading, up_to, sites_of, sites_in, position_of, place_in, by_position}

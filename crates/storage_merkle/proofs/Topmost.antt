@@ -5,8 +5,8 @@ use Rattle.std.proofs.lemmas.Nat.{pow_pos, div-add-mod'}
 use Rattle.std.proofs.Math.Nat.{mod-lt}
 use Rattle.std.proofs.lemmas.List.{take_more_set, map-append}
 use Rattle.storage_merkle.specs.Shape.{Shape, Laws, size, Inside, AreAligned}
-use Rattle.storage_merkle.specs.ShapeLaws.{inside_between, step, no_peaks}
-use Rattle.storage_merkle.specs.Multiples.{pow_two, next, multiple_add, multiple_down, power_multiple, is_multiple}
+use Rattle.storage_merkle.specs.Laws.Shape.{inside_between, step, no_peaks}
+use Rattle.storage_merkle.specs.Laws.Multiples.{pow_two, next, multiple_add, multiple_down, power_multiple, is_multiple}
 use Rattle.storage_merkle.specs.Kept.{at_peaks}
 use Rattle.storage_merkle.proofs.Keeping.{IsPeak, IsKept, inside_peak}
 

@@ -1,7 +1,7 @@
 -- Peaks and the nodes under them: what holds of each peak holds of each in a part of the list.
 use Rattle.std.proofs.Common.{◌≡◌, ℕ, zero, suc, ◌+◌, ◌%◌, ◌^◌, List, [], ◌∷◌, take, drop, true, false, if◌then◌else◌, inl, inr, arith, leb, pow_pos}
 use Rattle.storage_merkle.specs.Shape.{Inside, AreAligned}
-use Rattle.storage_merkle.specs.Multiples.{pow_two, multiple_down, multiple_add, power_multiple}
+use Rattle.storage_merkle.specs.Laws.Multiples.{pow_two, multiple_down, multiple_add, power_multiple}
 use Rattle.storage_merkle.specs.declared.merkle.bagging.Bagging.{Bagging}
 use Rattle.storage_merkle.specs.declared.merkle.bagging.Bagging.TheVariants.{ForwardFold, BackwardFold}
 use Rattle.storage_merkle.specs.Trees.{Peak, places, folded, unfolded}

@@ -1,8 +1,9 @@
 -- Walking along the peaks of a tree, and down from a node to its halves.
 use Rattle.std.proofs.Common.{◌≡◌, ◌≢◌, ℕ, zero, suc, ◌+◌, ◌-◌, ◌*◌, ◌%◌, ◌^◌, ◌<◌, ◌≤◌, ◌∷◌, length, inl, inr, arith, refl, sym, subst, pow_pos}
 use Rattle.storage_merkle.specs.Shape.{Shape, Laws, size, Inside}
-use Rattle.storage_merkle.specs.Multiples.{pow_two, multiple_down, multiple_add, power_multiple}
-use Rattle.storage_merkle.specs.ShapeLaws.{step, Step, early_fits, length_at_most}
+use Rattle.storage_merkle.specs.Laws.Multiples.{pow_two, multiple_down, multiple_add, power_multiple}
+use Rattle.storage_merkle.specs.Laws.Shape.{step, early_fits, length_at_most}
+use Rattle.storage_merkle.specs.Peaks.{Step}
 use Rattle.storage_merkle.specs.Plans.{InTree, ArePeaks}
 
 -- a node's halves
@@ -49,7 +50,7 @@ module _ (S : Shape) (L : Laws S) where
   pub all_peaks : (n : ℕ) → ArePeaks S n 0 n
   all_peaks n = record { sum = omega arith; aligned = L.aligned n; inside = λ a k i. i }
 
-  pub peaks_step : (n s r h : ℕ) → n ≤ 2 ^ 62 → ArePeaks S n s r → S.peaks r ≡ h ∷ S.peaks (r - 2 ^ h) → Step S L s r h
+  pub peaks_step : (n s r h : ℕ) → n ≤ 2 ^ 62 → ArePeaks S n s r → S.peaks r ≡ h ∷ S.peaks (r - 2 ^ h) → Step S s r h
   peaks_step n s r h few p e = step S L s r h (omega (arith, p.sum)) p.aligned e
 
   pub peaks_next : (n s r h : ℕ) → n ≤ 2 ^ 62 → ArePeaks S n s r → S.peaks r ≡ h ∷ S.peaks (r - 2 ^ h)

@@ -1,7 +1,7 @@
 -- What a tree in memory keeps, and for which lists of leaf digests it stands.
 use Rattle.std.specs.Prelude.{◌≡◌, ℕ, ◌+◌, ◌-◌, ◌%◌, ◌^◌, ◌<◌, ◌≤◌, List, [], ◌∷◌, length, map, get_or, set, slice_index, Contains, Option, Some, None, leb, eqb, if◌then◌else◌}
 use Rattle.std.specs.List.{slice_get}
-use Rattle.storage_merkle.specs.Shape.{Shape, size}
+use Rattle.storage_merkle.specs.Shape.{Shape, size, max_leaves}
 use Rattle.storage_merkle.specs.Nodes.{placed}
 use Rattle.storage_merkle.specs.Trees.{places}
 
@@ -16,7 +16,7 @@ pub record Kept (D : Type 0) : Type 0 where
 
 -- true of every tree in memory, also of one that stands for no list
 pub record IsWhole (S : Shape) (leaves boundary pinned nodes : ℕ) : Type 0 where
-  pub few : leaves ≤ 2 ^ 62
+  pub few : leaves ≤ max_leaves
   pub order : boundary ≤ leaves
   pub pins : pinned ≡ length (S.peaks boundary)
   pub count : nodes + size S boundary ≡ size S leaves
@@ -52,26 +52,26 @@ abbrev pub IsClean : List ℕ → ℕ → ℕ → Type 0
 IsClean dirty a k = (j : ℕ) → Contains dirty j → a ≤ j → j < a + 2 ^ k → ⊥
 
 -- the digests kept of the nodes below some position are these nodes', save over dirty leaves
-pub record Holds (S : Shape) (node : ℕ → ℕ → List ℕ) (dirty : List ℕ) (boundary reach : ℕ)
+pub record HoldsDigests (S : Shape) (node : ℕ → ℕ → List ℕ) (dirty : List ℕ) (boundary reach : ℕ)
     (pinned nodes : List (List ℕ)) : Type 0 where
   pub peaks : pinned ≡ at_peaks node 0 (S.peaks boundary)
   pub from : (a k : ℕ) → a % 2 ^ k ≡ 0 → size S boundary ≤ S.position a k → S.position a k < reach → IsClean dirty a k
       → get_or nodes (S.position a k - size S boundary) [] ≡ node k a
 
--- the tree is the list's, save over dirty leaves; a digest's bytes are told by `text`
-pub record StandsBut {D : Type 0} (text : D → List ℕ) (S : Shape) (N : NodesOver) (dirty : List ℕ) (m : Kept D)
+-- the tree is the list's, save over dirty leaves; a digest's bytes are told by `bytes_of`
+pub record StandsBut {D : Type 0} (bytes_of : D → List ℕ) (S : Shape) (N : NodesOver) (dirty : List ℕ) (m : Kept D)
     (list : List (List ℕ)) : Type 0 where
   pub count : m.leaves ≡ length list
-  pub holds : Holds S (N list) dirty m.boundary (size S m.leaves) (map text m.pinned) (map text m.nodes)
+  pub holds : HoldsDigests S (N list) dirty m.boundary (size S m.leaves) (map bytes_of m.pinned) (map bytes_of m.nodes)
 
 -- the tree is the list's
 abbrev pub StandsFor : {D : Type 0} → (D → List ℕ) → Shape → NodesOver → Kept D → List (List ℕ) → Type 0
-StandsFor text S N m list = StandsBut text S N [] m list
+StandsFor bytes_of S N m list = StandsBut bytes_of S N [] m list
 
 -- a list of leaf digests after some are put in, one after another
-abbrev pub updated : List (List ℕ) → List (ℕ × List ℕ) → List (List ℕ)
-updated list [] = list
-updated list (e ∷ es) = updated (set list e.0 e.1) es
+abbrev pub list_updated : List (List ℕ) → List (ℕ × List ℕ) → List (List ℕ)
+list_updated list [] = list
+list_updated list (e ∷ es) = list_updated (set list e.0 e.1) es
 
 -- ---- refusals
 

@@ -1,11 +1,11 @@
 -- Multi proofs: elements at any locations of a tree.
 use Rattle.std.specs.Prelude.{◌≡◌, ◌≢◌, ℕ, ◌+◌, ◌<◌, ◌≤◌, ◌^◌, ◌⊎◌, List, [], ◌∷◌, length, map, get_or, Bool, false, if◌then◌else◌, ◌&&◌, ◌||◌, not, leb, ltb, eqb, Option}
 use Rattle.storage_codec.specs.Digests.{HashFunction, IsSized, Cross}
-use Rattle.storage_merkle.specs.Shape.{Laws}
+use Rattle.storage_merkle.specs.Shape.{Laws, max_leaves}
 use Rattle.storage_merkle.specs.Calc.{Site, front, back, node, Calc, Values}
 use Rattle.storage_merkle.specs.declared.merkle.bagging.Bagging.{Bagging}
 use Rattle.storage_merkle.specs.Trees.{Layout, Content, never, peaks_of, folded, unfolded, part, bag, root_string, strings_bag, empty_root, tree_node, tree_root, tree_strings}
-use Rattle.storage_merkle.specs.RangeProofs.{RangeProof, sites_in, by_position, look_up, AreDigests}
+use Rattle.storage_merkle.specs.RangeProofs.{Proof, sites_in, by_position, look_up, AreDigests}
 use Rattle.storage_merkle.specs.Chunked.{AreChunks}
 
 -- an element that is claimed to stand at a location
@@ -54,14 +54,14 @@ tree_digest h T content back = h []
 tree_digest h T content (node a k) = tree_node h T content a k
 
 -- a tree's own proof of some locations
-abbrev pub own_multi_proof : HashFunction → Layout → Content → ℕ → List ℕ → RangeProof
+abbrev pub own_multi_proof : HashFunction → Layout → Content → ℕ → List ℕ → Proof
 own_multi_proof h T content i ls = record {
   leaves = length content.elements;
   inactive = i;
   digests = map (tree_digest h T content) (needed_sites T ls (length content.elements));
 }
 
-module _ (h : HashFunction) (T : Layout) (b : Bagging) (proof : RangeProof) (claims : List Claim)
+module _ (h : HashFunction) (T : Layout) (b : Bagging) (proof : Proof) (claims : List Claim)
     (chunk : ℕ → List ℕ) where
   -- the proof's digests, the claimed elements, the given chunks
   abbrev pub multi_values : Values
@@ -85,23 +85,23 @@ module _ (h : HashFunction) (T : Layout) (b : Bagging) (proof : RangeProof) (cla
 
   -- the counts of a proof fit together and to some claims, whose locations ascend
   pub record ClaimsFit : Type 0 where
-    pub few : proof.leaves ≤ 2 ^ 62
+    pub few : proof.leaves ≤ max_leaves
     pub peaks : proof.inactive ≤ length (T.shape.peaks proof.leaves)
     pub ascending : Ascend 0 proof.leaves (locations claims)
     pub count : length proof.digests ≡ length (needed_sites T (locations claims) proof.leaves)
 
 -- the proof of nothing
-abbrev pub default_proof : RangeProof
+abbrev pub default_proof : Proof
 default_proof = record { leaves = 0; inactive = 0; digests = [] }
 
 -- where the check says yes: for no claims, to the default proof and the root of the empty tree alone
-abbrev pub IsMultiAccepted : HashFunction → Layout → Bagging → RangeProof → List Claim → (ℕ → List ℕ) → List ℕ → Type 0
+abbrev pub IsMultiAccepted : HashFunction → Layout → Bagging → Proof → List Claim → (ℕ → List ℕ) → List ℕ → Type 0
 IsMultiAccepted h T b proof [] chunk root = (proof ≡ default_proof) × (empty_root h T b ≡ root)
 IsMultiAccepted h T b proof (c ∷ cs) chunk root =
     ClaimsFit h T b proof (c ∷ cs) chunk × (h (multi_string h T b proof (c ∷ cs) chunk) ≡ root)
 
 -- the proof is the tree's own, field for field, and what is claimed stands in the tree
-pub record IsMultiOwn (h : HashFunction) (T : Layout) (proof : RangeProof) (claims : List Claim) (content : Content)
+pub record IsMultiOwn (h : HashFunction) (T : Layout) (proof : Proof) (claims : List Claim) (content : Content)
     (inactive : ℕ) : Type 0 where
   pub proof_is : proof ≡ own_multi_proof h T content inactive (locations claims)
   pub elements_stand : Stand content.elements claims
@@ -109,7 +109,7 @@ pub record IsMultiOwn (h : HashFunction) (T : Layout) (proof : RangeProof) (clai
 -- Of each tree with that root, the proof is the tree's own and what it claims stands there, or a string of the check and a
 -- different one of the tree have one digest. Digests have d bytes and grafted chunks N; which nodes have a chunk grafted may depend
 -- on the number of leaves.
-abbrev pub IsMultiProved : ℕ → HashFunction → Layout → Bagging → RangeProof → List Claim → (ℕ → List ℕ)
+abbrev pub IsMultiProved : ℕ → HashFunction → Layout → Bagging → Proof → List Claim → (ℕ → List ℕ)
     → List ℕ → Type 0
 IsMultiProved d h T b proof claims chunk root =
     (N : ℕ) (grafted : ℕ → ℕ → ℕ → Bool) →
@@ -117,7 +117,7 @@ IsMultiProved d h T b proof claims chunk root =
     T ≡ over proof.leaves → N ≢ 8 + d → AreChunks N T proof.leaves (untouched (locations claims)) chunk →
     (content : Content) (inactive : ℕ) →
     AreChunks N (over (length content.elements)) (length content.elements) never content.chunk →
-    length content.elements ≤ 2 ^ 62 → inactive ≤ length (T.shape.peaks (length content.elements)) →
+    length content.elements ≤ max_leaves → inactive ≤ length (T.shape.peaks (length content.elements)) →
     tree_root h (over (length content.elements)) b content inactive ≡ root →
     IsMultiOwn h (over (length content.elements)) proof claims content inactive
     ⊎ Cross h (multi_strings h T b proof claims chunk)
@@ -127,7 +127,7 @@ IsMultiProved d h T b proof claims chunk root =
 abbrev pub MultiProofsAreSound : Type 0
 MultiProofsAreSound =
     (d : ℕ) (h : HashFunction) → IsSized d h → (T : Layout) → Laws T.shape →
-    (b : Bagging) (proof : RangeProof) (claims : List Claim) (chunk : ℕ → List ℕ) (root : List ℕ)
+    (b : Bagging) (proof : Proof) (claims : List Claim) (chunk : ℕ → List ℕ) (root : List ℕ)
     → AreDigests d proof.digests →
     IsMultiAccepted h T b proof claims chunk root → IsMultiProved d h T b proof claims chunk root
 
@@ -136,7 +136,7 @@ abbrev pub OwnMultiProofsAreAccepted : Type 0
 OwnMultiProofsAreAccepted =
     (h : HashFunction) (T : Layout) → Laws T.shape
     → (b : Bagging) (claims : List Claim) (content : Content) (inactive : ℕ) →
-    length content.elements ≤ 2 ^ 62 → inactive ≤ length (T.shape.peaks (length content.elements)) →
+    length content.elements ≤ max_leaves → inactive ≤ length (T.shape.peaks (length content.elements)) →
     0 < length claims → Ascend 0 (length content.elements) (locations claims) → Stand content.elements claims →
     IsMultiAccepted h T b (own_multi_proof h T content inactive (locations claims)) claims content.chunk
     (tree_root h T b content inactive)

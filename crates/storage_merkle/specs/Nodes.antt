@@ -1,6 +1,6 @@
 -- The nodes of a tree by position.
-use Rattle.std.specs.Prelude.{◌≡◌, ℕ, ◌+◌, ◌*◌, ◌%◌, ◌^◌, ◌<◌, ◌↔◌, List, [], ◌∷◌}
-use Rattle.storage_merkle.specs.Shape.{Shape, Inside}
+use Rattle.std.specs.Prelude.{◌≡◌, ℕ, ◌+◌, ◌*◌, ◌%◌, ◌^◌, ◌<◌, ◌↔◌, List, [], ◌∷◌, ◌-◌, ◌/◌, ◌≤◌}
+use Rattle.storage_merkle.specs.Shape.{Shape, Inside, max_leaves}
 
 -- the node of height k with first leaf a stands at p
 pub record IsNode (S : Shape) (p a k : ℕ) : Type 0 where
@@ -22,3 +22,25 @@ pub record CoversSame (S : Shape) (g q p : ℕ) : Type 0 where
   pub height : ℕ
   pub grafted : IsNode S q first height
   pub node : IsNode S p (first * 2 ^ g) (height + g)
+
+-- what the way down needs
+pub record Down (S : Shape) (a k g : ℕ) : Type 0 where
+  pub small : k ≤ 62
+  pub units : a / 2 ^ g % 2 ^ (k - g) ≡ 0
+  pub fits : S.position (a / 2 ^ g) (k - g) < 2 ^ 64
+
+-- what the way up needs
+pub record Up (S : Shape) (a k g : ℕ) : Type 0 where
+  pub small : k + g ≤ 62
+  pub first : a * 2 ^ g ≤ max_leaves
+  pub units : a * 2 ^ g % 2 ^ (k + g) ≡ 0
+  pub fits : S.position (a * 2 ^ g) (k + g) < 2 ^ 64
+
+-- the children of a node
+pub record Children (S : Shape) (a k : ℕ) : Type 0 where
+  pub small : k ≤ 62
+  pub left : a % 2 ^ (k - 1) ≡ 0
+  pub right : (a + 2 ^ (k - 1)) % 2 ^ (k - 1) ≡ 0
+  pub first : a + 2 ^ (k - 1) < 2 ^ 63
+  pub left_fits : S.position a (k - 1) < 2 ^ 64
+  pub right_fits : S.position (a + 2 ^ (k - 1)) (k - 1) < 2 ^ 64

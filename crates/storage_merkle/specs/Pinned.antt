@@ -1,11 +1,11 @@
 -- The check of a range proof with the digests of the peaks over its start.
 use Rattle.std.specs.Prelude.{◌≡◌, ℕ, ◌+◌, ◌≤◌, ◌^◌, ◌⊎◌, List, [], ◌∷◌, ◌++◌, length, map, Bool, true, false, if◌then◌else◌, ◌&&◌, ◌||◌, leb, eqb}
 use Rattle.storage_codec.specs.Digests.{HashFunction, IsSized, Cross}
-use Rattle.storage_merkle.specs.Shape.{Shape, Laws}
+use Rattle.storage_merkle.specs.Shape.{Shape, Laws, max_leaves}
 use Rattle.storage_merkle.specs.Calc.{Site, front, back, node, Values, eval, strings}
 use Rattle.storage_merkle.specs.declared.merkle.bagging.Bagging.{Bagging}
 use Rattle.storage_merkle.specs.Trees.{Layout, Content, Peak, listed, ungrafted, part, node_calc, peaks_of, folded, bag, strings_bag, tree_root, tree_strings}
-use Rattle.storage_merkle.specs.RangeProofs.{RangeProof, leading, look_up, range_sites, check_values, check_strings, fold_digest, IsAccepted, IsOwn, AreDigests}
+use Rattle.storage_merkle.specs.RangeProofs.{Proof, leading, look_up, range_sites, check_values, check_strings, fold_digest, IsAccepted, IsOwn, AreDigests}
 use Rattle.storage_merkle.specs.Multi.{tree_digest}
 
 -- whether one of some peaks is the node of height k with first leaf a
@@ -29,7 +29,7 @@ Match start digest recomputed [] = Unit {0}
 Match start digest recomputed (s ∷ ss) =
     (is_earlier start s ≡ true → digest s ≡ recomputed s) × Match start digest recomputed ss
 
-module _ (h : HashFunction) (T : Layout) (b : Bagging) (proof : RangeProof) (start : ℕ) (claim : Content)
+module _ (h : HashFunction) (T : Layout) (b : Bagging) (proof : Proof) (start : ℕ) (claim : Content)
     (pinned : List (List ℕ)) where
   -- the peaks over the leaves before the start, whose digests are pinned
   abbrev pub pinned_sites : List Site
@@ -78,10 +78,10 @@ module _ (h : HashFunction) (T : Layout) (b : Bagging) (proof : RangeProof) (sta
 
 -- Of each list with that root, the proof is the list's own, what it claims stands there and the pinned digests are those of the
 -- peaks over the start, or a string of the check and a different one of the list's tree have one digest.
-abbrev pub IsPinnedProved : HashFunction → Shape → Bagging → RangeProof → ℕ → List (List ℕ) → List (List ℕ)
+abbrev pub IsPinnedProved : HashFunction → Shape → Bagging → Proof → ℕ → List (List ℕ) → List (List ℕ)
     → List ℕ → Type 0
 IsPinnedProved h S b proof start elements pinned root =
-    (list : List (List ℕ)) (inactive : ℕ) → length list ≤ 2 ^ 62 → inactive ≤ length (S.peaks (length list)) →
+    (list : List (List ℕ)) (inactive : ℕ) → length list ≤ max_leaves → inactive ≤ length (S.peaks (length list)) →
     tree_root h (ungrafted S) b (listed list) inactive ≡ root →
     IsPinnedOwn h (ungrafted S) b proof start (listed elements) pinned (listed list) inactive
     ⊎ Cross h (pinned_strings h (ungrafted S) b proof start (listed elements) pinned)
@@ -92,9 +92,9 @@ IsPinnedProved h S b proof start elements pinned root =
 abbrev pub PinnedDigestsAreSound : Type 0
 PinnedDigestsAreSound =
     (d : ℕ) (h : HashFunction) → IsSized d h → (S : Shape) → Laws S →
-    (b : Bagging) (proof : RangeProof) (start : ℕ) (elements pinned : List (List ℕ)) → AreDigests d proof.digests
+    (b : Bagging) (proof : Proof) (start : ℕ) (elements pinned : List (List ℕ)) → AreDigests d proof.digests
     → AreDigests d pinned →
-    (list : List (List ℕ)) (inactive : ℕ) → length list ≤ 2 ^ 62 → inactive ≤ length (S.peaks (length list)) →
+    (list : List (List ℕ)) (inactive : ℕ) → length list ≤ max_leaves → inactive ≤ length (S.peaks (length list)) →
     IsPinnedAccepted h (ungrafted S) b proof start (listed elements) pinned
     (tree_root h (ungrafted S) b (listed list) inactive) →
     IsPinnedOwn h (ungrafted S) b proof start (listed elements) pinned (listed list) inactive

@@ -41,8 +41,8 @@ StandsAt (q ∷ qs) (e ∷ ds) p d = ((p ≡ q) × (d ≡ e)) ⊎ StandsAt qs ds
 
 -- the digests at the positions are those that `digest_of` gives nodes, by first leaf and height
 abbrev pub AreOf : {D : Type 0} → (D → List ℕ) → Shape → List ℕ → List D → (ℕ → ℕ → List ℕ) → Type 0
-AreOf {D} text S positions digests digest_of =
-    (p a k : ℕ) (d : D) → StandsAt positions digests p d → IsNode S p a k → text d ≡ digest_of a k
+AreOf {D} bytes_of S positions digests digest_of =
+    (p a k : ℕ) (d : D) → StandsAt positions digests p d → IsNode S p a k → bytes_of d ≡ digest_of a k
 
 -- a digest, or another one where there is none
 abbrev pub digest_or : List ℕ → Option (List ℕ) → List ℕ

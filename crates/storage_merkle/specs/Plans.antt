@@ -4,12 +4,12 @@ use Rattle.std.specs.List.{Contains}
 use Rattle.storage_codec.specs.Digests.{HashFunction}
 use Rattle.storage_merkle.specs.declared.merkle.error.Error.{Error}
 use Rattle.storage_merkle.specs.declared.merkle.error.Error.TheVariants.{Empty, RangeOutOfBounds, LocationOverflow}
-use Rattle.storage_merkle.specs.Shape.{Shape, Laws, size, Inside, AreAligned}
+use Rattle.storage_merkle.specs.Shape.{Shape, Laws, size, Inside, AreAligned, max_leaves}
 use Rattle.storage_merkle.specs.Calc.{Site}
 use Rattle.storage_merkle.specs.Nodes.{IsNode}
 use Rattle.storage_merkle.specs.declared.merkle.bagging.Bagging.{Bagging}
 use Rattle.storage_merkle.specs.Trees.{Layout, Content, ungrafted, peaks_of, folded, unfolded, tree_node}
-use Rattle.storage_merkle.specs.RangeProofs.{RangeProof, apart, sites_in, position_of, by_position, sites, own_proof}
+use Rattle.storage_merkle.specs.RangeProofs.{Proof, apart, sites_in, position_of, by_position, sites, own_proof}
 use Rattle.storage_merkle.specs.PlanParts.{site_digest}
 use Rattle.storage_merkle.specs.Siblings.{sibling_sites}
 
@@ -34,9 +34,9 @@ pub record PlanOf : Type 0 where
 -- why there is no plan of the leaves from start to before end of a tree of n leaves: the first reason that holds
 abbrev pub refusal : (F : Type 0) → ℕ → ℕ → ℕ → Option (Error F)
 refusal F n start end =
-    if ltb (2 ^ 62) n then Some (LocationOverflow n)
+    if ltb max_leaves n then Some (LocationOverflow n)
     else (if leb end start then Some Empty
-    else (if ltb (2 ^ 62) end then Some (LocationOverflow (end - 1))
+    else (if ltb max_leaves end then Some (LocationOverflow (end - 1))
     else (if ltb n end then Some (RangeOutOfBounds (end - 1))
     else None)))
 
@@ -51,25 +51,25 @@ planned S n low high = map (position_of (ungrafted S)) (planned_sites (ungrafted
 -- what is answered for each of the positions is the digest of the node there of the tree over some content
 abbrev pub AnswersAre : {D : Type 0} → (D → List ℕ) → (ℕ → Option D → Type 0) → List ℕ → HashFunction → Layout
     → Content → Type 0
-AnswersAre {D} text answers positions h T content = (p a k : ℕ) (d : D) → Contains positions p → IsNode T.shape p a k
-    → answers p (Some d) → text d ≡ tree_node h T content a k
+AnswersAre {D} bytes_of answers positions h T content = (p a k : ℕ) (d : D) → Contains positions p → IsNode T.shape p a k
+    → answers p (Some d) → bytes_of d ≡ tree_node h T content a k
 
 -- a proof with so many inactive peaks is the own one of each tree of which the answers for the planned positions are
 abbrev pub IsOwnOfEach : {D : Type 0} → (D → List ℕ) → (ℕ → Option D → Type 0) → HashFunction → Shape → Bagging → PlanOf
-    → ℕ → RangeProof → Type 0
-IsOwnOfEach text answers h S b plan inactive proof =
+    → ℕ → Proof → Type 0
+IsOwnOfEach bytes_of answers h S b plan inactive proof =
     (T : Layout) (content : Content) → T.shape ≡ S → length content.elements ≡ plan.leaves →
-    AnswersAre text answers (planned S plan.leaves plan.start plan.end) h T content →
+    AnswersAre bytes_of answers (planned S plan.leaves plan.start plan.end) h T content →
     proof ≡ own_proof h T b content inactive plan.start plan.end
 
 -- what is answered for each of the positions is the digest that `digest_of` gives the node there, by its first leaf and height
 abbrev pub AnswersAreOf : {D : Type 0} → (D → List ℕ) → (ℕ → Option D → Type 0) → List ℕ → Shape → (ℕ → ℕ → List ℕ)
     → Type 0
-AnswersAreOf {D} text answers positions S digest_of = (p a k : ℕ) (d : D) → Contains positions p → IsNode S p a k
-    → answers p (Some d) → text d ≡ digest_of a k
+AnswersAreOf {D} bytes_of answers positions S digest_of = (p a k : ℕ) (d : D) → Contains positions p → IsNode S p a k
+    → answers p (Some d) → bytes_of d ≡ digest_of a k
 
 -- the proof of a plan with i inactive peaks whose digests are those that `digest_of` gives nodes, and folds of these
-abbrev pub gathered_proof : HashFunction → Shape → Bagging → (ℕ → ℕ → List ℕ) → PlanOf → ℕ → RangeProof
+abbrev pub gathered_proof : HashFunction → Shape → Bagging → (ℕ → ℕ → List ℕ) → PlanOf → ℕ → Proof
 gathered_proof h S b digest_of plan i = record {
   leaves = plan.leaves;
   inactive = i;
@@ -80,17 +80,17 @@ gathered_proof h S b digest_of plan i = record {
 
 -- a proof is the one gathered from the answers for the planned positions, whatever digests they are
 abbrev pub IsGathered : {D : Type 0} → (D → List ℕ) → (ℕ → Option D → Type 0) → HashFunction → Shape → Bagging → PlanOf → ℕ
-    → RangeProof → Type 0
-IsGathered text answers h S b plan inactive proof =
+    → Proof → Type 0
+IsGathered bytes_of answers h S b plan inactive proof =
     (digest_of : ℕ → ℕ → List ℕ) →
-    AnswersAreOf text answers (planned S plan.leaves plan.start plan.end) S digest_of →
+    AnswersAreOf bytes_of answers (planned S plan.leaves plan.start plan.end) S digest_of →
     proof ≡ gathered_proof h S b digest_of plan inactive
 
 -- a plan's positions are those that are planned, and its siblings' those of the siblings
 pub record ArePlanned (S : Shape) (leaves start end : ℕ) (positions siblings : List ℕ) : Type 0 where
   pub some : start < end
   pub within : end ≤ leaves
-  pub few : leaves ≤ 2 ^ 62
+  pub few : leaves ≤ max_leaves
   pub positions_are : positions ≡ planned S leaves start end
   pub siblings_are : siblings ≡ map (position_of (ungrafted S)) (sibling_sites (ungrafted S) leaves start end)
 

@@ -1,13 +1,13 @@
 -- Range proofs: their digests in order, their check, and the proof that a tree itself has.
 use Rattle.std.specs.Prelude.{◌≡◌, ℕ, ◌+◌, ◌-◌, ◌%◌, ◌<◌, ◌≤◌, ◌^◌, ◌⊎◌, List, [], ◌∷◌, ◌++◌, length, map, get_or, Bool, true, false, if◌then◌else◌, ◌&&◌, ◌||◌, leb, eqb, Option, Some, None}
 use Rattle.storage_codec.specs.Digests.{HashFunction}
-use Rattle.storage_merkle.specs.Shape.{Inside}
+use Rattle.storage_merkle.specs.Shape.{Inside, max_leaves}
 use Rattle.storage_merkle.specs.Calc.{Site, front, back, node, Calc, given, leaf, pair, graft, Values, eval}
 use Rattle.storage_merkle.specs.declared.merkle.bagging.Bagging.{Bagging}
-use Rattle.storage_merkle.specs.Trees.{Layout, Content, Peak, folded, unfolded, peaks_of, part, whole, bag, root_string, strings_bag, empty_root, plain, tree_node}
+use Rattle.storage_merkle.specs.Trees.{Layout, Content, Peak, folded, unfolded, peaks_of, part, whole_peak, bag, root_string, strings_bag, empty_root, plain, tree_node}
 
 -- a range proof: the number of leaves, the number of inactive peaks, and digests
-pub record RangeProof : Type 0 where
+pub record Proof : Type 0 where
   pub leaves : ℕ
   pub inactive : ℕ
   pub digests : List (List ℕ)
@@ -116,7 +116,7 @@ look_up none [] ds s = none
 look_up none (t ∷ ts) [] s = none
 look_up none (t ∷ ts) (d ∷ ds) s = if same_site s t then d else look_up none ts ds s
 
-module _ (h : HashFunction) (T : Layout) (b : Bagging) (proof : RangeProof) (start : ℕ) (claim : Content) where
+module _ (h : HashFunction) (T : Layout) (b : Bagging) (proof : Proof) (start : ℕ) (claim : Content) where
   abbrev pub range_sites : List Site
   range_sites = sites T start (start + length claim.elements) b proof.leaves proof.inactive
 
@@ -143,7 +143,7 @@ module _ (h : HashFunction) (T : Layout) (b : Bagging) (proof : RangeProof) (sta
 
   -- the counts of a proof fit together and to a range of some elements
   pub record CountsFit : Type 0 where
-    pub few : proof.leaves ≤ 2 ^ 62
+    pub few : proof.leaves ≤ max_leaves
     pub peaks : proof.inactive ≤ length (T.shape.peaks proof.leaves)
     pub some : 0 < length claim.elements
     pub within : start + length claim.elements ≤ proof.leaves
@@ -171,13 +171,13 @@ fold_digest h v (Some c) = eval h v c
 -- the digest that a tree over n leaves with i inactive peaks has at each site of a range
 abbrev pub own_digest : HashFunction → Layout → Bagging → Content → ℕ → ℕ → ℕ → ℕ → Site → List ℕ
 own_digest h T b content n i low high front = fold_digest h (plain h content)
-    (bag (map (whole T) (leading low (folded b i (peaks_of T n)))) [])
+    (bag (map (whole_peak T) (leading low (folded b i (peaks_of T n)))) [])
 own_digest h T b content n i low high back = fold_digest h (plain h content)
-    (bag [] (map (whole T) (trailing high (unfolded b i (peaks_of T n)))))
+    (bag [] (map (whole_peak T) (trailing high (unfolded b i (peaks_of T n)))))
 own_digest h T b content n i low high (node a k) = tree_node h T content a k
 
 -- the tree's own proof of the range from low to high - 1
-abbrev pub own_proof : HashFunction → Layout → Bagging → Content → ℕ → ℕ → ℕ → RangeProof
+abbrev pub own_proof : HashFunction → Layout → Bagging → Content → ℕ → ℕ → ℕ → Proof
 own_proof h T b content i low high = record {
   leaves = length content.elements;
   inactive = i;
@@ -196,7 +196,7 @@ SameChunks T n low high c e = (a k : ℕ) → 1 ≤ k → T.grafted a k ≡ true
     → apart low high a k ≡ false → c.chunk a ≡ e.chunk a
 
 -- the proof is the tree's own, field for field, and what is claimed stands in the tree
-pub record IsOwn (h : HashFunction) (T : Layout) (b : Bagging) (proof : RangeProof) (start : ℕ)
+pub record IsOwn (h : HashFunction) (T : Layout) (b : Bagging) (proof : Proof) (start : ℕ)
     (claim content : Content) (inactive : ℕ) : Type 0 where
   pub proof_is : proof ≡ own_proof h T b content inactive start (start + length claim.elements)
   pub elements_are : StandAt content.elements start claim.elements

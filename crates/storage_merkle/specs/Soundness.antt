@@ -2,11 +2,11 @@
 use Rattle.std.specs.Prelude.{◌≡◌, ◌≢◌, ℕ, ◌+◌, ◌<◌, ◌≤◌, ◌^◌, ◌⊎◌, List, [], ◌∷◌, ◌++◌, length, Bool}
 use Rattle.std.specs.List.Sorted.{IsPermutation}
 use Rattle.storage_codec.specs.Digests.{HashFunction, IsSized, Cross}
-use Rattle.storage_merkle.specs.Shape.{Shape, Laws}
+use Rattle.storage_merkle.specs.Shape.{Shape, Laws, max_leaves}
 use Rattle.storage_merkle.specs.Calc.{Site}
 use Rattle.storage_merkle.specs.declared.merkle.bagging.Bagging.{Bagging}
 use Rattle.storage_merkle.specs.Trees.{Layout, Content, never, peaks_of, folded, unfolded, tree_root, tree_strings}
-use Rattle.storage_merkle.specs.RangeProofs.{RangeProof, apart, not_leading, up_to, sites_in, position_of, sites, check_strings, IsAccepted, IsOwn, AreDigests}
+use Rattle.storage_merkle.specs.RangeProofs.{Proof, apart, not_leading, up_to, sites_in, position_of, sites, check_strings, IsAccepted, IsOwn, AreDigests}
 use Rattle.storage_merkle.specs.Chunked.{AreChunks}
 use Rattle.storage_merkle.specs.Hashing.{leaf_digests, peak_digests, root_of}
 
@@ -18,11 +18,11 @@ RangeProofsAreSound =
     (d N : ℕ) (h : HashFunction) → IsSized d h → N ≢ 8 + d →
     (S : Shape) → Laws S → (position : ℕ → ℕ → ℕ) (grafted : ℕ → ℕ → ℕ → Bool) →
     let over : ℕ → Layout = λ n. record { shape = S; position = position; grafted = grafted n } in
-    (b : Bagging) (proof : RangeProof) (start : ℕ) (claim : Content) → AreDigests d proof.digests
+    (b : Bagging) (proof : Proof) (start : ℕ) (claim : Content) → AreDigests d proof.digests
     → AreChunks N (over proof.leaves) proof.leaves (apart start (start + length claim.elements)) claim.chunk →
     (content : Content) (inactive : ℕ)
     → AreChunks N (over (length content.elements)) (length content.elements) never content.chunk →
-    length content.elements ≤ 2 ^ 62 → inactive ≤ length (S.peaks (length content.elements)) →
+    length content.elements ≤ max_leaves → inactive ≤ length (S.peaks (length content.elements)) →
     IsAccepted h (over proof.leaves) b proof start claim
     (tree_root h (over (length content.elements)) b content inactive) →
     IsOwn h (over (length content.elements)) b proof start claim content inactive
@@ -33,8 +33,8 @@ RangeProofsAreSound =
 abbrev pub OwnRangeProofsAreAccepted : Type 0
 OwnRangeProofsAreAccepted =
     (h : HashFunction) (T : Layout) → Laws T.shape →
-    (b : Bagging) (proof : RangeProof) (start : ℕ) (claim content : Content) (inactive : ℕ) →
-    length content.elements ≤ 2 ^ 62 → inactive ≤ length (T.shape.peaks (length content.elements))
+    (b : Bagging) (proof : Proof) (start : ℕ) (claim content : Content) (inactive : ℕ) →
+    length content.elements ≤ max_leaves → inactive ≤ length (T.shape.peaks (length content.elements))
     → 0 < length claim.elements →
     IsOwn h T b proof start claim content inactive →
     IsAccepted h T b proof start claim (tree_root h T b content inactive)

@@ -1,15 +1,15 @@
 -- Proof stores: what is kept of an accepted range proof, and the proofs that it gives.
-use Rattle.std.specs.Prelude.{◌≡◌, ℕ, ◌+◌, ◌<◌, ◌≤◌, ◌^◌, List, [], ◌∷◌, ◌++◌, length, map, Bool, ◌&&◌, if◌then◌else◌, leb, ltb, eqb, Option, Some, None}
+use Rattle.std.specs.Prelude.{◌≡◌, ℕ, ◌+◌, ◌<◌, ◌≤◌, List, [], ◌∷◌, ◌++◌, length, map, Bool, ◌&&◌, if◌then◌else◌, leb, ltb, eqb, Option, Some, None}
 use Rattle.std.specs.List.{list_any}
 use Rattle.storage_codec.specs.Digests.{HashFunction, IsSized}
 use Rattle.storage_merkle.specs.declared.merkle.error.Error.{Error}
 use Rattle.storage_merkle.specs.declared.merkle.error.Error.TheVariants.{Empty, RangeOutOfBounds, ElementPruned, DuplicateLocation, UnsortedLocation, CompressedDigest}
-use Rattle.storage_merkle.specs.Shape.{Shape, Laws}
+use Rattle.storage_merkle.specs.Shape.{Shape, Laws, max_leaves}
 use Rattle.storage_merkle.specs.Calc.{Site, front, back, node, Calc, given, Values}
 use Rattle.storage_merkle.specs.declared.merkle.bagging.Bagging.{Bagging}
 use Rattle.storage_merkle.specs.Nodes.{IsNode}
 use Rattle.storage_merkle.specs.Trees.{Layout, Content, Peak, ungrafted, peaks_of, folded, unfolded, bag, tree_node, tree_root}
-use Rattle.storage_merkle.specs.RangeProofs.{RangeProof, apart, leading, not_leading, up_to, trailing, front_given, back_given, position_of, by_position, sites, check_values, check_strings, fold_digest, own_digest, own_proof, StandAt, SameChunks, IsAccepted, IsOwn, AreDigests}
+use Rattle.storage_merkle.specs.RangeProofs.{Proof, apart, leading, not_leading, up_to, trailing, front_given, back_given, position_of, by_position, sites, check_values, check_strings, fold_digest, own_digest, own_proof, StandAt, SameChunks, IsAccepted, IsOwn, AreDigests}
 use Rattle.storage_merkle.specs.Plans.{refusal}
 use Rattle.storage_merkle.specs.Multi.{Claim, locations, Stand, tree_digest, needed_sites, own_multi_proof, IsMultiAccepted}
 use Rattle.storage_merkle.specs.Extracted.{nodes_in, entries, digest_at, HoldsOfEach}
@@ -47,13 +47,13 @@ peak_given p = given (node p.first p.height)
 
 module _ (h : HashFunction) (T : Layout) (store : Store) where
   -- what the store has at a site
-  abbrev pub kept_at : Site → List ℕ
-  kept_at front = store.front_fold
-  kept_at back = store.back_fold
-  kept_at (node a k) = or_else (h []) (entry_at (T.shape.position a k) store.kept)
+  abbrev pub stored_at : Site → List ℕ
+  stored_at front = store.front_fold
+  stored_at back = store.back_fold
+  stored_at (node a k) = or_else (h []) (entry_at (T.shape.position a k) store.kept)
 
   abbrev pub store_values : Values
-  store_values = record { digest = kept_at; element = λ j. []; chunk = λ a. [] }
+  store_values = record { digest = stored_at; element = λ j. []; chunk = λ a. [] }
 
   abbrev pub fore : List Peak
   fore = folded store.bagging store.inactive (peaks_of T store.leaves)
@@ -67,9 +67,9 @@ module _ (h : HashFunction) (T : Layout) (store : Store) where
       (bag (front_given (leading store.start fore) ++ map peak_given (leading low (not_leading store.start fore))) [])
   store_digest low high back = fold_digest h store_values
       (bag [] (map peak_given (up_to store.past (trailing high aft)) ++ back_given (trailing store.past aft)))
-  store_digest low high (node a k) = kept_at (node a k)
+  store_digest low high (node a k) = stored_at (node a k)
 
-  abbrev pub store_proof : ℕ → ℕ → RangeProof
+  abbrev pub store_proof : ℕ → ℕ → Proof
   store_proof low high = record {
     leaves = store.leaves;
     inactive = store.inactive;
@@ -133,7 +133,7 @@ multi_refusal F S store peaks [] = Some Empty
 multi_refusal F S store peaks (l ∷ ls) = first_of (location_refusal F 0 store.leaves (l ∷ ls))
     (needed_refusal F store peaks (suffix_positions S store) (needed_positions S (l ∷ ls) store.leaves))
 
-abbrev pub store_multi_proof : Shape → Store → List (ℕ × List ℕ) → List ℕ → RangeProof
+abbrev pub store_multi_proof : Shape → Store → List (ℕ × List ℕ) → List ℕ → Proof
 store_multi_proof S store peaks ls = record {
   leaves = store.leaves;
   inactive = store.inactive;
@@ -154,7 +154,7 @@ pub record IsStoreOf (h : HashFunction) (T : Layout) (store : Store) (content : 
       (kept_sites T store.bagging store.leaves store.inactive store.start store.past)
 
 -- the store of an accepted proof
-abbrev pub store_of : HashFunction → Layout → Bagging → RangeProof → ℕ → Content → Store
+abbrev pub store_of : HashFunction → Layout → Bagging → Proof → ℕ → Content → Store
 store_of h T b proof start claim = record {
   leaves = proof.leaves;
   inactive = proof.inactive;
@@ -169,7 +169,7 @@ store_of h T b proof start claim = record {
 
 -- the store is that of an accepted proof, and one of each tree with that root, or a string of the check and a different one of the
 -- tree have one digest; of each tree whose own proof it is, it is one
-pub record IsMadeOf (d : ℕ) (h : HashFunction) (T : Layout) (b : Bagging) (proof : RangeProof) (start : ℕ)
+pub record IsMadeOf (d : ℕ) (h : HashFunction) (T : Layout) (b : Bagging) (proof : Proof) (start : ℕ)
     (claim : Content) (root : List ℕ) (store : Store) : Type 0 where
   pub accepted : IsAccepted h T b proof start claim root
   pub all : store ≡ store_of h T b proof start claim
@@ -204,7 +204,7 @@ StoresGiveOwnMultiProofs F =
 -- tree have one digest.
 abbrev pub StoresOfAcceptedProofsAreTrue : Type 0
 StoresOfAcceptedProofsAreTrue =
-    (d : ℕ) (h : HashFunction) (T : Layout) (b : Bagging) (proof : RangeProof) (start : ℕ) (claim : Content)
+    (d : ℕ) (h : HashFunction) (T : Layout) (b : Bagging) (proof : Proof) (start : ℕ) (claim : Content)
     (root : List ℕ) →
     IsSized d h → Laws T.shape → AreDigests d proof.digests → IsAccepted h T b proof start claim root →
     HoldsOfEach d h T b proof.leaves start claim (check_strings h T b proof start claim) root
@@ -232,8 +232,8 @@ pub record GivesAccepted (F : Type 0) (h : HashFunction) (T : Layout) (store : S
 abbrev pub StoresOfOwnProofsGiveAccepted : Type 0 → Type 0
 StoresOfOwnProofsGiveAccepted F =
     (h : HashFunction) (T : Layout) → Laws T.shape →
-    (b : Bagging) (proof : RangeProof) (start : ℕ) (claim content : Content) (inactive : ℕ) →
-    length content.elements ≤ 2 ^ 62 → inactive ≤ length (T.shape.peaks (length content.elements))
+    (b : Bagging) (proof : Proof) (start : ℕ) (claim content : Content) (inactive : ℕ) →
+    length content.elements ≤ max_leaves → inactive ≤ length (T.shape.peaks (length content.elements))
     → 0 < length claim.elements →
     IsOwn h T b proof start claim content inactive →
     GivesAccepted F h T (store_of h T b proof start claim) content inactive

@@ -65,8 +65,8 @@ peaks_of T n = places 0 (T.shape.peaks n)
 abbrev pub part : Layout → (ℕ → ℕ → Bool) → Peak → Calc
 part T cut p = node_calc T cut p.height p.first
 
-abbrev pub whole : Layout → Peak → Calc
-whole T p = part T never p
+abbrev pub whole_peak : Layout → Peak → Calc
+whole_peak T p = part T never p
 
 -- ---- bagging
 
@@ -95,7 +95,7 @@ unfolded BackwardFold i ps = drop i ps
 
 -- the whole tree over n leaves
 abbrev pub tree_bag : Layout → Bagging → ℕ → ℕ → Option Calc
-tree_bag T b n i = bag (map (whole T) (folded b i (peaks_of T n))) (map (whole T) (unfolded b i (peaks_of T n)))
+tree_bag T b n i = bag (map (whole_peak T) (folded b i (peaks_of T n))) (map (whole_peak T) (unfolded b i (peaks_of T n)))
 
 -- ---- roots
 

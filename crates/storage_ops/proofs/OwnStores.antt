@@ -6,12 +6,12 @@ use Rattle.storage_merkle.specs.declared.merkle.bagging.Bagging.{Bagging}
 use Rattle.storage_merkle.specs.declared.merkle.bagging.Bagging.TheVariants.{BackwardFold}
 use Rattle.storage_merkle.specs.Soundness.{OwnRangeProofsAreAccepted}
 use Rattle.storage_merkle.specs.Trees.{Layout, Content, listed, tree_root, ungrafted}
-use Rattle.storage_merkle.specs.RangeProofs.{RangeProof, IsAccepted, IsOwn}
+use Rattle.storage_merkle.specs.RangeProofs.{Proof, IsAccepted, IsOwn}
 use Rattle.storage_merkle.specs.Stores.{GivesAccepted, IsMadeOf, Store, StoresOfOwnProofsGiveAccepted, store_of}
 use Rattle.storage_ops.specs.OwnStores.{GivesAcceptedOf, IsOwnOfList}
 
 -- one check of some elements accepts one root
-one_root : (h : HashFunction) (T : Layout) (b : Bagging) (proof : RangeProof) (start : ℕ) (claim : Content)
+one_root : (h : HashFunction) (T : Layout) (b : Bagging) (proof : Proof) (start : ℕ) (claim : Content)
     (r s : List ℕ) → 0 < length claim.elements → IsAccepted h T b proof start claim r
     → IsAccepted h T b proof start claim s → r ≡ s
 one_root h T b proof start claim r s some (inl x) (inl y) = sym x.1 ∙ y.1
@@ -20,7 +20,7 @@ one_root h T b proof start claim r s some (inl x) (inr y) =
 one_root h T b proof start claim r s some (inr x) y = absurd (let none = x.0.none in omega (arith, ap length none))
 
 pub given_of_own : (F : Type 0) → StoresOfOwnProofsGiveAccepted F → OwnRangeProofsAreAccepted → (d : ℕ)
-    (h : HashFunction) (S : Shape) → Laws S → (proof : RangeProof) (start : ℕ) (operations : List (List ℕ))
+    (h : HashFunction) (S : Shape) → Laws S → (proof : Proof) (start : ℕ) (operations : List (List ℕ))
     (root : List ℕ) (store : Store) → IsMadeOf d h (ungrafted S) BackwardFold proof start (listed operations) root store
     → (list : List (List ℕ)) (inactive : ℕ) → IsOwnOfList h S proof start operations list inactive
     → GivesAcceptedOf F h S store list root

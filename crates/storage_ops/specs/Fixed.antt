@@ -1,8 +1,9 @@
 -- Operations that are filled up with zeros to one size.
-use Rattle.std.specs.Prelude.{◌==◌, ℕ, ◌+◌, ◌-◌, ◌^◌, List, ◌∷◌, ◌++◌, length, max, replicate, Option, Some, None, Ok, Err, nat_lt, codes, if◌then◌else◌}
+use Rattle.std.specs.Prelude.{◌==◌, ℕ, ◌+◌, ◌-◌, List, ◌∷◌, ◌++◌, length, max, replicate, Option, Some, None, Ok, Err, nat_lt, codes, if◌then◌else◌}
 use Rattle.std.specs.Int.{w64, to_be_bytes}
 use Rattle.storage_codec.specs.Faults.{◌>>=◌, EndOfBuffer, InvalidEnum, Invalid}
 use Rattle.storage_codec.specs.Codec.{Answer, mapped, byte_at, bool_at, u64_at}
+use Rattle.storage_merkle.specs.Shape.{max_leaves}
 use Rattle.storage_ops.specs.Operations.{OperationView, Delete, Update, CommitFloor}
 use Rattle.storage_ops.specs.Padding.{zeros_at}
 
@@ -30,7 +31,7 @@ presence_at value vs bytes = bool_at bytes >>= λ there.
 -- a floor of at most 2^62
 abbrev pub floor_at : List ℕ → Answer ℕ
 floor_at bytes = u64_at bytes >>= λ n.
-    if nat_lt (2 ^ 62) n.0 then Err (Invalid (codes "storage::qmdb::operation::commit") (codes "commit floor location overflow")) else Ok n
+    if nat_lt max_leaves n.0 then Err (Invalid (codes "storage::qmdb::operation::commit") (codes "commit floor location overflow")) else Ok n
 
 -- a value or none, and a floor
 abbrev pub commit_payload_at : {K U V : Type 0} → (List ℕ → Answer V) → ℕ → List ℕ → Answer (OperationView K U V)

@@ -1,17 +1,17 @@
 -- Stores that are made of a list's own proof.
-use Rattle.std.specs.Prelude.{◌≡◌, ℕ, ◌+◌, ◌<◌, ◌≤◌, ◌^◌, List, [], length, None}
+use Rattle.std.specs.Prelude.{◌≡◌, ℕ, ◌+◌, ◌<◌, ◌≤◌, List, [], length, None}
 use Rattle.storage_codec.specs.Digests.{HashFunction}
-use Rattle.storage_merkle.specs.Shape.{Shape}
+use Rattle.storage_merkle.specs.Shape.{Shape, max_leaves}
 use Rattle.storage_merkle.specs.declared.merkle.bagging.Bagging.TheVariants.{BackwardFold}
 use Rattle.storage_merkle.specs.Trees.{listed, ungrafted}
-use Rattle.storage_merkle.specs.RangeProofs.{RangeProof, IsAccepted, StandAt, own_proof}
+use Rattle.storage_merkle.specs.RangeProofs.{Proof, IsAccepted, StandAt, own_proof}
 use Rattle.storage_merkle.specs.Multi.{Claim, IsMultiAccepted, Stand, locations}
 use Rattle.storage_merkle.specs.Stores.{Store, AreTrueAt, multi_refusal, range_refusal, store_multi_proof, store_proof}
 
 -- some operations stand in a list from `start` on, and the proof is the list's own of these
-pub record IsOwnOfList (h : HashFunction) (S : Shape) (proof : RangeProof) (start : ℕ) (operations list : List (List ℕ))
+pub record IsOwnOfList (h : HashFunction) (S : Shape) (proof : Proof) (start : ℕ) (operations list : List (List ℕ))
     (inactive : ℕ) : Type 0 where
-  pub few : length list ≤ 2 ^ 62
+  pub few : length list ≤ max_leaves
   pub peaks : inactive ≤ length (S.peaks (length list))
   pub some : 0 < length operations
   pub stand : StandAt list start operations

@@ -4,9 +4,9 @@ ghost use Rattle.std.specs.Prelude.{◌≡◌, ℕ, List, ◌++◌, ◌↔◌, I
 ghost use Rattle.storage_bitmap.specs.Chunks.{IsChunkSize};
 ghost use Rattle.storage_ops.specs.Updates.{ordered_at};
 ghost use Rattle.storage_current.specs.CurrentWire.{operation_text};
-ghost use Rattle.storage_current.specs.Held.{operation_of};
+ghost use Rattle.storage_current.specs.Held.{operation_proof_of};
 ghost use Rattle.storage_current.specs.HeldKeys.{exclusion_of};
-ghost use Rattle.storage_current.specs.KeyProofs.{Allows, Exclusion, proof_of, shown_text};
+ghost use Rattle.storage_current.specs.KeyProofs.{Allows, Exclusion, proof_in, shown_text};
 ghost use Rattle.storage_current.specs.KeyWire.{IsAdmittedExclusion, exclusion_text};
 ghost use Rattle.storage_current.specs.Keys.{Keyed, Updates, keyed_by};
 ghost use Rattle.storage_current.specs.Snapshots.{IsActive, IsSnapshot, Snapshot, canonical_root, own_operation_proof, grafting_of};
@@ -76,12 +76,12 @@ pub fn written_values_are_accepted<
         let g = grafting_of F.shape N in
         IfOk result (λ yes. IsTrue yes
         ↔ IsAcceptedValue e K.view (K.parse cfg.now) H.hash_of g F.has_pending H.Digest.size
-        (operation_text F.has_pending (operation_of H.Digest.text (λ c. c) proof.now.proof)
+        (operation_text F.has_pending (operation_proof_of H.Digest.text (λ c. c) proof.now.proof)
         ++ K.text proof.now.next_key) key value (H.Digest.text root.now)) }
     ensures accepted { let e = keyed_by K.text V.Value.text V.operation_text K.cmp in
         let g = grafting_of F.shape N in
         (s : Snapshot) → IsSnapshot s
-        → (location : ℕ) → operation_of H.Digest.text (λ c. c) proof.now.proof
+        → (location : ℕ) → operation_proof_of H.Digest.text (λ c. c) proof.now.proof
         ≡ own_operation_proof H.hash_of g s location
         → Updates e s location key value proof.now.next_key
         → K.admits cfg.now proof.now.next_key
@@ -126,8 +126,8 @@ pub fn written_exclusions_are_accepted<
         let x : Exclusion (K × V.Value × K) V.Value = exclusion_of H.Digest.text
         (λ c. c) proof.now in
         (s : Snapshot) → IsSnapshot s
-        → proof_of x ≡ own_operation_proof H.hash_of g s (proof_of x).location
-        → IsActive s (proof_of x).location (shown_text e x)
+        → proof_in x ≡ own_operation_proof H.hash_of g s (proof_in x).location
+        → IsActive s (proof_in x).location (shown_text e x)
         → Allows e x key.now
         → IsAdmittedExclusion (λ _. Unit {0}) (λ u. K.admits (V.key_cfg cfgs.now.0) u.0
         × V.Value.admits (V.value_cfg cfgs.now.0) u.1 × K.admits (V.key_cfg cfgs.now.0) u.2)

@@ -7,7 +7,7 @@ ghost use Rattle.storage_bitmap.specs.Chunks.{IsChunkSize};
 ghost use Rattle.storage_current.specs.BuiltProofs.{ArePartsOf, IsNotBuilt};
 ghost use Rattle.storage_current.specs.KeptSnapshots.{KeptSnapshot};
 ghost use Rattle.storage_current.specs.Snapshots.{Holds, IsSnapshot, Snapshot, canonical_root, grafting_of};
-ghost use Rattle.commonware_storage.specs.Handed.{AreHandedOut};
+ghost use Rattle.commonware_storage.specs.Handed.{AreSnapshotParts};
 ghost use Rattle.commonware_storage.specs.LightRanges.{HasFewDigests, IsAcceptedRange, OwnRangesAreAccepted, own_range_text};
 
 use crate::light::check_range;
@@ -79,7 +79,7 @@ pub fn built_ranges_are_accepted<
         → IfOk result (λ yes. yes ≡ true) }
     ensures handed { let g = grafting_of F.shape N in
         (kept : KeptSnapshot) (s : Snapshot) → IsSnapshot s
-        → AreHandedOut H.Digest.text (G.post get_node) H.hash_of g plan
+        → AreSnapshotParts H.Digest.text (G.post get_node) H.hash_of g plan
         (R.retained status.now) floor (H.Digest.text ops_root) (H.Digest.text root.now) kept s
         → plan.end ≡ plan.start + length operations.now
         → Holds g s plan.start (map (λ o. o.now) operations.now) (map (λ c. c.now) chunks.now)

@@ -1,6 +1,7 @@
 //! Lists on a tree over chunks and a tree over the operations, read as one.
 
 ghost use Rattle.std.specs.Prelude.{◌≡◌, ◌+◌, ◌%◌, ◌^◌, ◌<◌, ◌≤◌};
+ghost use Rattle.storage_merkle.specs.Shape.{max_leaves};
 ghost use Rattle.storage_bitmap.specs.Chunks.{IsChunkSize};
 
 pub mod failing;
@@ -395,7 +396,7 @@ fn chunk_digest<F: Graftable, H: Hasher, const N: usize>(
 /// The position of the node of a height with this first leaf.
 fn position_over<F: Graftable>(first: u64, height: u32) -> Position<F>
     requires aligned { first % 2 ^ height ≡ 0 }
-    requires early { first ≤ 2 ^ 62 }
+    requires early { first ≤ max_leaves }
     requires low { height ≤ 61 }
 {
     F::subtree_root_position(Location::new(first), height)

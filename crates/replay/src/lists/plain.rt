@@ -2,6 +2,7 @@
 //! `graftable`, whatever its number of leaves, and of `plain_checks`, and for `golden` and `ranges` the roots and the proofs.
 
 ghost use Rattle.std.specs.Prelude.{◌+◌, ◌^◌, ◌≤◌};
+ghost use Rattle.storage_merkle.specs.Shape.{max_leaves};
 ghost use Rattle.storage_bitmap.specs.Chunks.{IsChunkSize};
 
 use crate::columns::{Fault, Series, spaced_four, spaced_two, spelled, verdict};
@@ -31,7 +32,7 @@ pub fn agreed(fast: String, plain: &str) -> Result<String, Fault> {
 /// The number of nodes over `leaves` leaves, the peaks' heights and positions, and the positions to pin, which are those of
 /// the peaks.
 pub fn families<F: Digits>(alloc: Global, leaves: u64) -> Result<String, Fault>
-    requires { leaves ≤ 2 ^ 62 }
+    requires { leaves ≤ max_leaves }
 {
     let nodes = node_count::<F>(alloc, leaves)?;
     let mut heights = Series::new(alloc);
@@ -49,7 +50,7 @@ pub fn families<F: Digits>(alloc: Global, leaves: u64) -> Result<String, Fault>
 /// Of how many leaves this is the number of nodes, where that is `leaves` or, as `-` says, none, as it lies between the
 /// numbers of nodes over `leaves` and over one more; else `none`.
 pub fn sizes<F: Digits>(alloc: Global, nodes: u64, leaves: u64) -> Result<String, Fault>
-    requires { leaves ≤ 2 ^ 62 }
+    requires { leaves ≤ max_leaves }
 {
     if node_count::<F>(alloc, leaves)? == nodes {
         return spelled(alloc, &leaves);
@@ -61,7 +62,7 @@ pub fn sizes<F: Digits>(alloc: Global, nodes: u64, leaves: u64) -> Result<String
 
 /// The position of a node, at how many leaves it comes, and its children.
 pub fn nodes<F: Digits>(alloc: Global, first: u64, height: u32) -> Result<String, Fault>
-    requires { first + 2 ^ height ≤ 2 ^ 62 + 2 ^ 61 }
+    requires { first + 2 ^ height ≤ max_leaves + 2 ^ 61 }
 {
     let position = F::place(alloc, first, height)?;
     let birth = F::leaves_at_birth(first, height);

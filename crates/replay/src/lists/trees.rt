@@ -2,7 +2,7 @@
 
 ghost use Rattle.std.specs.Prelude.{◌≡◌, ℕ, ◌+◌, ◌*◌, ◌%◌, ◌^◌, ◌<◌, ◌≤◌};
 ghost use Rattle.storage_merkle.specs.Nodes.{IsNode, CoversSame};
-ghost use Rattle.storage_merkle.specs.Shape.{size};
+ghost use Rattle.storage_merkle.specs.Shape.{size, max_leaves};
 
 use crate::columns::{Fault, Series, number, spaced_four, spaced_three, spaced_two, spelled};
 use crate::lists::combined::failing;
@@ -48,7 +48,7 @@ fn over<F: Graftable + Digits + Countable>(
 
 /// The number of nodes over the most leaves.
 fn most_nodes<F: Graftable>() -> u64
-    ensures { result ≡ size F.shape (2 ^ 62) }
+    ensures { result ≡ size F.shape max_leaves }
 {
     F::nodes_over(MAX_LEAVES)
 }
@@ -76,7 +76,7 @@ fn families<F: Graftable + Digits>(alloc: Global, columns: &[&str]) -> Result<St
 
 /// The number of nodes, the peaks' heights and positions, and the positions to pin.
 fn told<F: Graftable>(alloc: Global, leaves: u64) -> Result<String, Fault>
-    requires { leaves ≤ 2 ^ 62 }
+    requires { leaves ≤ max_leaves }
 {
     let nodes = F::nodes_over(leaves);
     let peaks = peaks_told::<F>(alloc, leaves)?;
@@ -86,7 +86,7 @@ fn told<F: Graftable>(alloc: Global, leaves: u64) -> Result<String, Fault>
 
 /// The peaks' heights and positions.
 fn peaks_told<F: Graftable>(alloc: Global, leaves: u64) -> Result<String, Fault>
-    requires { leaves ≤ 2 ^ 62 }
+    requires { leaves ≤ max_leaves }
 {
     let mut heights = Series::new(alloc);
     let mut positions = Series::new(alloc);
@@ -101,7 +101,7 @@ fn peaks_told<F: Graftable>(alloc: Global, leaves: u64) -> Result<String, Fault>
 
 /// The positions to pin.
 fn pins_told<F: Graftable>(alloc: Global, leaves: u64) -> Result<String, Fault>
-    requires { leaves ≤ 2 ^ 62 }
+    requires { leaves ≤ max_leaves }
 {
     let mut pins = Series::new(alloc);
     for position in F::nodes_to_pin(Location::new(leaves)) {
@@ -147,7 +147,7 @@ fn nodes<F: Graftable + Digits>(alloc: Global, columns: &[&str]) -> Result<Strin
 
 fn node<F: Graftable>(alloc: Global, first: u64, height: u32) -> Result<String, Fault>
     requires aligned { first % 2 ^ height ≡ 0 }
-    requires early { first ≤ 2 ^ 62 }
+    requires early { first ≤ max_leaves }
     requires low { height ≤ 61 }
 {
     let position = F::subtree_root_position(Location::new(first), height);
@@ -199,7 +199,7 @@ fn maps<F: Graftable>(alloc: Global, columns: &[&str]) -> Result<String, Fault> 
 fn map<F: Graftable>(alloc: Global, position: u64, height: u32) -> Result<String, Fault>
     requires low { 1 ≤ height }
     requires high { height ≤ 62 }
-    requires valid { position ≤ size F.shape (2 ^ 62) }
+    requires valid { position ≤ size F.shape max_leaves }
 {
     let (first, own) = node_at::<F>(position);
     if own + height > 62 {

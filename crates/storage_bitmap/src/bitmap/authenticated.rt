@@ -143,7 +143,7 @@ impl<D: Digest, const N: usize, M: State<D>> BitMap<D, N, M> {
     pub fn get_bit_from_chunk(chunk: &[u8; N], bit: u64) -> bool
         requires { IsChunkSize N }
         ensures value { result ≡ bit_in chunk.now (bit % (8 * N)) }
-        ensures means { (bits : List Bool) → chunk.now ≡ chunk_of N bits (bit / (8 * N))
+        ensures meaning { (bits : List Bool) → chunk.now ≡ chunk_of N bits (bit / (8 * N))
             → result ≡ slice_index_or bits bit false }
     {
         read(chunk, bit % (8 * N as u64))

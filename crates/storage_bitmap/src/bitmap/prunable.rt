@@ -2,7 +2,8 @@
 
 ghost use Rattle.std.specs.Prelude.{◌≡◌, ◌≢◌, ℕ, ◌+◌, ◌-◌, ◌*◌, ◌/◌, ◌%◌, ◌^◌, ◌<◌, ◌≤◌, ◌↔◌, [], ◌∷◌, ◌++◌, length, drop, replicate, slice_set, slice_index_or, false, MatchOption, OnOk, OnErr};
 ghost use Rattle.std.specs.Int.{bit_at};
-ghost use Rattle.storage_bitmap.specs.Chunks.{IsChunkSize, Retained, bit_count, chunk, digit, pruned_to};
+ghost use Rattle.storage_merkle.specs.Shape.{max_leaves};
+ghost use Rattle.storage_bitmap.specs.Chunks.{IsChunkSize, Retained, bit_count, chunk, digit_of, pruned_to};
 ghost use Rattle.storage_bitmap.specs.Packed.{HasRoom, IsPacked, IsWritten, bit_in, bits_in};
 
 use crate::bitmap::Readable;
@@ -43,7 +44,7 @@ impl<const N: usize> Prunable<N> {
     /// No bits past `chunks` chunks, all of them pruned. It takes no memory.
     pub(crate) fn pruned(alloc: Global, chunks: usize) -> Self
         requires size { IsChunkSize N }
-        requires few { chunks * (8 * N) ≤ 2 ^ 62 }
+        requires few { chunks * (8 * N) ≤ max_leaves }
         ensures { result ≡ record { pruned = chunks; bits = [] } }
     {
         Prunable {
@@ -55,7 +56,7 @@ impl<const N: usize> Prunable<N> {
 
     /// Appends `bit`. Out of memory, `NoMemory`, changes nothing.
     pub fn push(&mut self, bit: bool) -> Result<(), NoMemory>
-        requires { bit_count N self.old < 2 ^ 62 }
+        requires { bit_count N self.old < max_leaves }
         ensures ok { OnOk result (self.new ≡ record self.old { bits = self.old.bits ++ bit ∷ [] }) }
         ensures err { OnErr result (self.new ≡ self.old) }
     {
@@ -143,7 +144,7 @@ impl<const N: usize> Readable<N> for Prunable<N> {
 /// How many bits `chunks` chunks have.
 fn pruned_bits<const N: usize>(chunks: usize) -> u64
     requires size { N ≤ 2 ^ 59 }
-    requires few { chunks * (8 * N) ≤ 2 ^ 62 }
+    requires few { chunks * (8 * N) ≤ max_leaves }
     ensures { result ≡ chunks * (8 * N) }
 {
     chunks as u64 * (8 * N as u64)
@@ -205,7 +206,7 @@ fn fill(bytes: &mut Vec<u8>, place: u64, bit: bool)
 /// `byte` with its bit number `place`, from the lowest, set to `bit`.
 fn with_bit(byte: u8, place: u32, bit: bool) -> u8
     requires { place < 8 }
-    ensures there { bit_at result place ≡ digit bit }
+    ensures there { bit_at result place ≡ digit_of bit }
     ensures others { (i : ℕ) → i < 8 → i ≢ place → bit_at result i ≡ bit_at byte i }
 {
     let mask = 1 << place;

@@ -4,7 +4,7 @@ ghost use Rattle.std.specs.Prelude.{◌≡◌, ◌≢◌, ℕ, ◌<◌, ◌^◌,
 ghost use Rattle.std.proofs.Common.{lit≤};
 ghost use Rattle.std.specs.Int.{w64, from_be_bytes, to_be_bytes};
 ghost use Rattle.storage_codec.specs.Codec.{Gives, front_at};
-ghost use Rattle.storage_codec.specs.Laws.{front_again, front_back};
+ghost use Rattle.storage_codec.specs.Laws.Reading.{front_again, front_back};
 ghost use Rattle.storage_codec.specs.Parts.{IsEnding};
 
 use crate::NoMemory;

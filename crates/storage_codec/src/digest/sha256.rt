@@ -2,7 +2,7 @@
 
 ghost use Rattle.std.proofs.Common.{refl};
 ghost use Rattle.sha2.specs.Sha256.{sha256};
-ghost use Rattle.storage_codec.specs.DigestLaws.{sha256_sized};
+ghost use Rattle.storage_codec.specs.Laws.Digests.{sha256_sized};
 ghost use Rattle.storage_codec.specs.DigestValues.{digest_32};
 
 use crate::codec::FixedBytes;

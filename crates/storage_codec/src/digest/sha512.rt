@@ -2,7 +2,7 @@
 
 ghost use Rattle.std.proofs.Common.{refl};
 ghost use Rattle.sha2.specs.Sha512.{sha512};
-ghost use Rattle.storage_codec.specs.DigestLaws.{sha512_sized};
+ghost use Rattle.storage_codec.specs.Laws.Digests.{sha512_sized};
 ghost use Rattle.storage_codec.specs.DigestValues.{digest_64};
 
 use crate::codec::FixedBytes;

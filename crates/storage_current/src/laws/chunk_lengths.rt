@@ -7,7 +7,7 @@ ghost use Rattle.storage_merkle.specs.Checks.{IsProved};
 ghost use Rattle.storage_merkle.specs.Chunked.{AreChunks};
 ghost use Rattle.storage_merkle.specs.Extracted.{AreHandedOut, tree_entries};
 ghost use Rattle.storage_merkle.specs.Multi.{Claim, IsMultiOwn, IsMultiProved, locations, multi_strings, untouched};
-ghost use Rattle.storage_merkle.specs.RangeProofs.{IsOwn, RangeProof, apart, check_strings};
+ghost use Rattle.storage_merkle.specs.RangeProofs.{IsOwn, Proof, apart, check_strings};
 ghost use Rattle.storage_merkle.specs.Stores.{IsMadeOf, IsStoreOf, Store};
 ghost use Rattle.storage_merkle.specs.Trees.{content_of};
 ghost use Rattle.storage_current.specs.HeldOfViews.{AreSupplied, HoldsOfViews};
@@ -62,7 +62,7 @@ pub fn chunks_over_chunks_have_their_length<F: Graftable, H: Hasher<F>>(
 pub fn checks_with_supplied_chunks_hold_of_views<F: Graftable, H: digest::Hasher>(
     hasher: &Verifier<'_, F, H>,
 )
-    ensures ranges { (size start : ℕ) (proof : RangeProof) (elements : List (List ℕ))
+    ensures ranges { (size start : ℕ) (proof : Proof) (elements : List (List ℕ))
         → (root : List ℕ) → size ≢ 8 + H.Digest.size
         → hasher.now.graftable_chunks ≡ graftable_at F.shape hasher.now.height proof.leaves
         → AreSupplied size hasher.now.height hasher.now.start_chunk_index
@@ -73,7 +73,7 @@ pub fn checks_with_supplied_chunks_hold_of_views<F: Graftable, H: digest::Hasher
         → HoldsOfViews size H.hash_of F.shape hasher.now.height
         (check_strings H.hash_of T BackwardFold proof start claim) root
         (λ U content inactive. IsOwn H.hash_of U BackwardFold proof start claim content inactive) }
-    ensures digests { (size start : ℕ) (proof : RangeProof) (elements : List (List ℕ))
+    ensures digests { (size start : ℕ) (proof : Proof) (elements : List (List ℕ))
         → (root : List ℕ) → size ≢ 8 + H.Digest.size
         → hasher.now.graftable_chunks ≡ graftable_at F.shape hasher.now.height proof.leaves
         → AreSupplied size hasher.now.height hasher.now.start_chunk_index
@@ -86,7 +86,7 @@ pub fn checks_with_supplied_chunks_hold_of_views<F: Graftable, H: digest::Hasher
         (check_strings H.hash_of T BackwardFold proof start claim) root
         (λ U content inactive. handed
         ≡ tree_entries H.hash_of U content start (start + length elements)) }
-    ensures stores { (size start : ℕ) (proof : RangeProof) (elements : List (List ℕ))
+    ensures stores { (size start : ℕ) (proof : Proof) (elements : List (List ℕ))
         → (root : List ℕ) → size ≢ 8 + H.Digest.size
         → hasher.now.graftable_chunks ≡ graftable_at F.shape hasher.now.height proof.leaves
         → AreSupplied size hasher.now.height hasher.now.start_chunk_index
@@ -98,7 +98,7 @@ pub fn checks_with_supplied_chunks_hold_of_views<F: Graftable, H: digest::Hasher
         → HoldsOfViews size H.hash_of F.shape hasher.now.height
         (check_strings H.hash_of T BackwardFold proof start claim) root
         (λ U content inactive. IsStoreOf H.hash_of U store content inactive) }
-    ensures locations { (size : ℕ) (proof : RangeProof) (claims : List Claim) (root : List ℕ)
+    ensures locations { (size : ℕ) (proof : Proof) (claims : List Claim) (root : List ℕ)
         → size ≢ 8 + H.Digest.size
         → hasher.now.graftable_chunks ≡ graftable_at F.shape hasher.now.height proof.leaves
         → All (λ l. AreSupplied size hasher.now.height hasher.now.start_chunk_index

@@ -2,7 +2,7 @@
 
 ghost use Rattle.std.specs.Prelude.{◌≡◌, ℕ, ◌*◌, ◌^◌, ◌<◌, ◌≤◌, ◌⊎◌, false, None, Option};
 ghost use Rattle.storage_merkle.specs.Nodes.{CoversSame, IsNode};
-ghost use Rattle.storage_merkle.specs.Shape.{size};
+ghost use Rattle.storage_merkle.specs.Shape.{size, max_leaves};
 ghost use Rattle.storage_current.specs.Combined.{IsRaised, joined};
 ghost use Rattle.storage_current.specs.CombinedViews.{JoinedTreesAnswerTheView, JoinedTreesAreTheView, JoinedTreesServeTheView, PlannedNodesServeARange};
 ghost use Rattle.storage_current.specs.PrunedViews.{CoverableNodesAreHad, PrunedTreesServeTheView};
@@ -18,13 +18,13 @@ use storage_merkle::merkle::{Family, Graftable};
 /// where the hasher below takes that position.
 pub fn nodes_over_chunks_are_taken<F: Graftable, H: Hasher<F>>()
     ensures half { (hasher : H) (chunks height position : ℕ) → 1 ≤ height
-        → chunks * (2 * 2 ^ height) ≤ 2 ^ 62
+        → chunks * (2 * 2 ^ height) ≤ max_leaves
         → position < size F.shape chunks
         → ((p : ℕ) → CoversSame F.shape height position p → H.takes hasher p)
         → IsRaised F.shape (H.takes hasher) height position }
     ensures all { F.has_pending ≡ false
         → (hasher : H) (chunks height position : ℕ) → 1 ≤ height
-        → chunks * 2 ^ height ≤ 2 ^ 62
+        → chunks * 2 ^ height ≤ max_leaves
         → position < size F.shape chunks
         → ((p : ℕ) → CoversSame F.shape height position p → H.takes hasher p)
         → IsRaised F.shape (H.takes hasher) height position }
@@ -35,17 +35,17 @@ pub fn nodes_over_chunks_are_taken<F: Graftable, H: Hasher<F>>()
 /// operations.
 pub fn joined_trees_meet_at_a_height<F: Family, D: Digest>()
     ensures none { (height nodes position : ℕ) (chunks operations : ℕ → Option D)
-        → (nodes ≤ position) ⊎ (size F.shape (2 ^ 62) < position)
+        → (nodes ≤ position) ⊎ (size F.shape max_leaves < position)
         → joined F.shape height nodes chunks operations position ≡ None }
     ensures below { (height nodes position first own : ℕ) (chunks operations : ℕ → Option D)
         → position < nodes
-        → position ≤ size F.shape (2 ^ 62)
+        → position ≤ size F.shape max_leaves
         → IsNode F.shape position first own
         → own < height
         → joined F.shape height nodes chunks operations position ≡ operations position }
     ensures above { (height nodes position over : ℕ) (chunks operations : ℕ → Option D)
         → position < nodes
-        → position ≤ size F.shape (2 ^ 62)
+        → position ≤ size F.shape max_leaves
         → CoversSame F.shape height over position
         → joined F.shape height nodes chunks operations position ≡ chunks over }
 {}

@@ -4,7 +4,7 @@ ghost use Rattle.std.specs.Prelude.{◌==◌, ◌&&◌, ℕ, List};
 ghost use Rattle.std.specs.Option.{option_eq};
 ghost use Rattle.storage_merkle.specs.Equality.{AnswersAs, EqualAsSeen, EqualToItself};
 ghost use Rattle.storage_current.specs.Equality.{exclusion_eq};
-ghost use Rattle.storage_current.specs.Held.{current_of, operation_of};
+ghost use Rattle.storage_current.specs.Held.{range_proof_of, operation_proof_of};
 ghost use Rattle.storage_current.specs.HeldKeys.{exclusion_of, exclusion_seen};
 ghost use Rattle.storage_current.specs.Snapshots.{OperationProof};
 ghost use Rattle.storage_current.specs.WitnessWire.{witness_of};
@@ -27,7 +27,7 @@ pub fn equal_range_proofs<F, D: Digest>()
         && option_eq D.PartialEq.eq x.pending_chunk_digest y.pending_chunk_digest
         && option_eq D.PartialEq.eq x.partial_chunk_digest y.partial_chunk_digest
         && D.PartialEq.eq x.ops_root y.ops_root) }
-    ensures seen { EqualAsSeen ⟦<RangeProof<F, D> as PartialEq>⟧.eq (current_of D.text) }
+    ensures seen { EqualAsSeen ⟦<RangeProof<F, D> as PartialEq>⟧.eq (range_proof_of D.text) }
 {
     equal_proofs::<F, D>();
 }
@@ -53,7 +53,8 @@ pub fn equal_operation_proofs<F, D: Digest, C: Chunk + PartialEq>()
         x.loc == y.loc && C.PartialEq.eq x.chunk y.chunk
         && ⟦<RangeProof<F, D> as PartialEq>⟧.eq x.range_proof y.range_proof) }
     ensures seen { EqualAsSeen C.PartialEq.eq C.text
-        → EqualAsSeen ⟦<operation::Proof<F, D, C> as PartialEq>⟧.eq (operation_of D.text C.text) }
+        → EqualAsSeen ⟦<operation::Proof<F, D, C> as PartialEq>⟧.eq
+        (operation_proof_of D.text C.text) }
 {
     equal_range_proofs::<F, D>();
 }
@@ -79,7 +80,7 @@ pub fn equal_key_value_proofs<F, K: Key, D: Digest, C: Chunk + PartialEq>()
     ensures seen { EqualAsSeen C.PartialEq.eq C.text
         → EqualAsSeen K.PartialEq.eq K.view
         → EqualAsSeen {X = OperationProof × K.View} ⟦<KeyValueProof<F, K, D, C> as PartialEq>⟧.eq
-        (λ x. (operation_of D.text C.text x.proof, K.view x.next_key)) }
+        (λ x. (operation_proof_of D.text C.text x.proof, K.view x.next_key)) }
 {
     equal_operation_proofs::<F, D, C>();
 }

@@ -4,11 +4,11 @@
 ghost use Rattle.std.specs.Prelude.{◌≡◌, ℕ, List, length};
 ghost use Rattle.storage_bitmap.specs.Chunks.{IsChunkSize};
 ghost use Rattle.storage_current.specs.CurrentProofs.{IsActiveCurrent};
-ghost use Rattle.storage_current.specs.Held.{operation_of};
+ghost use Rattle.storage_current.specs.Held.{operation_proof_of};
 ghost use Rattle.storage_current.specs.HeldKeys.{exclusion_of};
-ghost use Rattle.storage_current.specs.KeyProofs.{Exclusion, IsExcluded, proof_of};
+ghost use Rattle.storage_current.specs.KeyProofs.{Exclusion, IsExcluded, proof_in};
 ghost use Rattle.storage_current.specs.Keys.{Keyed, keyed_by, update_text};
-ghost use Rattle.storage_current.specs.SharedChunks.{Agree, ReadAlike};
+ghost use Rattle.storage_current.specs.SharedChunks.{AgreeWhereSeenAlike, ReadAlike};
 ghost use Rattle.storage_current.specs.Snapshots.{OperationProof, grafting_of};
 
 use crate::qmdb::current::ordered::{ExclusionProof, KeyValueProof, UpdateCodec};
@@ -24,10 +24,10 @@ use storage_ops::qmdb::operation::Key;
 
 /// Operation proofs agree: a claim is an operation and a root, and the checks are `verify` and `verify_encoded`.
 pub fn operation_proofs_agree<F: Graftable, H: Hasher, const N: usize>()
-    ensures agree { Agree {Claim = List ℕ × List ℕ}
+    ensures agree { AgreeWhereSeenAlike {Claim = List ℕ × List ℕ}
         ⟦<Proof<F, H::Digest, [u8; N]> as Write>⟧.text ⟦<Proof<F, H::Digest, Bytes> as Write>⟧.text
-        (operation_of H.Digest.text ⟦<[u8; N] as Chunk>⟧.text)
-        (operation_of H.Digest.text ⟦<Bytes as Chunk>⟧.text)
+        (operation_proof_of H.Digest.text ⟦<[u8; N] as Chunk>⟧.text)
+        (operation_proof_of H.Digest.text ⟦<Bytes as Chunk>⟧.text)
         (λ claim p. IsActiveCurrent H.hash_of (grafting_of F.shape (length p.chunk)) p claim.0
         claim.1) }
     ensures read { (most : ℕ) → IsChunkSize N
@@ -44,11 +44,11 @@ pub fn key_value_proofs_agree<
     const N: usize,
 >()
     ensures agree { let e = keyed_by K.text V.Value.text V.operation_text K.cmp in
-        Agree {X = OperationProof × K} {Claim = K × V.Value × List ℕ}
+        AgreeWhereSeenAlike {X = OperationProof × K} {Claim = K × V.Value × List ℕ}
         ⟦<KeyValueProof<F, K, H::Digest, [u8; N]> as Write>⟧.text
         ⟦<KeyValueProof<F, K, H::Digest, Bytes> as Write>⟧.text
-        (λ x. (operation_of H.Digest.text ⟦<[u8; N] as Chunk>⟧.text x.proof, x.next_key))
-        (λ x. (operation_of H.Digest.text ⟦<Bytes as Chunk>⟧.text x.proof, x.next_key))
+        (λ x. (operation_proof_of H.Digest.text ⟦<[u8; N] as Chunk>⟧.text x.proof, x.next_key))
+        (λ x. (operation_proof_of H.Digest.text ⟦<Bytes as Chunk>⟧.text x.proof, x.next_key))
         (λ claim x. IsActiveCurrent H.hash_of (grafting_of F.shape (length x.0.chunk)) x.0
         (update_text e claim.0 claim.1 x.1) claim.2) }
     ensures read { (most : ℕ) (cfg : K.Cfg) → IsChunkSize N
@@ -65,12 +65,12 @@ pub fn exclusion_proofs_agree<
     const N: usize,
 >()
     ensures agree { let e = keyed_by K.text V.Value.text V.operation_text K.cmp in
-        Agree {X = Exclusion (K × V.Value × K) V.Value} {Claim = K × List ℕ}
+        AgreeWhereSeenAlike {X = Exclusion (K × V.Value × K) V.Value} {Claim = K × List ℕ}
         ⟦<ExclusionProof<F, K, V, H::Digest, [u8; N]> as Write>⟧.text
         ⟦<ExclusionProof<F, K, V, H::Digest, Bytes> as Write>⟧.text
         (exclusion_of H.Digest.text ⟦<[u8; N] as Chunk>⟧.text)
         (exclusion_of H.Digest.text ⟦<Bytes as Chunk>⟧.text)
-        (λ claim x. IsExcluded e H.hash_of (grafting_of F.shape (length (proof_of x).chunk)) x
+        (λ claim x. IsExcluded e H.hash_of (grafting_of F.shape (length (proof_in x).chunk)) x
         claim.0 claim.1) }
     ensures read { (most : ℕ) (update : V.UpdateCfg) (value : V.Value.Cfg) → IsChunkSize N
         → ReadAlike (⟦<ExclusionProof<F, K, V, H::Digest, [u8; N]> as Read>⟧.parse

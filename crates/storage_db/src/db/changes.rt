@@ -1,14 +1,15 @@
 //! What a put, a delete and a commit change of the operations and of the active keys.
 
-ghost use Rattle.std.specs.Prelude.{◌≡◌, ◌+◌, ◌-◌, ◌<◌, ◌≤◌, ◌^◌, [], ◌∷◌, ◌++◌, true, false, length, Option, Some, option_map, is_some, if◌then◌else◌, IfOk, IfErr, OnOk, OnErr, vec_len, vec_capacity};
+ghost use Rattle.std.specs.Prelude.{◌≡◌, ◌+◌, ◌-◌, ◌<◌, ◌≤◌, [], ◌∷◌, ◌++◌, true, false, length, Option, Some, option_map, is_some, if◌then◌else◌, IfOk, IfErr, OnOk, OnErr, vec_len, vec_capacity};
 ghost use Rattle.std.specs.BTreeMap.{IsOrdered, insert_entry, is_at};
 ghost use Rattle.std.specs.Map.{lookup, remove_entry};
+ghost use Rattle.storage_merkle.specs.Shape.{max_leaves};
 ghost use Rattle.storage_bitmap.specs.Chunks.{IsChunkSize};
 ghost use Rattle.storage_current.specs.Keys.{keyed_by};
 ghost use Rattle.storage_current.specs.Snapshots.{grafting_of};
 ghost use Rattle.storage_db.specs.Databases.{Commit as Committing, Committed, active_at, commit, delete, put, without};
 ghost use Rattle.storage_db.specs.Kept.{IsDone, KeptCommit};
-ghost use Rattle.storage_db.specs.Logs.{HasRoom, IsTooMany};
+ghost use Rattle.storage_db.specs.Logs.{HaveRoom, IsTooMany};
 ghost use Rattle.storage_db.specs.Parts.{database_of, moved, texts};
 
 use crate::db::Error;
@@ -39,7 +40,7 @@ pub(crate) fn put_active<F: Family, K: Key, V: OperationCodec<F, Update<K, V>>>(
         OnOk result ((last : Option (Committed K V.Value))
         → database_of log.new active.new.entries last
         ≡ put e (database_of log.old active.old.entries last) key value) }
-    ensures few { length log.new.operations.items ≤ 2 ^ 62 }
+    ensures few { length log.new.operations.items ≤ max_leaves }
     ensures err { OnErr result ((last : Option (Committed K V.Value))
         → database_of log.new active.new.entries last
         ≡ database_of log.old active.old.entries last) }
@@ -69,7 +70,7 @@ pub(crate) fn put_new<F: Family, K: Key, V: OperationCodec<F, Update<K, V>>>(
         OnOk result ((last : Option (Committed K V.Value))
         → database_of log.new active.new.entries last
         ≡ put e (database_of log.old active.old.entries last) key value) }
-    ensures few { length log.new.operations.items ≤ 2 ^ 62 }
+    ensures few { length log.new.operations.items ≤ max_leaves }
     ensures err { OnErr result ((last : Option (Committed K V.Value))
         → database_of log.new active.new.entries last
         ≡ database_of log.old active.old.entries last) }
@@ -109,7 +110,7 @@ pub(crate) fn remove<F: Family, K: Key, V: OperationCodec<F, Update<K, V>>>(
         OnOk result ((last : Option (Committed K V.Value))
         → database_of log.new active.new.entries last
         ≡ delete e (database_of log.old active.old.entries last) key.now) }
-    ensures few { length log.new.operations.items ≤ 2 ^ 62 }
+    ensures few { length log.new.operations.items ≤ max_leaves }
     ensures err { OnErr result ((last : Option (Committed K V.Value))
         → database_of log.new active.new.entries last
         ≡ database_of log.old active.old.entries last) }
@@ -198,9 +199,9 @@ fn set<K: Key, W: Drop>(
     value: W,
     bytes: Vec<u8>,
 ) -> Result<(), NoMemory>
-    requires room { HasRoom 1 (vec_len log.old.operations) (vec_capacity log.old.operations)
+    requires room { HaveRoom 1 (vec_len log.old.operations) (vec_capacity log.old.operations)
         (vec_capacity log.old.bits) }
-    requires few { vec_len log.old.operations < 2 ^ 62 }
+    requires few { vec_len log.old.operations < max_leaves }
     ensures operations { OnOk result
         (log.new.operations.items ≡ log.old.operations.items ++ bytes ∷ []) }
     ensures bits { OnOk result (log.new.bits.items ≡ without (lookup (is_at (K.cmp key))
@@ -230,9 +231,9 @@ fn take_out<K: Key, W: Drop>(
     key: &K,
     bytes: Vec<u8>,
 )
-    requires room { HasRoom 1 (vec_len log.old.operations) (vec_capacity log.old.operations)
+    requires room { HaveRoom 1 (vec_len log.old.operations) (vec_capacity log.old.operations)
         (vec_capacity log.old.bits) }
-    requires few { vec_len log.old.operations < 2 ^ 62 }
+    requires few { vec_len log.old.operations < max_leaves }
     ensures operations { log.new.operations.items ≡ log.old.operations.items ++ bytes ∷ [] }
     ensures bits { log.new.bits.items ≡ without (lookup (is_at (K.cmp key.now))
         active.old.entries) log.old.bits.items ++ false ∷ [] }
@@ -254,9 +255,9 @@ fn renew<K: Key, W: Drop>(
     key: &K,
     bytes: Vec<u8>,
 )
-    requires room { HasRoom 1 (vec_len log.old.operations) (vec_capacity log.old.operations)
+    requires room { HaveRoom 1 (vec_len log.old.operations) (vec_capacity log.old.operations)
         (vec_capacity log.old.bits) }
-    requires few { vec_len log.old.operations < 2 ^ 62 }
+    requires few { vec_len log.old.operations < max_leaves }
     ensures operations { log.new.operations.items ≡ log.old.operations.items ++ bytes ∷ [] }
     ensures bits { log.new.bits.items ≡ without (lookup (is_at (K.cmp key.now))
         active.old.entries) log.old.bits.items ++ true ∷ [] }

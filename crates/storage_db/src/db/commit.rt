@@ -1,12 +1,13 @@
 //! What a database keeps of its last commit.
 
-ghost use Rattle.std.specs.Prelude.{◌≡◌, ◌+◌, ◌-◌, ◌<◌, ◌^◌, ◌∷◌, ◌++◌, [], true, length, Some, None, option_map, IfOk, IfErr, MatchOption, vec_len};
+ghost use Rattle.std.specs.Prelude.{◌≡◌, ◌+◌, ◌-◌, ◌<◌, ◌∷◌, ◌++◌, [], true, length, Some, None, option_map, IfOk, IfErr, MatchOption, vec_len};
 ghost use Rattle.std.specs.List.{AllZip};
+ghost use Rattle.storage_merkle.specs.Shape.{max_leaves};
 ghost use Rattle.storage_bitmap.specs.Chunks.{IsChunkSize};
-ghost use Rattle.storage_current.specs.Held.{operation_of};
+ghost use Rattle.storage_current.specs.Held.{operation_proof_of};
 ghost use Rattle.storage_current.specs.HeldKeys.{exclusion_of, exclusion_seen};
 ghost use Rattle.storage_current.specs.Keys.{keyed_by};
-ghost use Rattle.storage_current.specs.KeptSnapshots.{StandsFor};
+ghost use Rattle.storage_current.specs.KeptSnapshots.{StandsForSnapshot};
 ghost use Rattle.storage_current.specs.Snapshots.{IsSnapshot, Snapshot as SnapshotOf, grafting_of, own_operation_proof};
 ghost use Rattle.storage_db.specs.Databases.{Committed, active_at, value_at};
 ghost use Rattle.storage_db.specs.Kept.{IsCopy, KeepsCommit};
@@ -82,7 +83,7 @@ impl<F: Graftable, H: Hasher, K: Key, V: OperationCodec<F, Update<K, V>>, const 
         bytes: &[u8],
     ) -> Result<Self, NoMemory>
         requires size { IsChunkSize N }
-        requires few { vec_len log.now.operations < 2 ^ 62 }
+        requires few { vec_len log.now.operations < max_leaves }
         ensures metadata { IfOk result (λ c. c.metadata ≡ metadata) }
         ensures floor { IfOk result (λ c. c.floor ≡ floor) }
         ensures count { IfOk result (λ c. c.count ≡ length log.now.operations.items + 1) }
@@ -94,7 +95,7 @@ impl<F: Graftable, H: Hasher, K: Key, V: OperationCodec<F, Update<K, V>>, const 
           floor = floor;
         } in
             IfOk result (λ c. IsSnapshot s
-            × StandsFor H.hash_of (grafting_of F.shape N) c.snapshot s) }
+            × StandsForSnapshot H.hash_of (grafting_of F.shape N) c.snapshot s) }
     {
         let tree = log.tree_with::<F, H>(alloc, bytes)?;
         let status = log.status_with::<N>(alloc, before)?;
@@ -146,7 +147,7 @@ impl<F: Graftable, H: Hasher, K: Key, V: OperationCodec<F, Update<K, V>>, const 
             let g = grafting_of F.shape N in
             IfOk result (λ proof. (commit : Committed K V.Value)
             → KeepsCommit e H.hash_of g self.now commit
-            → operation_of H.Digest.text (λ c. c) proof
+            → operation_proof_of H.Digest.text (λ c. c) proof
             ≡ own_operation_proof H.hash_of g commit.snapshot location) }
     {
         let leaves = Location::new(self.length);
@@ -165,7 +166,7 @@ impl<F: Graftable, H: Hasher, K: Key, V: OperationCodec<F, Update<K, V>>, const 
             IfOk result (λ r. (commit : Committed K V.Value)
             → KeepsCommit e H.hash_of g self.now commit
             → IsValueProof e H.hash_of g commit key.now r.0 r.1.next_key
-            (operation_of H.Digest.text (λ c. c) r.1.proof)) }
+            (operation_proof_of H.Digest.text (λ c. c) r.1.proof)) }
         ensures why { let e = keyed_by K.text V.Value.text V.operation_text K.cmp in
             IfErr result (λ error. (commit : Committed K V.Value)
             → KeepsCommit e H.hash_of (grafting_of F.shape N) self.now commit

@@ -1,9 +1,10 @@
 //! Operations as they are written, each with its activity bit.
 
-ghost use Rattle.std.specs.Prelude.{◌≡◌, ℕ, ◌+◌, ◌<◌, ◌≤◌, ◌^◌, List, [], ◌∷◌, ◌++◌, length, map, slice_set, true, false, IfOk, IfErr, OnOk, vec_len, vec_capacity};
+ghost use Rattle.std.specs.Prelude.{◌≡◌, ℕ, ◌+◌, ◌<◌, ◌≤◌, List, [], ◌∷◌, ◌++◌, length, map, slice_set, true, false, IfOk, IfErr, OnOk, vec_len, vec_capacity};
+ghost use Rattle.storage_merkle.specs.Shape.{max_leaves};
 ghost use Rattle.storage_bitmap.specs.Chunks.{IsChunkSize};
 ghost use Rattle.storage_current.specs.NodeLists.{IsTreeOver};
-ghost use Rattle.storage_db.specs.Logs.{HasRoom, IsTooMany, cleared_at};
+ghost use Rattle.storage_db.specs.Logs.{HaveRoom, IsTooMany, cleared_at};
 
 use crate::db::Error;
 use std::alloc::Global;
@@ -23,7 +24,7 @@ pub(crate) struct Log {
     pub(crate) ghost each: { vec_len bits ≡ vec_len operations },
 
     /// There are no more of them than a tree may have.
-    pub(crate) ghost few: { vec_len operations ≤ 2 ^ 62 },
+    pub(crate) ghost few: { vec_len operations ≤ max_leaves },
 }
 
 impl Log {
@@ -41,7 +42,7 @@ impl Log {
     /// How many operations there are: the location of the next one.
     pub(crate) fn len(&self) -> u64
         ensures count { result ≡ length self.now.operations.items }
-        ensures few { result ≤ 2 ^ 62 }
+        ensures few { result ≤ max_leaves }
         ensures each { length self.now.bits.items ≡ result }
     {
         self.operations.len() as u64
@@ -55,9 +56,9 @@ impl Log {
     pub(crate) fn make_room<F>(&mut self, count: usize) -> Result<(), Error<F>>
         ensures operations { self.new.operations.items ≡ self.old.operations.items }
         ensures bits { self.new.bits.items ≡ self.old.bits.items }
-        ensures room { OnOk result (HasRoom count (vec_len self.new.operations)
+        ensures room { OnOk result (HaveRoom count (vec_len self.new.operations)
             (vec_capacity self.new.operations) (vec_capacity self.new.bits)) }
-        ensures few { OnOk result (length self.old.operations.items + count ≤ 2 ^ 62) }
+        ensures few { OnOk result (length self.old.operations.items + count ≤ max_leaves) }
         ensures why { IfErr result (IsTooMany (length self.old.operations.items)
             (length self.old.operations.items + count)) }
     {
@@ -72,9 +73,9 @@ impl Log {
 
     /// Appends `operation`, for which there is room, with the activity bit `bit`.
     pub(crate) fn append(&mut self, operation: Vec<u8>, bit: bool)
-        requires room { HasRoom 1 (vec_len self.old.operations)
+        requires room { HaveRoom 1 (vec_len self.old.operations)
             (vec_capacity self.old.operations) (vec_capacity self.old.bits) }
-        requires few { vec_len self.old.operations < 2 ^ 62 }
+        requires few { vec_len self.old.operations < max_leaves }
         ensures operations { self.new.operations.items
             ≡ self.old.operations.items ++ operation ∷ [] }
         ensures bits { self.new.bits.items ≡ self.old.bits.items ++ bit ∷ [] }
@@ -98,9 +99,9 @@ impl Log {
 
     /// Appends `operation`, a commit, for which there is room, and clears the bit of that at `before`, where there is one.
     pub(crate) fn append_commit(&mut self, operation: Vec<u8>, before: Option<u64>)
-        requires room { HasRoom 1 (vec_len self.old.operations)
+        requires room { HaveRoom 1 (vec_len self.old.operations)
             (vec_capacity self.old.operations) (vec_capacity self.old.bits) }
-        requires few { vec_len self.old.operations < 2 ^ 62 }
+        requires few { vec_len self.old.operations < max_leaves }
         ensures operations { self.new.operations.items
             ≡ self.old.operations.items ++ operation ∷ [] }
         ensures bits { self.new.bits.items ≡ cleared_at before self.old.bits.items ++ true ∷ [] }
@@ -139,7 +140,7 @@ impl Log {
         cleared: Option<u64>,
     ) -> Result<Prunable<N>, NoMemory>
         requires size { IsChunkSize N }
-        requires few { vec_len self.now.bits < 2 ^ 62 }
+        requires few { vec_len self.now.bits < max_leaves }
         ensures { IfOk result (λ status. status ≡ record {
           pruned = 0;
           bits = cleared_at cleared self.now.bits.items ++ true ∷ [];

@@ -2,8 +2,8 @@
 
 ghost use Rattle.std.specs.Prelude.{◌≡◌, ℕ, ◌≤◌, List, length, Some, IfOk, IfSome, slice_get};
 ghost use Rattle.std.specs.List.{AllZip};
-ghost use Rattle.storage_current.specs.Held.{operation_of};
-ghost use Rattle.storage_current.specs.KeptSnapshots.{StandsFor};
+ghost use Rattle.storage_current.specs.Held.{operation_proof_of};
+ghost use Rattle.storage_current.specs.KeptSnapshots.{StandsForSnapshot};
 ghost use Rattle.storage_current.specs.NodeLists.{AreNodes};
 ghost use Rattle.storage_current.specs.Snapshots.{IsSnapshot, Snapshot as SnapshotOf, grafting_of, ops_root_of, own_operation_proof, view_node};
 
@@ -80,7 +80,7 @@ fn operation_proof<F: Graftable, D: Digest, H: Hasher<Digest = D>, const N: usiz
         → AreNodes F.shape (view_node H.hash_of g s) nodes
         → AllZip (λ p d. slice_get nodes p ≡ Some (D.text d)) planned.now.positions.items
         planned.now.digests.items
-        → operation_of D.text (λ c. c) proof ≡ own_operation_proof H.hash_of g s plan.start) }
+        → operation_proof_of D.text (λ c. c) proof ≡ own_operation_proof H.hash_of g s plan.start) }
 {
     let proof = OperationProof::build::<H, Prunable<N>, _>(
         alloc,
@@ -106,8 +106,9 @@ pub(crate) fn own_proof<F: Graftable, H: Hasher, const N: usize>(
 ) -> Result<OperationProof<F, H::Digest, N>, NoMemory>
     ensures { let g = grafting_of F.shape N in
         IfOk result (λ proof. (s : SnapshotOf) → IsSnapshot s
-        → StandsFor H.hash_of g snapshot.now s → leaves ≡ length s.operations → floor ≡ s.floor
-        → operation_of H.Digest.text (λ c. c) proof
+        → StandsForSnapshot H.hash_of g snapshot.now s → leaves ≡ length s.operations → floor
+        ≡ s.floor
+        → operation_proof_of H.Digest.text (λ c. c) proof
         ≡ own_operation_proof H.hash_of g s location) }
 {
     let end = location.saturating_add(1);

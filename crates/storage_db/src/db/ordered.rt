@@ -2,13 +2,13 @@
 
 ghost use Rattle.std.specs.Prelude.{◌≡◌, ◌-◌, Option, None, option_map, option_and_then, is_some, IfOk, IfErr, IsSomeAnd, MatchOption, OnOk, OnErr};
 ghost use Rattle.storage_bitmap.specs.Chunks.{IsChunkSize};
-ghost use Rattle.storage_current.specs.Held.{operation_of};
+ghost use Rattle.storage_current.specs.Held.{operation_proof_of};
 ghost use Rattle.storage_current.specs.HeldKeys.{exclusion_of};
 ghost use Rattle.storage_current.specs.Keys.{keyed_by};
-ghost use Rattle.storage_current.specs.KeptSnapshots.{StandsFor};
+ghost use Rattle.storage_current.specs.KeptSnapshots.{StandsForSnapshot};
 ghost use Rattle.storage_current.specs.Snapshots.{canonical_root, grafting_of};
 ghost use Rattle.storage_db.specs.Databases.{Committed, Database, Put, Delete, Commit as Committing, active_at, empty, value_at};
-ghost use Rattle.storage_db.specs.Kept.{IsDone, IsRefused, Keeps};
+ghost use Rattle.storage_db.specs.Kept.{IsDone, IsCommandRefused, Keeps};
 ghost use Rattle.storage_db.specs.Shown.{IsAbsenceProof, IsValueProof};
 
 use crate::db::Error;
@@ -45,10 +45,10 @@ pub struct Ordered<F: Graftable, H: Hasher, K: Key, V: ValueEncoding, const N: u
 impl<F: Graftable, H: Hasher, K: Key, V: ValueEncoding, const N: usize> Model
     for Ordered<F, H, K, V, N> {
     ghost use Rattle.storage_bitmap.specs.Chunks.{IsChunkSize};
-    ghost use Rattle.storage_db.specs.Kept.{Kept};
+    ghost use Rattle.storage_db.specs.Kept.{KeptDatabase};
     ghost use Rattle.storage_db.specs.Parts.{texts};
 
-    ghost Value = { Kept K V.Value };
+    ghost Value = { KeptDatabase K V.Value };
 
     ghost view = { λ s. record {
       operations = texts s.log;
@@ -91,7 +91,7 @@ impl<F: Graftable, H: Hasher, K: Key, V: OperationCodec<F, Update<K, V>>, const 
             (IsDone e H.hash_of (grafting_of F.shape N) self.old self.new (Put key value)) }
         ensures err { OnErr result (self.new ≡ self.old) }
         ensures why { let e = keyed_by K.text V.Value.text V.operation_text K.cmp in IfErr result
-            (IsRefused e H.hash_of (grafting_of F.shape N) self.old (Put key value)) }
+            (IsCommandRefused e H.hash_of (grafting_of F.shape N) self.old (Put key value)) }
     {
         if self.active.contains_key(&key) {
             put_active::<F, K, V>(self.alloc, &mut self.log, &mut self.active, key, value)
@@ -114,7 +114,7 @@ impl<F: Graftable, H: Hasher, K: Key, V: OperationCodec<F, Update<K, V>>, const 
             → was ≡ is_some (active_at e d.entries key.now)) }
         ensures err { OnErr result (self.new ≡ self.old) }
         ensures why { let e = keyed_by K.text V.Value.text V.operation_text K.cmp in IfErr result
-            (IsRefused e H.hash_of (grafting_of F.shape N) self.old (Delete key.now)) }
+            (IsCommandRefused e H.hash_of (grafting_of F.shape N) self.old (Delete key.now)) }
     {
         if !self.active.contains_key(key) {
             return Ok(false);
@@ -134,7 +134,7 @@ impl<F: Graftable, H: Hasher, K: Key, V: OperationCodec<F, Update<K, V>>, const 
             (IsDone e H.hash_of (grafting_of F.shape N) self.old self.new (Committing metadata)) }
         ensures err { OnErr result (self.new ≡ self.old) }
         ensures why { let e = keyed_by K.text V.Value.text V.operation_text K.cmp in IfErr result
-            (IsRefused e H.hash_of (grafting_of F.shape N) self.old (Committing metadata)) }
+            (IsCommandRefused e H.hash_of (grafting_of F.shape N) self.old (Committing metadata)) }
     {
         let before = self.last_location();
         let commit = put_commit(self.alloc, &mut self.log, &self.active, before, metadata)?;
@@ -188,7 +188,7 @@ impl<F: Graftable, H: Hasher, K: Key, V: OperationCodec<F, Update<K, V>>, const 
             let g = grafting_of F.shape N in
             (d : Database K V.Value) → Keeps e H.hash_of g self.now d
             → MatchOption d.last (result ≡ None) (λ commit. IsSomeAnd result
-            (λ kept. StandsFor H.hash_of g kept.now commit.snapshot)) }
+            (λ kept. StandsForSnapshot H.hash_of g kept.now commit.snapshot)) }
     {
         match &self.last {
             Some(last) => Some(last.snapshot()),
@@ -209,7 +209,7 @@ impl<F: Graftable, H: Hasher, K: Key, V: OperationCodec<F, Update<K, V>>, const 
             let g = grafting_of F.shape N in
             IfOk result (λ r. (d : Database K V.Value) → Keeps e H.hash_of g self.now d
             → IsSomeAnd d.last (λ commit. IsValueProof e H.hash_of g commit key.now r.0
-            r.1.next_key (operation_of H.Digest.text (λ c. c) r.1.proof))) }
+            r.1.next_key (operation_proof_of H.Digest.text (λ c. c) r.1.proof))) }
         ensures why { let e = keyed_by K.text V.Value.text V.operation_text K.cmp in
             IfErr result (λ error. (d : Database K V.Value)
             → Keeps e H.hash_of (grafting_of F.shape N) self.now d

@@ -7,11 +7,11 @@ use Rattle.storage_merkle.specs.Trees.{Layout, Peak, peaks_of, part, folded, unf
 use Rattle.storage_merkle.specs.declared.merkle.bagging.Bagging.{Bagging}
 use Rattle.storage_merkle.specs.RangeProofs.{apart, leading, not_leading, up_to, trailing, front_given, back_given, check_bag}
 use Rattle.storage_merkle.specs.Hashing.{folded_forward, bagged}
-use Rattle.storage_merkle.specs.HashingLaws.{eval-bag}
-use Rattle.storage_merkle.specs.Hashers.{or_nothing, forward_of, appended, joined, folded_onto}
+use Rattle.storage_merkle.specs.Laws.Hashing.{eval-bag}
+use Rattle.storage_merkle.specs.Hashers.{or_nothing, forward_of, appended, prepended, folded_onto}
 use Rattle.storage_merkle.specs.Rests.{peaks_from, IsPast, AreFolded, AreAfterLeading}
-use Rattle.storage_merkle.specs.CheckSteps.{right_of, both, bag_onto, folded_before}
-use Rattle.storage_merkle.proofs.Folds.{bagged_rest, joined_none}
+use Rattle.storage_merkle.specs.CheckParts.{right_of, both_folds, bag_onto, folded_before}
+use Rattle.storage_merkle.proofs.Folds.{bagged_rest, prepended_none}
 
 module _ (h : HashFunction) where
   -- items folded from the left onto what is folded before them
@@ -27,13 +27,13 @@ module _ (h : HashFunction) where
   forward_none [] = refl
   forward_none (x ∷ xs) = forward_some x xs
 
-  bagged_both : (xs ys : List (List ℕ)) → or_nothing (both h (forward_of h xs) (folded_onto h ys None)) ≡ bagged h xs ys
+  bagged_both : (xs ys : List (List ℕ)) → or_nothing (both_folds h (forward_of h xs) (folded_onto h ys None)) ≡ bagged h xs ys
   bagged_both [] ys = bagged_rest h ys
-  bagged_both (x ∷ xs) ys = joined_none h (folded_forward h x xs) ys
+  bagged_both (x ∷ xs) ys = prepended_none h (folded_forward h x xs) ys
 
   module _ (item : Peak → List ℕ) (fold : List ℕ) (high : ℕ) where
     bag_onto-both : (before : Option (List ℕ)) (ps : List Peak) (f : ℕ) → bag_onto h item fold high before ps f
-        ≡ both h (forward_onto before (map item (take f ps))) (right_of h item fold high (drop f ps))
+        ≡ both_folds h (forward_onto before (map item (take f ps))) (right_of h item fold high (drop f ps))
     bag_onto-both before [] zero = refl
     bag_onto-both before [] (suc f) = refl
     bag_onto-both before (p ∷ ps) zero = refl
@@ -49,10 +49,10 @@ module _ (h : HashFunction) where
     right_of-folded [] = refl
     right_of-folded (p ∷ ps) =
         elim (leb high p.first) as (λ b.
-        (if b then Some fold else Some (joined h (item p) (right_of h item fold high ps))) ≡ folded_onto h (map item
+        (if b then Some fold else Some (prepended h (item p) (right_of h item fold high ps))) ≡ folded_onto h (map item
         (if b then [] else p ∷ up_to high ps) ++ fold_for (if b then p ∷ ps else trailing high ps)) None) [
           | true ↦ refl
-          | false ↦ ap (λ o. Some (joined h (item p) o)) (right_of-folded ps)
+          | false ↦ ap (λ o. Some (prepended h (item p) o)) (right_of-folded ps)
         ]
 
 -- what stands in front
@@ -105,6 +105,6 @@ module _ (h : HashFunction) (T : Layout) (v : Values) (low high : ℕ) (b : Bagg
       (back_values h v item high (trailing high ys))
       ∙ sym (map-append E (map (part T (apart low high)) (up_to high ys)) (back_given (trailing high ys)))
       ) in
-      ap or_nothing (bag_onto-both h item (v.digest back) high before Q g ∙ ap₂ (both h) one two)
+      ap or_nothing (bag_onto-both h item (v.digest back) high before Q g ∙ ap₂ (both_folds h) one two)
       ∙ bagged_both h (map E X) (map E Y)
       ∙ sym (eval-bag h v X Y)

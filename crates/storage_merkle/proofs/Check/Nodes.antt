@@ -12,8 +12,8 @@ use Rattle.storage_merkle.specs.Calc.{Site, node, be8, Values, eval}
 use Rattle.storage_merkle.specs.Trees.{Layout, node_calc, ungrafted}
 use Rattle.storage_merkle.specs.RangeProofs.{apart, sites_of}
 use Rattle.storage_merkle.specs.Hashing.{join_digest}
-use Rattle.storage_merkle.specs.HashingLaws.{eval-join}
-use Rattle.storage_merkle.specs.CheckSteps.{Serves, Present}
+use Rattle.storage_merkle.specs.Laws.Hashing.{eval-join}
+use Rattle.storage_merkle.specs.CheckParts.{Serves, Present}
 use Rattle.storage_merkle.proofs.RangeSound.{or-false}
 use Rattle.storage_merkle.proofs.Siblings.{sites-cut, sites-halves}
 

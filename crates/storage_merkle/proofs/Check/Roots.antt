@@ -8,11 +8,11 @@ use Rattle.storage_merkle.specs.Shape.{Shape}
 use Rattle.storage_merkle.specs.Calc.{Site, front, back, node, given, Values, eval}
 use Rattle.storage_merkle.specs.declared.merkle.bagging.Bagging.{Bagging}
 use Rattle.storage_merkle.specs.Trees.{Layout, Content, Peak, peaks_of, part, node_calc, join_calc, ungrafted, folded, unfolded, root_head}
-use Rattle.storage_merkle.specs.RangeProofs.{RangeProof, apart, not_leading, up_to, sites_of, sites_in, position_of, place_in, by_position, sites, check_values, CountsFit, recomputed_root}
+use Rattle.storage_merkle.specs.RangeProofs.{Proof, apart, not_leading, up_to, sites_of, sites_in, position_of, place_in, by_position, sites, check_values, CountsFit, recomputed_root}
 use Rattle.storage_merkle.specs.Hashers.{or_nothing}
 use Rattle.storage_merkle.specs.Rests.{peaks_from, AreFolded, AreAfterLeading}
 use Rattle.storage_merkle.specs.Siblings.{sibling_sites}
-use Rattle.storage_merkle.specs.CheckSteps.{front_before, top_sites, folded_before, bag_onto}
+use Rattle.storage_merkle.specs.CheckParts.{front_before, top_sites, folded_before, bag_onto}
 use Rattle.storage_merkle.proofs.RangeSound.{folded-all}
 use Rattle.storage_merkle.proofs.Agreeing.{AgreeAt}
 use Rattle.storage_merkle.proofs.Distinct.{each_once, read_all}
@@ -70,7 +70,7 @@ agree_itself v (s ∷ ss) = (refl, agree_itself v ss)
 module _ (S : Shape) (h : HashFunction) (T : Layout) (same : T.shape ≡ S) (b : Bagging) (n i low : ℕ)
     (es : List (List ℕ)) (chunk : ℕ → List ℕ) {D : Type 0} (text : D → List ℕ) (items : List D) (high f a r g : ℕ)
     (range : high ≡ low + length es) (parts : AreFolded S b i n f) (after : AreAfterLeading S low 0 n f a r g) where
-  abbrev proof : RangeProof
+  abbrev proof : Proof
   proof = record { leaves = n; inactive = i; digests = map text items }
 
   abbrev claim : Content

@@ -3,14 +3,14 @@ use Rattle.std.proofs.Common.{◌≡◌, ℕ, zero, suc, ◌+◌, ◌%◌, ◌<�
 use Rattle.std.specs.List.Sorted.{IsNonDecreasing}
 use Rattle.std.proofs.lemmas.List.{get_or_default}
 use Rattle.storage_merkle.specs.Shape.{Shape, Laws, AreAligned}
-use Rattle.storage_merkle.specs.Multiples.{multiple_down, multiple_add, power_multiple}
+use Rattle.storage_merkle.specs.Laws.Multiples.{multiple_down, multiple_add, power_multiple}
 use Rattle.storage_merkle.specs.Calc.{Site, front, back, node, given, leaf, be8}
 use Rattle.storage_merkle.specs.Trees.{Layout, Peak, places, peaks_of, part, node_calc, join_calc, ungrafted}
 use Rattle.storage_merkle.specs.RangeProofs.{apart, leading, not_leading, up_to, sites_of, sites_in, position_of, place_in, by_position}
 use Rattle.storage_merkle.specs.Rests.{peaks_from, AreAfterLeading}
 use Rattle.storage_merkle.specs.Siblings.{sibling_sites}
 use Rattle.storage_merkle.specs.Extracted.{overlapped}
-use Rattle.storage_merkle.specs.CheckSteps.{Serves, Present, PresentIn}
+use Rattle.storage_merkle.specs.CheckParts.{Serves, Present, PresentIn}
 use Rattle.storage_merkle.proofs.Distinct.{one_if}
 use Rattle.storage_merkle.proofs.Rising.{Rising, count, rising_at}
 use Rattle.storage_merkle.proofs.Siblings.{overlapped-is, positions, sites-join, sort-count, sort_rises, not_both}

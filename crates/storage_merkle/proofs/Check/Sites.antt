@@ -1,7 +1,7 @@
 -- The sites of a range proof, as a check walks along them.
 use Rattle.std.proofs.Common.{◌≡◌, ℕ, zero, suc, ◌+◌, ◌<◌, ◌≤◌, ◌^◌, List, [], ◌∷◌, ◌++◌, take, drop, true, false, if◌then◌else◌, ◌||◌, ◌⊎◌, inl, inr, refl, sym, ap, ap₂, ◌∙◌, arith, subst, leb, le-leb, pow_pos, append_assoc, take-append-drop}
 use Rattle.std.proofs.lemmas.Bool.{lt-leb, cases_lt}
-use Rattle.storage_merkle.specs.Shape.{leaves_of}
+use Rattle.storage_merkle.specs.Shape.{leaves_under}
 use Rattle.storage_merkle.specs.Calc.{Site, back, node}
 use Rattle.storage_merkle.specs.Trees.{Layout, Peak, places, part}
 use Rattle.storage_merkle.specs.declared.merkle.bagging.Bagging.{Bagging}
@@ -9,7 +9,7 @@ use Rattle.storage_merkle.specs.RangeProofs.{apart, leading, not_leading, up_to,
 use Rattle.storage_merkle.specs.Rests.{peaks_from, IsPast, AreFolded, AreAfterLeading}
 use Rattle.storage_merkle.specs.Siblings.{sibling_sites}
 use Rattle.storage_merkle.specs.Extracted.{overlapped}
-use Rattle.storage_merkle.specs.CheckSteps.{front_before, top_sites}
+use Rattle.storage_merkle.specs.CheckParts.{front_before, top_sites}
 use Rattle.storage_merkle.proofs.RangeSound.{places-take, places-drop}
 use Rattle.storage_merkle.proofs.Siblings.{overlapped-is, sites-cut}
 
@@ -133,7 +133,7 @@ module _ (T : Layout) (low high : ℕ) where
       elim (cases_lt low (s + 2 ^ k)) [
         | inr leads ↦ rw (le-leb (s + 2 ^ k) low leads) (apart_once f (s + 2 ^ k) ks some)
         | inl after ↦ inr (ap (leading low) (places-drop f (s + 2 ^ k) ks)
-            ∙ leading-none low high ((s + 2 ^ k) + leaves_of (take f ks)) (drop f ks) (omega arith))
+            ∙ leading-none low high ((s + 2 ^ k) + leaves_under (take f ks)) (drop f ks) (omega arith))
       ]
 
   sites_in-append : (ps qs : List Peak)
@@ -162,7 +162,7 @@ module _ (T : Layout) (low high : ℕ) where
   overlapped-drop : (f s : ℕ) (ks : List ℕ)
       → overlapped low high (drop f (places s ks)) ≡ up_to high (not_leading low (drop f (places s ks)))
   overlapped-drop f s ks =
-      ap (overlapped low high) (places-drop f s ks) ∙ overlapped-is low high (s + leaves_of (take f ks)) (drop f ks)
+      ap (overlapped low high) (places-drop f s ks) ∙ overlapped-is low high (s + leaves_under (take f ks)) (drop f ks)
       ∙ ap (λ ps. up_to high (not_leading low ps)) (sym (places-drop f s ks))
 
   -- the siblings are those in both
@@ -210,7 +210,7 @@ module _ (T : Layout) (low high : ℕ) where
         ∙ ap (λ ps. sites_in T (apart low high) (trailing high (not_leading low ps))) (sym (places-take f 0 ks)) in
         let right : right_tops low high (drop g Q) ≡ A ++ C =
         ap (right_tops low high) (after.unfolded_are ∙ places-drop f 0 ks)
-        ∙ right_tops-are low high T some (0 + leaves_of (take f ks)) (drop f ks) ∙ ap (λ ps.
+        ∙ right_tops-are low high T some (0 + leaves_under (take f ks)) (drop f ks) ∙ ap (λ ps.
         sites_in T (apart low high) (leading low ps) ++ back_sites (trailing high ps)) (sym (places-drop f 0 ks)) in
         let mid : top_sites low high Q g ≡ A ++ (B ++ C) =
         top_sites-both low high Q g ∙ ap₂ (λ us vs. us ++ vs) left right ∙ sym (swapped A B C

@@ -3,13 +3,13 @@ use Rattle.std.proofs.Common.{◌≡◌, ℕ, zero, suc, ◌+◌, ◌-◌, ◌<�
 use Rattle.std.proofs.lemmas.Bool.{lt-leb}
 use Rattle.std.proofs.lemmas.List.{length-drop, drop-map}
 use Rattle.storage_codec.specs.Digests.{HashFunction}
-use Rattle.storage_merkle.specs.Shape.{Shape, Laws, leaves_of}
+use Rattle.storage_merkle.specs.Shape.{Shape, Laws, leaves_under}
 use Rattle.storage_merkle.specs.Calc.{Site, back, node}
 use Rattle.storage_merkle.specs.Trees.{Peak, places}
 use Rattle.storage_merkle.specs.RangeProofs.{apart}
 use Rattle.storage_merkle.specs.Rests.{peaks_from}
-use Rattle.storage_merkle.specs.Hashers.{joined, appended}
-use Rattle.storage_merkle.specs.CheckSteps.{top_sites, Present, PresentIn, right_of, both, bag_onto}
+use Rattle.storage_merkle.specs.Hashers.{prepended, appended}
+use Rattle.storage_merkle.specs.CheckParts.{top_sites, Present, PresentIn, right_of, both_folds, bag_onto}
 use Rattle.storage_merkle.proofs.Check.Nodes.{under}
 
 module _ (S : Shape) (low high : ℕ) where
@@ -50,15 +50,15 @@ module _ (S : Shape) (low high : ℕ) where
         omega (arith, ap length step)
 
   -- past the range one fold is left
-  tops_past : (f a : ℕ) (ks : List ℕ) → 0 < leaves_of ks → f ≤ 0 → high ≤ a
+  tops_past : (f a : ℕ) (ks : List ℕ) → 0 < leaves_under ks → f ≤ 0 → high ≤ a
       → top_sites low high (places a ks) f ≡ back ∷ []
-  unfolding leaves_of
+  unfolding leaves_under
   tops_past zero a [] some l u = absurd (omega arith)
   tops_past zero a (k ∷ ks) some l u = rw (le-leb high a u) refl
   tops_past (suc f) a ks some l u = absurd (omega arith)
 
-  tops_none : (f a : ℕ) (ks : List ℕ) → leaves_of ks ≡ 0 → top_sites low high (places a ks) f ≡ []
-  unfolding leaves_of
+  tops_none : (f a : ℕ) (ks : List ℕ) → leaves_under ks ≡ 0 → top_sites low high (places a ks) f ≡ []
+  unfolding leaves_under
   tops_none f a [] z = refl
   tops_none f a (k ∷ ks) z = absurd (omega (arith, pow_pos k))
 
@@ -123,24 +123,24 @@ module _ (S : Shape) (low high a r f h a' r' f' : ℕ) (e : S.peaks r ≡ h ∷ 
 
   pub right_step : (H : HashFunction) (item : Peak → List ℕ) (fold x : List ℕ) (onto : Option (List ℕ)) → a < high
       → x ≡ item (record { first = a; height = h }) → onto ≡ right_of H item fold high (peaks_from S a' r')
-      → Some (joined H x onto) ≡ right_of H item fold high (peaks_from S a r)
+      → Some (prepended H x onto) ≡ right_of H item fold high (peaks_from S a r)
   right_step H item fold x onto u ex eo =
       let later = right_of H item fold high (peaks_from S a' r') in
       let out : right_of H item fold high (peaks_from S a r)
-      ≡ Some (joined H (item (record { first = a; height = h })) later) =
+      ≡ Some (prepended H (item (record { first = a; height = h })) later) =
       ap (right_of H item fold high) (first_and_others S low high a r f h a' r' f' e ea er ef)
       ∙ rw (lt-leb high a u) refl in
-      ap₂ (λ y z. Some (joined H y z)) ex eo ∙ sym out
+      ap₂ (λ y z. Some (prepended H y z)) ex eo ∙ sym out
 
-right_none : (H : HashFunction) (item : Peak → List ℕ) (fold : List ℕ) (high a : ℕ) (ks : List ℕ) → leaves_of ks ≡ 0
+right_none : (H : HashFunction) (item : Peak → List ℕ) (fold : List ℕ) (high a : ℕ) (ks : List ℕ) → leaves_under ks ≡ 0
     → right_of H item fold high (places a ks) ≡ None
-unfolding leaves_of
+unfolding leaves_under
 right_none H item fold high a [] z = refl
 right_none H item fold high a (k ∷ ks) z = absurd (omega (arith, pow_pos k))
 
-right_past : (H : HashFunction) (item : Peak → List ℕ) (fold : List ℕ) (high a : ℕ) (ks : List ℕ) → 0 < leaves_of ks
+right_past : (H : HashFunction) (item : Peak → List ℕ) (fold : List ℕ) (high a : ℕ) (ks : List ℕ) → 0 < leaves_under ks
     → high ≤ a → right_of H item fold high (places a ks) ≡ Some fold
-unfolding leaves_of
+unfolding leaves_under
 right_past H item fold high a [] some u = absurd (omega arith)
 right_past H item fold high a (k ∷ ks) some u = rw (le-leb high a u) refl
 
@@ -170,16 +170,16 @@ module _ (S : Shape) (H : HashFunction) (item : Peak → List ℕ) (fold : List 
       opened zero ps s = absurd (omega arith)
       opened (suc g) ps s = let less : suc g - 1 ≡ g = omega arith in rw less refl
 
-  bag_rest : (g : ℕ) (ks : List ℕ) → (leaves_of ks ≡ 0) ⊎ (g ≤ 0) → (before : Option (List ℕ))
-      → bag_onto H item fold high before (places a ks) g ≡ both H before (right_of H item fold high (places a ks))
-  unfolding leaves_of
+  bag_rest : (g : ℕ) (ks : List ℕ) → (leaves_under ks ≡ 0) ⊎ (g ≤ 0) → (before : Option (List ℕ))
+      → bag_onto H item fold high before (places a ks) g ≡ both_folds H before (right_of H item fold high (places a ks))
+  unfolding leaves_under
   bag_rest g [] e before = refl
   bag_rest zero (k ∷ ks) e before = refl
   bag_rest (suc g) (k ∷ ks) (inl e) before = absurd (omega (arith, pow_pos k))
   bag_rest (suc g) (k ∷ ks) (inr e) before = absurd (omega arith)
 
   pub bag_end : Laws S → (r ≤ 0) ⊎ (f ≤ 0) → (before : Option (List ℕ)) → bag_onto H item fold high before
-      (peaks_from S a r) f ≡ both H before (right_of H item fold high (peaks_from S a r))
+      (peaks_from S a r) f ≡ both_folds H before (right_of H item fold high (peaks_from S a r))
   bag_end L (inl e) before = bag_rest f (S.peaks r) (inl (omega (arith, L.sum r))) before
   bag_end L (inr e) before = bag_rest f (S.peaks r) (inr e) before
 
@@ -193,12 +193,12 @@ module _ (S : Shape) (L : Laws S) (H : HashFunction) (item : Peak → List ℕ) 
     (over : (r ≤ 0) ⊎ (f ≤ 0)) {D : Type 0} (text : D → List ℕ) (before : Option D) (onto all : Option (List ℕ))
     (eo : onto ≡ right_of H item fold high (peaks_from S a r))
     (ea : bag_onto H item fold high (option_map text before) (peaks_from S a r) f ≡ all) where
-  both_are : both H (option_map text before) onto ≡ all
-  both_are = ap (both H (option_map text before)) eo
+  both_are : both_folds H (option_map text before) onto ≡ all
+  both_are = ap (both_folds H (option_map text before)) eo
       ∙ sym (bag_end S H item fold high a r f L over (option_map text before)) ∙ ea
 
   pub bag_none : before ≡ None → onto ≡ all
-  bag_none e = ap (λ o. both H (option_map text o) onto) (sym e) ∙ both_are
+  bag_none e = ap (λ o. both_folds H (option_map text o) onto) (sym e) ∙ both_are
 
-  pub bag_some : (d : D) (x : List ℕ) → before ≡ Some d → x ≡ joined H (text d) onto → Some x ≡ all
-  bag_some d x e ex = ap (λ y. Some y) ex ∙ ap (λ o. both H (option_map text o) onto) (sym e) ∙ both_are
+  pub bag_some : (d : D) (x : List ℕ) → before ≡ Some d → x ≡ prepended H (text d) onto → Some x ≡ all
+  bag_some d x e ex = ap (λ y. Some y) ex ∙ ap (λ o. both_folds H (option_map text o) onto) (sym e) ∙ both_are

@@ -7,13 +7,13 @@ use Rattle.storage_merkle.specs.Shape.{Shape, Laws, AreAligned}
 use Rattle.storage_merkle.specs.Calc.{Site, Values}
 use Rattle.storage_merkle.specs.declared.merkle.bagging.Bagging.{Bagging}
 use Rattle.storage_merkle.specs.Trees.{Layout, places, peaks_of, part, node_calc, ungrafted, root_head}
-use Rattle.storage_merkle.specs.RangeProofs.{RangeProof, sites_of, sites_in, by_position}
+use Rattle.storage_merkle.specs.RangeProofs.{Proof, sites_of, sites_in, by_position}
 use Rattle.storage_merkle.specs.Hashing.{root_of}
-use Rattle.storage_merkle.specs.HashingLaws.{eval-peaks}
-use Rattle.storage_merkle.specs.CheckSteps.{Serves, Present}
+use Rattle.storage_merkle.specs.Laws.Hashing.{eval-peaks}
+use Rattle.storage_merkle.specs.CheckParts.{Serves, Present}
 use Rattle.storage_merkle.specs.Rests.{peaks_from}
 use Rattle.storage_merkle.specs.Multi.{Claim, locations, claims_of, untouched, Ascend, needed_sites, multi_values, multi_string, ClaimsFit}
-use Rattle.storage_merkle.specs.MultiSteps.{AreGiven}
+use Rattle.storage_merkle.specs.MultiParts.{AreGiven}
 use Rattle.storage_merkle.proofs.Distinct.{times, times-by_position, each_given_once, read_all}
 use Rattle.storage_merkle.proofs.Siblings.{positions, sort-count, sort_rises}
 use Rattle.storage_merkle.proofs.Check.Roots.{plain_in, plain_sorted, agree_itself}
@@ -59,7 +59,7 @@ module _ (S : Shape) (L : Laws S) (ls : List ℕ) (n : ℕ) (ps : List ℕ)
 module _ (S : Shape) (L : Laws S) (h : HashFunction) (T : Layout) (same : T.shape ≡ S) (b : Bagging)
     (n i : ℕ) {E : Type 0} (items : E → List ℕ) (cs : List (E × ℕ)) (chunk : ℕ → List ℕ) {D : Type 0}
     (text : D → List ℕ) (ds : List D) where
-  abbrev proof : RangeProof
+  abbrev proof : Proof
   proof = record { leaves = n; inactive = i; digests = map text ds }
 
   abbrev claims : List Claim

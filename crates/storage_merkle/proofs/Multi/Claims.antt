@@ -4,13 +4,13 @@ use Rattle.std.specs.List.Sorted.{IsPartitionPoint, IsNonDecreasingBy}
 use Rattle.std.proofs.lemmas.Bool.{lt-ltb, lt-leb, ltb-true, ltb-false}
 use Rattle.std.proofs.lemmas.List.{map-append, drop_more, drop_all}
 use Rattle.storage_codec.specs.Digests.{HashFunction}
-use Rattle.storage_merkle.specs.Multiples.{pow_two}
+use Rattle.storage_merkle.specs.Laws.Multiples.{pow_two}
 use Rattle.storage_merkle.specs.Calc.{Site, node, given, leaf, be8, Values, eval}
 use Rattle.storage_merkle.specs.Trees.{Layout, node_calc, join_calc}
 use Rattle.storage_merkle.specs.Hashing.{join_digest}
-use Rattle.storage_merkle.specs.HashingLaws.{eval-join}
+use Rattle.storage_merkle.specs.Laws.Hashing.{eval-join}
 use Rattle.storage_merkle.specs.Multi.{Claim, locations, claims_of, touched, untouched, Ascend, element_at}
-use Rattle.storage_merkle.specs.MultiSteps.{claimed_values}
+use Rattle.storage_merkle.specs.MultiParts.{claimed_values}
 
 -- ---- items whose places ascend
 

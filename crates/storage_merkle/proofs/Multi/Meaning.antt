@@ -3,18 +3,18 @@ use Rattle.std.proofs.Common.{◌≡◌, ◌≢◌, ℕ, ◌↔◌, List, [], �
 use Rattle.storage_codec.specs.Digests.{HashFunction}
 use Rattle.storage_merkle.specs.declared.merkle.bagging.Bagging.{Bagging}
 use Rattle.storage_merkle.specs.Trees.{Layout, listed, empty_root}
-use Rattle.storage_merkle.specs.RangeProofs.{RangeProof, IsEmptyProof}
+use Rattle.storage_merkle.specs.RangeProofs.{Proof, IsEmptyProof}
 use Rattle.storage_merkle.specs.Multi.{Claim, claims_of, default_proof, IsMultiAccepted}
-use Rattle.storage_merkle.specs.MultiSteps.{IsMultiRecomputed}
+use Rattle.storage_merkle.specs.MultiParts.{IsMultiRecomputed}
 use Rattle.storage_merkle.proofs.Multi.Needed.{is_empty, not_empty}
 
-default_is : (proof : RangeProof) → proof.leaves ≡ 0 → proof.inactive ≡ 0 → proof.digests ≡ [] → proof ≡ default_proof
+default_is : (proof : Proof) → proof.leaves ≡ 0 → proof.inactive ≡ 0 → proof.digests ≡ [] → proof ≡ default_proof
 default_is proof en ei ed =
     ap (λ n. record { leaves = n; inactive = proof.inactive; digests = proof.digests }) en
     ∙ ap (λ i. record { leaves = 0; inactive = i; digests = proof.digests }) ei
     ∙ ap (λ ds. record { leaves = 0; inactive = 0; digests = ds }) ed
 
-module _ (h : HashFunction) (T : Layout) (b : Bagging) (proof : RangeProof) (chunk : ℕ → List ℕ) (root : List ℕ) where
+module _ (h : HashFunction) (T : Layout) (b : Bagging) (proof : Proof) (chunk : ℕ → List ℕ) (root : List ℕ) where
   -- no claims
   nothing_accepted : (start : ℕ) → start ≡ 0 → (IsEmptyProof h T b proof start (listed []) × (empty_root h T b ≡ root))
       ↔ IsMultiAccepted h T b proof [] chunk root
@@ -23,10 +23,10 @@ module _ (h : HashFunction) (T : Layout) (b : Bagging) (proof : RangeProof) (chu
     λ a. (
       record {
         none = refl;
-        no_leaves = ap (λ (p : RangeProof). p.leaves) a.0;
-        no_inactive = ap (λ (p : RangeProof). p.inactive) a.0;
+        no_leaves = ap (λ (p : Proof). p.leaves) a.0;
+        no_inactive = ap (λ (p : Proof). p.inactive) a.0;
         no_start = zero;
-        no_digests = ap (λ (p : RangeProof). p.digests) a.0;
+        no_digests = ap (λ (p : Proof). p.digests) a.0;
       },
       a.1,
     ),

@@ -2,7 +2,7 @@
 use Rattle.std.proofs.Common.{◌≡◌, ◌≢◌, ℕ, zero, suc, ◌+◌, ◌-◌, ◌≤◌, ◌^◌, List, [], ◌∷◌, ◌++◌, length, map, ◌==◌, eqb-true, refl, sym, ap, ap₂, ◌∙◌, arith, subst, true, false, not, append-nil, append_assoc}
 use Rattle.std.specs.List.Sorted.{IsPermutation, IsNonDecreasing}
 use Rattle.std.proofs.lemmas.List.{map-append}
-use Rattle.storage_merkle.specs.Multiples.{pow_two}
+use Rattle.storage_merkle.specs.Laws.Multiples.{pow_two}
 use Rattle.storage_merkle.specs.Trees.{Layout, places, peaks_of, node_calc}
 use Rattle.storage_merkle.specs.RangeProofs.{sites_of, sites_in, position_of}
 use Rattle.storage_merkle.specs.Multi.{untouched, Ascend, needed_sites}

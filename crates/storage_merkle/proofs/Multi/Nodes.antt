@@ -2,17 +2,17 @@
 use Rattle.std.proofs.Common.{◌≡◌, ◌≢◌, ℕ, zero, suc, ◌+◌, ◌-◌, ◌≤◌, ◌^◌, List, [], ◌∷◌, ◌++◌, length, map, get_or, Contains, true, false, ◌==◌, refl, sym, ap, ap₂, ◌∙◌, arith, subst, eq-eqb, append-nil, append_assoc}
 use Rattle.std.proofs.lemmas.List.{map-append}
 use Rattle.storage_codec.specs.Digests.{HashFunction}
-use Rattle.storage_merkle.specs.Multiples.{pow_two}
+use Rattle.storage_merkle.specs.Laws.Multiples.{pow_two}
 use Rattle.storage_merkle.specs.Shape.{Shape}
 use Rattle.storage_merkle.specs.Calc.{Site, node, be8, eval}
 use Rattle.storage_merkle.specs.Trees.{Layout, places, node_calc, part, ungrafted}
 use Rattle.storage_merkle.specs.RangeProofs.{sites_of, sites_in}
 use Rattle.storage_merkle.specs.Hashing.{join_digest}
-use Rattle.storage_merkle.specs.HashingLaws.{eval-join}
-use Rattle.storage_merkle.specs.CheckSteps.{Present}
+use Rattle.storage_merkle.specs.Laws.Hashing.{eval-join}
+use Rattle.storage_merkle.specs.CheckParts.{Present}
 use Rattle.storage_merkle.specs.Rests.{peaks_from}
 use Rattle.storage_merkle.specs.Multi.{Claim, locations, claims_of, untouched, Ascend, element_at}
-use Rattle.storage_merkle.specs.MultiSteps.{claimed_values}
+use Rattle.storage_merkle.specs.MultiParts.{claimed_values}
 use Rattle.storage_merkle.proofs.Siblings.{sites-cut, sites-halves}
 use Rattle.storage_merkle.proofs.Check.Nodes.{present_append}
 use Rattle.storage_merkle.proofs.Multi.Claims.{calc_left, calc_right, eval_left, eval_right, untouched_none, untouched_some, locations-claims}

@@ -5,14 +5,14 @@ use Rattle.std.proofs.lemmas.List.{map-append}
 use Rattle.std.proofs.lemmas.List.Elements.{Contains-append_right}
 use Rattle.storage_codec.specs.Digests.{HashFunction, Cross, IsSized}
 use Rattle.storage_merkle.specs.Shape.{Shape, Laws}
-use Rattle.storage_merkle.specs.ShapeLaws.{length_at_most, no_peaks}
+use Rattle.storage_merkle.specs.Laws.Shape.{length_at_most, no_peaks}
 use Rattle.storage_merkle.specs.Calc.{Site, front, back, node, Calc, Values}
 use Rattle.storage_merkle.specs.declared.merkle.bagging.Bagging.{Bagging}
 use Rattle.storage_merkle.specs.declared.merkle.bagging.Bagging.TheVariants.{ForwardFold, BackwardFold}
-use Rattle.storage_merkle.specs.Trees.{Layout, Content, Peak, places, peaks_of, folded, unfolded, bag, eval_bag, strings_bag, part, whole, tree_bag, plain, node_calc, never, root_head, tree_string, tree_strings, tree_root, empty_root}
-use Rattle.storage_merkle.specs.RangeProofs.{RangeProof, sites_in, by_position, AreDigests}
+use Rattle.storage_merkle.specs.Trees.{Layout, Content, Peak, places, peaks_of, folded, unfolded, bag, eval_bag, strings_bag, part, whole_peak, tree_bag, plain, node_calc, never, root_head, tree_string, tree_strings, tree_root, empty_root}
+use Rattle.storage_merkle.specs.RangeProofs.{Proof, sites_in, by_position, AreDigests}
 use Rattle.storage_merkle.specs.Chunked.{AreChunks}
-use Rattle.storage_merkle.specs.CalcLaws.{IsWide, eval_length, cross_wider, heads, same_head}
+use Rattle.storage_merkle.specs.Laws.Calc.{IsWide, eval_length, cross_wider, heads, same_head}
 use Rattle.storage_merkle.specs.Multi.{Claim, locations, touched, untouched, Ascend, element_at, Stand, needed_sites, tree_digest, own_multi_proof, multi_values, multi_bag, multi_string, multi_strings, ClaimsFit, default_proof, IsMultiAccepted, IsMultiOwn, IsMultiProved}
 use Rattle.storage_merkle.proofs.Prune.{PrunesBag, prunes_bag}
 use Rattle.storage_merkle.proofs.Agreeing.{AllPeaks, AgreeAll, AgreeBag, agree_leaf, agree_bag, agree_parts, agree_sites_in, agree_by_position}
@@ -36,14 +36,14 @@ tree_values-wide d h T content sized (node a k) =
 -- a calculation with some nodes given against the tree's
 pub cut-prunes : (h : HashFunction) (T : Layout) (content : Content) (cut : ℕ → ℕ → Bool) (xs ys : List Peak)
     → PrunesBag h (tree_values h T content) (plain h content) (bag (map (part T cut) xs) (map (part T cut) ys))
-    (bag (map (whole T) xs) (map (whole T) ys))
+    (bag (map (whole_peak T) xs) (map (whole_peak T) ys))
 cut-prunes h T content cut xs ys =
     let v = tree_values h T content in
     let w = plain h content in
     let p = prunes_bag h v w T cut (λ a. refl) (λ j. refl) (λ a k. refl) [] xs ys [] (λ q rest e. absurd (cc))
     (λ q rest e. absurd (cc)) in
     let F : List Calc → List Peak → Type 0 =
-    λ us vs. PrunesBag h v w (bag (map (part T cut) xs) us) (bag (map (whole T) xs) (map (whole T) vs)) in
+    λ us vs. PrunesBag h v w (bag (map (part T cut) xs) us) (bag (map (whole_peak T) xs) (map (whole_peak T) vs)) in
     subst (λ us. F us ys) (append-nil (map (part T cut) ys)) (subst (F (map (part T cut) ys ++ [])) (append-nil ys) p)
 
 or_right : (x y : Bool) → y ≡ true → (x || y) ≡ true
@@ -78,7 +78,7 @@ module _ (list : List (List ℕ)) (n : ℕ) (all : List Claim)
       )
 
 module _ (d N : ℕ) (h : HashFunction) (sized : IsSized d h) (other : N ≢ 8 + d) (S : Shape) (L : Laws S)
-    (position : ℕ → ℕ → ℕ) (grafted : ℕ → ℕ → ℕ → Bool) (b : Bagging) (proof : RangeProof) (claims : List Claim) (chunk : ℕ → List ℕ)
+    (position : ℕ → ℕ → ℕ) (grafted : ℕ → ℕ → ℕ → Bool) (b : Bagging) (proof : Proof) (claims : List Claim) (chunk : ℕ → List ℕ)
     (wide : AreDigests d proof.digests)
     (chunked : AreChunks N (record { shape = S; position = position; grafted = grafted proof.leaves }) proof.leaves (untouched (locations claims)) chunk)
     (content : Content)
@@ -107,7 +107,7 @@ module _ (d N : ℕ) (h : HashFunction) (sized : IsSized d h) (other : N ≢ 8 +
       → proof.digests ≡ map (tree_digest h T content) (needed_sites T (locations claims) proof.leaves)
       → proof ≡ own_multi_proof h (over m) content j (locations claims)
   record_is m j en ei em ed =
-      let F : ℕ → ℕ → RangeProof = λ n i. record {
+      let F : ℕ → ℕ → Proof = λ n i. record {
         leaves = n;
         inactive = i;
         digests = map (tree_digest h (over n) content) (needed_sites (over n) (locations claims) n);
@@ -203,16 +203,16 @@ module _ (h : HashFunction) (T : Layout) (L : Laws T.shape) (b : Bagging) (chunk
   none_root = ap (λ t. h (root_head T b 0 0 ++ eval_bag h (multi_values h T b default_proof [] chunk) t))
       (no_bag b (T.shape.peaks 0) (no_peaks T.shape L))
 
-fit_and_rooted : (h : HashFunction) (T : Layout) → Laws T.shape → (b : Bagging) (proof : RangeProof)
+fit_and_rooted : (h : HashFunction) (T : Layout) → Laws T.shape → (b : Bagging) (proof : Proof)
     (claims : List Claim) (chunk : ℕ → List ℕ) (root : List ℕ) → IsMultiAccepted h T b proof claims chunk root
     → ClaimsFit h T b proof claims chunk × (h (multi_string h T b proof claims chunk) ≡ root)
 fit_and_rooted h T L b proof [] chunk root ok =
-    let F : RangeProof → Type 0 = λ p. ClaimsFit h T b p [] chunk × (h (multi_string h T b p [] chunk) ≡ root) in
+    let F : Proof → Type 0 = λ p. ClaimsFit h T b p [] chunk × (h (multi_string h T b p [] chunk) ≡ root) in
     subst F (sym ok.0) (none_fit h T L b chunk, none_root h T L b chunk ∙ ok.1)
 fit_and_rooted h T L b proof (c ∷ cs) chunk root ok = ok
 
 pub multi_sound : (d : ℕ) (h : HashFunction) → IsSized d h → (T : Layout) → Laws T.shape → (b : Bagging)
-    (proof : RangeProof) (claims : List Claim) (chunk : ℕ → List ℕ) (root : List ℕ) → AreDigests d proof.digests
+    (proof : Proof) (claims : List Claim) (chunk : ℕ → List ℕ) (root : List ℕ) → AreDigests d proof.digests
     → IsMultiAccepted h T b proof claims chunk root → IsMultiProved d h T b proof claims chunk root
 multi_sound d h sized T L b proof claims chunk root wide accepted N grafted same other chunked content inactive chunks
     few peaks at =

@@ -7,17 +7,17 @@ use Rattle.storage_merkle.specs.Shape.{Shape, Laws, size, Inside, AreAligned}
 use Rattle.storage_merkle.specs.Calc.{Site, front, back, node, given, leaf, be8, Values, eval}
 use Rattle.storage_merkle.specs.declared.merkle.bagging.Bagging.{Bagging}
 use Rattle.storage_merkle.specs.Trees.{Layout, Content, Peak, places, peaks_of, part, node_calc, join_calc, ungrafted, folded, bag}
-use Rattle.storage_merkle.specs.RangeProofs.{RangeProof, CountsFit, check_values, sites, apart, leading, not_leading, up_to, sites_of, sites_in, place_in, by_position, fold_digest}
+use Rattle.storage_merkle.specs.RangeProofs.{Proof, CountsFit, check_values, sites, apart, leading, not_leading, up_to, sites_of, sites_in, place_in, by_position, fold_digest}
 use Rattle.storage_merkle.specs.Hashing.{folded_forward}
-use Rattle.storage_merkle.specs.HashingLaws.{eval-forward}
+use Rattle.storage_merkle.specs.Laws.Hashing.{eval-forward}
 use Rattle.storage_merkle.specs.Hashers.{forward_of}
 use Rattle.storage_merkle.specs.Plans.{InTree}
 use Rattle.storage_merkle.specs.PlanParts.{digest_or, peaks_by}
 use Rattle.storage_merkle.specs.Rests.{peaks_from, IsPast, AreFolded, AreAfterLeading}
 use Rattle.storage_merkle.specs.Siblings.{sibling_sites}
-use Rattle.storage_merkle.specs.CheckSteps.{front_before, top_sites}
+use Rattle.storage_merkle.specs.CheckParts.{front_before, top_sites}
 use Rattle.storage_merkle.specs.Pinned.{peak_sites, pinned_sites, pinned_values, pinned_cut, recomputed, Match}
-use Rattle.storage_merkle.specs.PinnedSteps.{AgreesWith, AreNodesAt, as_list, digest_before}
+use Rattle.storage_merkle.specs.PinnedParts.{AgreesWith, AreNodesAt, as_list, digest_before}
 use Rattle.storage_merkle.proofs.Walks.{in_tree_left, in_tree_right}
 use Rattle.storage_merkle.proofs.Siblings.{positions, sites-join}
 use Rattle.storage_merkle.proofs.Check.Roots.{split, counted, tops_read, siblings_read}
@@ -143,7 +143,7 @@ length-sites s [] = refl
 length-sites s (k ∷ ks) = ap suc (length-sites (s + 2 ^ k) ks)
 
 pub pinned_counted : (S : Shape) (h : HashFunction) (T : Layout) → T.shape ≡ S
-    → (b : Bagging) (proof : RangeProof) (start : ℕ) (claim : Content) (pinned : List (List ℕ))
+    → (b : Bagging) (proof : Proof) (start : ℕ) (claim : Content) (pinned : List (List ℕ))
     → length (pinned_sites h T b proof start claim pinned) ≡ length (S.peaks start)
 pinned_counted S h T same b proof start claim pinned =
     length-sites 0 (T.shape.peaks start) ∙ ap (λ U. length (U.peaks start)) same
@@ -204,7 +204,7 @@ module _ (S : Shape) (L : Laws S) (h : HashFunction) (T : Layout) (same : T.shap
     (es : List (List ℕ)) (chunk : ℕ → List ℕ) {D : Type 0} (text : D → List ℕ) (items : List D) (high f a r g : ℕ)
     (range : high ≡ low + length es) (parts : AreFolded S b i n f) (after : AreAfterLeading S low 0 n f a r g)
     (pinned : List (List ℕ)) where
-  abbrev proof : RangeProof
+  abbrev proof : Proof
   proof = record { leaves = n; inactive = i; digests = map text items }
 
   abbrev claim : Content

@@ -7,7 +7,7 @@ use Rattle.storage_merkle.specs.Shape.{Shape}
 use Rattle.storage_merkle.specs.declared.merkle.bagging.Bagging.{Bagging}
 use Rattle.storage_merkle.specs.Calc.{Site, front, back, node, Calc, given, leaf, pair, be8, eval, strings}
 use Rattle.storage_merkle.specs.Trees.{Peak, listed, ungrafted, node_calc, join_calc, part, peaks_of, folded, unfolded, fold_forward, bag, strings_bag}
-use Rattle.storage_merkle.specs.RangeProofs.{RangeProof, apart, leading, not_leading, up_to, trailing, front_given, back_given, check_bag, fold_digest, look_up, range_sites, sites_of, sites_in, sites_over, front_sites, back_sites, by_position, same_site}
+use Rattle.storage_merkle.specs.RangeProofs.{Proof, apart, leading, not_leading, up_to, trailing, front_given, back_given, check_bag, fold_digest, look_up, range_sites, sites_of, sites_in, sites_over, front_sites, back_sites, by_position, same_site}
 use Rattle.storage_merkle.specs.Pinned.{pinned_sites, pinned_cut, pinned_values, leading_folded, is_earlier, recomputed, recomputed_strings, Match, match_strings}
 use Rattle.storage_merkle.proofs.Prune.{leading-all, up_to-all}
 use Rattle.storage_merkle.proofs.Agreeing.{AllPeaks, up_to-leading}
@@ -54,7 +54,7 @@ module _ (h : HashFunction) (d e : Site → List ℕ) (x y : ℕ → List ℕ) w
   alike_forward f g P each (p ∷ ps) t u a q =
       alike_forward f g P each ps _ _ (alike_pair [] t (f p) u (g p) a (each p q.0)) q.1
 
-module _ (h : HashFunction) (S : Shape) (b : Bagging) (proof : RangeProof) (start : ℕ)
+module _ (h : HashFunction) (S : Shape) (b : Bagging) (proof : Proof) (start : ℕ)
     (elements pinned : List (List ℕ)) where
   abbrev pub read : Site → List ℕ
   read s = look_up (h []) (range_sites h (ungrafted S) b proof start (listed elements)) proof.digests s

@@ -2,14 +2,14 @@
 use Rattle.std.proofs.Common.{◌≡◌, ℕ, zero, suc, ◌+◌, ◌-◌, ◌<◌, ◌≤◌, ◌^◌, ◌↔◌, List, [], ◌∷◌, ◌++◌, length, map, Bool, true, false, if◌then◌else◌, not, ◌⊎◌, inl, inr, refl, sym, ap, ap₂, ◌∙◌, arith, subst, leb, le-leb, pow_pos, IsTrue}
 use Rattle.std.proofs.lemmas.Bool.{lt-leb, cases_lt}
 use Rattle.storage_merkle.specs.Shape.{Shape, Laws}
-use Rattle.storage_merkle.specs.ShapeLaws.{same_node}
+use Rattle.storage_merkle.specs.Laws.Shape.{same_node}
 use Rattle.storage_merkle.specs.Nodes.{IsNode}
 use Rattle.storage_merkle.specs.Calc.{Site, front, back, node}
 use Rattle.storage_merkle.specs.Trees.{places}
 use Rattle.storage_merkle.specs.RangeProofs.{apart}
-use Rattle.storage_merkle.specs.CheckSteps.{top_sites}
+use Rattle.storage_merkle.specs.CheckParts.{top_sites}
 use Rattle.storage_merkle.specs.Pinned.{Match, is_earlier}
-use Rattle.storage_merkle.specs.PinnedSteps.{AreNodesAt}
+use Rattle.storage_merkle.specs.PinnedParts.{AreNodesAt}
 use Rattle.storage_merkle.proofs.Check.Tops.{tops, tops_step, tops_end}
 use Rattle.storage_merkle.proofs.Plan.Folds.{opened}
 

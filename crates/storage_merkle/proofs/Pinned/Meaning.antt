@@ -2,13 +2,13 @@
 use Rattle.std.proofs.Common.{◌≡◌, ℕ, zero, suc, ◌+◌, ◌<◌, ◌↔◌, inl, inr, List, [], length, take, drop, Result, Ok, Err, IfOk, Bool, IsTrue, ◌==◌, eqb-true, refl, sym, ap, ap₂, ◌∙◌, arith, subst}
 use Rattle.storage_codec.specs.Digests.{HashFunction, IsSized}
 use Rattle.storage_merkle.specs.Shape.{Shape, Laws}
-use Rattle.storage_merkle.specs.ShapeLaws.{no_peaks}
+use Rattle.storage_merkle.specs.Laws.Shape.{no_peaks}
 use Rattle.storage_merkle.specs.declared.merkle.bagging.Bagging.{Bagging}
 use Rattle.storage_merkle.specs.declared.merkle.bagging.Bagging.TheVariants.{ForwardFold, BackwardFold}
 use Rattle.storage_merkle.specs.Trees.{Layout, Content, Peak, listed, ungrafted, places, folded, unfolded}
-use Rattle.storage_merkle.specs.RangeProofs.{RangeProof, AreDigests, CountsFit, IsAccepted, check_values, range_sites, sites, sites_over}
+use Rattle.storage_merkle.specs.RangeProofs.{Proof, AreDigests, CountsFit, IsAccepted, check_values, range_sites, sites, sites_over}
 use Rattle.storage_merkle.specs.Pinned.{peak_sites, pinned_sites, recomputed, Match, IsPinnedAccepted, IsPinnedProved}
-use Rattle.storage_merkle.specs.PinnedSteps.{AgreesWith}
+use Rattle.storage_merkle.specs.PinnedParts.{AgreesWith}
 use Rattle.storage_merkle.proofs.Pinned.Sound.{pinned_digests_sound}
 
 pub if_ok : {A E : Type 0} (P Q : A → Type 0) (r : Result A E) → ((a : A) → P a → Q a) → IfOk r P → IfOk r Q
@@ -38,7 +38,7 @@ no_sites T L low high b n i z =
     ap (λ m. places 0 (T.shape.peaks m)) z ∙ ap (places 0) (no_peaks T.shape L) in
     ap₂ (sites_over T low high) (ap (folded b i) none ∙ none_folded b i) (ap (unfolded b i) none ∙ none_unfolded b i)
 
-module _ (h : HashFunction) (T : Layout) (b : Bagging) (proof : RangeProof) (start : ℕ) (claim : Content)
+module _ (h : HashFunction) (T : Layout) (b : Bagging) (proof : Proof) (start : ℕ) (claim : Content)
     (pinned : List (List ℕ)) (root : List ℕ) (accepted : IsAccepted h T b proof start claim root) where
   abbrev Pinned : Type 0
   Pinned = IsPinnedAccepted h T b proof start claim pinned root
@@ -80,7 +80,7 @@ module _ (h : HashFunction) (T : Layout) (b : Bagging) (proof : RangeProof) (sta
 
 -- what is accepted is as claimed in each list with that root
 pub pinned_proved : (d : ℕ) (h : HashFunction) → IsSized d h → (S : Shape) → Laws S → (T : Layout) → T ≡ ungrafted S
-    → (chunk : ℕ → List ℕ) → chunk ≡ (λ a. []) → (b : Bagging) (proof : RangeProof) (start : ℕ)
+    → (chunk : ℕ → List ℕ) → chunk ≡ (λ a. []) → (b : Bagging) (proof : Proof) (start : ℕ)
     (elements pinned : List (List ℕ)) (root : List ℕ) → AreDigests d proof.digests → AreDigests d pinned
     → IsPinnedAccepted h T b proof start (record { elements = elements; chunk = chunk }) pinned root
     → IsPinnedProved h S b proof start elements pinned root

@@ -7,9 +7,9 @@ use Rattle.storage_merkle.specs.Trees.{Layout, places, node_calc}
 use Rattle.storage_merkle.specs.RangeProofs.{look_up}
 use Rattle.storage_merkle.specs.Rests.{peaks_from}
 use Rattle.storage_merkle.specs.Hashing.{join_digest}
-use Rattle.storage_merkle.specs.HashingLaws.{eval-join}
+use Rattle.storage_merkle.specs.Laws.Hashing.{eval-join}
 use Rattle.storage_merkle.specs.Pinned.{stands_in, peak_sites}
-use Rattle.storage_merkle.specs.PinnedSteps.{is_pinned, pinned_digest, digest_before}
+use Rattle.storage_merkle.specs.PinnedParts.{is_pinned, pinned_digest, digest_before}
 use Rattle.storage_merkle.proofs.Plan.Folds.{opened}
 use Rattle.storage_merkle.proofs.Extracted.{tells}
 

@@ -3,15 +3,15 @@ use Rattle.std.proofs.Common.{◌≡◌, ◌≢◌, ℕ, zero, suc, ◌+◌, ◌
 use Rattle.std.proofs.lemmas.Bool.{cases_lt, lt-leb}
 use Rattle.std.proofs.lemmas.List.Elements.{Contains-append_left, Contains-append_right}
 use Rattle.storage_codec.specs.Digests.{HashFunction, IsSized, Cross}
-use Rattle.storage_merkle.specs.Shape.{Shape, Laws, leaves_of}
-use Rattle.storage_merkle.specs.ShapeLaws.{no_peaks}
-use Rattle.storage_merkle.specs.PeakLaws.{inside_grows}
+use Rattle.storage_merkle.specs.Shape.{Shape, Laws, leaves_under}
+use Rattle.storage_merkle.specs.Laws.Shape.{no_peaks}
+use Rattle.storage_merkle.specs.Laws.Peaks.{inside_grows}
 use Rattle.storage_merkle.specs.declared.merkle.bagging.Bagging.{Bagging}
 use Rattle.storage_merkle.specs.declared.merkle.bagging.Bagging.TheVariants.{ForwardFold, BackwardFold}
 use Rattle.storage_merkle.specs.Calc.{Site, front, back, node, Values, Agree}
-use Rattle.storage_merkle.specs.CalcLaws.{IsWide, cross_wider}
-use Rattle.storage_merkle.specs.Trees.{Peak, listed, ungrafted, places, node_calc, whole, part, peaks_of, folded, unfolded, bag, eval_bag, strings_bag, tree_bag, plain, tree_root, tree_string, tree_strings}
-use Rattle.storage_merkle.specs.RangeProofs.{RangeProof, AreDigests, CountsFit, range_sites, check_string, check_strings, check_bag, up_to, trailing, same_site, fold_digest, IsOwn}
+use Rattle.storage_merkle.specs.Laws.Calc.{IsWide, cross_wider}
+use Rattle.storage_merkle.specs.Trees.{Peak, listed, ungrafted, places, node_calc, whole_peak, part, peaks_of, folded, unfolded, bag, eval_bag, strings_bag, tree_bag, plain, tree_root, tree_string, tree_strings}
+use Rattle.storage_merkle.specs.RangeProofs.{Proof, AreDigests, CountsFit, range_sites, check_string, check_strings, check_bag, up_to, trailing, same_site, fold_digest, IsOwn}
 use Rattle.storage_merkle.specs.Multi.{tree_digest}
 use Rattle.storage_merkle.specs.Pinned.{stands_in, peak_sites, Match, recomputed, pinned_sites, pinned_strings, match_strings, IsPinnedAccepted, IsPinnedOwn, PinnedDigestsAreSound}
 use Rattle.storage_merkle.proofs.Prune.{PrunesBag, prunes_bag, up_to-all}
@@ -110,9 +110,9 @@ module _ (v w : Values) (S : Shape) (cut : ℕ → ℕ → Bool) where
 
   module _ (P : Type 0) (Q : Peak → Type 0) (j : ℕ)
       (found : (p : Peak) → Q p → p.first ≤ j → j < p.first + 2 ^ p.height → Agree v w (part (ungrafted S) cut p) → P) where
-    over_peak : (a : ℕ) (ks : List ℕ) → AllPeaks Q (places a ks) → a ≤ j → j < a + leaves_of ks
+    over_peak : (a : ℕ) (ks : List ℕ) → AllPeaks Q (places a ks) → a ≤ j → j < a + leaves_under ks
         → AgreeAll v w (map (part (ungrafted S) cut) (places a ks)) → P
-    unfolding leaves_of
+    unfolding leaves_under
     over_peak a [] q l u g = absurd (omega arith)
     over_peak a (k ∷ ks) q l u g =
         elim (cases_lt j (a + 2 ^ k)) [
@@ -121,8 +121,8 @@ module _ (v w : Values) (S : Shape) (cut : ℕ → ℕ → Bool) where
         ]
 
     over_up_to : (low high : ℕ) → j < high → (a : ℕ) (ks : List ℕ) → AllPeaks Q (places a ks) → a ≤ j
-        → j < a + leaves_of ks → AgreeAll v w (map (part (ungrafted S) cut) (up_to high (places a ks))) → P
-    unfolding leaves_of
+        → j < a + leaves_under ks → AgreeAll v w (map (part (ungrafted S) cut) (up_to high (places a ks))) → P
+    unfolding leaves_under
     over_up_to low high below a [] q l u g = absurd (omega arith)
     over_up_to low high below a (k ∷ ks) q l u g =
         let p : Peak = record { first = a; height = k } in
@@ -136,16 +136,16 @@ module _ (v w : Values) (S : Shape) (cut : ℕ → ℕ → Bool) where
         ]
 
     over_tree : (low high : ℕ) → j < high → (b : Bagging) (i : ℕ) (ks : List ℕ) → AllPeaks Q (places 0 ks)
-        → j < leaves_of ks → AgreeAll v w (map (part (ungrafted S) cut) (folded b i (places 0 ks)))
+        → j < leaves_under ks → AgreeAll v w (map (part (ungrafted S) cut) (folded b i (places 0 ks)))
         → AgreeAll v w (map (part (ungrafted S) cut) (up_to high (unfolded b i (places 0 ks)))) → P
     over_tree low high below ForwardFold i ks q u f g = over_peak 0 ks q (omega arith) (omega arith) f
     over_tree low high below BackwardFold i ks q u f g =
         let f' = subst (λ ps. AgreeAll v w (map (part (ungrafted S) cut) ps)) (places-take i 0 ks) f in
         let g' = subst (λ ps. AgreeAll v w (map (part (ungrafted S) cut) (up_to high ps))) (places-drop i 0 ks) g in
-        elim (cases_lt j (leaves_of (take i ks))) [
+        elim (cases_lt j (leaves_under (take i ks))) [
           | inl here ↦ over_peak 0 (take i ks) (subst (AllPeaks Q) (places-take i 0 ks) (all_take Q i (places 0 ks) q))
               (omega arith) (omega arith) f'
-          | inr later ↦ over_up_to low high below (0 + leaves_of (take i ks)) (drop i ks) (subst (AllPeaks Q)
+          | inr later ↦ over_up_to low high below (0 + leaves_under (take i ks)) (drop i ks) (subst (AllPeaks Q)
               (places-drop i 0 ks) (all_drop Q i (places 0 ks) q)) (omega arith) (omega (arith, leaves-split i ks)) g'
         ]
 
@@ -189,7 +189,7 @@ no_digests (x ∷ ds) e = absurd (omega arith)
 no_chunk : (d : ℕ) → 0 ≢ 8 + d
 no_chunk d = λ e. absurd (omega arith)
 
-module _ (d : ℕ) (h : HashFunction) (sized : IsSized d h) (S : Shape) (L : Laws S) (b : Bagging) (proof : RangeProof)
+module _ (d : ℕ) (h : HashFunction) (sized : IsSized d h) (S : Shape) (L : Laws S) (b : Bagging) (proof : Proof)
     (start : ℕ) (elements pinned : List (List ℕ)) (list : List (List ℕ)) where
   -- the pinned digests, where the expanded calculation agrees with a tree's
   module _ (w : Values) (trees : (a k : ℕ) → w.digest (node a k) ≡ tree_digest h (ungrafted S) (listed list) (node a k))
@@ -200,9 +200,9 @@ module _ (d : ℕ) (h : HashFunction) (sized : IsSized d h) (S : Shape) (L : Law
         → ((c k : ℕ) → stands_in (places s ks) c k ≡ true → stands_in (peaks_of (ungrafted S) start) c k ≡ true)
         → AllPeaks (λ q. AllPeaks (λ p. p.first ≤ q.first → q.first < p.first + 2 ^ p.height → (q.height ≤ p.height)
         × ((i : ℕ) × (q.first ≡ p.first + i * 2 ^ q.height))) (peaks_of (ungrafted S) proof.leaves)) (places s ks)
-        → s + leaves_of ks ≡ start → AgreeAt (bare (pinned_read h S b proof start elements pinned) (λ j. []))
+        → s + leaves_under ks ≡ start → AgreeAt (bare (pinned_read h S b proof start elements pinned) (λ j. []))
         (bare (tree_digest h (ungrafted S) (listed list)) (λ j. [])) (peak_sites (places s ks))
-    unfolding leaves_of
+    unfolding leaves_under
     each_pinned [] s sub n e = tt
     each_pinned (k ∷ ks) s sub n e =
         let high = start + length elements in
@@ -291,10 +291,10 @@ module _ (d : ℕ) (h : HashFunction) (sized : IsSized d h) (S : Shape) (L : Law
               )) in
               let p = prunes_bag h w (plain h ct) (ungrafted S) cut (λ a. refl) (λ j. refl) (λ a k. refl) [] xs us ts
               (λ q rest e. cc)
-              (λ q rest e. ap (λ ps. fold_digest h (plain h ct) (bag [] (map (whole (ungrafted S)) ps))) e) in
+              (λ q rest e. ap (λ ps. fold_digest h (plain h ct) (bag [] (map (whole_peak (ungrafted S)) ps))) e) in
               let p' : PrunesBag h w (plain h ct) u (tree_bag (ungrafted S) b n i) =
               subst (λ ps. PrunesBag h w (plain h ct) u
-              (bag (map (whole (ungrafted S)) xs) (map (whole (ungrafted S)) ps))) (up_to-all high ys) p in
+              (bag (map (whole_peak (ungrafted S)) xs) (map (whole_peak (ungrafted S)) ps))) (up_to-all high ys) p in
               let moved : tree_bag (ungrafted S) b n i ≡ tree_bag (ungrafted S) b (length list) inactive =
               ap (λ m. tree_bag (ungrafted S) b m i) r.leaves_are
               ∙ ap (λ k. tree_bag (ungrafted S) b (length list) k) r.inactive_are in

@@ -7,7 +7,7 @@ use Rattle.storage_merkle.specs.Trees.{Peak, places}
 use Rattle.storage_merkle.specs.RangeProofs.{apart, leading}
 use Rattle.storage_merkle.specs.Rests.{peaks_from}
 use Rattle.storage_merkle.specs.Hashing.{folded_forward}
-use Rattle.storage_merkle.specs.Hashers.{appended, joined, folded_onto, forward_of}
+use Rattle.storage_merkle.specs.Hashers.{appended, prepended, folded_onto, forward_of}
 use Rattle.storage_merkle.specs.PlanParts.{IsAmong, ArePlannedApart, ArePlannedAll, peaks_by}
 
 -- some items are folded from the left already
@@ -47,12 +47,12 @@ module _ (S : Shape) (s r k : ℕ) (first : S.peaks r ≡ k ∷ S.peaks (r - 2 ^
   -- folded from the right
   pub back_more : (h : HashFunction) (digest_of : ℕ → ℕ → List ℕ) (m n : ℕ) (x y : List ℕ) (o : Option (List ℕ))
       → m ≡ 2 ^ k → n ≡ 2 ^ k → x ≡ digest_of s k
-      → o ≡ folded_onto h (peaks_by digest_of (peaks_from S (s + m) (r - n))) None → y ≡ joined h x o
+      → o ≡ folded_onto h (peaks_by digest_of (peaks_from S (s + m) (r - n))) None → y ≡ prepended h x o
       → Some y ≡ folded_onto h (peaks_by digest_of (peaks_from S s r)) None
   back_more h digest_of m n x y o em en ex eo ey =
       let rest : o ≡ folded_onto h (peaks_by digest_of (peaks_from S (s + 2 ^ k) (r - 2 ^ k))) None =
       eo ∙ ap₂ (λ i j. folded_onto h (peaks_by digest_of (peaks_from S (s + i) (r - j))) None) em en in
-      ap Some (ey ∙ ap₂ (joined h) ex rest) ∙ ap (λ ps. folded_onto h (peaks_by digest_of ps) None) (sym opened)
+      ap Some (ey ∙ ap₂ (prepended h) ex rest) ∙ ap (λ ps. folded_onto h (peaks_by digest_of ps) None) (sym opened)
 
   -- a leading peak
   module _ (low f : ℕ) (some : 0 < f) (ends : s + 2 ^ k ≤ low) where

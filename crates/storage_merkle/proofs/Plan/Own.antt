@@ -6,12 +6,12 @@ use Rattle.storage_merkle.specs.Shape.{Shape}
 use Rattle.storage_merkle.specs.Calc.{Site, front, back, node, given, leaf, be8, eval}
 use Rattle.storage_merkle.specs.declared.merkle.bagging.Bagging.{Bagging}
 use Rattle.storage_merkle.specs.declared.merkle.bagging.Bagging.TheVariants.{ForwardFold, BackwardFold}
-use Rattle.storage_merkle.specs.Trees.{Layout, ungrafted, Content, listed, Peak, places, peaks_of, node_calc, join_calc, whole, bag, folded, unfolded, plain, tree_node}
-use Rattle.storage_merkle.specs.RangeProofs.{RangeProof, apart, leading, not_leading, up_to, trailing, sites_of, sites_in, front_sites, back_sites, position_of, place_in, by_position, sites, fold_digest, own_digest, own_proof}
+use Rattle.storage_merkle.specs.Trees.{Layout, ungrafted, Content, listed, Peak, places, peaks_of, node_calc, join_calc, whole_peak, bag, folded, unfolded, plain, tree_node}
+use Rattle.storage_merkle.specs.RangeProofs.{Proof, apart, leading, not_leading, up_to, trailing, sites_of, sites_in, front_sites, back_sites, position_of, place_in, by_position, sites, fold_digest, own_digest, own_proof}
 use Rattle.storage_merkle.specs.Rests.{peaks_from}
 use Rattle.storage_merkle.specs.Siblings.{sibling_sites}
 use Rattle.storage_merkle.specs.Hashing.{folded_forward, folded_backward}
-use Rattle.storage_merkle.specs.HashingLaws.{eval-forward, eval-backward}
+use Rattle.storage_merkle.specs.Laws.Hashing.{eval-forward, eval-backward}
 use Rattle.storage_merkle.specs.Hashers.{folded_onto, forward_of}
 use Rattle.storage_merkle.specs.Nodes.{IsNode}
 use Rattle.storage_merkle.specs.Plans.{PlanOf, AnswersAre, AnswersAreOf, gathered_proof}
@@ -80,21 +80,21 @@ module _ (h : HashFunction) (T : Layout) (content : Content) where
   abbrev own_node : ℕ → ℕ → List ℕ
   own_node a k = tree_node h T content a k
 
-  wholes : (ps : List Peak) → map (eval h (plain h content)) (map (whole T) ps) ≡ peaks_by own_node ps
+  wholes : (ps : List Peak) → map (eval h (plain h content)) (map (whole_peak T) ps) ≡ peaks_by own_node ps
   wholes [] = refl
   wholes (p ∷ ps) = ap (λ ds. own_node p.first p.height ∷ ds) (wholes ps)
 
-  front_own : (ls : List Peak) → fold_digest h (plain h content) (bag (map (whole T) ls) [])
+  front_own : (ls : List Peak) → fold_digest h (plain h content) (bag (map (whole_peak T) ls) [])
       ≡ digest_or (h []) (forward_of h (peaks_by own_node ls))
   front_own [] = refl
-  front_own (p ∷ ps) = eval-forward h (plain h content) (whole T p) (map (whole T) ps)
+  front_own (p ∷ ps) = eval-forward h (plain h content) (whole_peak T p) (map (whole_peak T) ps)
       ∙ ap (folded_forward h (own_node p.first p.height)) (wholes ps)
 
-  back_own : (ts : List Peak) → fold_digest h (plain h content) (bag [] (map (whole T) ts))
+  back_own : (ts : List Peak) → fold_digest h (plain h content) (bag [] (map (whole_peak T) ts))
       ≡ digest_or (h []) (folded_onto h (peaks_by own_node ts) None)
   back_own [] = refl
   back_own (p ∷ ps) =
-      eval-backward h (plain h content) (whole T p) (map (whole T) ps)
+      eval-backward h (plain h content) (whole_peak T p) (map (whole_peak T) ps)
       ∙ ap (folded_backward h (own_node p.first p.height)) (wholes ps)
       ∙ ap (digest_or (h [])) (sym (onto_none h (own_node p.first p.height) (peaks_by own_node ps)))
 
@@ -143,7 +143,7 @@ pub is_own : (h : HashFunction) (S : Shape) (T : Layout) → T.shape ≡ S
     → length content.elements ≡ n → leaves ≡ n → inactive ≡ i → texts ≡ map
     (site_digest low high (folded b i (peaks_from S 0 n)) (unfolded b i (peaks_from S 0 n)) h (tree_node h T content))
     (tops low high (folded b i (peaks_from S 0 n)) (unfolded b i (peaks_from S 0 n)) (ungrafted S)
-    ++ sibling_sites (ungrafted S) n low high) → ◌≡◌ {A = RangeProof}
+    ++ sibling_sites (ungrafted S) n low high) → ◌≡◌ {A = Proof}
     (record { leaves = leaves; inactive = inactive; digests = texts }) (own_proof h T b content i low high)
 is_own h S T es b content n i low high leaves inactive texts en el ei e =
     let Q : Shape → ℕ → Type 0 = λ R m. texts ≡ map (site_digest low high (folded b i (peaks_from R 0 m))
@@ -168,7 +168,7 @@ pub is_gathered : (h : HashFunction) (S : Shape) (b : Bagging) (digest_of : ℕ 
     (unfolded b i (peaks_from S 0 plan.leaves)) h digest_of)
     (tops plan.start plan.end (folded b i (peaks_from S 0 plan.leaves))
     (unfolded b i (peaks_from S 0 plan.leaves)) (ungrafted S)
-    ++ sibling_sites (ungrafted S) plan.leaves plan.start plan.end) → ◌≡◌ {A = RangeProof}
+    ++ sibling_sites (ungrafted S) plan.leaves plan.start plan.end) → ◌≡◌ {A = Proof}
     (record { leaves = leaves; inactive = inactive; digests = texts }) (gathered_proof h S b digest_of plan i)
 is_gathered h S b digest_of plan i leaves inactive texts el ei e =
     let digests = (gathered_proof h S b digest_of plan i).digests in

@@ -4,7 +4,7 @@ use Rattle.std.specs.List.Sorted.{IsPermutation, IsNonDecreasing, IsStrictlyIncr
 use Rattle.std.proofs.lemmas.List.{map-append}
 use Rattle.std.proofs.lemmas.List.Sorted.{IsPermutation-map}
 use Rattle.storage_merkle.specs.Shape.{Shape, Laws, AreAligned}
-use Rattle.storage_merkle.specs.Multiples.{multiple_down, multiple_add, power_multiple}
+use Rattle.storage_merkle.specs.Laws.Multiples.{multiple_down, multiple_add, power_multiple}
 use Rattle.storage_merkle.specs.Calc.{Site, front, back, node, given, leaf, be8}
 use Rattle.storage_merkle.specs.Trees.{Layout, ungrafted, places, peaks_of, node_calc, join_calc}
 use Rattle.storage_merkle.specs.RangeProofs.{apart, sites_of, sites_in, position_of, by_position, same_site}

@@ -3,11 +3,11 @@ use Rattle.std.proofs.Common.{◌≡◌, ℕ, ◌+◌, List, [], ◌∷◌, ◌+
 use Rattle.std.specs.Option.{unwrap_or}
 use Rattle.storage_codec.specs.Digests.{HashFunction, IsSized}
 use Rattle.storage_merkle.specs.Shape.{Laws}
-use Rattle.storage_merkle.specs.ShapeLaws.{no_peaks}
+use Rattle.storage_merkle.specs.Laws.Shape.{no_peaks}
 use Rattle.storage_merkle.specs.Calc.{Site, front, back}
 use Rattle.storage_merkle.specs.declared.merkle.bagging.Bagging.{Bagging}
 use Rattle.storage_merkle.specs.Trees.{Layout, Content, empty_root}
-use Rattle.storage_merkle.specs.RangeProofs.{RangeProof, apart, look_up, range_sites, check_values, check_strings, AreDigests, IsEmptyProof, IsAccepted}
+use Rattle.storage_merkle.specs.RangeProofs.{Proof, apart, look_up, range_sites, check_values, check_strings, AreDigests, IsEmptyProof, IsAccepted}
 use Rattle.storage_merkle.specs.Checks.{IsRecomputed}
 use Rattle.storage_merkle.specs.Extracted.{HoldsOfEach, entries, digest_at}
 use Rattle.storage_merkle.specs.Stores.{Store, IsStoreOf, IsMadeOf, kept_sites, or_else, store_of}
@@ -31,7 +31,7 @@ made_as b n i start past x y es = record {
   kept = es;
 }
 
-module _ (h : HashFunction) (T : Layout) (b : Bagging) (proof : RangeProof) (start : ℕ) (claim : Content) where
+module _ (h : HashFunction) (T : Layout) (b : Bagging) (proof : Proof) (start : ℕ) (claim : Content) where
   pub store_is : (c : Bagging) (past : ℕ) (x y : List ℕ) (es : List (ℕ × List ℕ)) → c ≡ b
       → past ≡ start + length claim.elements → x ≡ (check_values h T b proof start claim).digest front
       → y ≡ (check_values h T b proof start claim).digest back

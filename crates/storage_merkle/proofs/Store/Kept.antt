@@ -12,8 +12,8 @@ use Rattle.storage_merkle.specs.declared.merkle.bagging.Bagging.{Bagging}
 use Rattle.storage_merkle.specs.Trees.{Layout, Peak, places, peaks_of, node_calc, ungrafted, folded, unfolded}
 use Rattle.storage_merkle.specs.RangeProofs.{apart, not_leading, up_to, position_of, by_position}
 use Rattle.storage_merkle.specs.Rests.{peaks_from, AreFolded, AreAfterLeading}
-use Rattle.storage_merkle.specs.CheckSteps.{top_sites}
-use Rattle.storage_merkle.specs.Extracted.{nodes_under, nodes_in, overlapped, entries, texts, digest_at, checked_sites}
+use Rattle.storage_merkle.specs.CheckParts.{top_sites}
+use Rattle.storage_merkle.specs.Extracted.{nodes_under, nodes_in, overlapped, entries, by_bytes, digest_at, checked_sites}
 use Rattle.storage_merkle.specs.StoreParts.{nodes_among}
 use Rattle.storage_merkle.specs.Stores.{kept_sites}
 use Rattle.storage_merkle.proofs.Rising.{count-permutation, same_rising}
@@ -180,15 +180,15 @@ module _ (S : Shape) (LS : Laws S) (h : HashFunction) (b : Bagging) (n i low hig
       lefts (all_kept low high a (S.peaks r) g))
 
   pub kept_sorted : {D : Type 0} (text : D → List ℕ) (found xs ys : List (ℕ × D))
-      → texts text found ≡ entries T F (checked_sites T n low high)
-      → texts text xs ≡ texts text found ++ entries (ungrafted S) v.digest (nodes_among tops) → IsPermutation xs ys
-      → IsNonDecreasingBy (λ e. e.0) ys → texts text ys ≡ entries T F (kept_sites T b n i low high)
+      → by_bytes text found ≡ entries T F (checked_sites T n low high)
+      → by_bytes text xs ≡ by_bytes text found ++ entries (ungrafted S) v.digest (nodes_among tops) → IsPermutation xs ys
+      → IsNonDecreasingBy (λ e. e.0) ys → by_bytes text ys ≡ entries T F (kept_sites T b n i low high)
   kept_sorted text found xs ys ef ex p up =
       let al = nodes_aligned T L b n i low high in
       let apart_ones : entries (ungrafted S) v.digest (nodes_among tops) ≡ entries T F (nodes_among tops) =
       subst (λ U. entries (ungrafted U) v.digest (nodes_among tops) ≡ entries T F (nodes_among tops)) same
       (given_peaks low high h T v (peaks_from S a r) g) in
-      let all : texts text xs ≡ entries T F found_here = ex ∙ ap₂ (λ us ws. us ++ ws) (ef
+      let all : by_bytes text xs ≡ entries T F found_here = ex ∙ ap₂ (λ us ws. us ++ ws) (ef
       ∙ sym (found_rest h T low high v S n f a r g same after)) apart_ones ∙ sym (entries-append T F
       (nodes_in (apart low high) (overlapped low high (peaks_from S a r))) (nodes_among tops)) in
       let aligned : AllSites IsAlignedNode found_here = all_moved IsAlignedNode found_here kept_here moved al in

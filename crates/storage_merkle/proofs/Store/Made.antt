@@ -3,13 +3,13 @@ use Rattle.std.proofs.Common.{◌≡◌, ℕ, ◌+◌, ◌<◌, List, [], ◌∷
 use Rattle.std.proofs.lemmas.List.{map-append}
 use Rattle.storage_codec.specs.Digests.{HashFunction, Cross}
 use Rattle.storage_merkle.specs.Shape.{Laws}
-use Rattle.storage_merkle.specs.ShapeLaws.{no_peaks}
+use Rattle.storage_merkle.specs.Laws.Shape.{no_peaks}
 use Rattle.storage_merkle.specs.Calc.{Site, front, back, Values}
 use Rattle.storage_merkle.specs.declared.merkle.bagging.Bagging.{Bagging}
 use Rattle.storage_merkle.specs.declared.merkle.bagging.Bagging.TheVariants.{ForwardFold, BackwardFold}
 use Rattle.storage_merkle.specs.Trees.{Layout, Content, Peak, places, peaks_of, folded, unfolded, part, tree_root, tree_strings}
 use Rattle.storage_merkle.specs.Chunked.{AreChunks}
-use Rattle.storage_merkle.specs.RangeProofs.{RangeProof, apart, leading, not_leading, up_to, trailing, front_given, back_given, check_bag, check_values, check_strings, own_proof, IsAccepted, IsOwn}
+use Rattle.storage_merkle.specs.RangeProofs.{Proof, apart, leading, not_leading, up_to, trailing, front_given, back_given, check_bag, check_values, check_strings, own_proof, IsAccepted, IsOwn}
 use Rattle.storage_merkle.specs.Multi.{tree_digest}
 use Rattle.storage_merkle.specs.Extracted.{nodes_in, entries, digest_at}
 use Rattle.storage_merkle.specs.Stores.{kept_sites, store_of, IsStoreOf, StoresOfAcceptedProofsAreTrue}
@@ -28,7 +28,7 @@ back_agrees : (v w : Values) (ps : List Peak) → AgreeAll v w (back_given ps) �
 back_agrees v w [] a l = absurd (omega arith)
 back_agrees v w (p ∷ ps) a l = a.0
 
-made_of : (h : HashFunction) (T : Layout) (b : Bagging) (proof : RangeProof) (start : ℕ) (claim content : Content)
+made_of : (h : HashFunction) (T : Layout) (b : Bagging) (proof : Proof) (start : ℕ) (claim content : Content)
     (inactive : ℕ) → proof.leaves ≡ length content.elements → proof.inactive ≡ inactive
     → AgreeBag (check_values h T b proof start claim)
     (own_values h T b content proof.leaves proof.inactive start (start + length claim.elements))
@@ -86,7 +86,7 @@ no_trailing T BackwardFold n i high none en ei =
     ∙ ap (λ ks. length (trailing high (unfolded BackwardFold 0 (places 0 ks)))) none
 
 made_of_nothing : (h : HashFunction) (T : Layout) → Laws T.shape
-    → (b : Bagging) (proof : RangeProof) (start : ℕ) (claim content : Content) (inactive : ℕ) → proof.leaves ≡ 0
+    → (b : Bagging) (proof : Proof) (start : ℕ) (claim content : Content) (inactive : ℕ) → proof.leaves ≡ 0
     → proof.inactive ≡ 0 → proof.leaves ≡ length content.elements → proof.inactive ≡ inactive
     → IsStoreOf h T (store_of h T b proof start claim) content inactive
 made_of_nothing h T L b proof start claim content inactive zn zi en ei =
@@ -104,11 +104,11 @@ made_of_nothing h T L b proof start claim content inactive zn zi en ei =
     }
 
 -- a store made from a tree's own proof
-module _ (h : HashFunction) (T : Layout) (L : Laws T.shape) (b : Bagging) (proof : RangeProof) (start : ℕ)
+module _ (h : HashFunction) (T : Layout) (L : Laws T.shape) (b : Bagging) (proof : Proof) (start : ℕ)
     (claim content : Content) (inactive : ℕ) (is : IsOwn h T b proof start claim content inactive) where
   pub made_of_own : 0 < length claim.elements → IsStoreOf h T (store_of h T b proof start claim) content inactive
   made_of_own some =
-      let own : RangeProof = own_proof h T b content inactive start (start + length claim.elements) in
+      let own : Proof = own_proof h T b content inactive start (start + length claim.elements) in
       subst (λ p. IsStoreOf h T (store_of h T b p start claim) content inactive) (sym is.proof_is)
       (made_of h T b own start claim content inactive refl refl
       (own_agrees h T L b start claim content inactive some proof is))
@@ -117,7 +117,7 @@ module _ (h : HashFunction) (T : Layout) (L : Laws T.shape) (b : Bagging) (proof
       → IsStoreOf h T (store_of h T b proof start claim) content inactive
   made_of_accepted root (inl ok) = made_of_own ok.0.some
   made_of_accepted root (inr ok) = made_of_nothing h T L b proof start claim content inactive ok.0.no_leaves
-      ok.0.no_inactive (ap (λ (p : RangeProof). p.leaves) is.proof_is) (ap (λ (p : RangeProof). p.inactive) is.proof_is)
+      ok.0.no_inactive (ap (λ (p : Proof). p.leaves) is.proof_is) (ap (λ (p : Proof). p.inactive) is.proof_is)
 
 pub stores_true : StoresOfAcceptedProofsAreTrue
 stores_true d h T b proof start claim root sized L wide accepted N grafted same other chunked content inactive chunks
@@ -144,8 +144,8 @@ stores_true d h T b proof start claim root sized L wide accepted N grafted same 
           inactive few peaks (inr ok)) [
             | inr c ↦ inr c
             | inl own ↦
-                let en : proof.leaves ≡ m = ap (λ (p : RangeProof). p.leaves) own.proof_is in
-                let ei : proof.inactive ≡ inactive = ap (λ (p : RangeProof). p.inactive) own.proof_is in
+                let en : proof.leaves ≡ m = ap (λ (p : Proof). p.leaves) own.proof_is in
+                let ei : proof.inactive ≡ inactive = ap (λ (p : Proof). p.inactive) own.proof_is in
                 inl (subst Made en
                 (made_of_nothing h U L b proof start claim content inactive ok.0.no_leaves ok.0.no_inactive en ei))
           ]

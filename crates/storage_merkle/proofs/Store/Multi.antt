@@ -4,7 +4,7 @@ use Rattle.storage_codec.specs.Digests.{HashFunction}
 use Rattle.storage_merkle.specs.Shape.{Laws}
 use Rattle.storage_merkle.specs.Calc.{Site, front, back, node}
 use Rattle.storage_merkle.specs.Trees.{Layout, Content, ungrafted, peaks_of}
-use Rattle.storage_merkle.specs.RangeProofs.{RangeProof, position_of, sites_in}
+use Rattle.storage_merkle.specs.RangeProofs.{Proof, position_of, sites_in}
 use Rattle.storage_merkle.specs.Multi.{untouched, needed_sites, tree_digest, own_multi_proof}
 use Rattle.storage_merkle.specs.Stores.{Store, entry_at, or_else, kept_sites, first_of, location_refusal, found_at, unless_there, needed_refusal, needed_positions, suffix_positions, multi_refusal, store_multi_proof, IsStoreOf, AreTrueAt}
 use Rattle.storage_merkle.proofs.Plan.Sites.{AllSites, IsAlignedNode, aligned_in}
@@ -67,7 +67,7 @@ module _ (h : HashFunction) (T : Layout) (L : Laws T.shape) (store : Store) (con
       subst (λ ps. needed_refusal F store peaks (suffix_positions T.shape store) ps ≡ None) at none in
       let digests = ap (map (λ p. or_else [] (found_at store peaks p))) at
       ∙ all_found F (suffix_positions T.shape store) ss al none' in
-      let O : ℕ → ℕ → RangeProof = λ m i.
+      let O : ℕ → ℕ → Proof = λ m i.
       record { leaves = m; inactive = i; digests = map (tree_digest h T content) (needed_sites T (l ∷ ls) m) } in
       let one : store_multi_proof T.shape store peaks (l ∷ ls) ≡ O n store.inactive =
       ap (λ ds. record { leaves = n; inactive = store.inactive; digests = ds }) digests in

@@ -7,8 +7,8 @@ use Rattle.storage_merkle.specs.declared.merkle.error.Error.{Error}
 use Rattle.storage_merkle.specs.declared.merkle.error.Error.TheVariants.{Empty, RangeOutOfBounds, LocationOverflow, ElementPruned}
 use Rattle.storage_merkle.specs.Shape.{Shape, Laws}
 use Rattle.storage_merkle.specs.Calc.{Site, front, back, node, Calc, given, pair, Values, eval}
-use Rattle.storage_merkle.specs.Trees.{Layout, Content, Peak, node_calc, whole, part, fold_forward, fold_backward, bag, plain}
-use Rattle.storage_merkle.specs.RangeProofs.{RangeProof, apart, leading, not_leading, up_to, trailing, front_given, back_given, sites_of, sites_in, sites_over, sites, front_sites, back_sites, by_position, same_site, fold_digest, own_digest, own_proof}
+use Rattle.storage_merkle.specs.Trees.{Layout, Content, Peak, node_calc, whole_peak, part, fold_forward, fold_backward, bag, plain}
+use Rattle.storage_merkle.specs.RangeProofs.{Proof, apart, leading, not_leading, up_to, trailing, front_given, back_given, sites_of, sites_in, sites_over, sites, front_sites, back_sites, by_position, same_site, fold_digest, own_digest, own_proof}
 use Rattle.storage_merkle.specs.Multi.{tree_digest}
 use Rattle.storage_merkle.specs.Extracted.{nodes_under, nodes_in}
 use Rattle.storage_merkle.specs.Stores.{Store, entry_at, or_else, kept_sites, peak_given, store_values, fore, aft, store_digest, store_proof, first_of, range_refusal, IsStoreOf}
@@ -234,7 +234,7 @@ module _ (h : HashFunction) (T : Layout) (L : Laws T.shape) (store : Store) (con
       ap (λ es. or_else (h []) (entry_at (T.shape.position a k) es)) st.kept_are ∙ ap (or_else (h [])) e
 
   peaks_same : (ps : List Peak) → ((s : Site) → 1 ≤ times s (nodes_in big_cut ps) → 1 ≤ times s kept)
-      → SameAll h (store_values h T store) (plain h content) (map peak_given ps) (map (whole T) ps)
+      → SameAll h (store_values h T store) (plain h content) (map peak_given ps) (map (whole_peak T) ps)
   peaks_same [] f = tt
   peaks_same (p ∷ ps) f =
       let both : (s : Site) → times s (nodes_in big_cut (p ∷ ps)) ≡ times s (nodes_under big_cut p.height p.first)
@@ -245,39 +245,39 @@ module _ (h : HashFunction) (T : Layout) (L : Laws T.shape) (store : Store) (con
       )
 
   front_same : (ls ms : List Peak)
-      → (0 < length ls → store.front_fold ≡ fold_digest h (plain h content) (bag (map (whole T) ls) []))
-      → SameAll h (store_values h T store) (plain h content) (map peak_given ms) (map (whole T) ms)
+      → (0 < length ls → store.front_fold ≡ fold_digest h (plain h content) (bag (map (whole_peak T) ls) []))
+      → SameAll h (store_values h T store) (plain h content) (map peak_given ms) (map (whole_peak T) ms)
       → fold_digest h (store_values h T store) (bag (front_given ls ++ map peak_given ms) [])
-      ≡ fold_digest h (plain h content) (bag (map (whole T) (ls ++ ms)) [])
+      ≡ fold_digest h (plain h content) (bag (map (whole_peak T) (ls ++ ms)) [])
   front_same [] [] f a = refl
-  front_same [] (m ∷ ms) f a = same_forward h (store_values h T store) (plain h content) (peak_given m) (whole T m)
-      (map peak_given ms) (map (whole T) ms) a.0 a.1
+  front_same [] (m ∷ ms) f a = same_forward h (store_values h T store) (plain h content) (peak_given m) (whole_peak T m)
+      (map peak_given ms) (map (whole_peak T) ms) a.0 a.1
   front_same (l ∷ ls) ms f a =
-      let split : fold_forward (whole T l) (map (whole T) (ls ++ ms))
-      ≡ fold_forward (fold_forward (whole T l) (map (whole T) ls)) (map (whole T) ms) =
-      ap (fold_forward (whole T l)) (map-append (whole T) ls ms)
-      ∙ fold_forward-append _ (map (whole T) ls) (map (whole T) ms) in
+      let split : fold_forward (whole_peak T l) (map (whole_peak T) (ls ++ ms))
+      ≡ fold_forward (fold_forward (whole_peak T l) (map (whole_peak T) ls)) (map (whole_peak T) ms) =
+      ap (fold_forward (whole_peak T l)) (map-append (whole_peak T) ls ms)
+      ∙ fold_forward-append _ (map (whole_peak T) ls) (map (whole_peak T) ms) in
       same_forward h (store_values h T store) (plain h content) (given front)
-      (fold_forward (whole T l) (map (whole T) ls)) (map peak_given ms) (map (whole T) ms) (f (omega arith)) a
+      (fold_forward (whole_peak T l) (map (whole_peak T) ls)) (map peak_given ms) (map (whole_peak T) ms) (f (omega arith)) a
       ∙ ap (eval h (plain h content)) (sym split)
 
   back_after : (t u : Calc) (us ts : List Peak) → eval h (store_values h T store) t ≡ eval h (plain h content) u
-      → (0 < length ts → store.back_fold ≡ fold_digest h (plain h content) (bag [] (map (whole T) ts)))
-      → SameAll h (store_values h T store) (plain h content) (map peak_given us) (map (whole T) us)
+      → (0 < length ts → store.back_fold ≡ fold_digest h (plain h content) (bag [] (map (whole_peak T) ts)))
+      → SameAll h (store_values h T store) (plain h content) (map peak_given us) (map (whole_peak T) us)
       → eval h (store_values h T store) (fold_backward t (map peak_given us ++ back_given ts))
-      ≡ eval h (plain h content) (fold_backward u (map (whole T) (us ++ ts)))
+      ≡ eval h (plain h content) (fold_backward u (map (whole_peak T) (us ++ ts)))
   back_after t u [] [] e f a = e
   back_after t u [] (q ∷ ts) e f a = ap₂ (λ m n. h (m ++ n)) e (f (omega arith))
-  back_after t u (p ∷ us) ts e f a = ap₂ (λ m n. h (m ++ n)) e (back_after (peak_given p) (whole T p) us ts a.0 f a.1)
+  back_after t u (p ∷ us) ts e f a = ap₂ (λ m n. h (m ++ n)) e (back_after (peak_given p) (whole_peak T p) us ts a.0 f a.1)
 
   back_same : (us ts : List Peak)
-      → (0 < length ts → store.back_fold ≡ fold_digest h (plain h content) (bag [] (map (whole T) ts)))
-      → SameAll h (store_values h T store) (plain h content) (map peak_given us) (map (whole T) us)
+      → (0 < length ts → store.back_fold ≡ fold_digest h (plain h content) (bag [] (map (whole_peak T) ts)))
+      → SameAll h (store_values h T store) (plain h content) (map peak_given us) (map (whole_peak T) us)
       → fold_digest h (store_values h T store) (bag [] (map peak_given us ++ back_given ts))
-      ≡ fold_digest h (plain h content) (bag [] (map (whole T) (us ++ ts)))
+      ≡ fold_digest h (plain h content) (bag [] (map (whole_peak T) (us ++ ts)))
   back_same [] [] f a = refl
   back_same [] (q ∷ ts) f a = f (omega arith)
-  back_same (p ∷ us) ts f a = back_after (peak_given p) (whole T p) us ts a.0 f a.1
+  back_same (p ∷ us) ts f a = back_after (peak_given p) (whole_peak T p) us ts a.0 f a.1
 
   module _ (low high : ℕ) (from : store.start ≤ low) (some : low < high) (until : high ≤ store.past) where
     abbrev xs : List Peak
@@ -301,7 +301,7 @@ module _ (h : HashFunction) (T : Layout) (L : Laws T.shape) (store : Store) (con
         let all : (s : Site) → 1 ≤ times s (nodes_in big_cut ms) → 1 ≤ times s kept =
         λ s m. omega (arith, lead_in T store.start store.past low high from until ns s, kept_both s) in
         front_same ls ms st.front_is (peaks_same ms all) ∙ ap (λ ps. fold_digest h (plain h content)
-        (bag (map (whole T) ps) [])) (sym (lead_split T store.start store.past low high from until xs))
+        (bag (map (whole_peak T) ps) [])) (sym (lead_split T store.start store.past low high from until xs))
     given_at back l =
         let us = up_to store.past (trailing high ys) in
         let ts = trailing store.past ys in
@@ -311,7 +311,7 @@ module _ (h : HashFunction) (T : Layout) (L : Laws T.shape) (store : Store) (con
         ap (λ qs. us ++ qs) (sym (trail_trail T store.start store.past low high from until ys))
         ∙ up_to-all store.past (trailing high ys) in
         back_same us ts st.back_is (peaks_same us all)
-        ∙ ap (λ ps. fold_digest h (plain h content) (bag [] (map (whole T) ps))) whole_again
+        ∙ ap (λ ps. fold_digest h (plain h content) (bag [] (map (whole_peak T) ps))) whole_again
     given_at (node a k) l =
         let s = node a k in
         let cut = apart low high in
@@ -362,7 +362,7 @@ module _ (h : HashFunction) (T : Layout) (L : Laws T.shape) (store : Store) (con
     pub store_own : store_proof h T store low high ≡ own_proof h T store.bagging content inactive low high
     store_own =
         let b = store.bagging in
-        let F : ℕ → ℕ → RangeProof = λ n i. record {
+        let F : ℕ → ℕ → Proof = λ n i. record {
           leaves = n;
           inactive = i;
           digests = map (own_digest h T b content n i low high) (sites T low high b n i);

@@ -4,18 +4,18 @@ use Rattle.std.proofs.lemmas.Bool.{lt-leb}
 use Rattle.std.proofs.lemmas.List.{map-append, drop_more, drop_all}
 use Rattle.storage_codec.specs.Digests.{HashFunction}
 use Rattle.storage_merkle.specs.Shape.{Shape, Laws}
-use Rattle.storage_merkle.specs.ShapeLaws.{no_peaks}
+use Rattle.storage_merkle.specs.Laws.Shape.{no_peaks}
 use Rattle.storage_merkle.specs.Calc.{Site, front, back, node, Calc, given, Values, eval}
 use Rattle.storage_merkle.specs.declared.merkle.bagging.Bagging.{Bagging}
 use Rattle.storage_merkle.specs.Trees.{Layout, Peak, places, peaks_of, ungrafted, folded, unfolded, fold_backward, bag}
-use Rattle.storage_merkle.specs.RangeProofs.{RangeProof, apart, leading, not_leading, up_to, trailing, front_given, back_given, front_sites, back_sites, sites_in, position_of, by_position, same_site, sites, fold_digest}
-use Rattle.storage_merkle.specs.HashingLaws.{eval-forward}
-use Rattle.storage_merkle.specs.Hashers.{forward_of, folded_onto, joined}
+use Rattle.storage_merkle.specs.RangeProofs.{Proof, apart, leading, not_leading, up_to, trailing, front_given, back_given, front_sites, back_sites, sites_in, position_of, by_position, same_site, sites, fold_digest}
+use Rattle.storage_merkle.specs.Laws.Hashing.{eval-forward}
+use Rattle.storage_merkle.specs.Hashers.{forward_of, folded_onto, prepended}
 use Rattle.storage_merkle.specs.PlanParts.{peaks_by}
 use Rattle.storage_merkle.specs.Rests.{peaks_from, IsPast, AreFolded, AreAfterLeading}
 use Rattle.storage_merkle.specs.Siblings.{sibling_sites}
-use Rattle.storage_merkle.specs.CheckSteps.{front_before, top_sites, right_of, folded_before}
-use Rattle.storage_merkle.specs.Stores.{Store, entry_at, or_else, peak_given, store_values, fore, aft, store_digest, store_proof, kept_at}
+use Rattle.storage_merkle.specs.CheckParts.{front_before, top_sites, right_of, folded_before}
+use Rattle.storage_merkle.specs.Stores.{Store, entry_at, or_else, peak_given, store_values, fore, aft, store_digest, store_proof, stored_at}
 use Rattle.storage_merkle.proofs.Check.Roots.{plain_in, plain_sorted}
 use Rattle.storage_merkle.proofs.Check.Bags.{fold_for, right_of-folded}
 use Rattle.storage_merkle.proofs.Check.Sites.{sites_are}
@@ -36,7 +36,7 @@ module _ (h : HashFunction) (v : Values) where
 
   onto_some : (c : Calc) (cs : List Calc) → folded_onto h (map E (c ∷ cs)) None ≡ Some (E (fold_backward c cs))
   onto_some c [] = refl
-  onto_some c (d ∷ cs) = ap (λ o. Some (joined h (E c) o)) (onto_some d cs)
+  onto_some c (d ∷ cs) = ap (λ o. Some (prepended h (E c) o)) (onto_some d cs)
 
 -- ---- the peaks past a range, where the first of some peaks is passed
 
@@ -73,7 +73,7 @@ module _ (h : HashFunction) (S : Shape) (store : Store) where
 
   -- the digest that is kept of a peak
   abbrev pub kept_of : ℕ → ℕ → List ℕ
-  kept_of a k = kept_at h T store (node a k)
+  kept_of a k = stored_at h T store (node a k)
 
   -- the fold in front of the leaf low
   abbrev pub front_calcs : ℕ → List Calc
@@ -313,6 +313,6 @@ pub proof_is : (h : HashFunction) (S : Shape) (store : Store) (low high n i u w 
     → n ≡ store.leaves → i ≡ store.inactive → u ≡ low → w ≡ high → ds ≡ (store_proof h (ungrafted S) store u w).digests
     → (U : Layout) → U.shape ≡ S → record { leaves = n; inactive = i; digests = ds } ≡ store_proof h U store low high
 proof_is h S store low high n i u w ds en ei eu ew ed U same =
-    let P : ℕ → ℕ → List (List ℕ) → RangeProof = λ m j es. record { leaves = m; inactive = j; digests = es } in
+    let P : ℕ → ℕ → List (List ℕ) → Proof = λ m j es. record { leaves = m; inactive = j; digests = es } in
     ap₂ (λ m j. P m j ds) en ei ∙ ap (P store.leaves store.inactive) (ed
     ∙ ap₂ (λ x y. (store_proof h (ungrafted S) store x y).digests) eu ew) ∙ plain_proof h S U store low high same

@@ -6,11 +6,11 @@ use Rattle.storage_merkle.specs.Shape.{Shape}
 use Rattle.storage_merkle.specs.Calc.{Site, front, back, node, Values}
 use Rattle.storage_merkle.specs.declared.merkle.bagging.Bagging.{Bagging}
 use Rattle.storage_merkle.specs.Trees.{Layout, Content, Peak, peaks_of, ungrafted}
-use Rattle.storage_merkle.specs.RangeProofs.{RangeProof, apart, not_leading, up_to, sites_in, same_site, look_up, sites, check_values, CountsFit}
-use Rattle.storage_merkle.specs.Extracted.{entries, texts}
+use Rattle.storage_merkle.specs.RangeProofs.{Proof, apart, not_leading, up_to, sites_in, same_site, look_up, sites, check_values, CountsFit}
+use Rattle.storage_merkle.specs.Extracted.{entries, by_bytes}
 use Rattle.storage_merkle.specs.Rests.{peaks_from, AreFolded, AreAfterLeading}
 use Rattle.storage_merkle.specs.Siblings.{sibling_sites}
-use Rattle.storage_merkle.specs.CheckSteps.{front_before, top_sites}
+use Rattle.storage_merkle.specs.CheckParts.{front_before, top_sites}
 use Rattle.storage_merkle.specs.StoreParts.{nodes_among, back_among}
 use Rattle.storage_merkle.specs.Stores.{or_else}
 use Rattle.storage_merkle.proofs.RangeSound.{folded-all}
@@ -36,7 +36,7 @@ module _ (S : Shape) (digest : Site → List ℕ) (later : List (List ℕ)) wher
   reads_all ds old ss e = record { there = e; kept = refl; fold_is = refl }
 
   module _ {D : Type 0} (text : D → List ℕ) (ds : List D) (now : List (ℕ × D)) (all : List (ℕ × List ℕ))
-      (ss : List Site) (fold : Option (List ℕ)) (r : Reads (map text ds) (texts text now) all ss fold) where
+      (ss : List Site) (fold : Option (List ℕ)) (r : Reads (map text ds) (by_bytes text now) all ss fold) where
     next_is : (s : Site) (ts : List Site) (x : D) → ss ≡ s ∷ ts → x ≡ get_or ds 0 x → text x ≡ digest s
     next_is s ts x es ex = go ds (r.there ∙ ap (λ us. map digest us ++ later) es) ex
       where
@@ -46,7 +46,7 @@ module _ (S : Shape) (digest : Site → List ℕ) (later : List (List ℕ)) wher
 
     pub reads_peak : (a k p : ℕ) (ts : List Site) (es : List D) (new : List (ℕ × D)) (x : D) → ss ≡ node a k ∷ ts
         → p ≡ S.position a k → es ≡ drop 1 ds → x ≡ get_or ds 0 x → new ≡ now ++ (p, x) ∷ []
-        → Reads (map text es) (texts text new) all ts fold
+        → Reads (map text es) (by_bytes text new) all ts fold
     reads_peak a k p ts es new x eq ep ed ex en =
         let f : ℕ × D → ℕ × List ℕ = λ e. (e.0, text e.1) in
         let here : text x ≡ digest (node a k) = next_is (node a k) ts x eq ex in
@@ -55,28 +55,28 @@ module _ (S : Shape) (digest : Site → List ℕ) (later : List (List ℕ)) wher
               ∙ ap (drop 1) (r.there ∙ ap (λ us. map digest us ++ later) eq);
           kept = ap (λ xs. map f xs ++ peak_entries ts) en
               ∙ ap (λ xs. xs ++ peak_entries ts) (map-append f now ((p, x) ∷ []))
-              ∙ append_assoc (texts text now) ((p, text x) ∷ []) (peak_entries ts)
-              ∙ ap₂ (λ q y. texts text now ++ (q, y) ∷ peak_entries ts) ep here
-              ∙ ap (λ us. texts text now ++ peak_entries us) (sym eq)
+              ∙ append_assoc (by_bytes text now) ((p, text x) ∷ []) (peak_entries ts)
+              ∙ ap₂ (λ q y. by_bytes text now ++ (q, y) ∷ peak_entries ts) ep here
+              ∙ ap (λ us. by_bytes text now ++ peak_entries us) (sym eq)
               ∙ r.kept;
           fold_is = ap (back_among digest) (sym eq) ∙ r.fold_is;
         }
 
     pub reads_other : (ts : List Site) (es : List D) (new : List (ℕ × D)) → ss ≡ ts → es ≡ ds → new ≡ now
-        → Reads (map text es) (texts text new) all ts fold
-    reads_other ts es new eq ed en = subst (λ us. Reads (map text es) (texts text new) all us fold) eq
-        (subst (λ us. Reads (map text us) (texts text new) all ss fold) (sym ed)
-        (subst (λ us. Reads (map text ds) (texts text us) all ss fold) (sym en) r))
+        → Reads (map text es) (by_bytes text new) all ts fold
+    reads_other ts es new eq ed en = subst (λ us. Reads (map text es) (by_bytes text new) all us fold) eq
+        (subst (λ us. Reads (map text us) (by_bytes text new) all ss fold) (sym ed)
+        (subst (λ us. Reads (map text ds) (by_bytes text us) all ss fold) (sym en) r))
 
-    pub reads_fold : (x : D) → ss ≡ back ∷ [] → x ≡ get_or ds 0 x → (texts text now ≡ all) × (Some (text x) ≡ fold)
+    pub reads_fold : (x : D) → ss ≡ back ∷ [] → x ≡ get_or ds 0 x → (by_bytes text now ≡ all) × (Some (text x) ≡ fold)
     reads_fold x eq ex = (
-      sym (append-nil (texts text now)) ∙ ap (λ us. texts text now ++ peak_entries us) (sym eq) ∙ r.kept,
+      sym (append-nil (by_bytes text now)) ∙ ap (λ us. by_bytes text now ++ peak_entries us) (sym eq) ∙ r.kept,
       ap (λ y. Some y) (next_is back [] x eq ex) ∙ ap (back_among digest) (sym eq) ∙ r.fold_is,
     )
 
-    pub reads_end : ss ≡ [] → (texts text now ≡ all) × (None ≡ fold)
+    pub reads_end : ss ≡ [] → (by_bytes text now ≡ all) × (None ≡ fold)
     reads_end eq = (
-      sym (append-nil (texts text now)) ∙ ap (λ us. texts text now ++ peak_entries us) (sym eq) ∙ r.kept,
+      sym (append-nil (by_bytes text now)) ∙ ap (λ us. by_bytes text now ++ peak_entries us) (sym eq) ∙ r.kept,
       ap (back_among digest) (sym eq) ∙ r.fold_is,
     )
 
@@ -155,7 +155,7 @@ no_back_before (suc a) = refl
 
 module _ (S : Shape) (h : HashFunction) (b : Bagging) (n i low high : ℕ) {D : Type 0} (text : D → List ℕ)
     (items : List D) (f a r g : ℕ) (parts : AreFolded S b i n f) (after : AreAfterLeading S low 0 n f a r g) where
-  abbrev proof : RangeProof
+  abbrev proof : Proof
   proof = record { leaves = n; inactive = i; digests = map text items }
 
   abbrev tops : List Site

@@ -13,7 +13,7 @@ use Rattle.storage_merkle.specs.Trees.{Peak, places, peaks_of, ungrafted, unfold
 use Rattle.storage_merkle.specs.RangeProofs.{trailing, position_of}
 use Rattle.storage_merkle.specs.Rests.{peaks_from}
 use Rattle.storage_merkle.specs.Multi.{Ascend, needed_sites}
-use Rattle.storage_merkle.specs.Extracted.{texts}
+use Rattle.storage_merkle.specs.Extracted.{by_bytes}
 use Rattle.storage_merkle.specs.Stores.{Store, entry_at, or_else, first_of, location_refusal, found_at, unless_there, needed_refusal, multi_refusal, needed_positions, suffix_positions, is_among}
 use Rattle.storage_merkle.proofs.Siblings.{positions_sorted}
 
@@ -86,23 +86,23 @@ ascends F n first (l ∷ ls) e =
 
 module _ {D : Type 0} (text : D → List ℕ) (p : ℕ) where
   pub entry_hit : (es : List (ℕ × D)) (i : ℕ) (e : ℕ × D) → i < length es → e ≡ get_or es i e → e.0 ≡ p
-      → entry_at p (texts text (drop i es)) ≡ Some (text e.1)
+      → entry_at p (by_bytes text (drop i es)) ≡ Some (text e.1)
   entry_hit es i e within at same =
-      ap (λ xs. entry_at p (texts text xs)) (drop_more es i e within ∙ ap (λ x. x ∷ drop (i + 1) es) (sym at))
+      ap (λ xs. entry_at p (by_bytes text xs)) (drop_more es i e within ∙ ap (λ x. x ∷ drop (i + 1) es) (sym at))
       ∙ rw (eq-eqb e.0 p same) refl
 
   pub entry_later : (es : List (ℕ × D)) (i : ℕ) (e : ℕ × D) → i < length es → e ≡ get_or es i e → e.0 ≢ p
-      → entry_at p (texts text (drop i es)) ≡ entry_at p (texts text (drop (i + 1) es))
+      → entry_at p (by_bytes text (drop i es)) ≡ entry_at p (by_bytes text (drop (i + 1) es))
   entry_later es i e within at other =
-      ap (λ xs. entry_at p (texts text xs)) (drop_more es i e within ∙ ap (λ x. x ∷ drop (i + 1) es) (sym at))
+      ap (λ xs. entry_at p (by_bytes text xs)) (drop_more es i e within ∙ ap (λ x. x ∷ drop (i + 1) es) (sym at))
       ∙ rw (ne_eqb e.0 p other) refl
 
-  pub entry_end : (es : List (ℕ × D)) (i : ℕ) → length es ≤ i → entry_at p (texts text (drop i es)) ≡ None
-  entry_end es i l = ap (λ xs. entry_at p (texts text xs)) (drop_all i es l)
+  pub entry_end : (es : List (ℕ × D)) (i : ℕ) → length es ≤ i → entry_at p (by_bytes text (drop i es)) ≡ None
+  entry_end es i l = ap (λ xs. entry_at p (by_bytes text xs)) (drop_all i es l)
 
   -- past those below p
   pub entry_found : (es : List (ℕ × D)) (i : ℕ) (e : ℕ × D) → ((k : ℕ) (d : ℕ × D) → k < i → (get_or es k d).0 < p)
-      → i < length es → e ≡ get_or es i e → e.0 ≡ p → entry_at p (texts text es) ≡ Some (text e.1)
+      → i < length es → e ≡ get_or es i e → e.0 ≡ p → entry_at p (by_bytes text es) ≡ Some (text e.1)
   entry_found [] i e below within at same = absurd (omega arith)
   entry_found (x ∷ es) zero e below within at same = let same' : x.0 ≡ p = sym (ap (λ y. y.0) at) ∙ same in
       rw (eq-eqb x.0 p same') (ap (λ y. Some (text y.1)) (sym at))
@@ -112,7 +112,7 @@ module _ {D : Type 0} (text : D → List ℕ) (p : ℕ) where
       rw (ne_eqb x.0 p ne) (entry_found es i e (λ k d l. below (suc k) d (omega arith)) (omega arith) at same)
 
   pub entry_none : (es : List (ℕ × D)) → ((k : ℕ) (d : ℕ × D) → k < length es → (get_or es k d).0 ≢ p)
-      → entry_at p (texts text es) ≡ None
+      → entry_at p (by_bytes text es) ≡ None
   entry_none [] f = refl
   entry_none (x ∷ es) f = rw (ne_eqb x.0 p (f 0 x (omega arith))) (entry_none es (λ k d l. f (suc k) d (omega arith)))
 
@@ -239,13 +239,13 @@ suffix_sorted S store found ps e p up =
 module _ {D : Type 0} (text : D → List ℕ) (p : ℕ) (es : List (ℕ × D)) (i : ℕ)
     (parts : IsPartitionPoint (λ (e : ℕ × D). ltb e.0 p ≡ true) (λ e. ltb e.0 p ≡ false) es i) where
   pub kept_found : (e : ℕ × D) → i < length es → e ≡ get_or es i e → e.0 ≡ p
-      → entry_at p (texts text es) ≡ Some (text e.1)
+      → entry_at p (by_bytes text es) ≡ Some (text e.1)
   kept_found e within at same =
       entry_found text p es i e (λ k d l. ltb-true (get_or es k d).0 p (parts.0 k d (omega arith) l)) within at same
 
   -- the entries from i on are not below p, and ascend
   pub kept_none : IsNonDecreasing (map (λ e. e.0) es) → (i < length es → (d : ℕ × D) → (get_or es i d).0 ≢ p)
-      → entry_at p (texts text es) ≡ None
+      → entry_at p (by_bytes text es) ≡ None
   kept_none up other = entry_none text p es (λ k d l. elim (cases_lt k i) [
     | inl before ↦ let less : (get_or es k d).0 < p =
         ltb-true (get_or es k d).0 p (parts.0 k d (omega arith) before) in omega arith

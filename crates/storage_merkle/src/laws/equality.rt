@@ -3,7 +3,7 @@
 ghost use Rattle.std.specs.Prelude.{◌==◌, ◌&&◌};
 ghost use Rattle.std.specs.Cmp.Lexicographic.{pointwise};
 ghost use Rattle.storage_merkle.specs.Equality.{AnswersAs, EqualAsSeen};
-ghost use Rattle.storage_merkle.specs.Held.{range_of};
+ghost use Rattle.storage_merkle.specs.Held.{proof_of};
 
 use crate::merkle::Proof;
 use storage_codec::digest::Digest;
@@ -14,5 +14,5 @@ pub fn equal_proofs<F, D: Digest>()
     ensures parts { AnswersAs ⟦<Proof<F, D> as PartialEq>⟧.eq (λ x y. x.leaves == y.leaves
         && x.inactive_peaks == y.inactive_peaks
         && pointwise D.PartialEq.eq x.digests.items y.digests.items) }
-    ensures seen { EqualAsSeen ⟦<Proof<F, D> as PartialEq>⟧.eq (range_of D.text) }
+    ensures seen { EqualAsSeen ⟦<Proof<F, D> as PartialEq>⟧.eq (proof_of D.text) }
 {}

@@ -12,14 +12,14 @@ use crate::merkle::{Family, Graftable};
 
 /// The heights of the peaks of an MMR over `n` leaves are the places of the digits 1 of `n` in binary, read from any place
 /// past the highest on.
-#[tactic(auto, using(crate::specs::MmrSteps::mmr_peaks_digits))]
+#[tactic(auto, using(crate::specs::Laws::MmrSteps::mmr_peaks_digits))]
 pub fn mmr_peaks_are_digits()
     ensures { (n i : ℕ) → n < 2 ^ i → mmr.peaks n ≡ mmr_digits i n }
 {}
 
 /// The peaks of an MMB over `n` leaves are as many as the places below the highest binary digit of `n + 1`: each as high as
 /// its place plus the digit there.
-#[tactic(auto, using(crate::specs::MmbSteps::mmb_peaks_digits))]
+#[tactic(auto, using(crate::specs::Laws::MmbSteps::mmb_peaks_digits))]
 pub fn mmb_peaks_are_digits()
     ensures { (n m : ℕ) → 2 ^ m ≤ n + 1 → n + 1 < 2 * 2 ^ m → mmb.peaks n ≡ mmb_digits m (n + 1) }
 {}

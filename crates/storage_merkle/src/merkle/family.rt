@@ -3,8 +3,8 @@
 ghost use Rattle.std.specs.Prelude.{◌≡◌, ℕ, ◌+◌, ◌-◌, ◌*◌, ◌%◌, ◌^◌, ◌<◌, ◌≤◌, ◌∷◌, ◌++◌, Bool, false, List, length, map, option_map, IfOk, OnOk, OnErr};
 ghost use Rattle.storage_codec.specs.Codec.{Gives, front_at};
 ghost use Rattle.storage_codec.specs.Parts.{AppendsStart, IsEnding};
-ghost use Rattle.storage_merkle.specs.Wire.{slot_text, slot_at, IsSlot};
-ghost use Rattle.storage_merkle.specs.Shape.{Shape, Laws, size};
+ghost use Rattle.storage_merkle.specs.Wire.{slot_text, slot_at, IsPendingSlot};
+ghost use Rattle.storage_merkle.specs.Shape.{Shape, Laws, size, max_leaves};
 ghost use Rattle.storage_merkle.specs.Inactive.{IsExact, IsAligned};
 ghost use Rattle.storage_merkle.specs.Nodes.{IsNode, AreGraftable, CoversSame, placed};
 ghost use Rattle.storage_merkle.specs.Pace.{ChunksKeepPace};
@@ -38,7 +38,7 @@ pub trait Family: Copy {
     /// leaves that are left, `leaves` less 2 to the power of that height.
     fn first_peak(leaves: u64) -> u32
         requires some { 0 < leaves }
-        requires few { leaves ≤ 2 ^ 62 }
+        requires few { leaves ≤ max_leaves }
         ensures first { shape.peaks leaves ≡ result ∷ shape.peaks (leaves - 2 ^ result) }
         ensures within { 2 ^ result ≤ leaves }
         ensures small { result ≤ 62 };
@@ -56,7 +56,7 @@ pub trait Family: Copy {
 
     /// The `offset`-th node, from 0, of those that are added with leaf number `leaves`, as (first leaf, height).
     fn node_after(leaves: u64, offset: u64) -> (u64, u32)
-        requires few { leaves ≤ 2 ^ 62 }
+        requires few { leaves ≤ max_leaves }
         requires within { size shape leaves + offset < size shape (leaves + 1) }
         ensures { IsNode shape (size shape leaves + offset) result.0 result.1 };
 
@@ -64,7 +64,7 @@ pub trait Family: Copy {
     final fn pos_to_height(position: Position<Self>) -> u32
     where
         Self: Sized,
-        requires { position ≤ size shape (2 ^ 62) }
+        requires { position ≤ size shape max_leaves }
         ensures node { (first : ℕ) × IsNode shape position first result }
         ensures small { result ≤ 62 }
     {
@@ -77,7 +77,7 @@ pub trait Family: Copy {
     final fn peaks(nodes: Position<Self>) -> Peaks<Self>
     where
         Self: Sized,
-        requires { (leaves : ℕ) × (leaves ≤ 2 ^ 62) × (size shape leaves ≡ nodes) }
+        requires { (leaves : ℕ) × (leaves ≤ max_leaves) × (size shape leaves ≡ nodes) }
         ensures { (leaves : ℕ) → size shape leaves ≡ nodes
             → result ≡ placed shape 0 (shape.peaks leaves) }
     {
@@ -90,7 +90,7 @@ pub trait Family: Copy {
     where
         Self: Sized,
         requires inner { 1 ≤ height }
-        requires valid { position ≤ size shape (2 ^ 62) }
+        requires valid { position ≤ size shape max_leaves }
         requires own { (first : ℕ) × IsNode shape position first height }
         ensures { (first : ℕ) → IsNode shape position first height
             → IsNode shape result.0 first (height - 1)
@@ -107,7 +107,7 @@ pub trait Family: Copy {
     final fn nodes_to_pin(location: Location<Self>) -> NodesToPin<Self>
     where
         Self: Sized,
-        requires { location ≤ 2 ^ 62 }
+        requires { location ≤ max_leaves }
         ensures { result ≡ map (λ p. p.0) (placed shape 0 (shape.peaks location)) }
     {
         NodesToPin::of(Peaks::over(location.as_u64()))
@@ -188,7 +188,7 @@ pub trait Graftable: Countable {
     /// # Errors
     ///
     /// `EndOfBuffer` where bytes are missing; `InvalidBool` where the first one is neither 0 nor 1; `Memory`.
-    #[tactic(auto, using(storage_codec::specs::PartsLaws::ends_then))]
+    #[tactic(auto, using(storage_codec::specs::Laws::Parts::ends_then))]
     final fn read_pending<D: Digest, B: Buf>(
         alloc: Global,
         buf: &mut B,
@@ -198,7 +198,7 @@ pub trait Graftable: Countable {
         ensures gives { Gives (option_map D.text) result (B.unread buf.new)
             (slot_at Self.has_pending (front_at D.size) (B.unread buf.old)) }
         ensures ends { IsEnding (B.unread buf.old) (B.unread buf.new) }
-        ensures none { IfOk result (IsSlot Self.has_pending) }
+        ensures none { IfOk result (IsPendingSlot Self.has_pending) }
     {
         if !Self::has_pending() || !bool::read_cfg(alloc, buf, &())? {
             return Ok(None);
@@ -232,8 +232,8 @@ pub trait Graftable: Countable {
 /// How many leaves the largest tree with at most `nodes` nodes has. `nodes` is at most the number of nodes of the tree
 /// over [`MAX_LEAVES`](crate::merkle::MAX_LEAVES) leaves. Takes no memory.
 pub fn leaves_within<F: Family>(nodes: u64) -> u64
-    requires { nodes ≤ size F.shape (2 ^ 62) }
-    ensures few { result ≤ 2 ^ 62 }
+    requires { nodes ≤ size F.shape max_leaves }
+    ensures few { result ≤ max_leaves }
     ensures low { size F.shape result ≤ nodes }
     ensures high { nodes < size F.shape (result + 1) }
 {
@@ -253,11 +253,11 @@ pub fn leaves_within<F: Family>(nodes: u64) -> u64
 
 /// The node at the valid position `position`, as (first leaf, height). Takes no memory.
 pub fn node_at<F: Family>(position: u64) -> (u64, u32)
-    requires { position ≤ size F.shape (2 ^ 62) }
+    requires { position ≤ size F.shape max_leaves }
     ensures node { IsNode F.shape position result.0 result.1 }
     ensures small { result.1 ≤ 62 }
-    ensures few { result.0 + 2 ^ result.1 ≤ 2 ^ 62 + 1 }
-    ensures birth { F.shape.birth result.0 result.1 ≤ 2 ^ 62 + 1 }
+    ensures few { result.0 + 2 ^ result.1 ≤ max_leaves + 1 }
+    ensures birth { F.shape.birth result.0 result.1 ≤ max_leaves + 1 }
 {
     let leaves = leaves_within::<F>(position);
     F::node_after(leaves, position - F::nodes_over(leaves))
@@ -282,7 +282,7 @@ pub fn graftable_chunks<F: Family>(leaves: u64, height: u32) -> u64
 /// operations, where a chunk is over `2^height` operations. The node at `position` has at least height `height`.
 pub fn ops_to_grafted_pos<F: Family>(position: Position<F>, height: u32) -> Position<F>
     requires low { 1 ≤ height }
-    requires valid { position ≤ size F.shape (2 ^ 62) }
+    requires valid { position ≤ size F.shape max_leaves }
     requires above { (a k : ℕ) → IsNode F.shape position a k → height ≤ k }
     ensures { CoversSame F.shape height result position }
 {
@@ -294,8 +294,8 @@ pub fn ops_to_grafted_pos<F: Family>(position: Position<F>, height: u32) -> Posi
 /// over chunks, where a chunk is over `2^height` operations.
 pub fn grafted_to_ops_pos<F: Family>(position: Position<F>, height: u32) -> Position<F>
     requires low { 1 ≤ height }
-    requires valid { position ≤ size F.shape (2 ^ 62) }
-    requires fits { (p : ℕ) → CoversSame F.shape height position p → p ≤ size F.shape (2 ^ 62) }
+    requires valid { position ≤ size F.shape max_leaves }
+    requires fits { (p : ℕ) → CoversSame F.shape height position p → p ≤ size F.shape max_leaves }
     ensures { CoversSame F.shape height position result }
 {
     let (first, own) = node_at::<F>(position.as_u64());
@@ -305,8 +305,8 @@ pub fn grafted_to_ops_pos<F: Family>(position: Position<F>, height: u32) -> Posi
 /// `position` itself: [`ops_to_grafted_pos`] undoes [`grafted_to_ops_pos`].
 pub fn up_and_down<F: Family>(position: Position<F>, height: u32) -> Position<F>
     requires low { 1 ≤ height }
-    requires valid { position ≤ size F.shape (2 ^ 62) }
-    requires fits { (p : ℕ) → CoversSame F.shape height position p → p ≤ size F.shape (2 ^ 62) }
+    requires valid { position ≤ size F.shape max_leaves }
+    requires fits { (p : ℕ) → CoversSame F.shape height position p → p ≤ size F.shape max_leaves }
     ensures { result ≡ position }
 {
     ops_to_grafted_pos::<F>(grafted_to_ops_pos::<F>(position, height), height)
@@ -314,7 +314,7 @@ pub fn up_and_down<F: Family>(position: Position<F>, height: u32) -> Position<F>
 
 /// How many of the leading peaks of the tree over `leaves` leaves end at or before the leaf `floor`.
 pub fn exact_inactive<F: Family>(leaves: u64, floor: u64) -> usize
-    requires { leaves ≤ 2 ^ 62 }
+    requires { leaves ≤ max_leaves }
     ensures { IsExact F.shape leaves floor result }
 {
     aligned_inactive::<F>(leaves, floor, 0)
@@ -323,7 +323,7 @@ pub fn exact_inactive<F: Family>(leaves: u64, floor: u64) -> usize
 /// How many leading peaks of the tree over `leaves` leaves end at or before the leaf `floor`, up to the last of them that
 /// ends on a multiple of `2^height`.
 pub fn aligned_inactive<F: Family>(leaves: u64, floor: u64, height: u32) -> usize
-    requires few { leaves ≤ 2 ^ 62 }
+    requires few { leaves ≤ max_leaves }
     requires high { height ≤ 62 }
     ensures { IsAligned F.shape leaves floor height result }
 {

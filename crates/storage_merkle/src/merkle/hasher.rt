@@ -8,7 +8,7 @@ ghost use Rattle.storage_merkle.specs.Nodes.{IsNode};
 ghost use Rattle.storage_merkle.specs.Calc.{be8};
 ghost use Rattle.storage_merkle.specs.Trees.{Layout, ungrafted, root_head};
 ghost use Rattle.storage_merkle.specs.Hashing.{join_digest, bagged, bagged_peaks, root_of};
-ghost use Rattle.storage_merkle.specs.Hashers.{or_nothing, appended, joined, folded_onto, forward_of};
+ghost use Rattle.storage_merkle.specs.Hashers.{or_nothing, appended, prepended, folded_onto, forward_of};
 ghost use Rattle.storage_merkle.specs.declared.merkle.bagging.Bagging.{Bagging};
 
 use crate::merkle::{Bagging, Family, Location, Position};
@@ -224,7 +224,7 @@ pub(crate) fn join<F: Family, H: Hasher<F>>(
     onto: Option<H::Digest>,
 ) -> H::Digest
     ensures { H.Digest.text result
-        ≡ joined H.hash_of (H.Digest.text item.now) (option_map H.Digest.text onto) }
+        ≡ prepended H.hash_of (H.Digest.text item.now) (option_map H.Digest.text onto) }
 {
     match onto {
         None => *item,

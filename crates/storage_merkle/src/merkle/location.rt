@@ -5,7 +5,8 @@ ghost use Rattle.std.specs.Fmt.{decimal, styled_decimal};
 ghost use Rattle.storage_codec.specs.Codec.{Gives};
 ghost use Rattle.storage_codec.specs.Parts.{IsEnding, varint_text};
 ghost use Rattle.storage_merkle.specs.Wire.{location_at};
-ghost use Rattle.storage_merkle.specs.WireLaws.{location_again, location_back};
+ghost use Rattle.storage_merkle.specs.Laws.Wire.{location_again, location_back};
+ghost use Rattle.storage_merkle.specs.Shape.{max_leaves};
 
 use crate::merkle::MAX_LEAVES;
 use std::alloc::Global;
@@ -52,7 +53,7 @@ impl<F> Location<F> {
 
     /// Whether it is at most [`MAX_LEAVES`], so that, as a number of leaves, it is that of some tree.
     pub fn is_valid(self) -> bool
-        ensures { IsTrue result ↔ (self ≤ 2 ^ 62) }
+        ensures { IsTrue result ↔ (self ≤ max_leaves) }
     {
         self.value <= MAX_LEAVES
     }
@@ -106,7 +107,7 @@ impl<F> Read for Location<F> {
 
     ghost view = { λ l. l };
 
-    ghost admits = { λ _ l. l ≤ 2 ^ 62 };
+    ghost admits = { λ _ l. l ≤ max_leaves };
 
     ghost parse = { λ _. location_at };
 

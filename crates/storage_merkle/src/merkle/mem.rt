@@ -1,10 +1,10 @@
 //! A tree that is kept in memory.
 
-ghost use Rattle.std.specs.Prelude.{◌≡◌, ℕ, ◌+◌, ◌^◌, ◌<◌, ◌≤◌, ◌∷◌, ◌++◌, [], ◌⊎◌, List, map, max, take, length, slice_index, All, IfOk, OnOk, OnErr, IfErr, MatchOption};
+ghost use Rattle.std.specs.Prelude.{◌≡◌, ℕ, ◌+◌, ◌<◌, ◌≤◌, ◌∷◌, ◌++◌, [], ◌⊎◌, List, map, max, take, length, slice_index, All, IfOk, OnOk, OnErr, IfErr, MatchOption};
 ghost use Rattle.storage_merkle.specs.Calc.{be8};
 ghost use Rattle.storage_merkle.specs.Hashing.{node_over, peak_digests, root_of};
-ghost use Rattle.storage_merkle.specs.Kept.{NodesOver, StandsBut, StandsFor, IsFirstAway, IsWhole, at_peaks, kept_at, pins, updated};
-ghost use Rattle.storage_merkle.specs.Shape.{size};
+ghost use Rattle.storage_merkle.specs.Kept.{NodesOver, StandsBut, StandsFor, IsFirstAway, IsWhole, at_peaks, kept_at, pins, list_updated};
+ghost use Rattle.storage_merkle.specs.Shape.{size, max_leaves};
 
 mod as_storage;
 mod nodes;
@@ -78,10 +78,10 @@ impl<F: Family, D: Digest> Mem<F, D> {
             ≡ boundary → map D.text (take (length (F.shape.peaks boundary)) pinned.now)
             ≡ at_peaks (N list) 0 (F.shape.peaks boundary) → StandsFor D.text F.shape N m list) }
         ensures fits { IfOk result (λ _.
-            (boundary ≤ 2 ^ 62) × (length (F.shape.peaks boundary) ≤ length pinned.now)) }
+            (boundary ≤ max_leaves) × (length (F.shape.peaks boundary) ≤ length pinned.now)) }
         ensures why { IfErr result (λ e.
-            ((2 ^ 62 < boundary) × (e ≡ Error.LocationOverflow boundary))
-            ⊎ ((boundary ≤ 2 ^ 62) × (((length pinned.now < length (F.shape.peaks boundary))
+            ((max_leaves < boundary) × (e ≡ Error.LocationOverflow boundary))
+            ⊎ ((boundary ≤ max_leaves) × (((length pinned.now < length (F.shape.peaks boundary))
             × (e ≡ Error.MissingNode (slice_index (pins F.shape boundary) (length pinned.now))))
             ⊎ ((length (F.shape.peaks boundary) ≤ length pinned.now) × (e ≡ Error.Memory))))) }
     {
@@ -185,7 +185,7 @@ impl<F: Family, D: Digest> Mem<F, D> {
         hasher: &H,
         element: &[u8],
     ) -> Result<(), Error<F>>
-        requires { (p : ℕ) → self.old.leaves < 2 ^ 62
+        requires { (p : ℕ) → self.old.leaves < max_leaves
             → size F.shape self.old.leaves ≤ p
             → p < size F.shape (self.old.leaves + 1)
             → H.takes hasher.now p }
@@ -195,11 +195,11 @@ impl<F: Family, D: Digest> Mem<F, D> {
             self.new (list ++ H.hash_of (be8 (size F.shape self.old.leaves) ++ element.now) ∷ [])) }
         ensures place { OnOk result ((self.new.leaves ≡ self.old.leaves + 1)
             × (self.new.boundary ≡ self.old.boundary) × (self.new.pinned ≡ self.old.pinned)) }
-        ensures fits { OnOk result (self.old.leaves < 2 ^ 62) }
+        ensures fits { OnOk result (self.old.leaves < max_leaves) }
         ensures same { OnErr result (self.new ≡ self.old) }
         ensures why { IfErr result (λ e.
-            ((self.old.leaves ≡ 2 ^ 62) × (e ≡ Error.LocationOverflow self.old.leaves))
-            ⊎ ((self.old.leaves < 2 ^ 62) × (e ≡ Error.Memory))) }
+            ((self.old.leaves ≡ max_leaves) × (e ≡ Error.LocationOverflow self.old.leaves))
+            ⊎ ((self.old.leaves < max_leaves) × (e ≡ Error.Memory))) }
     {
         if self.leaves >= MAX_LEAVES {
             return Err(Error::LocationOverflow(Location::new(self.leaves)));
@@ -236,11 +236,11 @@ impl<F: Family, D: Digest> Mem<F, D> {
         ensures written { let N = node_over H.hash_of (H.layout hasher.now) (H.chunk hasher.now) in
             OnOk result ((list : List (List ℕ)) (dirty : List ℕ) → StandsBut D.text F.shape N
             (map (λ u. u.0) updates.now ++ dirty) self.old list → StandsBut D.text F.shape N dirty
-            self.new (updated list (map (λ u. (u.0, D.text u.1)) updates.now))) }
+            self.new (list_updated list (map (λ u. (u.0, D.text u.1)) updates.now))) }
         ensures stands { let N = node_over H.hash_of (H.layout hasher.now) (H.chunk hasher.now) in
             OnOk result ((list : List (List ℕ)) → StandsFor D.text F.shape N self.old list
             → StandsFor D.text F.shape N self.new
-            (updated list (map (λ u. (u.0, D.text u.1)) updates.now))) }
+            (list_updated list (map (λ u. (u.0, D.text u.1)) updates.now))) }
         ensures place { OnOk result ((self.new.leaves ≡ self.old.leaves)
             × (self.new.boundary ≡ self.old.boundary) × (self.new.pinned ≡ self.old.pinned)) }
         ensures fits { OnOk result
@@ -337,7 +337,7 @@ fn first_away<F: Family, D: Digest>(
 /// How many peaks there are over the leaves below `boundary`; or, where they are more than `given`, the position of peak
 /// number `given`, counted from 0.
 fn needed<F: Family>(boundary: Location<F>, given: usize) -> Result<usize, Position<F>>
-    requires { boundary ≤ 2 ^ 62 }
+    requires { boundary ≤ max_leaves }
     ensures count { IfOk result (λ n. (n ≡ length (F.shape.peaks boundary)) × (n ≤ given)) }
     ensures missing { IfErr result (λ p. (given < length (F.shape.peaks boundary))
         × (p ≡ slice_index (pins F.shape boundary) given)) }

@@ -4,9 +4,9 @@ ghost use Rattle.std.specs.Prelude.{◌≡◌, ◌+◌, ◌-◌, ◌*◌, ◌%�
 ghost use Rattle.std.proofs.lemmas.Bool.{true≢false};
 ghost use Rattle.storage_merkle.specs.Shape.{Shape, Laws, size};
 ghost use Rattle.storage_merkle.specs.Mmb.{mmb};
-ghost use Rattle.storage_merkle.specs.MmbLaws.{mmb_laws};
+ghost use Rattle.storage_merkle.specs.Laws.Mmb.{mmb_laws};
 ghost use Rattle.storage_merkle.specs.Nodes.{IsNode};
-ghost use Rattle.storage_merkle.specs.PaceLaws.{mmb_keeps_pace};
+ghost use Rattle.storage_merkle.specs.Laws.Pace.{mmb_keeps_pace};
 
 use crate::merkle::family::power;
 

@@ -3,9 +3,9 @@
 ghost use Rattle.std.specs.Prelude.{◌≡◌, ◌+◌, ◌-◌, ◌*◌, ◌%◌, ◌^◌, ◌<◌, ◌≤◌, ◌∷◌, false, refl};
 ghost use Rattle.storage_merkle.specs.Shape.{Shape, Laws, size};
 ghost use Rattle.storage_merkle.specs.Mmr.{mmr};
-ghost use Rattle.storage_merkle.specs.MmrLaws.{mmr_laws};
+ghost use Rattle.storage_merkle.specs.Laws.Mmr.{mmr_laws};
 ghost use Rattle.storage_merkle.specs.Nodes.{IsNode};
-ghost use Rattle.storage_merkle.specs.PaceLaws.{mmr_keeps_pace};
+ghost use Rattle.storage_merkle.specs.Laws.Pace.{mmr_keeps_pace};
 
 use crate::merkle::family::power;
 

@@ -2,11 +2,11 @@
 
 ghost use Rattle.std.specs.Prelude.{◌≡◌, ℕ, ◌+◌, ◌-◌, ◌%◌, ◌^◌, ◌<◌, ◌≤◌, ◌++◌, List, length, map, option_map, IfOk, OnOk, Contains};
 ghost use Rattle.storage_merkle.specs.Calc.{Site, node, eval};
-ghost use Rattle.storage_merkle.specs.CheckSteps.{Present, Serves};
+ghost use Rattle.storage_merkle.specs.CheckParts.{Present, Serves};
 ghost use Rattle.storage_merkle.specs.Hashers.{TakesTree};
-ghost use Rattle.storage_merkle.specs.Held.{range_of};
+ghost use Rattle.storage_merkle.specs.Held.{proof_of};
 ghost use Rattle.storage_merkle.specs.Multi.{Ascend, claims_of, locations, untouched};
-ghost use Rattle.storage_merkle.specs.MultiSteps.{AreGiven, IsMultiRecomputed, claimed_values};
+ghost use Rattle.storage_merkle.specs.MultiParts.{AreGiven, IsMultiRecomputed, claimed_values};
 ghost use Rattle.storage_merkle.specs.Nodes.{IsNode};
 ghost use Rattle.storage_merkle.specs.Plans.{ArePeaks, InTree};
 ghost use Rattle.storage_merkle.specs.RangeProofs.{sites_in, sites_of};
@@ -36,7 +36,7 @@ pub(crate) fn recompute<F: Family, H: Hasher<F>, E: AsSlice<u8>>(
 ) -> Result<Option<H::Digest>, NoMemory>
     requires { TakesTree (H.takes hasher.now) F.shape proof.now.leaves }
     ensures { IfOk result (λ root. IsMultiRecomputed H.hash_of (H.layout hasher.now)
-        (H.bagging hasher.now) (range_of H.Digest.text proof.now) (claims_of E.items claims.now)
+        (H.bagging hasher.now) (proof_of H.Digest.text proof.now) (claims_of E.items claims.now)
         (H.chunk hasher.now) (option_map H.Digest.text root)) }
 {
     let leaves = proof.leaves.as_u64();

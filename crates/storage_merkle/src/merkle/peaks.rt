@@ -1,8 +1,8 @@
 //! The peaks of a tree, one after another.
 
-ghost use Rattle.std.specs.Prelude.{◌≡◌, ℕ, ◌+◌, ◌-◌, ◌*◌, ◌%◌, ◌^◌, ◌<◌, ◌≤◌, ◌∷◌, List, map};
+ghost use Rattle.std.specs.Prelude.{◌≡◌, ℕ, ◌+◌, ◌-◌, ◌*◌, ◌%◌, ◌<◌, ◌≤◌, ◌∷◌, List, map};
 ghost use Rattle.std.specs.Iterator.{YieldsFirst, item_count};
-ghost use Rattle.storage_merkle.specs.Shape.{Shape, AreAligned};
+ghost use Rattle.storage_merkle.specs.Shape.{Shape, AreAligned, max_leaves};
 ghost use Rattle.storage_merkle.specs.Nodes.{placed};
 
 use crate::merkle::family::power;
@@ -24,13 +24,13 @@ impl<F: Family> Model for Peaks<F> {
     ghost view = { λ s. placed F.shape s.first (F.shape.peaks s.left) };
 
     ghost invariant = { λ s.
-        (s.first + s.left ≤ 2 ^ 62) × AreAligned (F.shape.peaks s.left) s.first };
+        (s.first + s.left ≤ max_leaves) × AreAligned (F.shape.peaks s.left) s.first };
 }
 
 impl<F: Family> Peaks<F> {
     /// The peaks of the tree over `leaves` leaves.
     pub(crate) fn over(leaves: u64) -> Self
-        requires { leaves ≤ 2 ^ 62 }
+        requires { leaves ≤ max_leaves }
         ensures { result ≡ placed F.shape 0 (F.shape.peaks leaves) }
     {
         Peaks {

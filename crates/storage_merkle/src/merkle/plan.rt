@@ -3,8 +3,8 @@
 ghost use Rattle.std.specs.Prelude.{◌≡◌, ℕ, ◌+◌, ◌-◌, ◌*◌, ◌%◌, ◌^◌, ◌<◌, ◌≤◌, ◌++◌, ◌⊎◌, List, length, map, Some, None, Err, IfOk, IfErr, OnOk, MatchOption, MatchResult};
 ghost use Rattle.std.specs.List.{All, AllZip};
 ghost use Rattle.std.specs.List.Sorted.{IsStrictlyIncreasing};
-ghost use Rattle.storage_merkle.specs.Held.{range_of};
-ghost use Rattle.storage_merkle.specs.Shape.{AreAligned};
+ghost use Rattle.storage_merkle.specs.Held.{proof_of};
+ghost use Rattle.storage_merkle.specs.Shape.{AreAligned, max_leaves};
 ghost use Rattle.storage_merkle.specs.Plans.{ArePeaks, ArePlanned, IsFirstAbsent, IsGathered, IsOwnOfEach, PlanOf, planned, refusal};
 ghost use Rattle.storage_merkle.specs.PlanParts.{AreOf, site_digest, tops};
 ghost use Rattle.storage_merkle.specs.RangeProofs.{apart, position_of, sites_of};
@@ -100,7 +100,7 @@ impl<F: Family> RangePlan<F> {
     /// How many leaves the tree has.
     pub fn leaves(&self) -> Location<F>
         ensures value { result ≡ self.now.leaves }
-        ensures few { result ≤ 2 ^ 62 }
+        ensures few { result ≤ max_leaves }
     {
         self.leaves
     }
@@ -138,10 +138,10 @@ impl<F: Family> RangePlan<F> {
         requires { All (λ p. G.pre get_node p)
             (planned F.shape self.now.leaves self.now.start self.now.end) }
         ensures own { IfOk result (λ proof. IsOwnOfEach H.Digest.text (G.post get_node) H.hash_of
-            F.shape (H.bagging hasher.now) self.now inactive (range_of H.Digest.text proof)) }
+            F.shape (H.bagging hasher.now) self.now inactive (proof_of H.Digest.text proof)) }
         ensures gathered { IfOk result (λ proof. IsGathered H.Digest.text (G.post get_node)
             H.hash_of F.shape (H.bagging hasher.now) self.now inactive
-            (range_of H.Digest.text proof)) }
+            (proof_of H.Digest.text proof)) }
         ensures answered { IfOk result (λ _. All (λ p. (d : _) × G.post get_node p (Some d))
             (planned F.shape self.now.leaves self.now.start self.now.end)) }
         ensures counts { IfOk result (λ proof.
@@ -274,7 +274,7 @@ impl Rest {
     /// All peaks of the tree over `leaves` leaves, of which the first `inactive` are inactive, folded in the hasher's
     /// direction.
     pub fn all<F: Family, H: Hasher<F>>(hasher: &H, leaves: u64, inactive: usize) -> Self
-        requires { leaves ≤ 2 ^ 62 }
+        requires { leaves ≤ max_leaves }
         ensures peaks { ArePeaks F.shape leaves result.first result.left }
         ensures first { result.first ≡ 0 }
         ensures left { result.left ≡ leaves }
@@ -286,7 +286,7 @@ impl Rest {
     /// All peaks of the tree over `leaves` leaves, of which the first `inactive` are inactive, folded in the
     /// direction `bagging`.
     pub fn bagged<F: Family>(bagging: Bagging, leaves: u64, inactive: usize) -> Self
-        requires { leaves ≤ 2 ^ 62 }
+        requires { leaves ≤ max_leaves }
         ensures peaks { ArePeaks F.shape leaves result.first result.left }
         ensures first { result.first ≡ 0 }
         ensures left { result.left ≡ leaves }
@@ -307,7 +307,7 @@ impl Rest {
     pub fn next(self, height: u32) -> Self
         requires small { height ≤ 62 }
         requires within { 2 ^ height ≤ self.left }
-        requires fits { self.first + self.left ≤ 2 ^ 62 }
+        requires fits { self.first + self.left ≤ max_leaves }
         ensures first { result.first ≡ self.first + 2 ^ height }
         ensures left { result.left ≡ self.left - 2 ^ height }
         ensures folded { result.folded ≡ self.folded - 1 }
@@ -322,7 +322,7 @@ impl Rest {
 
     /// The peaks after the leading ones that are folded from the left and end at or before `start`.
     pub fn after_leading<F: Family>(self, start: u64) -> Self
-        requires few { self.first + self.left ≤ 2 ^ 62 }
+        requires few { self.first + self.left ≤ max_leaves }
         requires peaks { ArePeaks F.shape (self.first + self.left) self.first self.left }
         ensures peaks { ArePeaks F.shape (self.first + self.left) result.first result.left }
         ensures after { AreAfterLeading F.shape start self.first self.left self.folded result.first
@@ -398,7 +398,7 @@ impl<F: Family> ElementPlan<F> {
 
 /// How many peaks the tree over `leaves` leaves has.
 pub(crate) fn peak_count<F: Family>(leaves: u64) -> u64
-    requires { leaves ≤ 2 ^ 62 }
+    requires { leaves ≤ max_leaves }
     ensures { result ≡ length (F.shape.peaks leaves) }
 {
     2 * leaves - F::nodes_over(leaves)
@@ -412,7 +412,7 @@ pub(crate) fn siblings<F: Family>(
     start: u64,
     end: u64,
 ) -> Result<Vec<Position<F>>, AllocError>
-    requires { leaves ≤ 2 ^ 62 }
+    requires { leaves ≤ max_leaves }
     ensures { IfOk result (λ v. v.items ≡ map (position_of (ungrafted F.shape))
         (sibling_sites (ungrafted F.shape) leaves start end)) }
 {
@@ -439,7 +439,7 @@ fn planned<F: Family>(
     start: u64,
     end: u64,
 ) -> Result<Vec<Position<F>>, AllocError>
-    requires { leaves ≤ 2 ^ 62 }
+    requires { leaves ≤ max_leaves }
     ensures { IfOk result (λ v. v.items ≡ planned F.shape leaves start end) }
 {
     let mut positions = Vec::new(alloc);
@@ -466,7 +466,7 @@ fn add_apart<F: Family>(
 ) -> Result<(), AllocError>
     requires aligned { first % 2 ^ height ≡ 0 }
     requires small { height ≤ 62 }
-    requires within { first + 2 ^ height ≤ 2 ^ 62 }
+    requires within { first + 2 ^ height ≤ max_leaves }
     ensures { OnOk result
         (positions.new.items ≡ positions.old.items ++ map (position_of (ungrafted F.shape))
         (sites_of (node_calc (ungrafted F.shape) (apart start end) height first))) }
@@ -485,7 +485,7 @@ fn add_apart<F: Family>(
 /// Whether the node of height `height` over the leaf `first` has no leaf from `start` to before `end`.
 pub(crate) fn is_apart(start: u64, end: u64, first: u64, height: u32) -> bool
     requires small { height ≤ 62 }
-    requires within { first + 2 ^ height ≤ 2 ^ 62 }
+    requires within { first + 2 ^ height ≤ max_leaves }
     ensures { result ≡ apart start end first height }
 {
     first + power(height) <= start || end <= first
@@ -494,7 +494,7 @@ pub(crate) fn is_apart(start: u64, end: u64, first: u64, height: u32) -> bool
 /// The position of the node of height `height` over the leaf `first`.
 pub(crate) fn node_position<F: Family>(first: u64, height: u32) -> Position<F>
     requires aligned { first % 2 ^ height ≡ 0 }
-    requires within { first + 2 ^ height ≤ 2 ^ 62 }
+    requires within { first + 2 ^ height ≤ max_leaves }
     ensures { result ≡ F.shape.position first height }
 {
     Position::new(F::position(first, height))

@@ -2,7 +2,7 @@
 
 ghost use Rattle.std.specs.Prelude.{◌≡◌, ℕ, ◌+◌, ◌-◌, ◌^◌, ◌<◌, ◌≤◌, ◌↔◌, min, IsTrue, MatchOption, Some};
 ghost use Rattle.std.specs.Fmt.{decimal, styled_decimal};
-ghost use Rattle.storage_merkle.specs.Shape.{Shape, size};
+ghost use Rattle.storage_merkle.specs.Shape.{Shape, size, max_leaves};
 
 use crate::merkle::{Family, MAX_LEAVES};
 use std::fmt;
@@ -63,7 +63,7 @@ impl<F> Position<F> {
 impl<F: Family> Position<F> {
     /// Whether it is at most the number of nodes of the tree over [`MAX_LEAVES`] leaves.
     pub fn is_valid(self) -> bool
-        ensures { IsTrue result ↔ (self ≤ size F.shape (2 ^ 62)) }
+        ensures { IsTrue result ↔ (self ≤ size F.shape max_leaves) }
     {
         self.value <= F::nodes_over(MAX_LEAVES)
     }

@@ -3,7 +3,7 @@
 ghost use Rattle.std.specs.Prelude.{◌≡◌, ◌≢◌, ℕ, ◌+◌, ◌-◌, ◌*◌, ◌%◌, ◌^◌, ◌<◌, ◌≤◌, ◌↔◌, ◌⊎◌, List, [], ◌∷◌, length, map, option_map, Some, None, IsTrue, IsOk, IfOk, IfErr};
 ghost use Rattle.storage_merkle.specs.Checks.{IsRecomputed, IsProved};
 ghost use Rattle.storage_merkle.specs.Hashers.{TakesTree};
-ghost use Rattle.storage_merkle.specs.Held.{range_of};
+ghost use Rattle.storage_merkle.specs.Held.{proof_of};
 ghost use Rattle.storage_merkle.specs.Multi.{IsMultiAccepted, IsMultiProved, claims_of};
 ghost use Rattle.storage_merkle.specs.RangeProofs.{IsAccepted, IsEmptyProof};
 ghost use Rattle.storage_merkle.specs.Trees.{Content, empty_root, content_of};
@@ -77,10 +77,10 @@ impl<F: Family, D: Digest> Proof<F, D> {
     ) -> Result<bool, NoMemory>
         requires { TakesTree (H.takes hasher.now) F.shape self.now.leaves }
         ensures exact { IfOk result (λ yes. IsTrue yes ↔ IsAccepted H.hash_of (H.layout hasher.now)
-            (H.bagging hasher.now) (range_of D.text self.now) location
+            (H.bagging hasher.now) (proof_of D.text self.now) location
             (content_of (element.now ∷ []) (H.chunk hasher.now)) (D.text root.now)) }
-        ensures means { IfOk result (λ yes. IsTrue yes → IsProved D.size H.hash_of
-            (H.layout hasher.now) (H.bagging hasher.now) (range_of D.text self.now) location
+        ensures meaning { IfOk result (λ yes. IsTrue yes → IsProved D.size H.hash_of
+            (H.layout hasher.now) (H.bagging hasher.now) (proof_of D.text self.now) location
             (content_of (element.now ∷ []) (H.chunk hasher.now)) (D.text root.now)) }
     {
         self.verify_range_inclusion(alloc, hasher, &[element], location, root)
@@ -98,10 +98,10 @@ impl<F: Family, D: Digest> Proof<F, D> {
     ) -> Result<bool, NoMemory>
         requires { TakesTree (H.takes hasher.now) F.shape self.now.leaves }
         ensures exact { IfOk result (λ yes. IsTrue yes ↔ IsAccepted H.hash_of (H.layout hasher.now)
-            (H.bagging hasher.now) (range_of D.text self.now) start (content_of
+            (H.bagging hasher.now) (proof_of D.text self.now) start (content_of
             (map E.items elements.now) (H.chunk hasher.now)) (D.text root.now)) }
-        ensures means { IfOk result (λ yes. IsTrue yes → IsProved D.size H.hash_of
-            (H.layout hasher.now) (H.bagging hasher.now) (range_of D.text self.now) start
+        ensures meaning { IfOk result (λ yes. IsTrue yes → IsProved D.size H.hash_of
+            (H.layout hasher.now) (H.bagging hasher.now) (proof_of D.text self.now) start
             (content_of (map E.items elements.now) (H.chunk hasher.now)) (D.text root.now)) }
         ensures none { elements.now ≡ [] → IsOk result }
     {
@@ -123,10 +123,10 @@ impl<F: Family, D: Digest> Proof<F, D> {
     ) -> Result<bool, NoMemory>
         requires { TakesTree (H.takes hasher.now) F.shape self.now.leaves }
         ensures exact { IfOk result (λ yes. IsTrue yes ↔ IsMultiAccepted H.hash_of
-            (H.layout hasher.now) (H.bagging hasher.now) (range_of D.text self.now)
+            (H.layout hasher.now) (H.bagging hasher.now) (proof_of D.text self.now)
             (claims_of E.items elements.now) (H.chunk hasher.now) (D.text root.now)) }
-        ensures means { IfOk result (λ yes. IsTrue yes → IsMultiProved D.size H.hash_of
-            (H.layout hasher.now) (H.bagging hasher.now) (range_of D.text self.now)
+        ensures meaning { IfOk result (λ yes. IsTrue yes → IsMultiProved D.size H.hash_of
+            (H.layout hasher.now) (H.bagging hasher.now) (proof_of D.text self.now)
             (claims_of E.items elements.now) (H.chunk hasher.now) (D.text root.now)) }
         ensures none { elements.now ≡ [] → IsOk result }
     {
@@ -148,7 +148,7 @@ impl<F: Family, D: Digest> Proof<F, D> {
     ) -> Result<Option<D>, NoMemory>
         requires { TakesTree (H.takes hasher.now) F.shape self.now.leaves }
         ensures { IfOk result (λ root. IsRecomputed H.hash_of (H.layout hasher.now)
-            (H.bagging hasher.now) (range_of D.text self.now) start (content_of
+            (H.bagging hasher.now) (proof_of D.text self.now) start (content_of
             (map E.items elements.now) (H.chunk hasher.now)) (option_map D.text root)) }
     {
         self.lent().recompute_root(alloc, hasher, elements, start)
@@ -168,11 +168,11 @@ impl<F: Family, D: Digest> Proof<F, D> {
     ) -> Result<D, Error<F>>
         requires { TakesTree (H.takes hasher.now) F.shape self.now.leaves }
         ensures root { IfOk result (λ root. IsRecomputed H.hash_of (H.layout hasher.now)
-            (H.bagging hasher.now) (range_of D.text self.now) start (content_of
+            (H.bagging hasher.now) (proof_of D.text self.now) start (content_of
             (map E.items elements.now) (H.chunk hasher.now)) (Some (D.text root))) }
         ensures why { IfErr result (λ e. (e ≡ Error.Memory) ⊎ ((e ≡ Error.InvalidProof)
             × (IsRecomputed H.hash_of (H.layout hasher.now) (H.bagging hasher.now)
-            (range_of D.text self.now) start (content_of (map E.items elements.now)
+            (proof_of D.text self.now) start (content_of (map E.items elements.now)
             (H.chunk hasher.now)) None))) }
     {
         match self.recompute_root(alloc, hasher, elements, start)? {
@@ -204,7 +204,7 @@ impl<F: Family, D: Digest> Proof<F, D> {
     ) -> bool
         ensures { (claim : Content) → claim.elements ≡ []
             → (IsTrue result ↔ (IsEmptyProof H.hash_of (H.layout hasher.now) (H.bagging hasher.now)
-            (range_of D.text self.now) start claim × (empty_root H.hash_of (H.layout hasher.now)
+            (proof_of D.text self.now) start claim × (empty_root H.hash_of (H.layout hasher.now)
             (H.bagging hasher.now) ≡ D.text root.now))) }
     {
         start.as_u64() == 0 && self.is_default() && hasher.root(start, 0, &[]) == *root

@@ -1,11 +1,11 @@
 //! What is kept of an accepted range proof, to give other proofs.
 
-ghost use Rattle.std.specs.Prelude.{◌≡◌, ◌≢◌, ℕ, ◌+◌, ◌-◌, ◌*◌, ◌%◌, ◌^◌, ◌<◌, ◌≤◌, ◌⊎◌, ◌++◌, ◌∷◌, [], List, drop, if◌then◌else◌, map, option_map, OnOk, Some, None, IfOk, IfErr, MatchResult};
-ghost use Rattle.storage_merkle.specs.Extracted.{texts};
-ghost use Rattle.storage_merkle.specs.Held.{range_of};
+ghost use Rattle.std.specs.Prelude.{◌≡◌, ◌≢◌, ℕ, ◌+◌, ◌-◌, ◌*◌, ◌%◌, ◌<◌, ◌≤◌, ◌⊎◌, ◌++◌, ◌∷◌, [], List, drop, if◌then◌else◌, map, option_map, OnOk, Some, None, IfOk, IfErr, MatchResult};
+ghost use Rattle.storage_merkle.specs.Extracted.{by_bytes};
+ghost use Rattle.storage_merkle.specs.Held.{proof_of};
 ghost use Rattle.storage_merkle.specs.RangeProofs.{trailing};
 ghost use Rattle.storage_merkle.specs.Rests.{peaks_from};
-ghost use Rattle.storage_merkle.specs.Shape.{AreAligned};
+ghost use Rattle.storage_merkle.specs.Shape.{AreAligned, max_leaves};
 ghost use Rattle.storage_merkle.specs.Stores.{entry_at, found_at, is_among, location_refusal, multi_refusal, needed_refusal, or_else, store_multi_proof, suffix_positions};
 
 mod construct;
@@ -36,9 +36,10 @@ pub struct ProofStore<F: Family, D: Digest> {
 
 impl<F: Family, D: Digest> Model for ProofStore<F, D> {
     ghost use Rattle.std.specs.List.Sorted.{IsNonDecreasing};
-    ghost use Rattle.std.specs.Prelude.{◌≤◌, ◌^◌, map};
-    ghost use Rattle.storage_merkle.specs.Extracted.{texts};
+    ghost use Rattle.std.specs.Prelude.{◌≤◌, map};
+    ghost use Rattle.storage_merkle.specs.Extracted.{by_bytes};
     ghost use Rattle.storage_merkle.specs.Stores.{Store};
+    ghost use Rattle.storage_merkle.specs.Shape.{max_leaves};
 
     ghost Value = { Store };
 
@@ -50,10 +51,11 @@ impl<F: Family, D: Digest> Model for ProofStore<F, D> {
       past = s.past;
       front_fold = D.text s.front_fold;
       back_fold = D.text s.back_fold;
-      kept = texts D.text s.kept.items;
+      kept = by_bytes D.text s.kept.items;
     } };
 
-    ghost invariant = { λ s. (s.leaves ≤ 2 ^ 62) × IsNonDecreasing (map (λ e. e.0) s.kept.items) };
+    ghost invariant = { λ s. (s.leaves ≤ max_leaves)
+        × IsNonDecreasing (map (λ e. e.0) s.kept.items) };
 }
 
 impl<F: Family, D: Digest> ProofStore<F, D> {
@@ -73,10 +75,10 @@ impl<F: Family, D: Digest> ProofStore<F, D> {
         peaks: &[(Position<F>, D)],
     ) -> Result<Proof<F, D>, Error<F>>
         ensures given { IfOk result (λ proof. (multi_refusal F F.shape self.now
-            (texts D.text peaks.now) locations.now ≡ None) × (range_of D.text proof
-            ≡ store_multi_proof F.shape self.now (texts D.text peaks.now) locations.now)) }
+            (by_bytes D.text peaks.now) locations.now ≡ None) × (proof_of D.text proof
+            ≡ store_multi_proof F.shape self.now (by_bytes D.text peaks.now) locations.now)) }
         ensures why { IfErr result (λ e. (multi_refusal F F.shape self.now
-            (texts D.text peaks.now) locations.now ≡ Some e) ⊎ (e ≡ Error.Memory)) }
+            (by_bytes D.text peaks.now) locations.now ≡ Some e) ⊎ (e ≡ Error.Memory)) }
     {
         if locations.is_empty() {
             return Err(Error::Empty);
@@ -122,10 +124,11 @@ impl<F: Family, D: Digest> ProofStore<F, D> {
         positions: &[Position<F>],
         peaks: &[(Position<F>, D)],
     ) -> Result<Vec<D>, Error<F>>
-        ensures all { IfOk result (λ v. (needed_refusal F self.now (texts D.text peaks.now)
+        ensures all { IfOk result (λ v. (needed_refusal F self.now (by_bytes D.text peaks.now)
             (suffix_positions F.shape self.now) positions.now ≡ None) × (map D.text v.items
-            ≡ map (λ p. or_else [] (found_at self.now (texts D.text peaks.now) p)) positions.now)) }
-        ensures why { IfErr result (λ e. (needed_refusal F self.now (texts D.text peaks.now)
+            ≡ map (λ p. or_else [] (found_at self.now
+            (by_bytes D.text peaks.now) p)) positions.now)) }
+        ensures why { IfErr result (λ e. (needed_refusal F self.now (by_bytes D.text peaks.now)
             (suffix_positions F.shape self.now) positions.now ≡ Some e) ⊎ (e ≡ Error.Memory)) }
     {
         let mut digests = Vec::with_capacity(alloc, positions.len())?;
@@ -140,7 +143,8 @@ impl<F: Family, D: Digest> ProofStore<F, D> {
 
     /// The digest at `position`: the kept one, else that of the first of `peaks` there.
     fn digest_at(&self, position: Position<F>, peaks: &[(Position<F>, D)]) -> Option<D>
-        ensures { option_map D.text result ≡ found_at self.now (texts D.text peaks.now) position }
+        ensures { option_map D.text result ≡ found_at self.now
+            (by_bytes D.text peaks.now) position }
     {
         match self.kept_at(position) {
             Some(digest) => Some(digest),
@@ -181,7 +185,7 @@ impl<F: Family, D: Digest> ProofStore<F, D> {
 
 /// The digest of the first of `entries` at `position`.
 fn first_at<F: Family, D: Digest>(position: Position<F>, entries: &[(Position<F>, D)]) -> Option<D>
-    ensures { option_map D.text result ≡ entry_at position (texts D.text entries.now) }
+    ensures { option_map D.text result ≡ entry_at position (by_bytes D.text entries.now) }
 {
     for (at, digest) in entries {
         if *at == position {
@@ -198,7 +202,7 @@ fn first_at<F: Family, D: Digest>(position: Position<F>, entries: &[(Position<F>
 /// Of the first location for which it holds: `UnsortedLocation` where it is below the one before it, `DuplicateLocation`
 /// where it equals it, `RangeOutOfBounds` where it is not below `leaves`.
 fn check_locations<F: Family>(locations: &[Location<F>], leaves: u64) -> Result<(), Error<F>>
-    requires { leaves ≤ 2 ^ 62 }
+    requires { leaves ≤ max_leaves }
     ensures { MatchResult result (λ _. location_refusal F 0 leaves locations.now ≡ None) (λ e.
         location_refusal F 0 leaves locations.now ≡ Some e) }
 {
@@ -228,7 +232,7 @@ fn add_past<F: Family>(
     folded: u64,
     positions: &mut Vec<Position<F>>,
 ) -> Result<(), AllocError>
-    requires few { first + left ≤ 2 ^ 62 }
+    requires few { first + left ≤ max_leaves }
     requires aligned { AreAligned (F.shape.peaks left) first }
     ensures { OnOk result
         (positions.new.items ≡ positions.old.items ++ map (λ p. F.shape.position p.first p.height)

@@ -3,10 +3,10 @@
 ghost use Rattle.std.specs.Prelude.{◌≡◌, ℕ, List, ◌↔◌, true, Bool, Option, option_map};
 ghost use Rattle.std.proofs.Common.{ap};
 ghost use Rattle.storage_ops.specs.PrefixFree.{IsPrefixFree};
-ghost use Rattle.storage_ops.specs.PrefixFreeLaws.{sized_prefix_free, vector_prefix_free};
-ghost use Rattle.storage_ops.specs.Vectors.{vector_clones};
+ghost use Rattle.storage_ops.specs.Laws.PrefixFree.{sized_prefix_free, vector_prefix_free};
+ghost use Rattle.storage_ops.specs.Laws.Vectors.{vector_clones};
 ghost use Rattle.std.proofs.lemmas.Slice.Eq.{bytes_eq-Decides};
-ghost use Rattle.storage_codec.specs.SpellingLaws.{vector_same};
+ghost use Rattle.storage_codec.specs.Laws.Spelling.{vector_same};
 
 pub(crate) mod commit;
 pub(crate) mod padding;

@@ -4,8 +4,8 @@
 ghost use Rattle.std.specs.Prelude.{◌≡◌, ◌↔◌, ◌⊎◌, ℕ, List, [], map, IfErr, IfOk, IsOk, IsTrue};
 ghost use Rattle.storage_merkle.specs.declared.merkle.bagging.Bagging.TheVariants.{BackwardFold};
 ghost use Rattle.storage_merkle.specs.Checks.{IsProved};
-ghost use Rattle.storage_merkle.specs.Extracted.{AreHandedOut, Fits, texts};
-ghost use Rattle.storage_merkle.specs.Held.{range_of};
+ghost use Rattle.storage_merkle.specs.Extracted.{AreHandedOut, Fits, by_bytes};
+ghost use Rattle.storage_merkle.specs.Held.{proof_of};
 ghost use Rattle.storage_merkle.specs.Pinned.{IsPinnedAccepted, IsPinnedProved};
 ghost use Rattle.storage_merkle.specs.RangeProofs.{IsAccepted};
 ghost use Rattle.storage_merkle.specs.Stores.{IsMadeOf};
@@ -37,10 +37,10 @@ pub fn verify_proof<H: Hasher, F: Family, Op: Encode>(
     root: &DigestOf<H>,
 ) -> Result<bool, NoMemory>
     ensures exact { IfOk result (λ yes. IsTrue yes
-        ↔ IsAccepted H.hash_of (ungrafted F.shape) BackwardFold (range_of H.Digest.text proof.now)
+        ↔ IsAccepted H.hash_of (ungrafted F.shape) BackwardFold (proof_of H.Digest.text proof.now)
         start (listed (map Op.text operations.now)) (H.Digest.text root.now)) }
-    ensures means { IfOk result (λ yes. IsTrue yes → IsProved H.Digest.size H.hash_of
-        (ungrafted F.shape) BackwardFold (range_of H.Digest.text proof.now) start
+    ensures meaning { IfOk result (λ yes. IsTrue yes → IsProved H.Digest.size H.hash_of
+        (ungrafted F.shape) BackwardFold (proof_of H.Digest.text proof.now) start
         (listed (map Op.text operations.now)) (H.Digest.text root.now)) }
     ensures none { operations.now ≡ [] → IsOk result }
 {
@@ -60,10 +60,10 @@ pub fn verify_proof_and_pinned_nodes<H: Hasher, F: Family, Op: Encode>(
     root: &DigestOf<H>,
 ) -> Result<bool, NoMemory>
     ensures exact { IfOk result (λ yes. IsTrue yes ↔ IsPinnedAccepted H.hash_of (ungrafted F.shape)
-        BackwardFold (range_of H.Digest.text proof.now) start (listed (map Op.text operations.now))
+        BackwardFold (proof_of H.Digest.text proof.now) start (listed (map Op.text operations.now))
         (map H.Digest.text pinned.now) (H.Digest.text root.now)) }
-    ensures means { IfOk result (λ yes. IsTrue yes
-        → IsPinnedProved H.hash_of F.shape BackwardFold (range_of H.Digest.text proof.now) start
+    ensures meaning { IfOk result (λ yes. IsTrue yes
+        → IsPinnedProved H.hash_of F.shape BackwardFold (proof_of H.Digest.text proof.now) start
         (map Op.text operations.now) (map H.Digest.text pinned.now) (H.Digest.text root.now)) }
     ensures none { operations.now ≡ [] → IsOk result }
 {
@@ -86,14 +86,14 @@ pub fn verify_proof_and_extract_digests<H: Hasher, F: Family, Op: Encode>(
     root: &DigestOf<H>,
 ) -> Result<ExtractedDigests<F, H>, Error<F>>
     ensures handed { IfOk result (λ v. AreHandedOut H.Digest.size H.hash_of (ungrafted F.shape)
-        BackwardFold (range_of H.Digest.text proof.now) start (listed (map Op.text operations.now))
-        (H.Digest.text root.now) (texts H.Digest.text v.items)) }
+        BackwardFold (proof_of H.Digest.text proof.now) start (listed (map Op.text operations.now))
+        (H.Digest.text root.now) (by_bytes H.Digest.text v.items)) }
     ensures why { IfErr result (λ e. (e ≡ Error.Memory)
         ⊎ (((e ≡ Error.InvalidProof) × (Fits H.hash_of (ungrafted F.shape) BackwardFold
-        (range_of H.Digest.text proof.now) start (listed (map Op.text operations.now)) → ⊥))
+        (proof_of H.Digest.text proof.now) start (listed (map Op.text operations.now)) → ⊥))
         ⊎ ((e ≡ Error.RootMismatch) × (Fits H.hash_of (ungrafted F.shape) BackwardFold
-        (range_of H.Digest.text proof.now) start (listed (map Op.text operations.now))
-        × (IsAccepted H.hash_of (ungrafted F.shape) BackwardFold (range_of H.Digest.text proof.now)
+        (proof_of H.Digest.text proof.now) start (listed (map Op.text operations.now))
+        × (IsAccepted H.hash_of (ungrafted F.shape) BackwardFold (proof_of H.Digest.text proof.now)
         start (listed (map Op.text operations.now)) (H.Digest.text root.now) → ⊥))))) }
 {
     let elements = encode_all(alloc, operations)?;
@@ -116,18 +116,18 @@ pub fn create_proof_store<H: Hasher, F: Family, Op: Encode>(
     root: &DigestOf<H>,
 ) -> Result<ProofStore<F, DigestOf<H>>, Error<F>>
     ensures made { IfOk result (λ store. IsMadeOf H.Digest.size H.hash_of
-        (ungrafted F.shape) BackwardFold (range_of H.Digest.text proof.now) start
+        (ungrafted F.shape) BackwardFold (proof_of H.Digest.text proof.now) start
         (listed (map Op.text operations.now)) (H.Digest.text root.now) store) }
     ensures own { IfOk result (λ store. (list : List (List ℕ)) (inactive : ℕ)
-        → IsOwnOfList H.hash_of F.shape (range_of H.Digest.text proof.now) start
+        → IsOwnOfList H.hash_of F.shape (proof_of H.Digest.text proof.now) start
         (map Op.text operations.now) list inactive
         → GivesAcceptedOf F H.hash_of F.shape store list (H.Digest.text root.now)) }
     ensures why { IfErr result (λ e. (e ≡ Error.Memory)
         ⊎ (((e ≡ Error.InvalidProof) × (Fits H.hash_of (ungrafted F.shape) BackwardFold
-        (range_of H.Digest.text proof.now) start (listed (map Op.text operations.now)) → ⊥))
+        (proof_of H.Digest.text proof.now) start (listed (map Op.text operations.now)) → ⊥))
         ⊎ ((e ≡ Error.RootMismatch) × (Fits H.hash_of (ungrafted F.shape) BackwardFold
-        (range_of H.Digest.text proof.now) start (listed (map Op.text operations.now))
-        × (IsAccepted H.hash_of (ungrafted F.shape) BackwardFold (range_of H.Digest.text proof.now)
+        (proof_of H.Digest.text proof.now) start (listed (map Op.text operations.now))
+        × (IsAccepted H.hash_of (ungrafted F.shape) BackwardFold (proof_of H.Digest.text proof.now)
         start (listed (map Op.text operations.now)) (H.Digest.text root.now) → ⊥))))) }
 {
     stores_of_own_proofs_give_accepted::<F>();

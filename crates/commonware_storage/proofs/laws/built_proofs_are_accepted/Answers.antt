@@ -1,5 +1,5 @@
 use Rattle.std.proofs.Common.{ℕ, List, ◌++◌, ◌∙◌, arith, ap}
-use Rattle.storage_current.specs.Held.{operation_of}
+use Rattle.storage_current.specs.Held.{operation_proof_of}
 use Rattle.storage_current.specs.Snapshots.{Grafting, IsGrafting}
 use Rattle.storage_current.specs.CurrentWire.{operation_text}
 use Rattle.commonware_storage.proofs.OwnParts.{own_parts, refused_for_memory}
@@ -22,10 +22,10 @@ returns-clause-asked g c = λ s parts.
     let text = g.H.Digest.Write.text in
     let G : Grafting = record { shape = g.F.Family.shape; bytes = g.row.N } in
     let written = c.deref.ensures.value ∙ c.in_ok-write.ensures.ok ∙ ap (λ (xs : List ℕ). xs ++ operation_text
-    g.F.Graftable.has_pending (operation_of text (λ (b : List ℕ). b) c.in-Ok.proof)) c.new-bytes.ensures.items in
+    g.F.Graftable.has_pending (operation_proof_of text (λ (b : List ℕ). b) c.in-Ok.proof)) c.new-bytes.ensures.items in
     own_asked g.H.Digest.FixedSize.size h G g.F.Graftable.has_pending s _ c.args.plan.start c.args.operation.now _
     (text c.args.root.now)
-    (operation_of text (λ (b : List ℕ). b) c.in-Ok.proof) c.location-loc.ensures.value written
+    (operation_proof_of text (λ (b : List ℕ). b) c.in-Ok.proof) c.location-loc.ensures.value written
     (c.in-Ok.ensures.own s parts) c.in_ok-yes.yes c.in_ok-yes.ensures.exact
 
 pub returns-clause-accepted : goal.returns-clause-accepted
@@ -35,11 +35,11 @@ returns-clause-accepted g c = λ s snapshot parts root active.
     let G : Grafting = record { shape = g.F.Family.shape; bytes = g.row.N } in
     let grafting : IsGrafting G = record { laws = g.met.F.Family.laws; size = c.requires.size } in
     let written = c.deref.ensures.value ∙ c.in_ok-write.ensures.ok ∙ ap (λ (xs : List ℕ). xs ++ operation_text
-    g.F.Graftable.has_pending (operation_of text (λ (b : List ℕ). b) c.in-Ok.proof)) c.new-bytes.ensures.items in
+    g.F.Graftable.has_pending (operation_proof_of text (λ (b : List ℕ). b) c.in-Ok.proof)) c.new-bytes.ensures.items in
     own_yes c.own_proofs_are_accepted.ensures g.H.Digest.FixedSize.size h g.met.H.Hasher.sized G grafting
     g.F.Graftable.has_pending g.met.F.Graftable.prompt s snapshot _ c.args.plan.start c.args.operation.now _
     (text c.args.root.now)
-    (operation_of text (λ (b : List ℕ). b) c.in-Ok.proof) c.location-loc.ensures.value active written
+    (operation_proof_of text (λ (b : List ℕ). b) c.in-Ok.proof) c.location-loc.ensures.value active written
     (c.in-Ok.ensures.own s parts) root c.in_ok-yes.yes c.in_ok-yes.ensures.exact
 
 pub returns-clause-handed : goal.returns-clause-handed

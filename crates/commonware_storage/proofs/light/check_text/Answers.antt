@@ -7,7 +7,7 @@ returns-clause-meaning g c = λ wide accepted. record {
   spelled = c.in_ok-proof.ensures.bytes;
   operation_bytes = c.in_ok-operation.operation.items;
   operation_spelled = c.in_ok-operation.ensures.bytes;
-  means = rw (← c.deref.ensures.value, ← c.deref-2.ensures.value) (c.in_ok-yes.ensures.meaning wide accepted);
+  meaning = rw (← c.deref.ensures.value, ← c.deref-2.ensures.value) (c.in_ok-yes.ensures.meaning wide accepted);
 }
 
 pub returns-in_err-operation-clause-why : goal.returns-in_err-operation-clause-why

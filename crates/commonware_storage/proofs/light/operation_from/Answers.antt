@@ -1,6 +1,6 @@
 use Rattle.std.proofs.Common.{ℕ, List, sym, arith, rules}
 use Rattle.std.proofs.lemmas.Bool.{eqb-true}
-use Rattle.storage_current.specs.Held.{operation_of}
+use Rattle.storage_current.specs.Held.{operation_proof_of}
 use Rattle.commonware_storage.proofs.Answers.{accepted_exactly, true_of}
 use Rattle.std.proofs.lemmas.Grind.{common_steps}
 use Rattle.commonware_storage.proofs.light.operation_from.Goals as goal
@@ -10,14 +10,14 @@ returns-in-Ok-clause-exact g c =
     accepted_exactly g.H.Hasher.hash_of g.F.Family.shape c.args.chunk_size g.F.Graftable.has_pending
     g.H.Digest.FixedSize.size c.args.loc (g.B.Buf.unread c.args.buf) c.args.operation.now
     (g.H.Digest.Write.text c.args.root.now)
-    (operation_of g.H.Digest.Write.text (λ (b : List ℕ). b) c.in-Ok.proof) c.in-Ok.ensures
+    (operation_proof_of g.H.Digest.Write.text (λ (b : List ℕ). b) c.in-Ok.proof) c.in-Ok.ensures
     (eqb-true _ _ (sym c.if-eq.ensures)) c.verify_encoded.result c.verify_encoded.ensures.exact
 
 pub returns-in-Ok-clause-meaning : goal.returns-in-Ok-clause-meaning
 returns-in-Ok-clause-meaning g c = λ fits wide.
     true_of g.H.Hasher.hash_of g.F.Family.shape c.args.chunk_size g.F.Graftable.has_pending g.H.Digest.FixedSize.size
     c.args.loc (g.B.Buf.unread c.args.buf) c.args.operation.now (g.H.Digest.Write.text c.args.root.now)
-    (operation_of g.H.Digest.Write.text (λ (b : List ℕ). b) c.in-Ok.proof) c.in-Ok.ensures
+    (operation_proof_of g.H.Digest.Write.text (λ (b : List ℕ). b) c.in-Ok.proof) c.in-Ok.ensures
     (eqb-true _ _ (sym c.if-eq.ensures)) fits c.verify_encoded.result (c.verify_encoded.ensures.meaning wide)
 
 pub returns-in-Err-Memory-clause-refused : goal.returns-in-Err-Memory-clause-refused

@@ -1,6 +1,6 @@
 use Rattle.std.proofs.Common.{arith, ◌+◌, ◌*◌, ◌^◌, ◌≤◌, length}
 use Rattle.std.proofs.lemmas.Nat.{mul-le}
-use Rattle.storage_merkle.specs.Multiples.{pow_le}
+use Rattle.storage_merkle.specs.Laws.Multiples.{pow_le}
 use Rattle.library_tests.proofs.grafted.prune_once.Goals as goal
 
 pub prune-requires : goal.prune-requires

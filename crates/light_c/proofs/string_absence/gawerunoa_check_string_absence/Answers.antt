@@ -1,6 +1,6 @@
 use Rattle.std.proofs.Common.{inl, inr, refl}
 use Rattle.storage_current.specs.Snapshots.{grafting_of}
-use Rattle.light_c.specs.Agreed.{function_of, pending_of, shape_of, size_of}
+use Rattle.light_c.specs.Agreed.{function_of, has_pending_of, shape_of, digest_size_of}
 use Rattle.light_c.specs.StringKeys.{IsTrueStringAbsenceOf}
 use Rattle.light_c.proofs.Agreeing.{agreeing_256, agreeing_512}
 use Rattle.light_c.proofs.Told.{means_again}
@@ -9,7 +9,7 @@ use Rattle.light_c.proofs.string_absence.gawerunoa_check_string_absence.Goals as
 pub returns-in-Of256-clause-meaning : goal.returns-in-Of256-clause-meaning
 returns-in-Of256-clause-meaning c = λ none is.
     agreeing_256 (λ hash root x. IsTrueStringAbsenceOf (function_of hash) (grafting_of (shape_of c.args.family)
-    c.args.chunk_size) (pending_of c.args.family) (size_of hash) c.args.proof.now c.args.min_key_length c.args.max_key_length
+    c.args.chunk_size) (has_pending_of c.args.family) (digest_size_of hash) c.args.proof.now c.args.min_key_length c.args.max_key_length
     c.args.min_value_length c.args.max_value_length x root) c.args.hash c.args.root.now c.in-Ok.root c.in-Of256.root
     c.in-Ok.ensures.1 c.in-Of256.is c.args.key.now c.args.key.now refl (means_again c.of_key.result _ _ c.of_key.ensures.exact
     (c.of_key.ensures.meaning (inl refl)) is)
@@ -17,7 +17,7 @@ returns-in-Of256-clause-meaning c = λ none is.
 pub returns-in-Of512-clause-meaning : goal.returns-in-Of512-clause-meaning
 returns-in-Of512-clause-meaning c = λ none is.
     agreeing_512 (λ hash root x. IsTrueStringAbsenceOf (function_of hash) (grafting_of (shape_of c.args.family)
-    c.args.chunk_size) (pending_of c.args.family) (size_of hash) c.args.proof.now c.args.min_key_length c.args.max_key_length
+    c.args.chunk_size) (has_pending_of c.args.family) (digest_size_of hash) c.args.proof.now c.args.min_key_length c.args.max_key_length
     c.args.min_value_length c.args.max_value_length x root) c.args.hash c.args.root.now c.in-Ok.root c.in-Of512.root
     c.in-Ok.ensures.1 c.in-Of512.is c.args.key.now c.args.key.now refl (means_again c.of_key-in-Of512.result _ _
     c.of_key-in-Of512.ensures.exact (c.of_key-in-Of512.ensures.meaning (inr refl)) is)

@@ -1,7 +1,7 @@
 use Rattle.std.proofs.Common.{◌≡◌, ℕ, ◌/◌, ◌∷◌, [], List, Option, Some, map, option_map, ap, sym, subst, ◌∙◌}
 use Rattle.std.proofs.lemmas.List.{map-append}
 use Rattle.storage_merkle.specs.Checks.{IsRecomputed}
-use Rattle.storage_merkle.specs.Held.{range_of}
+use Rattle.storage_merkle.specs.Held.{proof_of}
 use Rattle.storage_merkle.specs.Mmr.{mmr}
 use Rattle.storage_merkle.specs.Trees.{ungrafted, listed}
 use Rattle.reference.proofs.BitParts.{aligned_from, between_from}
@@ -10,7 +10,7 @@ use Rattle.reference.proofs.bit.computed_root.Goals as goal
 pub returns-then-length-bits_in-eq0 : goal.returns-then-length-bits_in-eq0
 returns-then-length-bits_in-eq0 g c =
     let text = g.H.Digest.Write.text in
-    aligned_from g.H.Hasher.hash_of c.args.bagging c.args.size (range_of text c.args.proof.now) c.args.bytes.now
+    aligned_from g.H.Hasher.hash_of c.args.bagging c.args.size (proof_of text c.args.proof.now) c.args.bytes.now
     c.args.bit text c.recomputed_chunks_root.result c.as_u64-length.result c.bits_in-3.result
     (c.as_u64-length.result / c.bits_in.result) (c.args.bit / c.bits_in-2.result) (map text c.deref.result.now)
     c.requires.below c.as_u64-length.ensures c.bits_in-3.ensures.value c.if-length-bits_in-eq0.true
@@ -26,7 +26,7 @@ returns-in_ok-partial_root-in-Some-2 g c =
     let others = map text c.in-Some.others.now in
     let found : option_map text c.in_ok-recomputed_chunks_root.field-0 ≡ Some (text c.in-Some-2.root) =
     ap (option_map text) c.in-Some-2.is in
-    between_from g.H.Hasher.hash_of c.args.bagging c.args.size (range_of text c.args.proof.now) c.args.bytes.now
+    between_from g.H.Hasher.hash_of c.args.bagging c.args.size (proof_of text c.args.proof.now) c.args.bytes.now
     c.args.bit c.as_u64-length.result c.bits_in-3.result complete place others (text c.in-Some.last.now)
     (text c.in-Some-2.root) (text c.in_ok-partial_root-in-Some-2.field-0)
     c.as_u64-length.ensures c.bits_in-3.ensures.value c.if-length-bits_in-eq0.false

@@ -1,6 +1,6 @@
 use Rattle.std.proofs.Common.{arith, ◌≡◌, ℕ, ◌+◌, ◌≤◌, length, map, ap, sym, subst, ◌∙◌}
 use Rattle.std.proofs.lemmas.List.{length-map}
-use Rattle.storage_merkle.specs.RangeProofs.{RangeProof, sites}
+use Rattle.storage_merkle.specs.RangeProofs.{Proof, sites}
 use Rattle.storage_merkle.specs.Trees.{Layout, Content}
 use Rattle.reference.specs.Layouts.{laid_out}
 use Rattle.reference.specs.Sites.{site_of}
@@ -29,7 +29,7 @@ returns g c =
     let T : Layout = laid_out g.F.Family.shape (g.G.Grafts.grafted c.args.grafts.now) in
     let b = c.args.bagging in
     let n = c.as_u64-leaves.result in
-    let proof : RangeProof = record {
+    let proof : Proof = record {
       leaves = c.args.proof.now.leaves;
       inactive = c.args.proof.now.inactive_peaks;
       digests = map text c.args.proof.now.digests.items;

@@ -1,9 +1,9 @@
 use Rattle.std.proofs.Common.{arith, rules, ℕ, ◌+◌, ◌≤◌, ◌^◌, ap₂, sym, ◌∙◌}
-use Rattle.storage_merkle.specs.Shape.{leaves_of}
+use Rattle.storage_merkle.specs.Shape.{leaves_under}
 use Rattle.reference.proofs.Digits.{small_height}
 use Rattle.reference.proofs.Nodes.{leaves_cons}
 use Rattle.reference.proofs.Counts.{leaves_none}
-use Rattle.reference.proofs.count.+leaves_of.Goals as goal
+use Rattle.reference.proofs.count.+leaves_under.Goals as goal
 
 pub power-requires : goal.power-requires
 power-requires t c =
@@ -15,7 +15,7 @@ power-requires t c =
 
 pub leaves_of-requires : goal.leaves_of-requires
 leaves_of-requires t c =
-    let l : leaves_of c.in-Some.rest.now ≤ 2 ^ 62 = omega (
+    let l : leaves_under c.in-Some.rest.now ≤ 2 ^ 62 = omega (
       arith,
       leaves_cons c.args.heights.now c.in-Some.rest.now c.in-Some.height.now c.in-Some.ensures.cases.0,
     ) in

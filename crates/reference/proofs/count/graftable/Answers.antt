@@ -1,5 +1,5 @@
 use Rattle.std.proofs.Common.{arith, rules}
-use Rattle.storage_merkle.specs.Multiples.{pow_le}
+use Rattle.storage_merkle.specs.Laws.Multiples.{pow_le}
 use Rattle.reference.proofs.count.graftable.Goals as goal
 
 pub leaves_at_birth-birth-requires : goal.leaves_at_birth-birth-requires

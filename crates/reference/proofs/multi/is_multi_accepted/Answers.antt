@@ -1,7 +1,7 @@
 use Rattle.std.proofs.Common.{◌≡◌, Some, option_map, ap, subst, rules}
-use Rattle.storage_merkle.specs.Held.{range_of}
+use Rattle.storage_merkle.specs.Held.{proof_of}
 use Rattle.storage_merkle.specs.Multi.{claims_of}
-use Rattle.storage_merkle.specs.MultiSteps.{IsMultiRecomputed}
+use Rattle.storage_merkle.specs.MultiParts.{IsMultiRecomputed}
 use Rattle.reference.specs.Layouts.{laid_out}
 use Rattle.reference.proofs.Claims.{some_elements}
 use Rattle.reference.proofs.MultiParts.{multi_answer}
@@ -12,7 +12,7 @@ returns-in-Some g c =
     let h = g.H.Hasher.hash_of in
     let text = g.H.Digest.Write.text in
     let T = laid_out g.F.Family.shape (g.G.Grafts.grafted c.args.grafts.now) in
-    let proof = range_of text c.args.proof.now in
+    let proof = proof_of text c.args.proof.now in
     let claims = claims_of g.E.AsSlice.items c.args.claims.now in
     let chunk = g.G.Grafts.chunk c.args.grafts.now in
     let computed = text c.in-Some.computed in

@@ -1,7 +1,7 @@
 use Rattle.std.proofs.Common.{◌≡◌, ℕ, ◌≤◌, ◌++◌, List, length, map, ap, sym, subst, ◌∙◌, arith, rules}
 use Rattle.std.proofs.lemmas.List.{length-map}
 use Rattle.storage_merkle.specs.Multi.{Ascend, claims_of, locations, needed_sites}
-use Rattle.storage_merkle.specs.RangeProofs.{RangeProof}
+use Rattle.storage_merkle.specs.RangeProofs.{Proof}
 use Rattle.storage_merkle.specs.Trees.{Layout}
 use Rattle.reference.specs.Layouts.{laid_out}
 use Rattle.reference.specs.Sites.{site_of}
@@ -23,7 +23,7 @@ returns g c =
     let T : Layout = laid_out g.F.Family.shape (g.G.Grafts.grafted c.args.grafts.now) in
     let b = c.args.bagging in
     let n = c.as_u64-leaves.result in
-    let proof : RangeProof = record {
+    let proof : Proof = record {
       leaves = c.args.proof.now.leaves;
       inactive = c.args.proof.now.inactive_peaks;
       digests = map text c.args.proof.now.digests.items;

@@ -1,6 +1,6 @@
 use Rattle.std.proofs.Common.{arith, length, map, sym}
 use Rattle.std.proofs.lemmas.List.{length-map}
-use Rattle.storage_current.specs.GraftingLaws.{aligned-le}
+use Rattle.storage_current.specs.Laws.Grafting.{aligned-le}
 use Rattle.reference.proofs.Snapshots.{grafted_from}
 use Rattle.reference.proofs.snapshot.grafted_root.Goals as goal
 

@@ -1,6 +1,6 @@
 use Rattle.std.proofs.Common.{arith, length, map, sym}
 use Rattle.std.proofs.lemmas.List.{length-map}
-use Rattle.storage_current.specs.GraftingLaws.{exact-le}
+use Rattle.storage_current.specs.Laws.Grafting.{exact-le}
 use Rattle.reference.proofs.Snapshots.{ops_from}
 use Rattle.reference.proofs.snapshot.ops_root.Goals as goal
 

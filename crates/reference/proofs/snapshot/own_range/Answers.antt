@@ -1,6 +1,6 @@
 use Rattle.std.proofs.Common.{arith, length, map, sym}
 use Rattle.std.proofs.lemmas.List.{length-map}
-use Rattle.storage_current.specs.GraftingLaws.{aligned-le}
+use Rattle.storage_current.specs.Laws.Grafting.{aligned-le}
 use Rattle.reference.proofs.Snapshots.{range_from}
 use Rattle.reference.proofs.snapshot.own_range.Goals as goal
 

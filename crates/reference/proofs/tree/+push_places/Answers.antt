@@ -1,5 +1,5 @@
 use Rattle.std.proofs.Common.{arith, rules, ◌+◌, ◌≤◌, ◌^◌}
-use Rattle.storage_merkle.specs.Shape.{leaves_of}
+use Rattle.storage_merkle.specs.Shape.{leaves_under}
 use Rattle.reference.proofs.Digits.{small_height}
 use Rattle.reference.proofs.Nodes.{leaves_cons}
 use Rattle.reference.proofs.tree.+push_places.Goals as goal
@@ -18,7 +18,7 @@ power-requires t c =
 
 pub push_places-requires : goal.push_places-requires
 push_places-requires t c =
-    let l : c.args.first + c.power.result + leaves_of c.in-Some.rest.now ≤ 2 ^ 62 = omega (
+    let l : c.args.first + c.power.result + leaves_under c.in-Some.rest.now ≤ 2 ^ 62 = omega (
       arith,
       c.power.ensures,
       leaves_cons c.args.heights.now c.in-Some.rest.now c.in-Some.height.now c.in-Some.ensures.cases.0,

@@ -3,11 +3,11 @@
 ghost use Rattle.std.specs.Prelude.{◌≡◌, ◌≢◌, ℕ, ◌*◌, ◌/◌, ◌%◌, ◌<◌, ◌≤◌, ◌^◌, ◌↔◌, [], ◌∷◌, map, option_map, None, Ok, false, IsTrue, IfOk};
 ghost use Rattle.storage_bitmap.specs.BitProofs.{IsBitAccepted, IsBitProved};
 ghost use Rattle.storage_bitmap.specs.BitRoots.{partial_string};
-ghost use Rattle.storage_bitmap.specs.BitSteps.{IsBitComputed};
+ghost use Rattle.storage_bitmap.specs.BitParts.{IsBitComputed};
 ghost use Rattle.storage_bitmap.specs.Chunks.{IsChunkSize};
 ghost use Rattle.storage_merkle.specs.Checks.{IsRecomputed};
 ghost use Rattle.storage_merkle.specs.Hashers.{TakesTree};
-ghost use Rattle.storage_merkle.specs.Held.{range_of};
+ghost use Rattle.storage_merkle.specs.Held.{proof_of};
 ghost use Rattle.storage_merkle.specs.Mmr.{mmr};
 ghost use Rattle.storage_merkle.specs.Trees.{listed, ungrafted};
 
@@ -35,10 +35,10 @@ impl<D: Digest, const N: usize, M: State<D>> BitMap<D, N, M> {
         requires takes { TakesTree (H.takes hasher.now) mmr (proof.now.leaves / (8 * N)) }
         ensures exact { H.layout hasher.now ≡ ungrafted mmr
             → IfOk result (λ yes. IsTrue yes ↔ IsBitAccepted H.hash_of (H.bagging hasher.now) N
-            (range_of D.text proof.now) chunk.now bit (D.text root.now)) }
-        ensures means { H.layout hasher.now ≡ ungrafted mmr
+            (proof_of D.text proof.now) chunk.now bit (D.text root.now)) }
+        ensures meaning { H.layout hasher.now ≡ ungrafted mmr
             → IfOk result (λ yes. IsTrue yes → IsBitProved D.size H.hash_of (H.bagging hasher.now) N
-            (range_of D.text proof.now) chunk.now bit (D.text root.now)) }
+            (proof_of D.text proof.now) chunk.now bit (D.text root.now)) }
         ensures past_the_end { proof.now.leaves ≤ bit → result ≡ Ok false }
         ensures inactive { proof.now.inactive_peaks ≢ 0 → result ≡ Ok false }
         ensures no_digest { proof.now.leaves % (8 * N) ≢ 0
@@ -68,7 +68,7 @@ fn computed_root<H: Hasher<mmr::Family>, const N: usize>(
     requires below { bit < proof.now.leaves }
     ensures root { H.layout hasher.now ≡ ungrafted mmr
         → IfOk result (λ root. IsBitComputed H.hash_of (H.bagging hasher.now) N
-        (range_of H.Digest.text proof.now) chunk.now bit (option_map H.Digest.text root)) }
+        (proof_of H.Digest.text proof.now) chunk.now bit (option_map H.Digest.text root)) }
     ensures no_digest { proof.now.leaves % (8 * N) ≢ 0
         → proof.now.digests.items ≡ []
         → result ≡ Ok None }

@@ -1,14 +1,15 @@
 //! A bitmap whose root is known.
 
-ghost use Rattle.std.specs.Prelude.{◌≡◌, ℕ, ◌+◌, ◌*◌, ◌/◌, ◌^◌, ◌<◌, ◌≤◌, ◌⊎◌, ◌↔◌, [], List, Bool, length, map, take, IfOk, IfErr, MatchResult, OnOk, OnErr, Ok, Err, Some};
+ghost use Rattle.std.specs.Prelude.{◌≡◌, ℕ, ◌+◌, ◌*◌, ◌/◌, ◌<◌, ◌≤◌, ◌⊎◌, ◌↔◌, [], List, Bool, length, map, take, IfOk, IfErr, MatchResult, OnOk, OnErr, Ok, Err, Some};
 ghost use Rattle.storage_codec.specs.Digests.{HashFunction};
 ghost use Rattle.storage_merkle.specs.declared.merkle.bagging.Bagging.{Bagging};
 ghost use Rattle.storage_merkle.specs.Kept.{kept_at};
 ghost use Rattle.storage_merkle.specs.Mmr.{mmr};
 ghost use Rattle.storage_merkle.specs.Trees.{ungrafted};
+ghost use Rattle.storage_merkle.specs.Shape.{max_leaves};
 ghost use Rattle.storage_bitmap.specs.BitRoots.{bit_root};
 ghost use Rattle.storage_bitmap.specs.Chunks.{IsChunkSize, bit_count, pruned_to};
-ghost use Rattle.storage_bitmap.specs.StandsForBits.{IsPrunedState, IsRefused, StandsForBits, StandsMerkleized};
+ghost use Rattle.storage_bitmap.specs.StandsForBits.{IsPrunedState, IsBitmapRefused, StandsForBits, StandsMerkleized};
 
 use crate::bitmap::authenticated::rehashed::root_of_bits;
 use crate::bitmap::authenticated::{
@@ -59,9 +60,10 @@ impl<D: Digest, const N: usize> BitMap<D, N, Merkleized<D>> {
             → IfOk result (λ m. (bits : List Bool)
             → IsPrunedState D.text H.hash_of N state.pruned_chunks state.pinned.items bits
             → StandsMerkleized D.text H.hash_of (H.bagging hasher.now) N m m.state.root bits) }
-        ensures fits { IfOk result (λ _. (state.pruned_chunks * (8 * N) ≤ 2 ^ 62)
+        ensures fits { IfOk result (λ _. (state.pruned_chunks * (8 * N) ≤ max_leaves)
             × (length (mmr.peaks state.pruned_chunks) ≤ length state.pinned.items)) }
-        ensures why { IfErr result (IsRefused N state.pruned_chunks (length state.pinned.items)) }
+        ensures why { IfErr result (IsBitmapRefused N state.pruned_chunks
+            (length state.pinned.items)) }
     {
         let chunks = state.pruned_chunks;
         if chunks > MAX_LEAVES / (8 * N as u64) {
@@ -141,7 +143,7 @@ impl<D: Digest, const N: usize> BitMap<D, N, Merkleized<D>> {
     /// with zeros. Takes no memory.
     pub fn root(&self) -> D
         ensures value { result ≡ self.now.state.root }
-        ensures means { (h : HashFunction) (bagging : Bagging) (bits : List Bool)
+        ensures meaning { (h : HashFunction) (bagging : Bagging) (bits : List Bool)
             → StandsMerkleized D.text h bagging N self.now self.now.state.root bits
             → D.text result ≡ bit_root h bagging N bits }
     {

@@ -1,13 +1,14 @@
 //! The proof of a bit.
 
-ghost use Rattle.std.specs.Prelude.{◌≡◌, ℕ, ◌+◌, ◌-◌, ◌*◌, ◌/◌, ◌%◌, ◌^◌, ◌<◌, ◌≤◌, ◌⊎◌, [], List, Bool, map, IfOk, IfErr};
+ghost use Rattle.std.specs.Prelude.{◌≡◌, ℕ, ◌+◌, ◌-◌, ◌*◌, ◌/◌, ◌%◌, ◌<◌, ◌≤◌, ◌⊎◌, [], List, Bool, map, IfOk, IfErr};
 ghost use Rattle.storage_bitmap.specs.BitProofs.{IsBitAccepted, IsOwnBit, own_bit_digests};
 ghost use Rattle.storage_bitmap.specs.Chunks.{IsChunkSize, IsRest, bit_count};
 ghost use Rattle.storage_bitmap.specs.StandsForBits.{StandsMerkleized, chunk_digests, chunk_nodes};
-ghost use Rattle.storage_merkle.specs.Held.{range_of};
+ghost use Rattle.storage_merkle.specs.Held.{proof_of};
 ghost use Rattle.storage_merkle.specs.Kept.{StandsFor};
 ghost use Rattle.storage_merkle.specs.Mmr.{mmr};
 ghost use Rattle.storage_merkle.specs.Trees.{ungrafted};
+ghost use Rattle.storage_merkle.specs.Shape.{max_leaves};
 
 use crate::bitmap::authenticated::{BitMap, Merkleized};
 use crate::bitmap::{Prunable, Readable};
@@ -35,11 +36,11 @@ impl<D: Digest, const N: usize> BitMap<D, N, Merkleized<D>> {
         ensures own { H.layout hasher.now ≡ ungrafted mmr
             → IfOk result (λ r. (bits : List Bool) → StandsMerkleized D.text H.hash_of
             (H.bagging hasher.now) N self.now self.now.state.root bits
-            → IsOwnBit H.hash_of (H.bagging hasher.now) N (range_of D.text r.0) r.1 bit bits) }
+            → IsOwnBit H.hash_of (H.bagging hasher.now) N (proof_of D.text r.0) r.1 bit bits) }
         ensures accepted { H.layout hasher.now ≡ ungrafted mmr
             → IfOk result (λ r. (bits : List Bool) → StandsMerkleized D.text H.hash_of
             (H.bagging hasher.now) N self.now self.now.state.root bits → IsBitAccepted H.hash_of
-            (H.bagging hasher.now) N (range_of D.text r.0) r.1 bit (D.text self.now.state.root)) }
+            (H.bagging hasher.now) N (proof_of D.text r.0) r.1 bit (D.text self.now.state.root)) }
         ensures within { IfOk result (λ _. bit < bit_count N self.now.retained) }
         ensures why { IfErr result (λ e. ((bit_count N self.now.retained ≤ bit)
             × (e ≡ Error.BitOutOfBounds bit (bit_count N self.now.retained)))
@@ -71,7 +72,7 @@ fn bit_digests<D: Digest, H: Hasher<mmr::Family, Digest = D>, const N: usize>(
     place: u64,
 ) -> Result<Vec<D>, NoMemory>
     requires size { IsChunkSize N }
-    requires few { bit_count N bits.now ≤ 2 ^ 62 }
+    requires few { bit_count N bits.now ≤ max_leaves }
     requires boundary { tree.now.boundary ≡ bits.now.pruned }
     requires order { bits.now.pruned ≤ tree.now.leaves }
     requires whole { tree.now.leaves ≡ bit_count N bits.now / (8 * N) }

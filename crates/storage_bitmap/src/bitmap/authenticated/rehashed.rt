@@ -1,12 +1,12 @@
 //! The tree over the chunks of a bitmap, brought to the bitmap's bits.
 
-ghost use Rattle.std.specs.Prelude.{◌≡◌, ℕ, ◌+◌, ◌-◌, ◌*◌, ◌/◌, ◌%◌, ◌^◌, ◌<◌, ◌≤◌, ◌∷◌, ◌++◌, [], ◌≢◌, List, Bool, length, map, All, IfOk, IfErr, OnOk};
+ghost use Rattle.std.specs.Prelude.{◌≡◌, ℕ, ◌+◌, ◌-◌, ◌*◌, ◌/◌, ◌%◌, ◌<◌, ◌≤◌, ◌∷◌, ◌++◌, [], ◌≢◌, List, Bool, length, map, All, IfOk, IfErr, OnOk};
 ghost use Rattle.std.specs.List.{AllZip};
 ghost use Rattle.storage_merkle.specs.Calc.{be8};
 ghost use Rattle.storage_merkle.specs.Hashers.{TakesTree};
 ghost use Rattle.storage_merkle.specs.Kept.{StandsBut, StandsFor};
 ghost use Rattle.storage_merkle.specs.Mmr.{mmr};
-ghost use Rattle.storage_merkle.specs.Shape.{size};
+ghost use Rattle.storage_merkle.specs.Shape.{size, max_leaves};
 ghost use Rattle.storage_merkle.specs.Trees.{ungrafted};
 ghost use Rattle.storage_bitmap.specs.BitRoots.{bit_root};
 ghost use Rattle.storage_bitmap.specs.Chunks.{IsChunkSize, IsRest, bit_count, chunk as chunk_of};
@@ -27,7 +27,7 @@ fn chunk_digest<H: Hasher<mmr::Family>, const N: usize>(
     bits: &Prunable<N>,
     index: u64,
 ) -> H::Digest
-    requires few { bit_count N bits.now ≤ 2 ^ 62 }
+    requires few { bit_count N bits.now ≤ max_leaves }
     requires size { IsChunkSize N }
     requires kept { bits.now.pruned ≤ index }
     requires within { index < bit_count N bits.now / (8 * N) }
@@ -45,7 +45,7 @@ fn chunk_leaves<D: Digest, H: Hasher<mmr::Family, Digest = D>, const N: usize>(
     bits: &Prunable<N>,
     chunks: &BTreeSet<u64>,
 ) -> Result<Vec<(Location<mmr::Family>, D)>, AllocError>
-    requires few { bit_count N bits.now ≤ 2 ^ 62 }
+    requires few { bit_count N bits.now ≤ max_leaves }
     requires size { IsChunkSize N }
     requires there { All (λ chunk. (bits.now.pruned ≤ chunk)
         × (chunk < bit_count N bits.now / (8 * N))) chunks.now.keys }
@@ -69,7 +69,7 @@ pub(super) fn rehash<D: Digest, H: Hasher<mmr::Family, Digest = D>, const N: usi
     bits: &Prunable<N>,
     dirty: &BTreeSet<u64>,
 ) -> Result<(), Error<mmr::Family>>
-    requires few { bit_count N bits.now ≤ 2 ^ 62 }
+    requires few { bit_count N bits.now ≤ max_leaves }
     requires size { IsChunkSize N }
     requires boundary { tree.old.boundary ≡ bits.now.pruned }
     requires leaves { tree.old.leaves ≤ bit_count N bits.now / (8 * N) }
@@ -98,7 +98,7 @@ pub(super) fn add_chunks<D: Digest, H: Hasher<mmr::Family, Digest = D>, const N:
     hasher: &H,
     bits: &Prunable<N>,
 ) -> Result<(), Error<mmr::Family>>
-    requires few { bit_count N bits.now ≤ 2 ^ 62 }
+    requires few { bit_count N bits.now ≤ max_leaves }
     requires size { IsChunkSize N }
     requires order { bits.now.pruned ≤ tree.old.leaves }
     requires leaves { tree.old.leaves ≤ bit_count N bits.now / (8 * N) }
@@ -127,7 +127,7 @@ pub(super) fn root_of_bits<D: Digest, H: Hasher<mmr::Family, Digest = D>, const 
     hasher: &H,
     bits: &Prunable<N>,
 ) -> D
-    requires few { bit_count N bits.now ≤ 2 ^ 62 }
+    requires few { bit_count N bits.now ≤ max_leaves }
     requires size { IsChunkSize N }
     requires order { bits.now.pruned ≤ tree.now.leaves }
     requires whole { tree.now.leaves ≡ bit_count N bits.now / (8 * N) }

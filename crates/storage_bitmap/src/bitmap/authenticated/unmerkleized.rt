@@ -1,12 +1,13 @@
 //! Changes of bits, and the root after them.
 
-ghost use Rattle.std.specs.Prelude.{◌≡◌, ℕ, ◌+◌, ◌-◌, ◌*◌, ◌/◌, ◌^◌, ◌<◌, ◌≤◌, ◌∷◌, ◌++◌, [], List, Bool, length, map, slice_set, IfOk, IfErr, OnOk, OnErr};
+ghost use Rattle.std.specs.Prelude.{◌≡◌, ℕ, ◌+◌, ◌-◌, ◌*◌, ◌/◌, ◌<◌, ◌≤◌, ◌∷◌, ◌++◌, [], List, Bool, length, map, slice_set, IfOk, IfErr, OnOk, OnErr};
 ghost use Rattle.std.specs.BTreeSet.{insert_key};
 ghost use Rattle.std.specs.Ordering.{nat_cmp};
 ghost use Rattle.storage_codec.specs.Digests.{HashFunction};
 ghost use Rattle.storage_merkle.specs.Hashers.{TakesTree};
 ghost use Rattle.storage_merkle.specs.Mmr.{mmr};
 ghost use Rattle.storage_merkle.specs.Trees.{ungrafted};
+ghost use Rattle.storage_merkle.specs.Shape.{max_leaves};
 ghost use Rattle.storage_bitmap.specs.Chunks.{bit_count};
 ghost use Rattle.storage_bitmap.specs.StandsForBits.{StandsForBits, StandsMerkleized};
 
@@ -25,7 +26,7 @@ impl<D: Digest, const N: usize> BitMap<D, N, Unmerkleized> {
     ///
     /// `Memory`.
     pub fn push(&mut self, bit: bool) -> Result<(), Error<mmr::Family>>
-        requires { bit_count N self.old.retained < 2 ^ 62 }
+        requires { bit_count N self.old.retained < max_leaves }
         ensures value { OnOk result (self.new
             ≡ record self.old {
               retained = record self.old.retained {

@@ -1,7 +1,7 @@
 use Rattle.std.proofs.Common.{[], subst, sym, ap, ◌++◌, List, ℕ}
 use Rattle.std.proofs.lemmas.List.{append-nil}
 use Rattle.storage_codec.specs.Parts.{IsBytes}
-use Rattle.storage_codec.specs.CodecLaws.{equal_views, one_front}
+use Rattle.storage_codec.specs.Laws.Codec.{equal_views, one_front}
 use Rattle.storage_codec.proofs.laws.equal_encodings_of_equal_views.Goals as goal
 
 pub returns : goal.returns

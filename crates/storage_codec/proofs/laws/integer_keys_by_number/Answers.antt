@@ -1,4 +1,4 @@
-use Rattle.storage_codec.specs.OrderLaws.{cmp_by_number_8}
+use Rattle.storage_codec.specs.Laws.Order.{cmp_by_number_8}
 use Rattle.storage_codec.proofs.laws.integer_keys_by_number.Goals as goal
 
 pub returns : goal.returns

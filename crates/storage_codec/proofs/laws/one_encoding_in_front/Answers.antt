@@ -1,4 +1,4 @@
-use Rattle.storage_codec.specs.CodecLaws.{one_front}
+use Rattle.storage_codec.specs.Laws.Codec.{one_front}
 use Rattle.storage_codec.proofs.laws.one_encoding_in_front.Goals as goal
 
 pub returns : goal.returns

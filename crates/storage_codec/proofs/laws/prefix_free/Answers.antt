@@ -1,5 +1,5 @@
 use Rattle.std.proofs.Common.{[]}
-use Rattle.storage_codec.specs.CodecLaws.{front_is_whole}
+use Rattle.storage_codec.specs.Laws.Codec.{front_is_whole}
 use Rattle.storage_codec.proofs.laws.prefix_free.Goals as goal
 
 pub returns : goal.returns

@@ -1,4 +1,4 @@
-use Rattle.storage_codec.specs.SpellingLaws.{varint_fewest, varint_most}
+use Rattle.storage_codec.specs.Laws.Spelling.{varint_fewest, varint_most}
 use Rattle.storage_codec.proofs.laws.varint_shortest.Goals as goal
 
 pub returns-clause-fewest : goal.returns-clause-fewest

@@ -1,6 +1,6 @@
 use Rattle.std.proofs.Common.{◌≡◌, ℕ, List, [], Ok, subst, ◌∙◌, refl}
 use Rattle.std.proofs.lemmas.List.{append-nil}
-use Rattle.storage_codec.specs.CodecLaws.{whole_ok}
+use Rattle.storage_codec.specs.Laws.Codec.{whole_ok}
 use Rattle.storage_codec.proofs.laws.whole_encoding.Goals as goal
 
 pub returns : goal.returns

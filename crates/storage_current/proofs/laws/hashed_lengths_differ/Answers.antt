@@ -1,6 +1,6 @@
 use Rattle.std.proofs.Common.{inl, inr, arith}
 use Rattle.storage_merkle.specs.Mmr.{mmr}
-use Rattle.storage_current.specs.GraftingLaws.{chunk_apart}
+use Rattle.storage_current.specs.Laws.Grafting.{chunk_apart}
 use Rattle.storage_current.proofs.laws.hashed_lengths_differ.Goals as goal
 
 pub returns : goal.returns

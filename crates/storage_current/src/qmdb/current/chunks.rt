@@ -1,6 +1,7 @@
 //! The chunks of a snapshot's bits that are grafted over no node: the pending and the partial one.
 
 ghost use Rattle.std.specs.Prelude.{◌≡◌, ℕ, ◌+◌, ◌-◌, ◌*◌, ◌/◌, ◌%◌, ◌^◌, ◌<◌, ◌≤◌, ltb, eqb, not, if◌then◌else◌, option_map};
+ghost use Rattle.storage_merkle.specs.Shape.{max_leaves};
 ghost use Rattle.storage_bitmap.specs.Chunks.{IsChunkSize, bit_count, chunk};
 ghost use Rattle.storage_current.specs.Snapshots.{graftable_at};
 
@@ -23,7 +24,7 @@ pub(crate) struct ChunkCounts {
 impl ChunkCounts {
     /// The counts over `leaves` operations, where a chunk is over a node of height `height`.
     pub(crate) fn over<F: Family>(leaves: u64, height: u32) -> Self
-        requires few { leaves ≤ 2 ^ 62 }
+        requires few { leaves ≤ max_leaves }
         requires low { 1 ≤ height }
         requires high { height ≤ 62 }
         ensures complete { result.complete ≡ leaves / 2 ^ height }

@@ -14,6 +14,7 @@ pub use hasher::GraftedHasher;
 pub use storage::Storage;
 pub(crate) use storage::{Look, look_up};
 use storage_codec::digest::{Digest, Hasher};
+pub(crate) use storage_merkle::merkle::family::power;
 pub use storage_merkle::merkle::family::{
     aligned_inactive, exact_inactive, graftable_chunks, grafted_to_ops_pos, ops_to_grafted_pos,
 };
@@ -78,12 +79,4 @@ fn hash_both<H: Hasher>(left: &[u8], right: &[u8]) -> H::Digest
     ensures { H.Digest.text result ≡ H.hash_of (left.now ++ right.now) }
 {
     H::hash(&[left, right])
-}
-
-/// `2^exponent`, for `exponent` of at most 63.
-pub(crate) fn power(exponent: u32) -> u64
-    requires { exponent ≤ 63 }
-    ensures { result ≡ 2 ^ exponent }
-{
-    1 << exponent
 }

@@ -1,7 +1,8 @@
 //! A tree over operations, as it grows.
 
-ghost use Rattle.std.specs.Prelude.{◌≡◌, ℕ, ◌+◌, ◌^◌, ◌<◌, ◌∷◌, ◌++◌, ◌⊎◌, List, [], map, IfErr, OnOk, OnErr};
+ghost use Rattle.std.specs.Prelude.{◌≡◌, ℕ, ◌+◌, ◌<◌, ◌∷◌, ◌++◌, ◌⊎◌, List, [], map, IfErr, OnOk, OnErr};
 ghost use Rattle.storage_merkle.specs.declared.merkle.error.Error.TheVariants.{LocationOverflow};
+ghost use Rattle.storage_merkle.specs.Shape.{max_leaves};
 ghost use Rattle.storage_ops.specs.declared.qmdb.error.Error.TheVariants.{Merkle, Memory};
 ghost use Rattle.storage_current.specs.NodeLists.{IsGrown, IsTreeOver};
 
@@ -52,11 +53,11 @@ impl<F: Graftable, H: Hasher> OperationTree<F, H> {
             → IsTreeOver H.hash_of F.shape self.old operations
             → IsTreeOver H.hash_of F.shape self.new (operations ++ operation.now ∷ [])) }
         ensures place { OnOk result (self.new.leaves ≡ self.old.leaves + 1) }
-        ensures fits { OnOk result (self.old.leaves < 2 ^ 62) }
+        ensures fits { OnOk result (self.old.leaves < max_leaves) }
         ensures same { OnErr result (self.new ≡ self.old) }
         ensures why { IfErr result (λ e.
-            ((self.old.leaves ≡ 2 ^ 62) × (e ≡ Merkle (LocationOverflow self.old.leaves)))
-            ⊎ ((self.old.leaves < 2 ^ 62) × (e ≡ Memory))) }
+            ((self.old.leaves ≡ max_leaves) × (e ≡ Merkle (LocationOverflow self.old.leaves)))
+            ⊎ ((self.old.leaves < max_leaves) × (e ≡ Memory))) }
     {
         let leaves = self.operations.leaves();
         if leaves.as_u64() >= MAX_LEAVES {

@@ -1,7 +1,6 @@
 //! Proofs of the value of a key, and that a key has none, over operations whose updates name the next key.
 
 mod check;
-mod clones;
 mod codec;
 mod copies;
 mod exclusion;

@@ -5,14 +5,13 @@ ghost use Rattle.std.specs.List.{All};
 ghost use Rattle.storage_merkle.specs.Plans.{planned};
 ghost use Rattle.storage_merkle.specs.RangeProofs.{AreDigests};
 ghost use Rattle.storage_current.specs.BuiltProofs.{AreAnswered, AreBitsOf, ArePartsOf, IsNotBuilt};
-ghost use Rattle.storage_current.specs.Snapshots.{Snapshot as SnapshotOf, canonical_string, own_current_proof, grafting_of};
+ghost use Rattle.storage_current.specs.Snapshots.{Snapshot as SnapshotOf, canonical_string, own_range_proof, grafting_of};
 ghost use Rattle.storage_current.specs.CurrentProofs.{IsCurrent};
 ghost use Rattle.storage_current.specs.CurrentSoundness.{MeansCurrent};
-ghost use Rattle.storage_current.specs.Held.{current_of};
+ghost use Rattle.storage_current.specs.Held.{range_proof_of};
 ghost use Rattle.storage_current.specs.Windows.{IsWindow, IsWindowOf};
 
 mod chunk;
-mod clones;
 mod codec;
 mod extract;
 mod from_store;
@@ -82,7 +81,7 @@ impl<F: Graftable, D: Digest> RangeProof<F, D> {
         ensures own { let g = grafting_of F.shape N in
             IfOk result (λ proof. (s : SnapshotOf) → ArePartsOf D.text
             (G.post get_node) H.hash_of g plan (R.retained status.now) floor (D.text ops_root) s
-            → current_of D.text proof ≡ own_current_proof H.hash_of g s plan.start plan.end) }
+            → range_proof_of D.text proof ≡ own_range_proof H.hash_of g s plan.start plan.end) }
         ensures answered { OnOk result (AreAnswered (G.post get_node) F.shape plan) }
         ensures bits { let g = grafting_of F.shape N in
             OnOk result (AreBitsOf g plan.leaves (R.retained status.now)) }
@@ -123,11 +122,11 @@ impl<F: Graftable, D: Digest> RangeProof<F, D> {
         root: &D,
     ) -> Result<bool, NoMemory>
         ensures exact { IfOk result (λ yes. IsTrue yes
-            ↔ IsCurrent H.hash_of (grafting_of F.shape N) (current_of D.text self.now) start
+            ↔ IsCurrent H.hash_of (grafting_of F.shape N) (range_proof_of D.text self.now) start
             (map O.text operations.now) chunks.now (D.text root.now)) }
         ensures meaning { (D.size ≡ 32) ⊎ (D.size ≡ 64)
             → IfOk result (λ yes. IsTrue yes
-            → MeansCurrent H.hash_of (grafting_of F.shape N) (current_of D.text self.now) start
+            → MeansCurrent H.hash_of (grafting_of F.shape N) (range_proof_of D.text self.now) start
             (map O.text operations.now) chunks.now (D.text root.now)) }
         ensures at_once { (IsWindow (grafting_of F.shape N) self.now.proof.leaves start
             (length operations.now) (length chunks.now) → ⊥)
@@ -148,11 +147,12 @@ impl<F: Graftable, D: Digest> RangeProof<F, D> {
         root: &D,
     ) -> Result<bool, NoMemory>
         ensures exact { IfOk result (λ yes. IsTrue yes
-            ↔ IsCurrent H.hash_of (grafting_of F.shape chunk_size) (current_of D.text self.now)
+            ↔ IsCurrent H.hash_of (grafting_of F.shape chunk_size) (range_proof_of D.text self.now)
             start (map O.text operations.now) (map C.text chunks.now) (D.text root.now)) }
         ensures meaning { (D.size ≡ 32) ⊎ (D.size ≡ 64)
             → IfOk result (λ yes. IsTrue yes
-            → MeansCurrent H.hash_of (grafting_of F.shape chunk_size) (current_of D.text self.now)
+            → MeansCurrent H.hash_of (grafting_of F.shape chunk_size)
+            (range_proof_of D.text self.now)
             start (map O.text operations.now) (map C.text chunks.now) (D.text root.now)) }
         ensures at_once { (IsWindow (grafting_of F.shape chunk_size) self.now.proof.leaves start
             (length operations.now) (length chunks.now) → ⊥)
@@ -178,11 +178,12 @@ impl<F: Graftable, D: Digest> RangeProof<F, D> {
         root: &D,
     ) -> Result<bool, NoMemory>
         ensures exact { IfOk result (λ yes. IsTrue yes
-            ↔ IsCurrent H.hash_of (grafting_of F.shape chunk_size) (current_of D.text self.now)
+            ↔ IsCurrent H.hash_of (grafting_of F.shape chunk_size) (range_proof_of D.text self.now)
             start (map E.items operations.now) (map C.text chunks.now) (D.text root.now)) }
         ensures meaning { (D.size ≡ 32) ⊎ (D.size ≡ 64)
             → IfOk result (λ yes. IsTrue yes
-            → MeansCurrent H.hash_of (grafting_of F.shape chunk_size) (current_of D.text self.now)
+            → MeansCurrent H.hash_of (grafting_of F.shape chunk_size)
+            (range_proof_of D.text self.now)
             start (map E.items operations.now) (map C.text chunks.now) (D.text root.now)) }
         ensures at_once { (IsWindow (grafting_of F.shape chunk_size) self.now.proof.leaves start
             (length operations.now) (length chunks.now) → ⊥)
@@ -239,14 +240,14 @@ impl<F: Graftable, D: Digest> RangeProof<F, D> {
             (length operations.now) (length chunks.now) window.now
             → AreDigests n (map C.text chunks.now)
             → IfOk result (λ yes. IsTrue yes
-            ↔ IsCurrent H.hash_of (grafting_of F.shape n) (current_of D.text self.now) start
+            ↔ IsCurrent H.hash_of (grafting_of F.shape n) (range_proof_of D.text self.now) start
             (map E.items operations.now) (map C.text chunks.now) (D.text root.now)) }
         ensures meaning { (n : ℕ) → IsWindowOf (grafting_of F.shape n) self.now.proof.leaves start
             (length operations.now) (length chunks.now) window.now
             → AreDigests n (map C.text chunks.now)
             → (D.size ≡ 32) ⊎ (D.size ≡ 64)
             → IfOk result (λ yes. IsTrue yes
-            → MeansCurrent H.hash_of (grafting_of F.shape n) (current_of D.text self.now) start
+            → MeansCurrent H.hash_of (grafting_of F.shape n) (range_proof_of D.text self.now) start
             (map E.items operations.now) (map C.text chunks.now) (D.text root.now)) }
     {
         current_proofs_are_sound();
@@ -269,7 +270,7 @@ impl<F: Graftable, D: Digest> RangeProof<F, D> {
             (length operations.now) (length chunks.now) window.now
             → AreDigests n (map C.text chunks.now)
             → IfOk result (λ yes. IsTrue yes
-            ↔ IsCurrent H.hash_of (grafting_of F.shape n) (current_of D.text self.now) start
+            ↔ IsCurrent H.hash_of (grafting_of F.shape n) (range_proof_of D.text self.now) start
             (map E.items operations.now) (map C.text chunks.now) (D.text root.now)) }
     {
         if !slots::match_chunks::<H, C, F>(self, window, chunks) {
@@ -304,6 +305,19 @@ impl<F: Graftable, D: Digest> RangeProof<F, D> {
             window.counts.next_bit,
             &self.partial_chunk_digest,
         )
+    }
+
+    /// A proof equal to this one. `NoMemory` where there is no memory for it.
+    pub fn clone(&self) -> Result<Self, NoMemory>
+        ensures { IfOk result (λ copy. range_proof_of D.text copy
+            ≡ range_proof_of D.text self.now) }
+    {
+        Ok(RangeProof {
+            proof: self.proof.clone()?,
+            pending_chunk_digest: self.pending_chunk_digest,
+            partial_chunk_digest: self.partial_chunk_digest,
+            ops_root: self.ops_root,
+        })
     }
 }
 

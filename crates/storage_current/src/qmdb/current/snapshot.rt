@@ -1,10 +1,10 @@
 //! Snapshots in memory, with their roots and the nodes of their grafted view.
 
-ghost use Rattle.std.specs.Prelude.{◌≡◌, ℕ, ◌<◌, ◌≤◌, ◌^◌, List, length, map, option_map, None, IfOk, IfErr, MatchOption};
+ghost use Rattle.std.specs.Prelude.{◌≡◌, ℕ, ◌<◌, ◌≤◌, List, length, map, option_map, None, IfOk, IfErr, MatchOption};
 ghost use Rattle.std.specs.List.{slice_get};
-ghost use Rattle.storage_merkle.specs.Shape.{size};
+ghost use Rattle.storage_merkle.specs.Shape.{size, max_leaves};
 ghost use Rattle.storage_bitmap.specs.Chunks.{IsChunkSize, bit_count};
-ghost use Rattle.storage_current.specs.KeptSnapshots.{HasEachBit, IsRefused, StandsFor};
+ghost use Rattle.storage_current.specs.KeptSnapshots.{HasEachBit, IsSnapshotRefused, StandsForSnapshot};
 ghost use Rattle.storage_current.specs.NodeLists.{IsGrown, IsOver, IsTreeOver};
 ghost use Rattle.storage_current.specs.Snapshots.{IsServed, IsSnapshot, Snapshot as SnapshotOf, canonical_root, ops_root_of, own_witness, grafting_of};
 ghost use Rattle.storage_current.specs.WitnessWire.{witness_of};
@@ -81,8 +81,8 @@ impl<F: Graftable, H: Hasher, const N: usize> Snapshot<F, H, N> {
               bits = bits.entry.bits;
               floor = floor;
             } in
-            IfOk result (λ kept. IsSnapshot s × StandsFor H.hash_of g kept s) }
-        ensures why { IfErr result (IsRefused N (length operations.now) bits.entry floor) }
+            IfOk result (λ kept. IsSnapshot s × StandsForSnapshot H.hash_of g kept s) }
+        ensures why { IfErr result (IsSnapshotRefused N (length operations.now) bits.entry floor) }
     {
         let leaves = operations.len() as u64;
         if let Some(error) = refusal::<F, N>(leaves, &bits, floor) {
@@ -122,8 +122,8 @@ impl<F: Graftable, H: Hasher, const N: usize> Snapshot<F, H, N> {
               bits = bits.entry.bits;
               floor = floor;
             } in
-            IsSnapshot s × StandsFor H.hash_of g kept s) }
-        ensures why { IfErr result (IsRefused N tree.leaves bits.entry floor) }
+            IsSnapshot s × StandsForSnapshot H.hash_of g kept s) }
+        ensures why { IfErr result (IsSnapshotRefused N tree.leaves bits.entry floor) }
     {
         let operations = tree.into_operations();
         if let Some(error) = refusal::<F, N>(operations.leaves().as_u64(), &bits, floor) {
@@ -156,7 +156,7 @@ impl<F: Graftable, H: Hasher, const N: usize> Snapshot<F, H, N> {
               bits = bits.entry.bits;
               floor = floor;
             } in
-            IsSnapshot s × StandsFor H.hash_of g kept s) }
+            IsSnapshot s × StandsForSnapshot H.hash_of g kept s) }
     {
         trees_keep_the_nodes_of_their_list(&operations);
         let leaves = bits.len();
@@ -195,7 +195,8 @@ impl<F: Graftable, H: Hasher, const N: usize> Snapshot<F, H, N> {
     /// The canonical root. Takes no memory.
     pub fn root(&self) -> H::Digest
         ensures value { H.Digest.text result ≡ self.now.root }
-        ensures stands { (s : SnapshotOf) → StandsFor H.hash_of (grafting_of F.shape N) self.now s
+        ensures stands { (s : SnapshotOf) → StandsForSnapshot H.hash_of
+            (grafting_of F.shape N) self.now s
             → H.Digest.text result ≡ canonical_root H.hash_of (grafting_of F.shape N) s }
     {
         self.root
@@ -204,7 +205,8 @@ impl<F: Graftable, H: Hasher, const N: usize> Snapshot<F, H, N> {
     /// The root of the tree over the operations alone. Takes no memory.
     pub fn ops_root(&self) -> H::Digest
         ensures value { H.Digest.text result ≡ self.now.ops_root }
-        ensures stands { (s : SnapshotOf) → StandsFor H.hash_of (grafting_of F.shape N) self.now s
+        ensures stands { (s : SnapshotOf) → StandsForSnapshot H.hash_of
+            (grafting_of F.shape N) self.now s
             → H.Digest.text result ≡ ops_root_of H.hash_of (grafting_of F.shape N) s }
     {
         self.ops_root
@@ -213,7 +215,8 @@ impl<F: Graftable, H: Hasher, const N: usize> Snapshot<F, H, N> {
     /// The witness that the operations root is that of the snapshot with the canonical root. Takes no memory.
     pub fn witness(&self) -> OpsRootWitness<F, H::Digest>
         ensures value { witness_of H.Digest.text result ≡ self.now.witness }
-        ensures stands { (s : SnapshotOf) → StandsFor H.hash_of (grafting_of F.shape N) self.now s
+        ensures stands { (s : SnapshotOf) → StandsForSnapshot H.hash_of
+            (grafting_of F.shape N) self.now s
             → witness_of H.Digest.text result ≡ own_witness H.hash_of (grafting_of F.shape N) s }
     {
         self.witness.copied()
@@ -222,11 +225,13 @@ impl<F: Graftable, H: Hasher, const N: usize> Snapshot<F, H, N> {
     /// The digest that the grafted view has at `position`; none past its nodes. Takes no memory.
     pub fn get_node(&self, position: Position<F>) -> Option<H::Digest>
         ensures value { option_map H.Digest.text result ≡ slice_get self.now.nodes position }
-        ensures there { (s : SnapshotOf) → StandsFor H.hash_of (grafting_of F.shape N) self.now s
+        ensures there { (s : SnapshotOf) → StandsForSnapshot H.hash_of
+            (grafting_of F.shape N) self.now s
             → position < size F.shape (length s.operations)
             → IsServed H.hash_of (grafting_of F.shape N) s
             (λ _. option_map H.Digest.text result) position }
-        ensures past { (s : SnapshotOf) → StandsFor H.hash_of (grafting_of F.shape N) self.now s
+        ensures past { (s : SnapshotOf) → StandsForSnapshot H.hash_of
+            (grafting_of F.shape N) self.now s
             → size F.shape (length s.operations) ≤ position
             → result ≡ None }
     {
@@ -251,7 +256,7 @@ fn refusal<F: Graftable, const N: usize>(
 ) -> Option<Error<F>>
     ensures size { IsChunkSize N }
     ensures why { MatchOption result (HasEachBit N leaves bits.now × (floor ≤ leaves)
-        × (leaves ≤ 2 ^ 62)) (IsRefused N leaves bits.now floor) }
+        × (leaves ≤ max_leaves)) (IsSnapshotRefused N leaves bits.now floor) }
 {
     if bits.len() != leaves || bits.pruned_chunks() > 0 {
         return Some(Error::DataCorrupted("not one bit for each operation"));

@@ -1,8 +1,8 @@
 //! The grafted view of a tree over operations: that tree and one over the chunks, as one.
 
-ghost use Rattle.std.specs.Prelude.{◌≡◌, ℕ, ◌^◌, ◌≤◌, List, length, map, Bool, IfOk};
+ghost use Rattle.std.specs.Prelude.{◌≡◌, ℕ, ◌≤◌, List, length, map, Bool, IfOk};
 ghost use Rattle.storage_merkle.specs.declared.merkle.bagging.Bagging.TheVariants.{BackwardFold};
-ghost use Rattle.storage_merkle.specs.Shape.{size};
+ghost use Rattle.storage_merkle.specs.Shape.{size, max_leaves};
 ghost use Rattle.storage_merkle.specs.Trees.{Content, Layout, places, tree_node, tree_root};
 ghost use Rattle.storage_bitmap.specs.Chunks.{IsChunkSize, bit_count};
 ghost use Rattle.storage_current.specs.CombinedViews.{AreGraftedLeaves};
@@ -81,7 +81,7 @@ pub(crate) fn view_root<F: Graftable, H: Hasher>(
     inactive: usize,
 ) -> Result<H::Digest, AllocError>
     requires low { 1 ≤ height }
-    requires few { operations.now.leaves ≤ 2 ^ 62 }
+    requires few { operations.now.leaves ≤ max_leaves }
     requires had { AreHad (seen_in H.digest_of H.Digest.text F.shape height operations.now
         chunks.now) (size F.shape operations.now.leaves) }
     requires inactive { inactive ≤ length (F.shape.peaks operations.now.leaves) }
@@ -104,7 +104,7 @@ fn view_peaks<F: Graftable, H: Hasher>(
     height: u32,
 ) -> Result<Vec<H::Digest>, AllocError>
     requires low { 1 ≤ height }
-    requires few { operations.now.leaves ≤ 2 ^ 62 }
+    requires few { operations.now.leaves ≤ max_leaves }
     requires had { AreHad (seen_in H.digest_of H.Digest.text F.shape height operations.now
         chunks.now) (size F.shape operations.now.leaves) }
     ensures count { IfOk result (λ peaks.

@@ -1,4 +1,4 @@
-use Rattle.storage_merkle.specs.HashingLaws.{tree_root-leaves}
+use Rattle.storage_merkle.specs.Laws.Hashing.{tree_root-leaves}
 use Rattle.storage_merkle.proofs.laws.roots_are_of_leaves.Goals as goal
 
 pub returns : goal.returns

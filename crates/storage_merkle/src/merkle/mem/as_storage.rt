@@ -1,10 +1,10 @@
 //! A tree in memory serves its nodes: reading never fails.
 
-ghost use Rattle.std.specs.Prelude.{◌≡◌, ℕ, ◌^◌, ◌≤◌, ◌⊎◌, length, map, Some, Ok, IfOk, IfErr};
+ghost use Rattle.std.specs.Prelude.{◌≡◌, ℕ, ◌≤◌, ◌⊎◌, length, map, Some, Ok, IfOk, IfErr};
 ghost use Rattle.std.specs.List.{AllZip};
 ghost use Rattle.storage_merkle.specs.Kept.{kept_at};
 ghost use Rattle.storage_merkle.specs.Plans.{IsFirstAbsent};
-ghost use Rattle.storage_merkle.specs.Shape.{size};
+ghost use Rattle.storage_merkle.specs.Shape.{size, max_leaves};
 
 use crate::merkle::mem::Mem;
 use crate::merkle::mem::nodes::look_up;
@@ -78,7 +78,7 @@ fn look_up_all<F: Family, D: Digest>(
     nodes: &[D],
     positions: &[Position<F>],
 ) -> Result<Vec<D>, Error<F>>
-    requires few { boundary ≤ 2 ^ 62 }
+    requires few { boundary ≤ max_leaves }
     requires pins { length pinned.now ≡ length (F.shape.peaks boundary) }
     ensures served { IfOk result (λ v. AllZip
         (λ p d. Some d ≡ kept_at F.shape boundary pinned.now nodes.now p) positions.now v.items) }

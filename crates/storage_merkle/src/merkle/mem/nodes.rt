@@ -1,12 +1,12 @@
 //! The digests that a tree in memory keeps: how they are found, appended and written anew.
 
-ghost use Rattle.std.specs.Prelude.{◌≡◌, ℕ, ◌+◌, ◌-◌, ◌*◌, ◌%◌, ◌^◌, ◌<◌, ◌≤◌, ◌↔◌, ◌∷◌, ◌++◌, [], List, map, take, length, get_or, All, Some, IfOk, OnErr, IsTrue, slice_get, option_map, Option};
+ghost use Rattle.std.specs.Prelude.{◌≡◌, ℕ, ◌+◌, ◌-◌, ◌*◌, ◌%◌, ◌<◌, ◌≤◌, ◌↔◌, ◌∷◌, ◌++◌, [], List, map, take, length, get_or, All, Some, IfOk, OnErr, IsTrue, slice_get, option_map, Option};
 ghost use Rattle.storage_merkle.specs.Calc.{be8};
 ghost use Rattle.storage_merkle.specs.Hashing.{node_over};
-ghost use Rattle.storage_merkle.specs.Kept.{kept_at, at_peaks, updated, IsClean, Holds};
+ghost use Rattle.storage_merkle.specs.Kept.{kept_at, at_peaks, list_updated, IsClean, HoldsDigests};
 ghost use Rattle.storage_merkle.specs.Nodes.{IsNode};
 ghost use Rattle.storage_merkle.specs.Rewriting.{over, WrittenBelow, IsNext, Reaches};
-ghost use Rattle.storage_merkle.specs.Shape.{size};
+ghost use Rattle.storage_merkle.specs.Shape.{size, max_leaves};
 
 use crate::merkle::family::power;
 use crate::merkle::hasher::Hasher;
@@ -22,7 +22,7 @@ pub(crate) fn find<'a, F: Family, D: Digest>(
     nodes: &'a [D],
     position: u64,
 ) -> Option<&'a D>
-    requires few { boundary ≤ 2 ^ 62 }
+    requires few { boundary ≤ max_leaves }
     requires pins { length pinned.now ≡ length (F.shape.peaks boundary) }
     ensures { option_map (λ d. d.now) result
         ≡ kept_at F.shape boundary pinned.now nodes.now position }
@@ -49,7 +49,7 @@ pub(crate) fn look_up<F: Family, D: Digest>(
     nodes: &[D],
     position: u64,
 ) -> Option<D>
-    requires few { boundary ≤ 2 ^ 62 }
+    requires few { boundary ≤ max_leaves }
     requires pins { length pinned.now ≡ length (F.shape.peaks boundary) }
     ensures { result ≡ kept_at F.shape boundary pinned.now nodes.now position }
 {
@@ -68,7 +68,7 @@ pub(crate) fn born<F: Family, H: Hasher<F>>(
     element: &[u8],
     offset: u64,
 ) -> H::Digest
-    requires few { leaves < 2 ^ 62 }
+    requires few { leaves < max_leaves }
     requires order { boundary ≤ leaves }
     requires pins { length pinned.now ≡ length (F.shape.peaks boundary) }
     requires count { length nodes.now + size F.shape boundary ≡ size F.shape leaves + offset }
@@ -77,7 +77,7 @@ pub(crate) fn born<F: Family, H: Hasher<F>>(
     ensures { let N = node_over H.hash_of (H.layout hasher.now) (H.chunk hasher.now) in
         let leaf = H.hash_of (be8 (size F.shape leaves) ++ element.now) in
         (list : List (List ℕ)) (dirty : List ℕ) → length list ≡ leaves
-        → Holds F.shape (N (list ++ leaf ∷ [])) dirty boundary (size F.shape leaves + offset)
+        → HoldsDigests F.shape (N (list ++ leaf ∷ [])) dirty boundary (size F.shape leaves + offset)
         (map H.Digest.text pinned.now) (map H.Digest.text nodes.now)
         → (a k : ℕ) → IsNode F.shape (size F.shape leaves + offset) a k
         → IsClean dirty a k
@@ -116,7 +116,7 @@ pub(crate) fn grow<F: Family, H: Hasher<F>>(
     nodes: &mut Vec<H::Digest>,
     element: &[u8],
 ) -> Result<(), AllocError>
-    requires few { leaves < 2 ^ 62 }
+    requires few { leaves < max_leaves }
     requires order { boundary ≤ leaves }
     requires pins { length pinned.now ≡ length (F.shape.peaks boundary) }
     requires count { length nodes.old.items + size F.shape boundary ≡ size F.shape leaves }
@@ -128,9 +128,10 @@ pub(crate) fn grow<F: Family, H: Hasher<F>>(
     ensures grown { let N = node_over H.hash_of (H.layout hasher.now) (H.chunk hasher.now) in
         let leaf = H.hash_of (be8 (size F.shape leaves) ++ element.now) in
         IfOk result (λ _. (list : List (List ℕ)) (dirty : List ℕ) → length list ≡ leaves
-        → Holds F.shape (N list) dirty boundary (size F.shape leaves) (map H.Digest.text pinned.now)
+        → HoldsDigests F.shape (N list) dirty boundary (size F.shape leaves)
+        (map H.Digest.text pinned.now)
         (map H.Digest.text nodes.old.items)
-        → Holds F.shape (N (list ++ leaf ∷ [])) dirty boundary (size F.shape (leaves + 1))
+        → HoldsDigests F.shape (N (list ++ leaf ∷ [])) dirty boundary (size F.shape (leaves + 1))
         (map H.Digest.text pinned.now) (map H.Digest.text nodes.new.items)) }
     ensures kept { OnErr result (nodes.new.items ≡ nodes.old.items) }
 {
@@ -153,7 +154,7 @@ pub(crate) fn above<F: Family, H: Hasher<F>>(
     place: u64,
     height: u32,
 ) -> H::Digest
-    requires few { leaves ≤ 2 ^ 62 }
+    requires few { leaves ≤ max_leaves }
     requires kept { boundary ≤ place }
     requires within { place < leaves }
     requires pins { length pinned.now ≡ length (F.shape.peaks boundary) }
@@ -210,7 +211,7 @@ pub(crate) fn write_leaf<F: Family, H: Hasher<F>>(
     digest: H::Digest,
     next: Option<u64>,
 )
-    requires few { leaves ≤ 2 ^ 62 }
+    requires few { leaves ≤ max_leaves }
     requires kept { boundary ≤ place }
     requires within { place < leaves }
     requires pins { length pinned.now ≡ length (F.shape.peaks boundary) }
@@ -218,10 +219,11 @@ pub(crate) fn write_leaf<F: Family, H: Hasher<F>>(
     requires takes { (p : ℕ) → p < size F.shape leaves → H.takes hasher.now p }
     ensures { let N = node_over H.hash_of (H.layout hasher.now) (H.chunk hasher.now) in
         (list : List (List ℕ)) (rest : List ℕ) → IsNext next rest
-        → Holds F.shape (N list) (place ∷ rest) boundary (size F.shape leaves)
+        → HoldsDigests F.shape (N list) (place ∷ rest) boundary (size F.shape leaves)
         (map H.Digest.text pinned.now) (map H.Digest.text nodes.old)
         → get_or list place [] ≡ H.Digest.text digest
-        → Holds F.shape (N list) rest boundary (size F.shape leaves) (map H.Digest.text pinned.now)
+        → HoldsDigests F.shape (N list) rest boundary (size F.shape leaves)
+        (map H.Digest.text pinned.now)
         (map H.Digest.text nodes.new) }
 {
     let start = F::nodes_over(boundary);
@@ -254,17 +256,17 @@ pub(crate) fn write_leaves<F: Family, H: Hasher<F>>(
     nodes: &mut [H::Digest],
     updates: &[(Location<F>, H::Digest)],
 )
-    requires few { leaves ≤ 2 ^ 62 }
+    requires few { leaves ≤ max_leaves }
     requires there { All (λ u. (boundary ≤ u.0) × (u.0 < leaves)) updates.now }
     requires pins { length pinned.now ≡ length (F.shape.peaks boundary) }
     requires count { length nodes.old + size F.shape boundary ≡ size F.shape leaves }
     requires takes { (p : ℕ) → p < size F.shape leaves → H.takes hasher.now p }
     ensures { let N = node_over H.hash_of (H.layout hasher.now) (H.chunk hasher.now) in
         (list : List (List ℕ)) (dirty : List ℕ) → length list ≡ leaves
-        → Holds F.shape (N list) (map (λ u. u.0) updates.now ++ dirty) boundary
+        → HoldsDigests F.shape (N list) (map (λ u. u.0) updates.now ++ dirty) boundary
         (size F.shape leaves) (map H.Digest.text pinned.now) (map H.Digest.text nodes.old)
-        → Holds F.shape
-        (N (updated list (map (λ u. (u.0, H.Digest.text u.1)) updates.now))) dirty boundary
+        → HoldsDigests F.shape
+        (N (list_updated list (map (λ u. (u.0, H.Digest.text u.1)) updates.now))) dirty boundary
         (size F.shape leaves) (map H.Digest.text pinned.now) (map H.Digest.text nodes.new) }
 {
     let mut left = updates;
@@ -286,14 +288,14 @@ pub(crate) fn peaks_over<F: Family, D: Digest>(
     leaves: u64,
 ) -> ([D; 64], usize)
     requires some { 0 < leaves }
-    requires few { leaves ≤ 2 ^ 62 }
+    requires few { leaves ≤ max_leaves }
     requires order { boundary ≤ leaves }
     requires pins { length pinned.now ≡ length (F.shape.peaks boundary) }
     requires there { size F.shape leaves ≤ length nodes.now + size F.shape boundary }
     ensures count { result.1 ≡ length (F.shape.peaks leaves) }
     ensures within { result.1 ≤ 64 }
     ensures room { length result.0 ≡ 64 }
-    ensures digests { (node : ℕ → ℕ → List ℕ) → Holds F.shape node [] boundary
+    ensures digests { (node : ℕ → ℕ → List ℕ) → HoldsDigests F.shape node [] boundary
         (length nodes.now + size F.shape boundary) (map D.text pinned.now) (map D.text nodes.now)
         → map D.text (take result.1 result.0) ≡ at_peaks node 0 (F.shape.peaks leaves) }
 {

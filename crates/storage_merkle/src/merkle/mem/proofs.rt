@@ -2,7 +2,7 @@
 
 ghost use Rattle.std.specs.Prelude.{◌≡◌, ◌≢◌, ℕ, ◌^◌, ◌<◌, ◌≤◌, ◌⊎◌, length, map, Err, IfOk, IfErr, MatchOption};
 ghost use Rattle.storage_merkle.specs.Hashing.{leaf_digests, node_over};
-ghost use Rattle.storage_merkle.specs.Held.{range_of};
+ghost use Rattle.storage_merkle.specs.Held.{proof_of};
 ghost use Rattle.storage_merkle.specs.Kept.{StandsFor, kept_at};
 ghost use Rattle.storage_merkle.specs.Plans.{IsFirstAbsent, planned, refusal};
 ghost use Rattle.storage_merkle.specs.RangeProofs.{own_proof};
@@ -32,7 +32,7 @@ impl<F: Family, D: Digest> Mem<F, D> {
     ) -> Result<Proof<F, D>, Error<F>>
         ensures own { IfOk result (λ proof. (T : Layout) (content : Content) → T.shape ≡ F.shape
             → StandsFor D.text F.shape (node_over H.hash_of T content.chunk) self.now
-            (leaf_digests H.hash_of T 0 content.elements) → range_of D.text proof
+            (leaf_digests H.hash_of T 0 content.elements) → proof_of D.text proof
             ≡ own_proof H.hash_of T (H.bagging hasher.now) content inactive range.start range.end) }
         ensures why { MatchOption (refusal F self.now.leaves range.start range.end) (IfErr result
             (λ e. ((length (F.shape.peaks self.now.leaves) < inactive) × (e ≡ Error.InvalidProof))
@@ -63,7 +63,7 @@ impl<F: Family, D: Digest> Mem<F, D> {
             → d ≡ kept_at F.shape self.now.boundary self.now.pinned self.now.nodes p }
         ensures own { IfOk result (λ proof. (T : Layout) (content : Content) → T.shape ≡ F.shape
             → StandsFor D.text F.shape (node_over H.hash_of T content.chunk) self.now
-            (leaf_digests H.hash_of T 0 content.elements) → range_of D.text proof
+            (leaf_digests H.hash_of T 0 content.elements) → proof_of D.text proof
             ≡ own_proof H.hash_of T (H.bagging hasher.now) content inactive range.start range.end) }
         ensures why { MatchOption (refusal F self.now.leaves range.start range.end) (IfErr result
             (λ e. ((length (F.shape.peaks self.now.leaves) < inactive) × (e ≡ Error.InvalidProof))

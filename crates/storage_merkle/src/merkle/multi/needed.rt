@@ -4,7 +4,7 @@ ghost use Rattle.std.specs.Prelude.{◌≡◌, ℕ, ◌+◌, ◌-◌, ◌%◌, �
 ghost use Rattle.storage_merkle.specs.Multi.{Ascend, needed_sites, untouched};
 ghost use Rattle.storage_merkle.specs.RangeProofs.{position_of, sites_in, sites_of};
 ghost use Rattle.storage_merkle.specs.Rests.{peaks_from};
-ghost use Rattle.storage_merkle.specs.Shape.{AreAligned};
+ghost use Rattle.storage_merkle.specs.Shape.{AreAligned, max_leaves};
 ghost use Rattle.storage_merkle.specs.Trees.{node_calc, ungrafted};
 
 use crate::merkle::family::power;
@@ -71,7 +71,7 @@ pub(crate) fn needed<F: Family, L: Located>(
     leaves: u64,
     items: &[L],
 ) -> Result<Vec<Position<F>>, AllocError>
-    requires few { leaves ≤ 2 ^ 62 }
+    requires few { leaves ≤ max_leaves }
     requires rising { Ascend 0 leaves (map L.place items.now) }
     ensures { IfOk result (λ v. v.items ≡ map (position_of (ungrafted F.shape))
         (needed_sites (ungrafted F.shape) (map L.place items.now) leaves)) }
@@ -90,7 +90,7 @@ fn add_in_peaks<F: Family, L: Located>(
     items: &[L],
     positions: &mut Vec<Position<F>>,
 ) -> Result<(), AllocError>
-    requires few { first + left ≤ 2 ^ 62 }
+    requires few { first + left ≤ max_leaves }
     requires aligned { AreAligned (F.shape.peaks left) first }
     requires rising { Ascend first (first + left) (map L.place items.now) }
     ensures { OnOk result (positions.new.items
@@ -117,7 +117,7 @@ fn add_under<F: Family, L: Located>(
 ) -> Result<(), AllocError>
     requires aligned { first % 2 ^ height ≡ 0 }
     requires small { height ≤ 62 }
-    requires within { first + 2 ^ height ≤ 2 ^ 62 }
+    requires within { first + 2 ^ height ≤ max_leaves }
     requires rising { Ascend first (first + 2 ^ height) (map L.place items.now) }
     ensures { OnOk result (positions.new.items
         ≡ positions.old.items ++ map (position_of (ungrafted F.shape)) (sites_of

@@ -7,7 +7,7 @@ ghost use Rattle.storage_merkle.specs.PlanParts.{AreAmong, AreInOrder, AreOf, Ar
 ghost use Rattle.storage_merkle.specs.Plans.{ArePeaks};
 ghost use Rattle.storage_merkle.specs.RangeProofs.{leading};
 ghost use Rattle.storage_merkle.specs.Rests.{AreAfterLeading, peaks_from};
-ghost use Rattle.storage_merkle.specs.Shape.{AreAligned};
+ghost use Rattle.storage_merkle.specs.Shape.{AreAligned, max_leaves};
 ghost use Rattle.storage_merkle.specs.Trees.{ungrafted};
 
 use crate::merkle::family::power;
@@ -43,7 +43,7 @@ impl<F: Family, D: Digest> Nodes<'_, F, D> {
     fn node(&self, first: u64, height: u32) -> D
         requires order { AreInOrder self.now.positions.now self.now.digests.now }
         requires aligned { first % 2 ^ height ≡ 0 }
-        requires within { first + 2 ^ height ≤ 2 ^ 62 }
+        requires within { first + 2 ^ height ≤ max_leaves }
         requires among { IsAmong self.now.positions.now (F.shape.position first height) }
         ensures { StandsAt self.now.positions.now self.now.digests.now
             (F.shape.position first height) result }
@@ -76,7 +76,7 @@ impl<F: Family, D: Digest> Nodes<'_, F, D> {
     ) -> Result<(), AllocError>
         requires order { AreInOrder self.now.positions.now self.now.digests.now }
         requires some { start < end }
-        requires few { peaks.first + peaks.left ≤ 2 ^ 62 }
+        requires few { peaks.first + peaks.left ≤ max_leaves }
         requires peaks { ArePeaks F.shape (peaks.first + peaks.left) peaks.first peaks.left }
         requires planned { ArePlannedApart F.shape start end self.now.positions.now
             (peaks_from F.shape peaks.first peaks.left) }
@@ -108,7 +108,7 @@ impl<F: Family, D: Digest> Nodes<'_, F, D> {
         start: u64,
     ) -> (Option<D>, Rest)
         requires order { AreInOrder self.now.positions.now self.now.digests.now }
-        requires few { peaks.first + peaks.left ≤ 2 ^ 62 }
+        requires few { peaks.first + peaks.left ≤ max_leaves }
         requires peaks { ArePeaks F.shape (peaks.first + peaks.left) peaks.first peaks.left }
         requires planned { ArePlannedAll F.shape self.now.positions.now
             (leading start (take peaks.folded (peaks_from F.shape peaks.first peaks.left))) }
@@ -137,7 +137,7 @@ impl<F: Family, D: Digest> Nodes<'_, F, D> {
     /// peaks.
     fn fold_back<H: Hasher<F, Digest = D>>(&self, hasher: &H, first: u64, left: u64) -> Option<D>
         requires order { AreInOrder self.now.positions.now self.now.digests.now }
-        requires few { first + left ≤ 2 ^ 62 }
+        requires few { first + left ≤ max_leaves }
         requires aligned { AreAligned (F.shape.peaks left) first }
         requires planned { ArePlannedAll F.shape self.now.positions.now
             (peaks_from F.shape first left) }

@@ -1,17 +1,18 @@
 //! The root that a range proof and its elements give.
 
-ghost use Rattle.std.specs.Prelude.{◌≡◌, ℕ, ◌+◌, ◌-◌, ◌*◌, ◌%◌, ◌^◌, ◌<◌, ◌≤◌, ◌∷◌, ◌++◌, List, [], length, map, drop, option_map, true, false, if◌then◌else◌, Some, None, IfOk, MatchOption, Contains};
+ghost use Rattle.std.specs.Prelude.{◌≡◌, ℕ, ◌+◌, ◌-◌, ◌*◌, ◌%◌, ◌<◌, ◌≤◌, ◌∷◌, ◌++◌, List, [], length, map, drop, option_map, true, false, if◌then◌else◌, Some, None, IfOk, MatchOption, Contains};
 ghost use Rattle.storage_merkle.specs.Calc.{Site, front, back, node, eval};
 ghost use Rattle.storage_merkle.specs.Checks.{IsRecomputed};
-ghost use Rattle.storage_merkle.specs.CheckSteps.{front_before, top_sites, given_values, IsGiven, Serves, Present, PresentIn, right_of, bag_onto, folded_before};
-ghost use Rattle.storage_merkle.specs.Extracted.{checked, checked_sites, digest_at, entries, nodes_in, nodes_under, overlapped, texts};
+ghost use Rattle.storage_merkle.specs.CheckParts.{front_before, top_sites, given_values, IsGiven, Serves, Present, PresentIn, right_of, bag_onto, folded_before};
+ghost use Rattle.storage_merkle.specs.Extracted.{checked, checked_sites, digest_at, entries, nodes_in, nodes_under, overlapped, by_bytes};
 ghost use Rattle.storage_merkle.specs.Hashers.{TakesTree};
-ghost use Rattle.storage_merkle.specs.Held.{lent_range_of};
+ghost use Rattle.storage_merkle.specs.Held.{lent_proof_of};
 ghost use Rattle.storage_merkle.specs.Nodes.{IsNode};
 ghost use Rattle.storage_merkle.specs.Plans.{InTree, ArePeaks};
 ghost use Rattle.storage_merkle.specs.RangeProofs.{CountsFit, apart, sites_of};
 ghost use Rattle.storage_merkle.specs.Rests.{peaks_from};
 ghost use Rattle.storage_merkle.specs.Trees.{part, node_calc, ungrafted, content_of};
+ghost use Rattle.storage_merkle.specs.Shape.{max_leaves};
 
 use crate::merkle::family::power;
 use crate::merkle::hasher::{Hasher, append, bagged_root, join};
@@ -37,15 +38,16 @@ pub(crate) fn recompute<F: Family, H: Hasher<F>, E: AsSlice<u8>>(
 ) -> Result<Option<H::Digest>, NoMemory>
     requires { TakesTree (H.takes hasher.now) F.shape proof.now.leaves }
     ensures root { IfOk result (λ root. IsRecomputed H.hash_of (H.layout hasher.now)
-        (H.bagging hasher.now) (lent_range_of H.Digest.text proof.now) start (content_of
+        (H.bagging hasher.now) (lent_proof_of H.Digest.text proof.now) start (content_of
         (map E.items elements.now) (H.chunk hasher.now)) (option_map H.Digest.text root)) }
     ensures fits { IfOk result (λ root. MatchOption root (Unit {0}) (λ _. CountsFit H.hash_of
-        (ungrafted F.shape) (H.bagging hasher.now) (lent_range_of H.Digest.text proof.now) start
+        (ungrafted F.shape) (H.bagging hasher.now) (lent_proof_of H.Digest.text proof.now) start
         (content_of (map E.items elements.now) (H.chunk hasher.now)))) }
     ensures found { IfOk result (λ root. MatchOption root (Unit {0}) (λ _. option_map
-        (λ v. texts H.Digest.text v.items) found.new ≡ option_map (λ v. texts H.Digest.text v.items
+        (λ v. by_bytes H.Digest.text v.items) found.new
+        ≡ option_map (λ v. by_bytes H.Digest.text v.items
         ++ checked H.hash_of (H.layout hasher.now) (H.bagging hasher.now)
-        (lent_range_of H.Digest.text proof.now) start (content_of (map E.items elements.now)
+        (lent_proof_of H.Digest.text proof.now) start (content_of (map E.items elements.now)
         (H.chunk hasher.now)) (checked_sites (H.layout hasher.now) proof.now.leaves start
         (start + length (map E.items elements.now)))) found.old)) }
 {
@@ -86,7 +88,7 @@ pub(crate) fn recompute<F: Family, H: Hasher<F>, E: AsSlice<u8>>(
 
 /// How many digests a proof has for the peaks `rest` apart from the leaves from `start` to before `end`.
 fn count_apart<F: Family>(rest: Rest, start: u64, end: u64) -> usize
-    requires few { rest.first + rest.left ≤ 2 ^ 62 }
+    requires few { rest.first + rest.left ≤ max_leaves }
     requires peaks { ArePeaks F.shape (rest.first + rest.left) rest.first rest.left }
     ensures few { result ≤ rest.left }
     ensures exact { result
@@ -145,8 +147,8 @@ impl<F: Family, D: Digest, E: AsSlice<u8>> Given<'_, F, D, E> {
             (map E.items self.now.elements.now) (H.chunk hasher.now)) (part (H.layout hasher.now)
             (apart self.now.start self.now.end) p)) (digest back) self.now.end
             (folded_before (digest front) rest.first) (peaks_from F.shape rest.first rest.left)
-            rest.folded) × (option_map (λ v. texts D.text v.items) found.new ≡ option_map
-            (λ v. texts D.text v.items ++ entries (H.layout hasher.now) (digest_at H.hash_of
+            rest.folded) × (option_map (λ v. by_bytes D.text v.items) found.new ≡ option_map
+            (λ v. by_bytes D.text v.items ++ entries (H.layout hasher.now) (digest_at H.hash_of
             (given_values digest self.now.start (map E.items self.now.elements.now)
             (H.chunk hasher.now)) (H.layout hasher.now) (apart self.now.start self.now.end))
             (nodes_in (apart self.now.start self.now.end) (overlapped self.now.start self.now.end
@@ -196,8 +198,8 @@ impl<F: Family, D: Digest, E: AsSlice<u8>> Given<'_, F, D, E> {
             (λ r. (option_map D.text r ≡ right_of H.hash_of (λ p. eval H.hash_of (given_values
             digest self.now.start (map E.items self.now.elements.now) (H.chunk hasher.now)) (part
             (H.layout hasher.now) (apart self.now.start self.now.end) p)) (digest back) self.now.end
-            (peaks_from F.shape rest.first rest.left)) × (option_map (λ v. texts D.text v.items)
-            found.new ≡ option_map (λ v. texts D.text v.items ++ entries (H.layout hasher.now)
+            (peaks_from F.shape rest.first rest.left)) × (option_map (λ v. by_bytes D.text v.items)
+            found.new ≡ option_map (λ v. by_bytes D.text v.items ++ entries (H.layout hasher.now)
             (digest_at H.hash_of (given_values digest self.now.start
             (map E.items self.now.elements.now) (H.chunk hasher.now)) (H.layout hasher.now)
             (apart self.now.start self.now.end)) (nodes_in (apart self.now.start self.now.end)
@@ -245,8 +247,8 @@ impl<F: Family, D: Digest, E: AsSlice<u8>> Given<'_, F, D, E> {
             → IfOk result (λ r. (D.text r.0 ≡ eval H.hash_of (given_values digest self.now.start
             (map E.items self.now.elements.now) (H.chunk hasher.now))
             (node_calc (H.layout hasher.now) (apart self.now.start self.now.end) height first))
-            × (option_map (λ v. texts D.text v.items) found.new ≡ option_map
-            (λ v. texts D.text v.items ++ entries (H.layout hasher.now) (digest_at H.hash_of
+            × (option_map (λ v. by_bytes D.text v.items) found.new ≡ option_map
+            (λ v. by_bytes D.text v.items ++ entries (H.layout hasher.now) (digest_at H.hash_of
             (given_values digest self.now.start (map E.items self.now.elements.now)
             (H.chunk hasher.now)) (H.layout hasher.now) (apart self.now.start self.now.end))
             (if apart self.now.start self.now.end first height then []
@@ -279,7 +281,8 @@ impl<F: Family, D: Digest, E: AsSlice<u8>> Given<'_, F, D, E> {
             (given_values digest self.now.start (map E.items self.now.elements.now)
             (H.chunk hasher.now)) (node_calc (H.layout hasher.now)
             (apart self.now.start self.now.end) height first)) × (option_map
-            (λ v. texts D.text v.items) found.new ≡ option_map (λ v. texts D.text v.items ++ entries
+            (λ v. by_bytes D.text v.items) found.new ≡ option_map
+            (λ v. by_bytes D.text v.items ++ entries
             (H.layout hasher.now) (digest_at H.hash_of (given_values digest self.now.start
             (map E.items self.now.elements.now) (H.chunk hasher.now)) (H.layout hasher.now)
             (apart self.now.start self.now.end)) (nodes_under (apart self.now.start self.now.end)

@@ -1,25 +1,25 @@
 //! Range proofs as bytes.
 
-ghost use Rattle.std.specs.Prelude.{◌≡◌, ℕ, ◌+◌, ◌*◌, ◌++◌, ◌^◌, ◌<◌, ◌≤◌, List, length, map, OnOk, OnErr};
+ghost use Rattle.std.specs.Prelude.{◌≡◌, ◌+◌, ◌*◌, ◌++◌, map, OnOk, OnErr};
 ghost use Rattle.storage_codec.specs.Codec.{Gives};
 ghost use Rattle.storage_codec.specs.Parts.{AppendsStart, IsEnding, size_of};
-ghost use Rattle.storage_merkle.specs.Held.{range_of};
-ghost use Rattle.storage_merkle.specs.RangeProofs.{RangeProof};
+ghost use Rattle.storage_merkle.specs.Held.{proof_of};
+ghost use Rattle.storage_merkle.specs.RangeProofs.{Proof as ProofOf};
 ghost use Rattle.storage_merkle.specs.ProofWire.{joined_text, digests_at, proof_text, proof_at, IsAdmitted};
-ghost use Rattle.storage_merkle.specs.ProofWireLaws.{all_digests, proof_again, proof_back};
+ghost use Rattle.storage_merkle.specs.Laws.ProofWire.{all_digests, proof_again, proof_back};
 
 use crate::merkle::{Location, Proof};
 use std::alloc::Global;
 use storage_codec::NoMemory;
 use storage_codec::codec::{
-    Buf, Canonical, Codec, EncodeSize, Error, Read, UInt, Write, small_size,
+    Buf, Canonical, Codec, EncodeSize, Error, Read, UInt, Write, small_size, sum,
 };
 use storage_codec::digest::Digest;
 
 impl<F, D: Digest> Write for Proof<F, D> {
-    ghost text = { λ p. proof_text (range_of D.text p) };
+    ghost text = { λ p. proof_text (proof_of D.text p) };
 
-    #[tactic(auto, using(storage_codec::specs::PartsLaws::starts_then, storage_codec::specs::PartsLaws::starts_first))]
+    #[tactic(auto, using(storage_codec::specs::Laws::Parts::starts_then, storage_codec::specs::Laws::Parts::starts_first))]
     fn write(&self, out: &mut Vec<u8>) -> Result<(), NoMemory> {
         self.leaves.write(out)?;
         UInt(self.inactive_peaks as u64).write(out)?;
@@ -53,13 +53,6 @@ impl<F, D: Digest> EncodeSize for Proof<F, D> {
     }
 }
 
-/// The sum of two numbers of bytes; none where it, or one of them, is no `u64`.
-fn sum(first: Option<u64>, second: Option<u64>) -> Option<u64>
-    ensures { (m n : ℕ) → first ≡ size_of m → second ≡ size_of n → result ≡ size_of (m + n) }
-{
-    first?.checked_add(second?)
-}
-
 /// How many bytes `count` digests take; none where that is no `u64`.
 fn digests_size<D: Digest>(count: u64) -> Option<u64>
     ensures { result ≡ size_of (count * D.size) }
@@ -71,15 +64,15 @@ impl<F, D: Digest> Read for Proof<F, D> {
     /// The greatest number of digests that is read.
     type Cfg = usize;
 
-    ghost View = { RangeProof };
+    ghost View = { ProofOf };
 
-    ghost view = { λ p. range_of D.text p };
+    ghost view = { λ p. proof_of D.text p };
 
-    ghost admits = { λ most p. IsAdmitted most (range_of D.text p) };
+    ghost admits = { λ most p. IsAdmitted most (proof_of D.text p) };
 
     ghost parse = { λ most. proof_at D.size most };
 
-    #[tactic(auto, using(storage_codec::specs::PartsLaws::ends_then))]
+    #[tactic(auto, using(storage_codec::specs::Laws::Parts::ends_then))]
     fn read_cfg<B: Buf>(alloc: Global, buf: &mut B, most: &usize) -> Result<Self, Error> {
         let leaves = match Location::read_cfg(alloc, buf, &()) {
             Ok(leaves) => leaves,
@@ -108,7 +101,7 @@ impl<F, D: Digest> Codec for Proof<F, D> {
 
 impl<F, D: Digest> Canonical for Proof<F, D> {
     ghost back = { λ most bytes p rest fits e.
-        proof_back D.size most bytes (range_of D.text p) rest fits e };
+        proof_back D.size most bytes (proof_of D.text p) rest fits e };
 }
 
 /// Reads `count` digests from the front of `buf`.

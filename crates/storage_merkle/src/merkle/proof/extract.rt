@@ -2,9 +2,9 @@
 
 ghost use Rattle.std.specs.Prelude.{◌≡◌, ◌≢◌, ◌+◌, ◌⊎◌, [], MatchResult, map, option_map, IfErr, IfOk, MatchOption};
 ghost use Rattle.storage_merkle.specs.Checks.{IsRecomputed};
-ghost use Rattle.storage_merkle.specs.Extracted.{AreHandedOut, Fits, extracted, texts};
+ghost use Rattle.storage_merkle.specs.Extracted.{AreHandedOut, Fits, extracted, by_bytes};
 ghost use Rattle.storage_merkle.specs.Hashers.{TakesTree};
-ghost use Rattle.storage_merkle.specs.Held.{range_of};
+ghost use Rattle.storage_merkle.specs.Held.{proof_of};
 ghost use Rattle.storage_merkle.specs.RangeProofs.{IsAccepted, IsEmptyProof};
 ghost use Rattle.storage_merkle.specs.Trees.{Content, empty_root, content_of};
 
@@ -34,16 +34,16 @@ impl<F: Family, D: Digest> Proof<F, D> {
     ) -> Result<Vec<(Position<F>, D)>, Error<F>>
         requires { TakesTree (H.takes hasher.now) F.shape self.now.leaves }
         ensures handed { IfOk result (λ v. AreHandedOut D.size H.hash_of (H.layout hasher.now)
-            (H.bagging hasher.now) (range_of D.text self.now) start (content_of
+            (H.bagging hasher.now) (proof_of D.text self.now) start (content_of
             (map E.items elements.now) (H.chunk hasher.now)) (D.text root.now)
-            (texts D.text v.items)) }
+            (by_bytes D.text v.items)) }
         ensures why { IfErr result (λ e. (e ≡ Error.Memory) ⊎ (((e ≡ Error.InvalidProof) × (Fits
-            H.hash_of (H.layout hasher.now) (H.bagging hasher.now) (range_of D.text self.now) start
+            H.hash_of (H.layout hasher.now) (H.bagging hasher.now) (proof_of D.text self.now) start
             (content_of (map E.items elements.now) (H.chunk hasher.now)) → ⊥)) ⊎ ((e
             ≡ Error.RootMismatch) × (Fits H.hash_of (H.layout hasher.now) (H.bagging hasher.now)
-            (range_of D.text self.now) start (content_of (map E.items elements.now)
+            (proof_of D.text self.now) start (content_of (map E.items elements.now)
             (H.chunk hasher.now)) × (IsAccepted H.hash_of (H.layout hasher.now)
-            (H.bagging hasher.now) (range_of D.text self.now) start (content_of
+            (H.bagging hasher.now) (proof_of D.text self.now) start (content_of
             (map E.items elements.now) (H.chunk hasher.now)) (D.text root.now) → ⊥))))) }
     {
         if elements.is_empty() {
@@ -74,11 +74,11 @@ impl<F: Family, D: Digest> Proof<F, D> {
     ) -> Result<Option<(D, Vec<(Position<F>, D)>)>, NoMemory>
         requires { TakesTree (H.takes hasher.now) F.shape self.now.leaves }
         ensures root { IfOk result (λ r. IsRecomputed H.hash_of (H.layout hasher.now)
-            (H.bagging hasher.now) (range_of D.text self.now) start (content_of
+            (H.bagging hasher.now) (proof_of D.text self.now) start (content_of
             (map E.items elements.now) (H.chunk hasher.now)) (option_map (λ p. D.text p.0) r)) }
-        ensures digests { IfOk result (λ r. MatchOption r (Unit {0}) (λ p. texts D.text p.1.items
+        ensures digests { IfOk result (λ r. MatchOption r (Unit {0}) (λ p. by_bytes D.text p.1.items
             ≡ extracted H.hash_of (H.layout hasher.now) (H.bagging hasher.now)
-            (range_of D.text self.now) start (content_of (map E.items elements.now)
+            (proof_of D.text self.now) start (content_of (map E.items elements.now)
             (H.chunk hasher.now)))) }
     {
         let mut found = Some(Vec::new(alloc));
@@ -104,12 +104,12 @@ impl<F: Family, D: Digest> Proof<F, D> {
     ) -> Result<(), Error<F>>
         ensures { (claim : Content) → claim.elements ≡ []
             → MatchResult result (λ _. IsEmptyProof H.hash_of (H.layout hasher.now)
-            (H.bagging hasher.now) (range_of D.text self.now) start claim
+            (H.bagging hasher.now) (proof_of D.text self.now) start claim
             × (empty_root H.hash_of (H.layout hasher.now) (H.bagging hasher.now) ≡ D.text root.now))
             (λ e. ((e ≡ Error.InvalidProof) × (IsEmptyProof H.hash_of (H.layout hasher.now)
-            (H.bagging hasher.now) (range_of D.text self.now) start claim → ⊥))
+            (H.bagging hasher.now) (proof_of D.text self.now) start claim → ⊥))
             ⊎ ((e ≡ Error.RootMismatch) × IsEmptyProof H.hash_of (H.layout hasher.now)
-            (H.bagging hasher.now) (range_of D.text self.now) start claim × (empty_root H.hash_of
+            (H.bagging hasher.now) (proof_of D.text self.now) start claim × (empty_root H.hash_of
             (H.layout hasher.now) (H.bagging hasher.now) ≢ D.text root.now))) }
     {
         if start.as_u64() != 0 || !self.is_default() {

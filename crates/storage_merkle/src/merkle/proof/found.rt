@@ -1,7 +1,7 @@
 //! The digests that a check comes upon.
 
 ghost use Rattle.std.specs.Prelude.{◌≡◌, ◌∷◌, ◌++◌, [], IfOk, option_map};
-ghost use Rattle.storage_merkle.specs.Extracted.{texts};
+ghost use Rattle.storage_merkle.specs.Extracted.{by_bytes};
 
 use crate::merkle::{Family, Position};
 use std::alloc::AllocError;
@@ -17,8 +17,8 @@ pub(crate) fn keep<F: Family, D: Digest>(
     digest: D,
 ) -> Result<D, AllocError>
     ensures same { IfOk result (λ d. d ≡ digest) }
-    ensures kept { IfOk result (λ d. option_map (λ v. texts D.text v.items) found.new
-        ≡ option_map (λ v. texts D.text v.items ++ (position, D.text digest) ∷ []) found.old) }
+    ensures kept { IfOk result (λ d. option_map (λ v. by_bytes D.text v.items) found.new
+        ≡ option_map (λ v. by_bytes D.text v.items ++ (position, D.text digest) ∷ []) found.old) }
 {
     if let Some(kept) = found {
         kept.push((position, digest))?;

@@ -3,7 +3,7 @@
 ghost use Rattle.std.specs.Prelude.{◌≡◌, ℕ, ◌≤◌, map, option_map, IfOk};
 ghost use Rattle.storage_merkle.specs.Checks.{IsRecomputed};
 ghost use Rattle.storage_merkle.specs.Hashers.{TakesTree};
-ghost use Rattle.storage_merkle.specs.Held.{lent_range_of};
+ghost use Rattle.storage_merkle.specs.Held.{lent_proof_of};
 ghost use Rattle.storage_merkle.specs.Trees.{content_of};
 
 use crate::merkle::hasher::Hasher;
@@ -38,7 +38,7 @@ impl<F: Family, D: Digest> LentProof<'_, F, D> {
     ) -> Result<Option<D>, NoMemory>
         requires { TakesTree (H.takes hasher.now) F.shape self.now.leaves }
         ensures { IfOk result (λ root. IsRecomputed H.hash_of (H.layout hasher.now)
-            (H.bagging hasher.now) (lent_range_of D.text self.now) start (content_of
+            (H.bagging hasher.now) (lent_proof_of D.text self.now) start (content_of
             (map E.items elements.now) (H.chunk hasher.now)) (option_map D.text root)) }
     {
         check::recompute(self, alloc, hasher, elements, start, &mut None)

@@ -1,12 +1,12 @@
 //! The check of a range proof with the digests of the peaks over the leaves before its range.
 
 ghost use Rattle.std.specs.Prelude.{◌≡◌, ◌≢◌, ℕ, ◌+◌, ◌-◌, ◌^◌, ◌<◌, ◌≤◌, ◌↔◌, ◌++◌, List, [], length, map, take, option_map, true, false, IsTrue, IsOk, IfOk, MatchOption, All};
-ghost use Rattle.storage_merkle.specs.CheckSteps.{top_sites};
+ghost use Rattle.storage_merkle.specs.CheckParts.{top_sites};
 ghost use Rattle.storage_merkle.specs.Calc.{Site, node};
 ghost use Rattle.storage_merkle.specs.Hashers.{TakesTree, forward_of};
-ghost use Rattle.storage_merkle.specs.Held.{range_of};
+ghost use Rattle.storage_merkle.specs.Held.{proof_of};
 ghost use Rattle.storage_merkle.specs.Pinned.{IsPinnedAccepted, IsPinnedProved, Match};
-ghost use Rattle.storage_merkle.specs.PinnedSteps.{AgreesWith, ArePinned, AreNodesAt, as_list, digest_before, is_pinned, pinned_digest};
+ghost use Rattle.storage_merkle.specs.PinnedParts.{AgreesWith, ArePinned, AreNodesAt, as_list, digest_before, is_pinned, pinned_digest};
 ghost use Rattle.storage_merkle.specs.PlanParts.{peaks_by};
 ghost use Rattle.storage_merkle.specs.Plans.{ArePeaks, InTree};
 ghost use Rattle.storage_merkle.specs.RangeProofs.{CountsFit, leading};
@@ -37,13 +37,13 @@ impl<F: Family, D: Digest> Proof<F, D> {
     ) -> Result<bool, NoMemory>
         requires { TakesTree (H.takes hasher.now) F.shape self.now.leaves }
         ensures exact { IfOk result (λ yes. IsTrue yes ↔ IsPinnedAccepted H.hash_of
-            (H.layout hasher.now) (H.bagging hasher.now) (range_of D.text self.now) start
+            (H.layout hasher.now) (H.bagging hasher.now) (proof_of D.text self.now) start
             (content_of (map E.items elements.now) (H.chunk hasher.now)) (map D.text pinned.now)
             (D.text root.now)) }
-        ensures means { H.layout hasher.now ≡ ungrafted F.shape
+        ensures meaning { H.layout hasher.now ≡ ungrafted F.shape
             → H.chunk hasher.now ≡ (λ a. [])
             → IfOk result (λ yes. IsTrue yes
-            → IsPinnedProved H.hash_of F.shape (H.bagging hasher.now) (range_of D.text self.now)
+            → IsPinnedProved H.hash_of F.shape (H.bagging hasher.now) (proof_of D.text self.now)
             start (map E.items elements.now) (map D.text pinned.now) (D.text root.now)) }
         ensures none { elements.now ≡ [] → IsOk result }
     {
@@ -68,9 +68,9 @@ impl<F: Family, D: Digest> Proof<F, D> {
     ) -> Result<bool, NoMemory>
         requires { TakesTree (H.takes hasher.now) F.shape self.now.leaves }
         ensures { (elements : List (List ℕ)) → length elements ≡ count → CountsFit H.hash_of
-            (H.layout hasher.now) (H.bagging hasher.now) (range_of D.text self.now) start
+            (H.layout hasher.now) (H.bagging hasher.now) (proof_of D.text self.now) start
             (content_of elements (H.chunk hasher.now)) → IfOk result (λ yes. IsTrue yes ↔ AgreesWith
-            H.hash_of (H.layout hasher.now) (H.bagging hasher.now) (range_of D.text self.now) start
+            H.hash_of (H.layout hasher.now) (H.bagging hasher.now) (proof_of D.text self.now) start
             (content_of elements (H.chunk hasher.now)) (map D.text pinned.now)) }
     {
         let leaves = self.leaves.as_u64();

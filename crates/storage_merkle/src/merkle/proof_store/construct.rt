@@ -1,17 +1,18 @@
 //! The store of an accepted range proof.
 
-ghost use Rattle.std.specs.Prelude.{◌≡◌, ◌≢◌, ℕ, ◌+◌, ◌-◌, ◌^◌, ◌<◌, ◌≤◌, ◌⊎◌, ◌++◌, List, [], length, map, option_map, IfOk, IfErr};
+ghost use Rattle.std.specs.Prelude.{◌≡◌, ◌≢◌, ℕ, ◌+◌, ◌-◌, ◌<◌, ◌≤◌, ◌⊎◌, ◌++◌, List, [], length, map, option_map, IfOk, IfErr};
 ghost use Rattle.storage_merkle.specs.Calc.{Site};
-ghost use Rattle.storage_merkle.specs.CheckSteps.{top_sites};
-ghost use Rattle.storage_merkle.specs.Extracted.{Fits, checked, checked_sites, entries, texts};
+ghost use Rattle.storage_merkle.specs.CheckParts.{top_sites};
+ghost use Rattle.storage_merkle.specs.Extracted.{Fits, checked, checked_sites, entries, by_bytes};
 ghost use Rattle.storage_merkle.specs.Hashers.{TakesTree};
-ghost use Rattle.storage_merkle.specs.Held.{range_of};
+ghost use Rattle.storage_merkle.specs.Held.{proof_of};
 ghost use Rattle.storage_merkle.specs.Plans.{ArePeaks};
 ghost use Rattle.storage_merkle.specs.RangeProofs.{CountsFit, IsAccepted};
 ghost use Rattle.storage_merkle.specs.Rests.{peaks_from};
 ghost use Rattle.storage_merkle.specs.StoreParts.{back_among, nodes_among};
 ghost use Rattle.storage_merkle.specs.Stores.{IsMadeOf, store_of};
 ghost use Rattle.storage_merkle.specs.Trees.{Content, Layout, ungrafted, content_of};
+ghost use Rattle.storage_merkle.specs.Shape.{max_leaves};
 
 use crate::merkle::hasher::Hasher;
 use crate::merkle::plan::{Rest, is_apart, node_position};
@@ -38,15 +39,15 @@ impl<F: Family, D: Digest> ProofStore<F, D> {
     ) -> Result<Self, Error<F>>
         requires { TakesTree (H.takes hasher.now) F.shape proof.now.leaves }
         ensures made { IfOk result (λ store. IsMadeOf D.size H.hash_of (H.layout hasher.now)
-            (H.bagging hasher.now) (range_of D.text proof.now) start (content_of
+            (H.bagging hasher.now) (proof_of D.text proof.now) start (content_of
             (map E.items elements.now) (H.chunk hasher.now)) (D.text root.now) store) }
         ensures why { IfErr result (λ e. (e ≡ Error.Memory) ⊎ (((e ≡ Error.InvalidProof) × (Fits
-            H.hash_of (H.layout hasher.now) (H.bagging hasher.now) (range_of D.text proof.now) start
+            H.hash_of (H.layout hasher.now) (H.bagging hasher.now) (proof_of D.text proof.now) start
             (content_of (map E.items elements.now) (H.chunk hasher.now)) → ⊥)) ⊎ ((e
             ≡ Error.RootMismatch) × (Fits H.hash_of (H.layout hasher.now) (H.bagging hasher.now)
-            (range_of D.text proof.now) start (content_of (map E.items elements.now)
+            (proof_of D.text proof.now) start (content_of (map E.items elements.now)
             (H.chunk hasher.now)) × (IsAccepted H.hash_of (H.layout hasher.now)
-            (H.bagging hasher.now) (range_of D.text proof.now) start (content_of
+            (H.bagging hasher.now) (proof_of D.text proof.now) start (content_of
             (map E.items elements.now) (H.chunk hasher.now)) (D.text root.now) → ⊥))))) }
     {
         if elements.is_empty() {
@@ -104,14 +105,14 @@ impl<F: Family, D: Digest> ProofStore<F, D> {
     ) -> Result<Self, AllocError>
         requires fits { (claim : Content) × (past ≡ start + length claim.elements)
             × CountsFit H.hash_of (ungrafted F.shape) (H.bagging hasher.now)
-            (range_of D.text proof.now) start claim }
+            (proof_of D.text proof.now) start claim }
         ensures { (T : Layout) (claim : Content) → T.shape ≡ F.shape
             → past ≡ start + length claim.elements
-            → texts D.text found.items
-            ≡ checked H.hash_of T (H.bagging hasher.now) (range_of D.text proof.now) start claim
+            → by_bytes D.text found.items
+            ≡ checked H.hash_of T (H.bagging hasher.now) (proof_of D.text proof.now) start claim
             (checked_sites T proof.now.leaves start (start + length claim.elements))
             → IfOk result (λ store. store
-            ≡ store_of H.hash_of T (H.bagging hasher.now) (range_of D.text proof.now) start claim) }
+            ≡ store_of H.hash_of T (H.bagging hasher.now) (proof_of D.text proof.now) start claim) }
     {
         let all = Rest::all::<F, H>(hasher, proof.leaves.as_u64(), proof.inactive_peaks);
         let rest = all.after_leading::<F>(start.as_u64());
@@ -147,14 +148,14 @@ fn keep_peaks<F: Family, D: Digest>(
     digests: &[D],
     kept: &mut Vec<(Position<F>, D)>,
 ) -> Result<Option<D>, AllocError>
-    requires few { rest.first + rest.left ≤ 2 ^ 62 }
+    requires few { rest.first + rest.left ≤ max_leaves }
     requires peaks { ArePeaks F.shape (rest.first + rest.left) rest.first rest.left }
     requires enough { length (top_sites start end
         (peaks_from F.shape rest.first rest.left) rest.folded) ≤ length digests.now }
     ensures { (digest : Site → List ℕ) (later : List (List ℕ)) → map D.text digests.now ≡ map digest
         (top_sites start end (peaks_from F.shape rest.first rest.left) rest.folded) ++ later
-        → IfOk result (λ back. (texts D.text kept.new.items
-        ≡ texts D.text kept.old.items ++ entries (ungrafted F.shape) digest
+        → IfOk result (λ back. (by_bytes D.text kept.new.items
+        ≡ by_bytes D.text kept.old.items ++ entries (ungrafted F.shape) digest
         (nodes_among (top_sites start end (peaks_from F.shape rest.first rest.left) rest.folded)))
         × (option_map D.text back ≡ back_among digest
         (top_sites start end (peaks_from F.shape rest.first rest.left) rest.folded))) }

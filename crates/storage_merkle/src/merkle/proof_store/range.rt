@@ -2,14 +2,14 @@
 
 ghost use Rattle.std.specs.Prelude.{◌≡◌, ℕ, ◌+◌, ◌-◌, ◌%◌, ◌^◌, ◌<◌, ◌≤◌, ◌⊎◌, ◌++◌, List, [], drop, map, option_map, Some, None, IfOk, IfErr, OnOk};
 ghost use Rattle.storage_merkle.specs.Calc.{back, eval, front, node};
-ghost use Rattle.storage_merkle.specs.CheckSteps.{right_of, top_sites};
+ghost use Rattle.storage_merkle.specs.CheckParts.{right_of, top_sites};
 ghost use Rattle.storage_merkle.specs.Hashers.{forward_of};
-ghost use Rattle.storage_merkle.specs.Held.{range_of};
+ghost use Rattle.storage_merkle.specs.Held.{proof_of};
 ghost use Rattle.storage_merkle.specs.Plans.{ArePeaks};
 ghost use Rattle.storage_merkle.specs.RangeProofs.{front_given, leading, not_leading, own_proof, trailing};
 ghost use Rattle.storage_merkle.specs.Rests.{AreFolded, peaks_from};
-ghost use Rattle.storage_merkle.specs.Shape.{AreAligned};
-ghost use Rattle.storage_merkle.specs.Stores.{IsStoreOf, aft, fore, kept_at, or_else, entry_at, peak_given, range_refusal, store_digest, store_proof, store_values};
+ghost use Rattle.storage_merkle.specs.Shape.{AreAligned, max_leaves};
+ghost use Rattle.storage_merkle.specs.Stores.{IsStoreOf, aft, fore, stored_at, or_else, entry_at, peak_given, range_refusal, store_digest, store_proof, store_values};
 ghost use Rattle.storage_merkle.specs.Trees.{Content, Layout, ungrafted};
 
 use crate::merkle::family::power;
@@ -39,9 +39,9 @@ impl<F: Family, D: Digest> ProofStore<F, D> {
         ensures given { IfOk result (λ proof.
             (range_refusal F F.shape self.now range.start range.end ≡ None)
             × ((T : Layout) → T.shape ≡ F.shape
-            → range_of D.text proof ≡ store_proof H.hash_of T self.now range.start range.end)) }
+            → proof_of D.text proof ≡ store_proof H.hash_of T self.now range.start range.end)) }
         ensures own { IfOk result (λ proof. (T : Layout) (content : Content) (inactive : ℕ)
-            → T.shape ≡ F.shape → IsStoreOf H.hash_of T self.now content inactive → range_of D.text
+            → T.shape ≡ F.shape → IsStoreOf H.hash_of T self.now content inactive → proof_of D.text
             proof ≡ own_proof H.hash_of T self.now.bagging content inactive range.start range.end) }
         ensures why { IfErr result (λ e. (range_refusal F F.shape self.now range.start range.end
             ≡ Some e) ⊎ ((range_refusal F F.shape self.now range.start range.end ≡ None)
@@ -95,7 +95,7 @@ impl<F: Family, D: Digest> ProofStore<F, D> {
         ensures left { result.left ≡ self.now.leaves }
         ensures folded { AreFolded F.shape self.now.bagging self.now.inactive
             self.now.leaves result.folded }
-        ensures few { self.now.leaves ≤ 2 ^ 62 }
+        ensures few { self.now.leaves ≤ max_leaves }
     {
         Rest::bagged::<F>(self.bagging, self.leaves.as_u64(), self.inactive_peaks)
     }
@@ -135,7 +135,7 @@ impl<F: Family, D: Digest> ProofStore<F, D> {
         end: u64,
         digests: &mut Vec<D>,
     ) -> Result<(), AllocError>
-        requires few { rest.first + rest.left ≤ 2 ^ 62 }
+        requires few { rest.first + rest.left ≤ max_leaves }
         requires peaks { ArePeaks F.shape (rest.first + rest.left) rest.first rest.left }
         requires range { (self.now.start ≤ start) × (end ≤ self.now.past) }
         requires late { trailing end (drop rest.folded (peaks_from F.shape rest.first rest.left))
@@ -158,10 +158,10 @@ impl<F: Family, D: Digest> ProofStore<F, D> {
     /// The peaks over the last `left` leaves of the tree, from the leaf `first` on, folded from the right: those that are
     /// kept, onto the source's fold; none for no peaks.
     fn fold_back<H: Hasher<F, Digest = D>>(&self, hasher: &H, first: u64, left: u64) -> Option<D>
-        requires few { first + left ≤ 2 ^ 62 }
+        requires few { first + left ≤ max_leaves }
         requires aligned { AreAligned (F.shape.peaks left) first }
         ensures { option_map D.text result ≡ right_of H.hash_of
-            (λ p. kept_at H.hash_of (ungrafted F.shape) self.now (node p.first p.height))
+            (λ p. stored_at H.hash_of (ungrafted F.shape) self.now (node p.first p.height))
             self.now.back_fold self.now.past (peaks_from F.shape first left) }
     {
         if left == 0 {
@@ -179,9 +179,9 @@ impl<F: Family, D: Digest> ProofStore<F, D> {
     /// The digest that is kept of the peak of height `height` over the leaf `first`.
     fn peak<H: Hasher<F, Digest = D>>(&self, hasher: &H, first: u64, height: u32) -> D
         requires aligned { first % 2 ^ height ≡ 0 }
-        requires within { first + 2 ^ height ≤ 2 ^ 62 }
+        requires within { first + 2 ^ height ≤ max_leaves }
         ensures { D.text result
-            ≡ kept_at H.hash_of (ungrafted F.shape) self.now (node first height) }
+            ≡ stored_at H.hash_of (ungrafted F.shape) self.now (node first height) }
     {
         self.at(hasher, node_position(first, height))
     }

@@ -4,8 +4,8 @@ ghost use Rattle.std.specs.Prelude.{◌≡◌, ℕ, List};
 ghost use Rattle.std.specs.Int.{w64, to_be_bytes};
 ghost use Rattle.std.proofs.Common.{ap};
 ghost use Rattle.storage_ops.specs.PrefixFree.{IsPrefixFree};
-ghost use Rattle.storage_ops.specs.PrefixFreeLaws.{number_prefix_free, sized_prefix_free, vector_prefix_free};
-ghost use Rattle.storage_ops.specs.Vectors.{vector_clones};
+ghost use Rattle.storage_ops.specs.Laws.PrefixFree.{number_prefix_free, sized_prefix_free, vector_prefix_free};
+ghost use Rattle.storage_ops.specs.Laws.Vectors.{vector_clones};
 
 use std::marker::PhantomData;
 use storage_codec::codec::{Codec, EncodeSize, FixedBytes, Read, Small, U64};

@@ -15,7 +15,7 @@ use storage_codec::codec::{Buf, EncodeSize, Error, FixedSize, Read, Write};
 use storage_merkle::merkle::{Family, Location, MAX_LEAVES};
 
 /// Appends to `out` a byte 1 and `value`, or, where there is none, a byte 0 and `size` zeros.
-#[tactic(auto, using(storage_codec::specs::PartsLaws::starts_cons))]
+#[tactic(auto, using(storage_codec::specs::Laws::Parts::starts_cons))]
 fn write_presence<V: Write>(
     value: &Option<V>,
     size: usize,
@@ -41,7 +41,7 @@ fn write_presence<V: Write>(
 
 /// Appends to `out` the payload of a fixed commit: `value`, or none, where a value has `size` bytes, and `floor` in
 /// eight bytes, highest first. Any floor is written.
-#[tactic(auto, using(storage_codec::specs::PartsLaws::starts_then, storage_codec::specs::PartsLaws::starts_first))]
+#[tactic(auto, using(storage_codec::specs::Laws::Parts::starts_then, storage_codec::specs::Laws::Parts::starts_first))]
 pub(crate) fn write_commit_fixed<F: Family, V: Write>(
     value: &Option<V>,
     floor: Location<F>,
@@ -59,7 +59,7 @@ pub(crate) fn write_commit_fixed<F: Family, V: Write>(
 }
 
 /// Reads a value behind its presence byte, or zeros in its place, from the front of `buf`.
-#[tactic(auto, using(storage_codec::specs::PartsLaws::ends_then, storage_codec::specs::PartsLaws::ends_same))]
+#[tactic(auto, using(storage_codec::specs::Laws::Parts::ends_then, storage_codec::specs::Laws::Parts::ends_same))]
 pub(crate) fn read_presence<V: Read<Cfg = ()> + FixedSize, B: Buf>(
     alloc: Global,
     buf: &mut B,
@@ -91,7 +91,7 @@ pub(crate) fn read_floor<B: Buf>(alloc: Global, buf: &mut B) -> Result<u64, Erro
 }
 
 /// Appends to `out` what the option `value` is written as.
-#[tactic(auto, using(crate::specs::VariableLaws::metadata_is))]
+#[tactic(auto, using(crate::specs::Laws::Variable::metadata_is))]
 fn write_metadata<V: Write>(value: &Option<V>, out: &mut Vec<u8>) -> Result<(), NoMemory>
     ensures ok { OnOk result
         (out.new.items ≡ out.old.items ++ metadata_text (option_map V.text value.now)) }
@@ -103,7 +103,7 @@ fn write_metadata<V: Write>(value: &Option<V>, out: &mut Vec<u8>) -> Result<(), 
 
 /// Appends to `out` the payload of a variable commit: the option `value`, and `floor` as a varint. Any floor is
 /// written.
-#[tactic(auto, using(storage_codec::specs::PartsLaws::starts_then, storage_codec::specs::PartsLaws::starts_first))]
+#[tactic(auto, using(storage_codec::specs::Laws::Parts::starts_then, storage_codec::specs::Laws::Parts::starts_first))]
 pub(crate) fn write_commit_variable<F: Family, V: Write>(
     value: &Option<V>,
     floor: Location<F>,
@@ -120,7 +120,7 @@ pub(crate) fn write_commit_variable<F: Family, V: Write>(
 }
 
 /// How many bytes the option `value` is written as; none where that is no `u64`.
-#[tactic(auto, using(crate::specs::VariableLaws::metadata_is))]
+#[tactic(auto, using(crate::specs::Laws::Variable::metadata_is))]
 fn metadata_size<V: EncodeSize>(value: &Option<V>) -> Option<u64>
     ensures { result ≡ size_of (length (metadata_text (option_map V.text value.now))) }
 {

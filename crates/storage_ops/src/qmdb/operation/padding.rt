@@ -32,7 +32,7 @@ pub(crate) fn byte<B: Buf>(buf: &mut B) -> Result<u8, Error>
 
 /// Reads `n` zero bytes from the front of `buf`. Refuses the first other byte, and `EndOfBuffer` where they end
 /// first.
-#[tactic(auto, using(crate::proofs::Zeros::zeros_step, crate::proofs::Zeros::zeros_done, storage_codec::specs::PartsLaws::ends_same, storage_codec::specs::PartsLaws::ends_then))]
+#[tactic(auto, using(crate::proofs::Zeros::zeros_step, crate::proofs::Zeros::zeros_done, storage_codec::specs::Laws::Parts::ends_same, storage_codec::specs::Laws::Parts::ends_then))]
 pub(crate) fn ensure_zeros<B: Buf>(buf: &mut B, n: usize) -> Result<(), Error>
     ensures gives { Answers (λ _. tt) result (B.unread buf.new) (zeros_at n (B.unread buf.old)) }
     ensures ends { IsEnding (B.unread buf.old) (B.unread buf.new) }

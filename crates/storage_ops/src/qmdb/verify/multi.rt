@@ -2,8 +2,8 @@
 
 ghost use Rattle.std.specs.Prelude.{◌≡◌, ◌↔◌, ◌⊎◌, None, Some, [], map, IfErr, IfOk, IsOk, IsTrue};
 ghost use Rattle.storage_merkle.specs.declared.merkle.bagging.Bagging.TheVariants.{BackwardFold};
-ghost use Rattle.storage_merkle.specs.Extracted.{texts};
-ghost use Rattle.storage_merkle.specs.Held.{range_of};
+ghost use Rattle.storage_merkle.specs.Extracted.{by_bytes};
+ghost use Rattle.storage_merkle.specs.Held.{proof_of};
 ghost use Rattle.storage_merkle.specs.Multi.{IsMultiAccepted, IsMultiProved, claims_of};
 ghost use Rattle.storage_merkle.specs.Stores.{multi_refusal, store_multi_proof};
 ghost use Rattle.storage_merkle.specs.Trees.{ungrafted};
@@ -25,10 +25,10 @@ pub fn verify_multi_proof<H: Hasher, F: Family, Op: Encode>(
     root: &DigestOf<H>,
 ) -> Result<bool, NoMemory>
     ensures exact { IfOk result (λ yes. IsTrue yes ↔ IsMultiAccepted H.hash_of
-        (ungrafted F.shape) BackwardFold (range_of H.Digest.text proof.now)
+        (ungrafted F.shape) BackwardFold (proof_of H.Digest.text proof.now)
         (claims_at Op.text operations.now) (λ a. []) (H.Digest.text root.now)) }
-    ensures means { IfOk result (λ yes. IsTrue yes → IsMultiProved H.Digest.size H.hash_of
-        (ungrafted F.shape) BackwardFold (range_of H.Digest.text proof.now)
+    ensures meaning { IfOk result (λ yes. IsTrue yes → IsMultiProved H.Digest.size H.hash_of
+        (ungrafted F.shape) BackwardFold (proof_of H.Digest.text proof.now)
         (claims_at Op.text operations.now) (λ a. []) (H.Digest.text root.now)) }
     ensures none { operations.now ≡ [] → IsOk result }
 {
@@ -52,10 +52,10 @@ pub fn create_multi_proof<F: Family, D: Digest>(
     peaks: &[(Position<F>, D)],
 ) -> Result<Proof<F, D>, Error<F>>
     ensures given { IfOk result (λ proof. (multi_refusal F F.shape store.now
-        (texts D.text peaks.now) locations.now ≡ None) × (range_of D.text proof
-        ≡ store_multi_proof F.shape store.now (texts D.text peaks.now) locations.now)) }
+        (by_bytes D.text peaks.now) locations.now ≡ None) × (proof_of D.text proof
+        ≡ store_multi_proof F.shape store.now (by_bytes D.text peaks.now) locations.now)) }
     ensures why { IfErr result (λ e. (multi_refusal F F.shape store.now
-        (texts D.text peaks.now) locations.now ≡ Some e) ⊎ (e ≡ Error.Memory)) }
+        (by_bytes D.text peaks.now) locations.now ≡ Some e) ⊎ (e ≡ Error.Memory)) }
 {
     store.multi_proof(alloc, locations, peaks)
 }

@@ -1,6 +1,6 @@
 use Rattle.std.proofs.Common.{ℕ, List, ◌++◌, ◌∙◌, ◌↔◌, ap, subst}
 use Rattle.std.specs.Bool.{IsTrue}
-use Rattle.storage_current.specs.Held.{operation_of}
+use Rattle.storage_current.specs.Held.{operation_proof_of}
 use Rattle.storage_current.specs.Snapshots.{Grafting, IsGrafting}
 use Rattle.storage_current.specs.CurrentWire.{operation_text}
 use Rattle.commonware_storage.specs.LightKeys.{IsAcceptedValue}
@@ -11,7 +11,7 @@ pub returns-clause-asked : goal.returns-clause-asked
 returns-clause-asked g c =
     let text = g.H.Digest.Write.text in
     let G : Grafting = record { shape = g.F.Family.shape; bytes = g.row.N } in
-    let proof = operation_of text (λ (b : List ℕ). b) c.args.proof.now.proof in
+    let proof = operation_proof_of text (λ (b : List ℕ). b) c.args.proof.now.proof in
     let next = c.args.proof.now.next_key in
     let written = c.deref.ensures.value ∙ c.in_ok-write.ensures.ok ∙ ap (λ (xs : List ℕ). xs
     ++ (operation_text g.F.Graftable.has_pending proof ++ g.K.Write.text next)) c.new-bytes.ensures.items in
@@ -30,7 +30,7 @@ returns-clause-accepted g c = λ s snapshot location own active admitted root.
     let text = g.H.Digest.Write.text in
     let G : Grafting = record { shape = g.F.Family.shape; bytes = g.row.N } in
     let grafting : IsGrafting G = record { laws = g.met.F.Family.laws; size = c.requires.size } in
-    let proof = operation_of text (λ (b : List ℕ). b) c.args.proof.now.proof in
+    let proof = operation_proof_of text (λ (b : List ℕ). b) c.args.proof.now.proof in
     let next = c.args.proof.now.next_key in
     let written = c.deref.ensures.value ∙ c.in_ok-write.ensures.ok ∙ ap (λ (xs : List ℕ). xs
     ++ (operation_text g.F.Graftable.has_pending proof ++ g.K.Write.text next)) c.new-bytes.ensures.items in

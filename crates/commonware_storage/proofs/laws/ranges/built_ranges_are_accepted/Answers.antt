@@ -1,7 +1,7 @@
 use Rattle.std.proofs.Common.{ℕ, List, ◌++◌, ◌∙◌, ap}
-use Rattle.storage_current.specs.Held.{current_of}
+use Rattle.storage_current.specs.Held.{range_proof_of}
 use Rattle.storage_current.specs.Snapshots.{Grafting, IsGrafting}
-use Rattle.storage_current.specs.CurrentWire.{current_text}
+use Rattle.storage_current.specs.CurrentWire.{range_proof_text}
 use Rattle.commonware_storage.proofs.OwnParts.{own_parts}
 use Rattle.commonware_storage.proofs.OwnRangeYes.{range_asked, range_refused_for_memory, range_yes}
 use Rattle.commonware_storage.proofs.laws.ranges.built_ranges_are_accepted.Goals as goal
@@ -18,9 +18,9 @@ returns-clause-asked g c = λ s parts.
     let h = g.H.Hasher.hash_of in
     let text = g.H.Digest.Write.text in
     let G : Grafting = record { shape = g.F.Family.shape; bytes = g.row.N } in
-    let proof = current_of text c.in-Ok.proof in
+    let proof = range_proof_of text c.in-Ok.proof in
     let written = c.deref.ensures.value ∙ c.in_ok-write.ensures.ok ∙ ap (λ (xs : List ℕ). xs
-    ++ current_text g.F.Graftable.has_pending proof) c.new-bytes.ensures.items in
+    ++ range_proof_text g.F.Graftable.has_pending proof) c.new-bytes.ensures.items in
     range_asked g.H.Digest.FixedSize.size h G g.F.Graftable.has_pending s c.args.max_digests _ c.args.plan.start
     c.args.plan.end _ _ _ (text c.args.root.now) proof c.start-start.ensures.value written
     (c.in-Ok.ensures.own s parts) c.in_ok-yes.yes c.in_ok-yes.ensures.exact

@@ -1,5 +1,5 @@
 use Rattle.std.proofs.Common.{ℕ, List}
-use Rattle.storage_current.specs.Held.{operation_of}
+use Rattle.storage_current.specs.Held.{operation_proof_of}
 use Rattle.commonware_storage.proofs.KeyAnswers.{value_exactly, value_meaning}
 use Rattle.commonware_storage.proofs.light.keys.value_from.Goals as goal
 
@@ -14,7 +14,7 @@ returns-in-Ok-clause-exact g c =
     (g.K.Read.parse c.args.cfg.now) g.met.K.Key.prefix_free.seen
     g.H.Hasher.hash_of g.F.Family.shape c.args.chunk_size g.F.Graftable.has_pending g.H.Digest.FixedSize.size
     (g.B.Buf.unread c.args.buf) c.args.key c.args.value (g.H.Digest.Write.text c.args.root.now)
-    (operation_of g.H.Digest.Write.text (λ (b : List ℕ). b) c.in-Ok.proof.proof) c.in-Ok.proof.next_key c.in-Ok.ensures
+    (operation_proof_of g.H.Digest.Write.text (λ (b : List ℕ). b) c.in-Ok.proof.proof) c.in-Ok.proof.next_key c.in-Ok.ensures
     c.verify.result c.verify.ensures.exact
 
 pub returns-in-Ok-clause-meaning : goal.returns-in-Ok-clause-meaning
@@ -28,5 +28,5 @@ returns-in-Ok-clause-meaning g c = λ wide.
     (g.K.Read.parse c.args.cfg.now) g.met.K.Key.prefix_free.seen
     g.H.Hasher.hash_of g.F.Family.shape c.args.chunk_size g.F.Graftable.has_pending g.H.Digest.FixedSize.size
     (g.B.Buf.unread c.args.buf) c.args.key c.args.value (g.H.Digest.Write.text c.args.root.now)
-    (operation_of g.H.Digest.Write.text (λ (b : List ℕ). b) c.in-Ok.proof.proof) c.in-Ok.proof.next_key c.in-Ok.ensures
+    (operation_proof_of g.H.Digest.Write.text (λ (b : List ℕ). b) c.in-Ok.proof.proof) c.in-Ok.proof.next_key c.in-Ok.ensures
     c.verify.result (c.verify.ensures.meaning wide)

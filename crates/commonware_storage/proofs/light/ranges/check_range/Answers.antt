@@ -1,7 +1,7 @@
 use Rattle.std.proofs.Common.{rules}
 use Rattle.std.proofs.Math.Facts.{Fits-lt-pow}
 use Rattle.storage_codec.specs.Parts.{IsBytes}
-use Rattle.storage_current.specs.Held.{current_of}
+use Rattle.storage_current.specs.Held.{range_proof_of}
 use Rattle.storage_current.specs.Snapshots.{Grafting}
 use Rattle.commonware_storage.proofs.RangeAnswers.{range_exactly, range_meaning, range_whole}
 use Rattle.commonware_storage.proofs.light.ranges.check_range.Goals as goal
@@ -11,7 +11,7 @@ returns-in-Ok-clause-exact g c =
     let G : Grafting = record { shape = g.F.Family.shape; bytes = c.args.chunk_size } in
     range_exactly g.H.Hasher.hash_of G g.F.Graftable.has_pending g.H.Digest.FixedSize.size c.args.max_digests
     c.args.start c.args.proof.now _ _ (g.H.Digest.Write.text c.args.root.now)
-    (current_of g.H.Digest.Write.text c.in-Ok.proof) c.in-Ok.ensures c.verify_encoded.result
+    (range_proof_of g.H.Digest.Write.text c.in-Ok.proof) c.in-Ok.ensures c.verify_encoded.result
     c.verify_encoded.ensures.exact
 
 pub returns-in-Ok-clause-meaning : goal.returns-in-Ok-clause-meaning
@@ -20,13 +20,13 @@ returns-in-Ok-clause-meaning g c = λ wide.
     let fits : IsBytes c.args.proof.now = λ i. Fits-lt-pow (c.type_inv.proof i) in
     range_meaning g.H.Hasher.hash_of G g.F.Graftable.has_pending g.H.Digest.FixedSize.size c.args.max_digests
     c.args.start c.args.proof.now _ _ (g.H.Digest.Write.text c.args.root.now)
-    (current_of g.H.Digest.Write.text c.in-Ok.proof) c.in-Ok.ensures fits c.verify_encoded.result
+    (range_proof_of g.H.Digest.Write.text c.in-Ok.proof) c.in-Ok.ensures fits c.verify_encoded.result
     (c.verify_encoded.ensures.meaning wide)
 
 pub returns-in-Ok-clause-whole : goal.returns-in-Ok-clause-whole
 returns-in-Ok-clause-whole g c =
     range_whole g.F.Graftable.has_pending g.H.Digest.FixedSize.size c.args.max_digests c.args.proof.now
-    (current_of g.H.Digest.Write.text c.in-Ok.proof) c.in-Ok.ensures c.verify_encoded.result
+    (range_proof_of g.H.Digest.Write.text c.in-Ok.proof) c.in-Ok.ensures c.verify_encoded.result
 
 pub returns-in-Err-Memory-clause-refused : goal.returns-in-Err-Memory-clause-refused
 returns-in-Err-Memory-clause-refused g c = search rules

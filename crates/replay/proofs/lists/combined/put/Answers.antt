@@ -1,6 +1,6 @@
 use Rattle.std.proofs.Common.{arith, ◌*◌, ◌^◌, ◌≤◌}
 use Rattle.std.proofs.lemmas.Nat.{mul-le}
-use Rattle.storage_merkle.specs.Multiples.{pow_le}
+use Rattle.storage_merkle.specs.Laws.Multiples.{pow_le}
 use Rattle.replay.proofs.lists.combined.put.Goals as goal
 
 pub update_leaves-requires : goal.update_leaves-requires

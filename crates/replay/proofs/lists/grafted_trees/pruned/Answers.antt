@@ -1,6 +1,6 @@
 use Rattle.std.proofs.Common.{arith, ◌+◌, ◌*◌, ◌^◌, ◌≤◌, length}
 use Rattle.std.proofs.lemmas.Nat.{mul-le}
-use Rattle.storage_merkle.specs.Multiples.{pow_le}
+use Rattle.storage_merkle.specs.Laws.Multiples.{pow_le}
 use Rattle.replay.proofs.lists.grafted_trees.pruned.Goals as goal
 
 pub prune-requires : goal.prune-requires

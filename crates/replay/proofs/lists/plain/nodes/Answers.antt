@@ -1,5 +1,5 @@
 use Rattle.std.proofs.Common.{arith, ◌-◌, ◌<◌}
-use Rattle.storage_merkle.specs.Multiples.{pow_le, pow_below_back}
+use Rattle.storage_merkle.specs.Laws.Multiples.{pow_le, pow_below_back}
 use Rattle.replay.proofs.lists.plain.nodes.Goals as goal
 
 pub power-requires : goal.power-requires

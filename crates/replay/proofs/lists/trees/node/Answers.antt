@@ -1,6 +1,6 @@
 use Rattle.std.proofs.Common.{arith, ◌^◌, ◌≤◌}
-use Rattle.storage_merkle.specs.ShapeLaws.{early_fits}
-use Rattle.storage_merkle.specs.Multiples.{pow_le}
+use Rattle.storage_merkle.specs.Laws.Shape.{early_fits}
+use Rattle.storage_merkle.specs.Laws.Multiples.{pow_le}
 use Rattle.replay.proofs.lists.trees.node.Goals as goal
 
 pub subtree_root_position-position-requires-clause-fits :

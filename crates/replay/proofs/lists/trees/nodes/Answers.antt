@@ -1,5 +1,5 @@
 use Rattle.std.proofs.Common.{arith, ◌^◌, ◌≤◌}
-use Rattle.storage_merkle.specs.Multiples.{pow_le}
+use Rattle.storage_merkle.specs.Laws.Multiples.{pow_le}
 use Rattle.replay.proofs.lists.trees.nodes.Goals as goal
 
 pub nodes-requires : goal.nodes-requires

@@ -1,7 +1,6 @@
-use Rattle.std.proofs.Common.{refl, ◌/◌}
+use Rattle.std.proofs.Common.{refl, ◌/◌, get_or, ◌%◌}
 use Rattle.storage_bitmap.proofs.bitmap.prunable.read.Goals as goal
 use Rattle.std.proofs.lemmas.Nat.Bits.{shr_and_one}
-use Rattle.std.proofs.Common.{get_or, ◌%◌}
 use Rattle.storage_bitmap.specs.Packed.{bit_in}
 
 pub returns : goal.returns

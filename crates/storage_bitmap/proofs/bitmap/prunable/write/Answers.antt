@@ -1,5 +1,4 @@
-use Rattle.std.proofs.Common.{◌∙◌, ap, ◌/◌}
-use Rattle.std.proofs.Common.{ℕ}
+use Rattle.std.proofs.Common.{◌∙◌, ap, ◌/◌, ℕ}
 use Rattle.std.specs.Int.{bit_at}
 use Rattle.std.proofs.lemmas.List.{get_or_read}
 use Rattle.storage_bitmap.proofs.Bits.{written}

@@ -1,4 +1,4 @@
-use Rattle.storage_merkle.specs.EqualityLaws.{equal_on, equal_both}
+use Rattle.storage_merkle.specs.Laws.Equality.{equal_on, equal_both}
 use Rattle.storage_current.proofs.laws.equality.equal_key_value_proofs.Goals as goal
 
 pub returns-clause-seen : goal.returns-clause-seen

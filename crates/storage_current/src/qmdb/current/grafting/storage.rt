@@ -4,7 +4,7 @@ ghost use Rattle.std.specs.Prelude.{◌≡◌, ℕ, ◌+◌, ◌%◌, ◌^◌, �
 ghost use Rattle.std.specs.List.{All};
 ghost use Rattle.storage_merkle.specs.Plans.{IsFirstAbsent, IsFirstFault};
 ghost use Rattle.storage_merkle.specs.Nodes.{CoversSame};
-ghost use Rattle.storage_merkle.specs.Shape.{size};
+ghost use Rattle.storage_merkle.specs.Shape.{size, max_leaves};
 ghost use Rattle.storage_current.specs.Combined.{IsOfOperations, joined};
 ghost use Rattle.storage_current.specs.GraftedTrees.{regrafted};
 ghost use Rattle.storage_current.specs.Splits.{IsLook, IsSplit, filled, gaps};
@@ -213,7 +213,7 @@ fn grafted_digest<F: Graftable, H: Hasher, R: Readable<Family = F, Digest = H::D
     requires low { 1 ≤ height }
     requires above { height ≤ own }
     requires aligned { first % 2 ^ own ≡ 0 }
-    requires valid { F.shape.position first own ≤ size F.shape (2 ^ 62) }
+    requires valid { F.shape.position first own ≤ size F.shape max_leaves }
     ensures { (q : ℕ) → CoversSame F.shape height q (F.shape.position first own)
         → result ≡ regrafted H.digest_of H.Digest.text F.shape height (R.node grafted_tree.now) q }
 {

@@ -1,10 +1,10 @@
 //! A tree over chunks that keeps pins and leaves alone.
 
-ghost use Rattle.std.specs.Prelude.{◌≡◌, ℕ, ◌+◌, ◌-◌, ◌^◌, ◌<◌, ◌≤◌, [], ◌⊎◌, List, map, max, min, take, drop, length, slice_index, IfOk, OnOk, OnErr, IfErr};
-ghost use Rattle.storage_merkle.specs.Shape.{size};
+ghost use Rattle.std.specs.Prelude.{◌≡◌, ℕ, ◌+◌, ◌-◌, ◌<◌, ◌≤◌, [], ◌⊎◌, List, map, max, min, take, drop, length, slice_index, IfOk, OnOk, OnErr, IfErr};
+ghost use Rattle.storage_merkle.specs.Shape.{size, max_leaves};
 ghost use Rattle.storage_merkle.specs.Hashing.{node_over};
 ghost use Rattle.storage_merkle.specs.Kept.{NodesOver, at_peaks, paired, pins};
-ghost use Rattle.storage_current.specs.GraftedTrees.{IsWhole, Keeps, tree_at};
+ghost use Rattle.storage_current.specs.GraftedTrees.{IsWholeGrafted, Keeps, tree_at};
 
 use crate::qmdb::current::grafting::power;
 use crate::qmdb::current::grafting::rebuild::node_of;
@@ -27,7 +27,7 @@ pub struct GraftedTree<F: Graftable, D: Digest> {
 
 impl<F: Graftable, D: Digest> Model for GraftedTree<F, D> {
     ghost use Rattle.std.specs.Prelude.{vec_len};
-    ghost use Rattle.storage_current.specs.GraftedTrees.{KeptChunks, IsWhole};
+    ghost use Rattle.storage_current.specs.GraftedTrees.{KeptChunks, IsWholeGrafted};
 
     ghost Value = { KeptChunks D };
 
@@ -37,7 +37,8 @@ impl<F: Graftable, D: Digest> Model for GraftedTree<F, D> {
       leaves = t.leaves.items;
     } };
 
-    ghost invariant = { λ t. IsWhole F.shape t.pruned (vec_len t.pinned) (vec_len t.leaves) };
+    ghost invariant = { λ t. IsWholeGrafted F.shape t.pruned (vec_len t.pinned)
+        (vec_len t.leaves) };
 }
 
 impl<F: Graftable, D: Digest> GraftedTree<F, D> {
@@ -45,8 +46,8 @@ impl<F: Graftable, D: Digest> GraftedTree<F, D> {
     /// Takes no memory.
     pub fn new(alloc: Global, mut leaves: Vec<D>) -> Self
         ensures kept { result
-            ≡ record { pruned = 0; pinned = []; leaves = take (2 ^ 62) leaves.items } }
-        ensures stands { (N : NodesOver) → length leaves.items ≤ 2 ^ 62
+            ≡ record { pruned = 0; pinned = []; leaves = take max_leaves leaves.items } }
+        ensures stands { (N : NodesOver) → length leaves.items ≤ max_leaves
             → Keeps D.text F.shape N result (map D.text leaves.items) }
     {
         leaves.truncate(MAX_LEAVES as usize);
@@ -76,12 +77,12 @@ impl<F: Graftable, D: Digest> GraftedTree<F, D> {
           pinned = take (length (F.shape.peaks pruned_chunks)) pinned.now;
           leaves = leaves.items;
         }) }
-        ensures fits { IfOk result (λ _. (pruned_chunks + length leaves.items ≤ 2 ^ 62)
+        ensures fits { IfOk result (λ _. (pruned_chunks + length leaves.items ≤ max_leaves)
             × (length (F.shape.peaks pruned_chunks) ≤ length pinned.now)) }
         ensures why { IfErr result (λ e.
-            ((2 ^ 62 < pruned_chunks + length leaves.items)
+            ((max_leaves < pruned_chunks + length leaves.items)
             × (e ≡ Error.LocationOverflow (min (pruned_chunks + length leaves.items) u64.MAX)))
-            ⊎ ((pruned_chunks + length leaves.items ≤ 2 ^ 62)
+            ⊎ ((pruned_chunks + length leaves.items ≤ max_leaves)
             × (((length pinned.now < length (F.shape.peaks pruned_chunks)) × (e
             ≡ Error.MissingNode (slice_index (pins F.shape pruned_chunks) (length pinned.now))))
             ⊎ ((length (F.shape.peaks pruned_chunks) ≤ length pinned.now)
@@ -202,7 +203,7 @@ fn look_up<F: Graftable, D: Digest>(
     leaves: &[D],
     position: Position<F>,
 ) -> Option<D>
-    requires few { pruned + length leaves.now ≤ 2 ^ 62 }
+    requires few { pruned + length leaves.now ≤ max_leaves }
     requires pins { length pinned.now ≡ length (F.shape.peaks pruned) }
     ensures { result ≡ tree_at F.shape pruned pinned.now leaves.now position }
 {
@@ -221,7 +222,7 @@ fn look_up<F: Graftable, D: Digest>(
 
 /// The digest at `position` of a peak over the first `pruned` leaves; none where there is no such peak there.
 fn pin_at<F: Graftable, D: Digest>(pruned: u64, pinned: &[D], position: Position<F>) -> Option<D>
-    requires few { pruned ≤ 2 ^ 62 }
+    requires few { pruned ≤ max_leaves }
     requires pins { length pinned.now ≡ length (F.shape.peaks pruned) }
     ensures { result ≡ paired position (pins F.shape pruned) pinned.now }
 {
@@ -244,7 +245,7 @@ fn peaks_over<F: Graftable, D: Digest, H: Hasher<F, Digest = D>>(
     hasher: &H,
     chunks: u64,
 ) -> Result<Vec<D>, AllocError>
-    requires whole { IsWhole F.shape tree.now.pruned (length tree.now.pinned)
+    requires whole { IsWholeGrafted F.shape tree.now.pruned (length tree.now.pinned)
         (length tree.now.leaves) }
     requires from { tree.now.pruned ≤ chunks }
     requires to { chunks ≤ tree.now.pruned + length tree.now.leaves }
@@ -269,7 +270,7 @@ fn peaks_over<F: Graftable, D: Digest, H: Hasher<F, Digest = D>>(
 /// How many peaks there are over the leaves below `boundary`; or, where they are more than `given`, the position of peak
 /// number `given`, counted from 0.
 fn needed<F: Graftable>(boundary: Location<F>, given: usize) -> Result<usize, Position<F>>
-    requires { boundary ≤ 2 ^ 62 }
+    requires { boundary ≤ max_leaves }
     ensures count { IfOk result (λ n. (n ≡ length (F.shape.peaks boundary)) × (n ≤ given)) }
     ensures missing { IfErr result (λ p. (given < length (F.shape.peaks boundary))
         × (p ≡ slice_index (pins F.shape boundary) given)) }

@@ -1,7 +1,7 @@
 //! The hasher of checks over a grafted view.
 
 ghost use Rattle.std.specs.Prelude.{◌≡◌, ℕ, ◌+◌, ◌-◌, ◌*◌, ◌/◌, ◌%◌, ◌^◌, ◌<◌, ◌≤◌, ◌&&◌, ◌++◌, List, [], refl, map, eqb, ltb, if◌then◌else◌, MatchOption};
-ghost use Rattle.storage_merkle.specs.Shape.{size};
+ghost use Rattle.storage_merkle.specs.Shape.{size, max_leaves};
 ghost use Rattle.storage_merkle.specs.Nodes.{IsNode};
 ghost use Rattle.storage_merkle.specs.Trees.{Layout};
 ghost use Rattle.storage_merkle.specs.Hashing.{join_digest};
@@ -55,7 +55,7 @@ impl<'a, F: Graftable, H: digest::Hasher> Verifier<'a, F, H> {
 
     /// The chunk that is grafted over the node at `position`; none where there is none, or it is not supplied.
     fn chunk_over(&self, position: Position<F>) -> Option<&'a [u8]>
-        requires { position ≤ size F.shape (2 ^ 62) }
+        requires { position ≤ size F.shape max_leaves }
         ensures { (first height : ℕ) → IsNode F.shape position first height
             → MatchOption result (IsUngrafted self.now.height self.now.start_chunk_index
             (map (λ c. c.now) self.now.chunks.items) self.now.graftable_chunks first height)
@@ -115,7 +115,7 @@ impl<F: Graftable, H: digest::Hasher> Hasher<F> for Verifier<'_, F, H> {
 
     ghost bagging = { λ _. BackwardFold };
 
-    ghost takes = { λ _ position. position ≤ size F.shape (2 ^ 62) };
+    ghost takes = { λ _ position. position ≤ size F.shape max_leaves };
 
     fn hash(&self, parts: &[&[u8]]) -> H::Digest {
         H::hash(parts)
@@ -126,7 +126,7 @@ impl<F: Graftable, H: digest::Hasher> Hasher<F> for Verifier<'_, F, H> {
     }
 
     fn node_digest(&self, position: Position<F>, left: &H::Digest, right: &H::Digest) -> H::Digest
-        requires { position ≤ size F.shape (2 ^ 62) }
+        requires { position ≤ size F.shape max_leaves }
         ensures { (first height : ℕ) → IsNode F.shape position first height
             → H.Digest.text result ≡ join_digest H.hash_of (record {
               shape = F.shape;

@@ -3,8 +3,8 @@
 ghost use Rattle.std.specs.Prelude.{◌≡◌, ◌↔◌, ◌⊎◌, IfOk, IsTrue, Ok, true, false, ℕ, ◌+◌, ◌%◌, ◌^◌, length};
 ghost use Rattle.storage_bitmap.specs.Chunks.{IsChunkSize};
 ghost use Rattle.storage_bitmap.specs.Packed.{bit_in};
-ghost use Rattle.storage_current.specs.Held.{operation_of};
-ghost use Rattle.storage_current.specs.KeyProofs.{Allows, Commit, Exclusion, IsExcluded, KeyValue, MeansAbsent, proof_of};
+ghost use Rattle.storage_current.specs.Held.{operation_proof_of};
+ghost use Rattle.storage_current.specs.KeyProofs.{Allows, Commit, Exclusion, IsExcluded, KeyValue, MeansAbsent, proof_in};
 ghost use Rattle.storage_current.specs.Keys.{Keyed, keyed_by};
 ghost use Rattle.storage_current.specs.Snapshots.{height, grafting_of};
 
@@ -38,27 +38,27 @@ pub(crate) fn verify_span<
 ) -> Result<bool, NoMemory>
     ensures exact { let e = keyed_by K.text V.Value.text V.operation_text K.cmp in
         let x : Exclusion (K × V.Value × K) V.Value = KeyValue
-        (operation_of D.text C.text proof.now)
+        (operation_proof_of D.text C.text proof.now)
         (update.now.key, update.now.value, update.now.next_key) in
         IfOk result (λ yes. IsTrue yes ↔ IsExcluded e H.hash_of (record {
           shape = F.shape;
-          bytes = length (proof_of x).chunk;
+          bytes = length (proof_in x).chunk;
         }) x key.now (D.text root.now)) }
     ensures meaning { let e = keyed_by K.text V.Value.text V.operation_text K.cmp in
         let x : Exclusion (K × V.Value × K) V.Value = KeyValue
-        (operation_of D.text C.text proof.now)
+        (operation_proof_of D.text C.text proof.now)
         (update.now.key, update.now.value, update.now.next_key) in
         (D.size ≡ 32) ⊎ (D.size ≡ 64)
         → IfOk result (λ yes. IsTrue yes → MeansAbsent e H.hash_of (record {
           shape = F.shape;
-          bytes = length (proof_of x).chunk;
+          bytes = length (proof_in x).chunk;
         }) x key.now (D.text root.now)) }
     ensures at_once { let e = keyed_by K.text V.Value.text V.operation_text K.cmp in
         let x : Exclusion (K × V.Value × K) V.Value = KeyValue
-        (operation_of D.text C.text proof.now)
+        (operation_proof_of D.text C.text proof.now)
         (update.now.key, update.now.value, update.now.next_key) in
-        (Allows e x key.now → IsChunkSize (length (proof_of x).chunk) → bit_in (proof_of x).chunk
-        ((proof_of x).location % 2 ^ height (grafting_of F.shape (length (proof_of x).chunk)))
+        (Allows e x key.now → IsChunkSize (length (proof_in x).chunk) → bit_in (proof_in x).chunk
+        ((proof_in x).location % 2 ^ height (grafting_of F.shape (length (proof_in x).chunk)))
         ≡ true → ⊥) → result ≡ Ok false }
 {
     if !excludes::<F, K, V>(&update.key, &update.next_key, key) {
@@ -91,24 +91,24 @@ pub(crate) fn verify_commit<
 ) -> Result<bool, NoMemory>
     ensures exact { let e = keyed_by K.text V.Value.text V.operation_text K.cmp in
         let x : Exclusion (K × V.Value × K) V.Value = Commit
-        (operation_of D.text C.text proof.now) value.now in
+        (operation_proof_of D.text C.text proof.now) value.now in
         IfOk result (λ yes. IsTrue yes ↔ IsExcluded e H.hash_of (record {
           shape = F.shape;
-          bytes = length (proof_of x).chunk;
+          bytes = length (proof_in x).chunk;
         }) x key.now (D.text root.now)) }
     ensures meaning { let e = keyed_by K.text V.Value.text V.operation_text K.cmp in
         let x : Exclusion (K × V.Value × K) V.Value = Commit
-        (operation_of D.text C.text proof.now) value.now in
+        (operation_proof_of D.text C.text proof.now) value.now in
         (D.size ≡ 32) ⊎ (D.size ≡ 64)
         → IfOk result (λ yes. IsTrue yes → MeansAbsent e H.hash_of (record {
           shape = F.shape;
-          bytes = length (proof_of x).chunk;
+          bytes = length (proof_in x).chunk;
         }) x key.now (D.text root.now)) }
     ensures at_once { let e = keyed_by K.text V.Value.text V.operation_text K.cmp in
         let x : Exclusion (K × V.Value × K) V.Value = Commit
-        (operation_of D.text C.text proof.now) value.now in
-        (Allows e x key.now → IsChunkSize (length (proof_of x).chunk) → bit_in (proof_of x).chunk
-        ((proof_of x).location % 2 ^ height (grafting_of F.shape (length (proof_of x).chunk)))
+        (operation_proof_of D.text C.text proof.now) value.now in
+        (Allows e x key.now → IsChunkSize (length (proof_in x).chunk) → bit_in (proof_in x).chunk
+        ((proof_in x).location % 2 ^ height (grafting_of F.shape (length (proof_in x).chunk)))
         ≡ true → ⊥) → result ≡ Ok false }
 {
     if !proof.is_active() {

@@ -13,7 +13,7 @@ use storage_codec::codec::{Buf, Error, Read};
 
 /// Reads from the front of `buf` a value of `A`, whose reader is told `first`, and then one of `B`, whose reader is
 /// told `second`.
-#[tactic(auto, using(storage_codec::specs::PartsLaws::ends_then))]
+#[tactic(auto, using(storage_codec::specs::Laws::Parts::ends_then))]
 pub(crate) fn read_pair<A: Read, B: Read, T: Buf>(
     alloc: Global,
     buf: &mut T,

@@ -3,12 +3,14 @@
 ghost use Rattle.std.specs.Prelude.{◌≡◌, ◌↔◌, ◌⊎◌, IfOk, IsTrue, Ok, true, false, ℕ, ◌+◌, ◌%◌, ◌^◌, length};
 ghost use Rattle.storage_bitmap.specs.Chunks.{IsChunkSize};
 ghost use Rattle.storage_bitmap.specs.Packed.{bit_in};
-ghost use Rattle.storage_current.specs.HeldKeys.{exclusion_of};
-ghost use Rattle.storage_current.specs.KeyProofs.{Allows, Exclusion, IsExcluded, MeansAbsent, proof_of};
+ghost use Rattle.storage_current.specs.HeldKeys.{exclusion_of, exclusion_seen};
+ghost use Rattle.storage_current.specs.KeyProofs.{Allows, Exclusion, IsExcluded, MeansAbsent, proof_in};
 ghost use Rattle.storage_current.specs.Keys.{Keyed, keyed_by};
 ghost use Rattle.storage_current.specs.Snapshots.{height, grafting_of};
+ghost use Rattle.storage_current.specs.Held.{ClonesAreEqual};
 
 use crate::qmdb::current::ordered::check::{verify_commit, verify_span};
+use crate::qmdb::current::ordered::copies::value_as;
 use crate::qmdb::current::proof::Chunk;
 use crate::qmdb::current::proof::operation::Proof;
 use std::alloc::Global;
@@ -51,20 +53,20 @@ impl<F: Graftable, K: Key, V: OperationCodec<F, Ordered<K, V>>, D: Digest, C: Ch
             let x : Exclusion (K × V.Value × K) V.Value = exclusion_of D.text C.text self.now in
             IfOk result (λ yes. IsTrue yes ↔ IsExcluded e H.hash_of (record {
               shape = F.shape;
-              bytes = length (proof_of x).chunk;
+              bytes = length (proof_in x).chunk;
             }) x key.now (D.text root.now)) }
         ensures meaning { let e = keyed_by K.text V.Value.text V.operation_text K.cmp in
             let x : Exclusion (K × V.Value × K) V.Value = exclusion_of D.text C.text self.now in
             (D.size ≡ 32) ⊎ (D.size ≡ 64)
             → IfOk result (λ yes. IsTrue yes → MeansAbsent e H.hash_of (record {
               shape = F.shape;
-              bytes = length (proof_of x).chunk;
+              bytes = length (proof_in x).chunk;
             }) x key.now (D.text root.now)) }
         ensures at_once { let e = keyed_by K.text V.Value.text V.operation_text K.cmp in
             let x : Exclusion (K × V.Value × K) V.Value = exclusion_of D.text C.text self.now in
-            (Allows e x key.now → IsChunkSize (length (proof_of x).chunk)
-            → bit_in (proof_of x).chunk ((proof_of x).location % 2 ^ height
-            (grafting_of F.shape (length (proof_of x).chunk))) ≡ true → ⊥)
+            (Allows e x key.now → IsChunkSize (length (proof_in x).chunk)
+            → bit_in (proof_in x).chunk ((proof_in x).location % 2 ^ height
+            (grafting_of F.shape (length (proof_in x).chunk))) ≡ true → ⊥)
             → result ≡ Ok false }
     {
         match self {
@@ -73,6 +75,32 @@ impl<F: Graftable, K: Key, V: OperationCodec<F, Ordered<K, V>>, D: Digest, C: Ch
             }
             ExclusionProof::Commit(proof, value) => {
                 verify_commit::<F, K, V, D, C, H>(alloc, proof, value, key, root)
+            }
+        }
+    }
+}
+
+impl<F: Graftable, K: Key, V: ValueEncoding, D: Digest, C: Chunk + Clone> ExclusionProof<
+    F,
+    K,
+    V,
+    D,
+    C,
+> {
+    /// A proof equal to this one, where a clone of a chunk is equal to it; keys and values by what is seen of them.
+    /// `NoMemory` where there is no memory for it.
+    pub fn clone(&self) -> Result<Self, NoMemory>
+        ensures { ClonesAreEqual C.is_clone C.text
+            → IfOk result (λ copy.
+            exclusion_seen K.view V.Value.view (exclusion_of D.text C.text copy)
+            ≡ exclusion_seen K.view V.Value.view (exclusion_of D.text C.text self.now)) }
+    {
+        match self {
+            ExclusionProof::KeyValue(proof, update) => {
+                Ok(ExclusionProof::KeyValue(proof.clone()?, update.clone()?))
+            }
+            ExclusionProof::Commit(proof, value) => {
+                Ok(ExclusionProof::Commit(proof.clone()?, value_as::<V>(value)?))
             }
         }
     }

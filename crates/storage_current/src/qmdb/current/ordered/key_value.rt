@@ -4,7 +4,7 @@ ghost use Rattle.std.specs.Prelude.{◌≡◌, ◌↔◌, ◌⊎◌, IfOk, IsTru
 ghost use Rattle.storage_bitmap.specs.Chunks.{IsChunkSize};
 ghost use Rattle.storage_bitmap.specs.Packed.{bit_in};
 ghost use Rattle.storage_current.specs.CurrentProofs.{IsActiveCurrent};
-ghost use Rattle.storage_current.specs.Held.{operation_of};
+ghost use Rattle.storage_current.specs.Held.{operation_proof_of, ClonesAreEqual};
 ghost use Rattle.storage_current.specs.KeyProofs.{MeansValue};
 ghost use Rattle.storage_current.specs.Keys.{Keyed, update_text, keyed_by};
 ghost use Rattle.storage_current.specs.Snapshots.{height, grafting_of};
@@ -44,12 +44,14 @@ impl<F: Graftable, K: Key, D: Digest, C: Chunk> KeyValueProof<F, K, D, C> {
     ) -> Result<bool, NoMemory>
         ensures exact { let e = keyed_by K.text V.Value.text V.operation_text K.cmp in
             IfOk result (λ yes. IsTrue yes ↔ IsActiveCurrent H.hash_of (grafting_of F.shape
-            (length (C.text self.now.proof.chunk))) (operation_of D.text C.text self.now.proof)
+            (length (C.text self.now.proof.chunk)))
+            (operation_proof_of D.text C.text self.now.proof)
             (update_text e key value self.now.next_key) (D.text root.now)) }
         ensures meaning { let e = keyed_by K.text V.Value.text V.operation_text K.cmp in
             (D.size ≡ 32) ⊎ (D.size ≡ 64)
             → IfOk result (λ yes. IsTrue yes → MeansValue e H.hash_of (grafting_of F.shape
-            (length (C.text self.now.proof.chunk))) (operation_of D.text C.text self.now.proof) key
+            (length (C.text self.now.proof.chunk)))
+            (operation_proof_of D.text C.text self.now.proof) key
             value self.now.next_key (D.text root.now)) }
         ensures at_once { (IsChunkSize (length (C.text self.now.proof.chunk))
             → bit_in (C.text self.now.proof.chunk) (self.now.proof.loc % 2 ^ height
@@ -68,5 +70,24 @@ impl<F: Graftable, K: Key, D: Digest, C: Chunk> KeyValueProof<F, K, D, C> {
         });
         self.proof
             .verify::<H, Operation<F, Ordered<K, V>>>(alloc, update, root)
+    }
+}
+
+impl<F: Graftable, K: Key, D: Digest, C: Chunk + Clone> KeyValueProof<F, K, D, C> {
+    /// A proof equal to this one, where a clone of a chunk is equal to it; the next key is seen and written as this
+    /// one's. `NoMemory` where there is no memory for it.
+    pub fn clone(&self) -> Result<Self, NoMemory>
+        ensures proof { ClonesAreEqual C.is_clone C.text
+            → IfOk result (λ copy.
+            operation_proof_of D.text C.text copy.proof
+            ≡ operation_proof_of D.text C.text self.now.proof) }
+        ensures next_key { IfOk result (λ copy. K.view copy.next_key ≡ K.view self.now.next_key) }
+        ensures next_key_text { IfOk result (λ copy.
+            K.text copy.next_key ≡ K.text self.now.next_key) }
+    {
+        Ok(KeyValueProof {
+            proof: self.proof.clone()?,
+            next_key: key_as(&self.next_key)?,
+        })
     }
 }

@@ -1,22 +1,22 @@
 //! Range proofs as bytes: the proof over the grafted view, the slots of the pending and of the partial chunk's
 //! digest, the operations root.
 
-ghost use Rattle.std.specs.Prelude.{◌≡◌, ℕ, ◌+◌};
-ghost use Rattle.storage_codec.specs.Parts.{size_of};
-ghost use Rattle.storage_current.specs.Held.{current_of};
-ghost use Rattle.storage_current.specs.Snapshots.{CurrentProof};
-ghost use Rattle.storage_current.specs.CurrentWire.{current_text, current_at, IsAdmittedCurrent};
-ghost use Rattle.storage_current.specs.CurrentWireLaws.{current_again, current_back, held_digests};
+ghost use Rattle.storage_current.specs.Held.{range_proof_of};
+ghost use Rattle.storage_current.specs.Snapshots.{RangeProof as RangeProofOf};
+ghost use Rattle.storage_current.specs.CurrentWire.{range_proof_text, range_proof_at, IsAdmittedRangeProof};
+ghost use Rattle.storage_current.specs.Laws.CurrentWire.{current_again, current_back, held_digests};
 
 use crate::qmdb::current::proof::RangeProof;
 use std::alloc::Global;
 use storage_codec::NoMemory;
-use storage_codec::codec::{Buf, Canonical, Codec, EncodeSize, Error, Read, Write, small_size};
+use storage_codec::codec::{
+    Buf, Canonical, Codec, EncodeSize, Error, Read, Write, small_size, sum,
+};
 use storage_codec::digest::Digest;
 use storage_merkle::merkle::{Graftable, Proof};
 
 impl<F: Graftable, D: Digest> Write for RangeProof<F, D> {
-    ghost text = { λ p. current_text F.has_pending (current_of D.text p) };
+    ghost text = { λ p. range_proof_text F.has_pending (range_proof_of D.text p) };
 
     fn write(&self, out: &mut Vec<u8>) -> Result<(), NoMemory> {
         self.proof.write(out)?;
@@ -35,26 +35,19 @@ impl<F: Graftable, D: Digest> EncodeSize for RangeProof<F, D> {
     }
 }
 
-/// The sum of two numbers of bytes; none where it, or one of them, is no `u64`.
-pub(crate) fn sum(first: Option<u64>, second: Option<u64>) -> Option<u64>
-    ensures { (m n : ℕ) → first ≡ size_of m → second ≡ size_of n → result ≡ size_of (m + n) }
-{
-    first?.checked_add(second?)
-}
-
 impl<F: Graftable, D: Digest> Read for RangeProof<F, D> {
     /// The greatest number of digests that is read.
     type Cfg = usize;
 
-    ghost View = { CurrentProof };
+    ghost View = { RangeProofOf };
 
-    ghost view = { λ p. current_of D.text p };
+    ghost view = { λ p. range_proof_of D.text p };
 
-    ghost admits = { λ most p. IsAdmittedCurrent F.has_pending most (current_of D.text p) };
+    ghost admits = { λ most p. IsAdmittedRangeProof F.has_pending most (range_proof_of D.text p) };
 
-    ghost parse = { λ most. current_at F.has_pending D.size most };
+    ghost parse = { λ most. range_proof_at F.has_pending D.size most };
 
-    #[tactic(auto, using(storage_codec::specs::PartsLaws::ends_then))]
+    #[tactic(auto, using(storage_codec::specs::Laws::Parts::ends_then))]
     fn read_cfg<B: Buf>(alloc: Global, buf: &mut B, most: &usize) -> Result<Self, Error> {
         let proof = match Proof::<F, D>::read_cfg(alloc, buf, most) {
             Ok(proof) => proof,
@@ -82,10 +75,10 @@ impl<F: Graftable, D: Digest> Read for RangeProof<F, D> {
 
 impl<F: Graftable, D: Digest> Codec for RangeProof<F, D> {
     ghost again = { λ most p rest ok. current_again F.has_pending D.size most
-        (current_of D.text p) rest (held_digests D.text D.size D.sized p) ok };
+        (range_proof_of D.text p) rest (held_digests D.text D.size D.sized p) ok };
 }
 
 impl<F: Graftable, D: Digest> Canonical for RangeProof<F, D> {
     ghost back = { λ most bytes p rest fits e.
-        current_back F.has_pending D.size most bytes (current_of D.text p) rest fits e };
+        current_back F.has_pending D.size most bytes (range_proof_of D.text p) rest fits e };
 }

@@ -1,11 +1,11 @@
 //! The digests that an accepted check of a range proof hands out.
 
 ghost use Rattle.std.specs.Prelude.{◌≡◌, ℕ, ◌⊎◌, IfErr, IfOk, MatchResult, length, map};
-ghost use Rattle.storage_merkle.specs.Extracted.{texts};
+ghost use Rattle.storage_merkle.specs.Extracted.{by_bytes};
 ghost use Rattle.storage_merkle.specs.RangeProofs.{AreDigests};
 ghost use Rattle.storage_current.specs.CurrentProofs.{IsCurrent};
 ghost use Rattle.storage_current.specs.ExtractedCurrent.{AreExtractedCurrent, IsNotExtracted, MeansExtracted, extracted_current};
-ghost use Rattle.storage_current.specs.Held.{current_of};
+ghost use Rattle.storage_current.specs.Held.{range_proof_of};
 ghost use Rattle.storage_current.specs.Snapshots.{grafting_of};
 ghost use Rattle.storage_current.specs.Windows.{IsWindowOf};
 
@@ -38,14 +38,15 @@ pub fn verify_proof_and_extract_digests<F: Graftable, Op: Write, H: Hasher, cons
     root: &DigestOf<H>,
 ) -> Result<ExtractedDigests<F, H>, Error<F>>
     ensures handed { IfOk result (λ v. AreExtractedCurrent H.hash_of (grafting_of F.shape N)
-        (current_of H.Digest.text proof.now) start (map Op.text operations.now) chunks.now
-        (H.Digest.text root.now) (texts H.Digest.text v.items)) }
+        (range_proof_of H.Digest.text proof.now) start (map Op.text operations.now) chunks.now
+        (H.Digest.text root.now) (by_bytes H.Digest.text v.items)) }
     ensures meaning { (H.Digest.size ≡ 32) ⊎ (H.Digest.size ≡ 64)
         → IfOk result (λ v. MeansExtracted H.hash_of (grafting_of F.shape N)
-        (current_of H.Digest.text proof.now) start (map Op.text operations.now) chunks.now
-        (H.Digest.text root.now) (texts H.Digest.text v.items)) }
+        (range_proof_of H.Digest.text proof.now) start (map Op.text operations.now) chunks.now
+        (H.Digest.text root.now) (by_bytes H.Digest.text v.items)) }
     ensures why { IfErr result
-        (IsNotExtracted H.hash_of (grafting_of F.shape N) (current_of H.Digest.text proof.now) start
+        (IsNotExtracted H.hash_of (grafting_of F.shape N)
+        (range_proof_of H.Digest.text proof.now) start
         (map Op.text operations.now) chunks.now (H.Digest.text root.now)) }
 {
     let Some(window) = proof.window(start, operations.len(), chunks, N) else {
@@ -73,11 +74,13 @@ fn extract_in<F: Graftable, H: Hasher, E: AsSlice<u8>, C: Chunk>(
         (length operations.now) (length chunks.now) window.now
         → AreDigests n (map C.text chunks.now)
         → MatchResult result (λ v. IsCurrent H.hash_of (grafting_of F.shape n)
-        (current_of H.Digest.text proof.now) start (map E.items operations.now)
-        (map C.text chunks.now) (H.Digest.text root.now) × (texts H.Digest.text v.items
-        ≡ extracted_current H.hash_of (grafting_of F.shape n) (current_of H.Digest.text proof.now)
+        (range_proof_of H.Digest.text proof.now) start (map E.items operations.now)
+        (map C.text chunks.now) (H.Digest.text root.now) × (by_bytes H.Digest.text v.items
+        ≡ extracted_current H.hash_of (grafting_of F.shape n)
+        (range_proof_of H.Digest.text proof.now)
         start (map E.items operations.now) (map C.text chunks.now)))
-        (IsNotExtracted H.hash_of (grafting_of F.shape n) (current_of H.Digest.text proof.now) start
+        (IsNotExtracted H.hash_of (grafting_of F.shape n)
+        (range_proof_of H.Digest.text proof.now) start
         (map E.items operations.now) (map C.text chunks.now) (H.Digest.text root.now)) }
 {
     if !slots::match_chunks::<H, C, F>(proof, window, chunks) {

@@ -3,9 +3,9 @@
 ghost use Rattle.std.specs.Prelude.{◌≡◌, ℕ, ◌+◌, ◌-◌, ◌<◌, ◌≤◌, ◌^◌, ◌⊎◌, IfOk, IfErr, OnOk, None, Some};
 ghost use Rattle.storage_merkle.specs.Plans.{PlanOf};
 ghost use Rattle.storage_current.specs.BuiltProofs.{AreAnswered, AreBitsOf, ArePartsOf};
-ghost use Rattle.storage_current.specs.Held.{current_of};
+ghost use Rattle.storage_current.specs.Held.{range_proof_of};
 ghost use Rattle.storage_current.specs.Served.{AreServedOf, Counts, IsNotMade, IsNotRead, IsServable, IsStoreFault, held_at};
-ghost use Rattle.storage_current.specs.Snapshots.{Snapshot as SnapshotOf, own_current_proof, grafting_of};
+ghost use Rattle.storage_current.specs.Snapshots.{Snapshot as SnapshotOf, own_range_proof, grafting_of};
 
 use crate::qmdb::current::proof::RangeProof;
 use crate::qmdb::current::proof::planned_digests::{Fetched, stored_leaves};
@@ -41,7 +41,7 @@ impl<F: Graftable, D: Digest> RangeProof<F, D> {
             IfOk result (λ proof. (s : SnapshotOf)
             → AreServedOf (S.nodes storage.old) (S.node storage.old) g range.start range.end
             (R.retained status.now) D.text H.hash_of floor (D.text ops_root) s
-            → current_of D.text proof ≡ own_current_proof H.hash_of g s range.start range.end) }
+            → range_proof_of D.text proof ≡ own_range_proof H.hash_of g s range.start range.end) }
         ensures made { let g = grafting_of F.shape N in
             OnOk result (IsServable (S.nodes storage.old)
             (S.node storage.old) g range.start range.end (R.retained status.now) F) }
@@ -87,7 +87,7 @@ impl<F: Graftable, D: Digest> RangeProof<F, D> {
             IfOk result (λ proof. (s : SnapshotOf)
             → ArePartsOf D.text (held_at (S.node storage.old)) H.hash_of g plan
             (R.retained status.now) floor (D.text ops_root) s
-            → current_of D.text proof ≡ own_current_proof H.hash_of g s plan.start plan.end) }
+            → range_proof_of D.text proof ≡ own_range_proof H.hash_of g s plan.start plan.end) }
         ensures answered { OnOk result (AreAnswered (held_at (S.node storage.old)) F.shape plan) }
         ensures bits { let g = grafting_of F.shape N in
             OnOk result (AreBitsOf g plan.leaves (R.retained status.now)) }

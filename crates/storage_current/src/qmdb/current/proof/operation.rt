@@ -7,7 +7,7 @@ ghost use Rattle.storage_bitmap.specs.Chunks.{IsChunkSize};
 ghost use Rattle.storage_bitmap.specs.Packed.{bit_in};
 ghost use Rattle.storage_current.specs.CurrentProofs.{IsActiveCurrent};
 ghost use Rattle.storage_current.specs.CurrentSoundness.{MeansActive};
-ghost use Rattle.storage_current.specs.Held.{operation_of};
+ghost use Rattle.storage_current.specs.Held.{operation_proof_of, ClonesAreEqual};
 ghost use Rattle.storage_current.specs.BuiltProofs.{AreAnswered, AreBitsOf, ArePartsOf, IsNotBuilt};
 ghost use Rattle.storage_current.specs.Snapshots.{Snapshot as SnapshotOf, first_chunk, height, own_operation_proof, grafting_of};
 
@@ -57,7 +57,8 @@ impl<F: Graftable, D: Digest, const N: usize> Proof<F, D, [u8; N]> {
         ensures own { let g = grafting_of F.shape N in
             IfOk result (λ proof. (s : SnapshotOf) → ArePartsOf D.text
             (G.post get_node) H.hash_of g plan (R.retained status.now) floor (D.text ops_root) s
-            → operation_of D.text (λ c. c) proof ≡ own_operation_proof H.hash_of g s plan.start) }
+            → operation_proof_of D.text (λ c. c) proof
+            ≡ own_operation_proof H.hash_of g s plan.start) }
         ensures answered { OnOk result (AreAnswered (G.post get_node) F.shape plan) }
         ensures bits { let g = grafting_of F.shape N in
             OnOk result (AreBitsOf g plan.leaves (R.retained status.now)) }
@@ -104,11 +105,11 @@ impl<F: Graftable, D: Digest, C: Chunk> Proof<F, D, C> {
     ) -> Result<bool, NoMemory>
         ensures exact { IfOk result (λ yes. IsTrue yes
             ↔ IsActiveCurrent H.hash_of (grafting_of F.shape (length (C.text self.now.chunk)))
-            (operation_of D.text C.text self.now) (O.text operation) (D.text root.now)) }
+            (operation_proof_of D.text C.text self.now) (O.text operation) (D.text root.now)) }
         ensures meaning { (D.size ≡ 32) ⊎ (D.size ≡ 64)
             → IfOk result (λ yes. IsTrue yes
             → MeansActive H.hash_of (grafting_of F.shape (length (C.text self.now.chunk)))
-            (operation_of D.text C.text self.now) (O.text operation) (D.text root.now)) }
+            (operation_proof_of D.text C.text self.now) (O.text operation) (D.text root.now)) }
         ensures at_once { (IsChunkSize (length (C.text self.now.chunk))
             → bit_in (C.text self.now.chunk) (self.now.loc % 2 ^ height
             (grafting_of F.shape (length (C.text self.now.chunk)))) ≡ true → ⊥)
@@ -131,11 +132,11 @@ impl<F: Graftable, D: Digest, C: Chunk> Proof<F, D, C> {
     ) -> Result<bool, NoMemory>
         ensures exact { IfOk result (λ yes. IsTrue yes
             ↔ IsActiveCurrent H.hash_of (grafting_of F.shape (length (C.text self.now.chunk)))
-            (operation_of D.text C.text self.now) operation.now (D.text root.now)) }
+            (operation_proof_of D.text C.text self.now) operation.now (D.text root.now)) }
         ensures meaning { (D.size ≡ 32) ⊎ (D.size ≡ 64)
             → IfOk result (λ yes. IsTrue yes
             → MeansActive H.hash_of (grafting_of F.shape (length (C.text self.now.chunk)))
-            (operation_of D.text C.text self.now) operation.now (D.text root.now)) }
+            (operation_proof_of D.text C.text self.now) operation.now (D.text root.now)) }
         ensures at_once { (IsChunkSize (length (C.text self.now.chunk))
             → bit_in (C.text self.now.chunk) (self.now.loc % 2 ^ height
             (grafting_of F.shape (length (C.text self.now.chunk)))) ≡ true → ⊥)
@@ -169,6 +170,22 @@ impl<F: Graftable, D: Digest, C: Chunk> Proof<F, D, C> {
             return false;
         };
         is_set(chunk, self.loc.as_u64() % grafting::power(height))
+    }
+}
+
+impl<F: Graftable, D: Digest, C: Chunk + Clone> Proof<F, D, C> {
+    /// A proof equal to this one, where a clone of a chunk is equal to it. `NoMemory` where there is no memory for
+    /// it.
+    pub fn clone(&self) -> Result<Self, NoMemory>
+        ensures { ClonesAreEqual C.is_clone C.text
+            → IfOk result (λ copy.
+            operation_proof_of D.text C.text copy ≡ operation_proof_of D.text C.text self.now) }
+    {
+        Ok(Proof {
+            loc: self.loc,
+            chunk: self.chunk.clone()?,
+            range_proof: self.range_proof.clone()?,
+        })
     }
 }
 

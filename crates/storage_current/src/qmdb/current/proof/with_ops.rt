@@ -4,9 +4,9 @@ ghost use Rattle.std.specs.Prelude.{◌≡◌, ℕ, ◌+◌, ◌-◌, ◌*◌, �
 ghost use Rattle.std.specs.List.{range_with_len};
 ghost use Rattle.storage_bitmap.specs.Chunks.{IsChunkSize, bit_count, chunks_from};
 ghost use Rattle.storage_ops.specs.declared.qmdb.error.Error.TheVariants.{Log};
-ghost use Rattle.storage_current.specs.Held.{current_of};
+ghost use Rattle.storage_current.specs.Held.{range_proof_of};
 ghost use Rattle.storage_current.specs.Served.{AreServedOf, Counts, HoldsRange, IsAnswerable, IsGone, IsKept, IsLogFault, IsNotAnswered, IsStoreFault, end_of};
-ghost use Rattle.storage_current.specs.Snapshots.{Holds, Snapshot as SnapshotOf, own_current_proof, grafting_of};
+ghost use Rattle.storage_current.specs.Snapshots.{Holds, Snapshot as SnapshotOf, own_range_proof, grafting_of};
 
 use crate::qmdb::current::proof::RangeProof;
 use crate::qmdb::current::{Contiguous, LogError, grafting};
@@ -63,7 +63,7 @@ impl<F: Graftable, D: Digest> RangeProof<F, D> {
             IfOk result (λ answer. (s : SnapshotOf)
             → AreServedOf (S.nodes storage.old) (S.node storage.old) g spec.start_loc high
             (R.retained status.now) D.text H.hash_of spec.inactivity_floor (D.text spec.ops_root) s
-            → (current_of D.text answer.0 ≡ own_current_proof H.hash_of g s spec.start_loc high)
+            → (range_proof_of D.text answer.0 ≡ own_range_proof H.hash_of g s spec.start_loc high)
             × (((l : ℕ) → spec.start_loc ≤ l → l < high → L.item log.old l ≡ get_or s.operations l
             []) → Holds g s spec.start_loc (map L.text answer.1.items) answer.2.items)) }
         ensures operations { let high = end_of spec.start_loc spec.max_ops

@@ -1,5 +1,5 @@
 use Rattle.std.proofs.Common.{refl}
-use Rattle.storage_merkle.specs.EqualityLaws.{equal_numbers, equal_lists, equal_on, equal_both, equal_seen}
+use Rattle.storage_merkle.specs.Laws.Equality.{equal_numbers, equal_lists, equal_on, equal_both, equal_seen}
 use Rattle.storage_merkle.proofs.laws.equality.equal_proofs.Goals as goal
 
 pub returns-clause-seen : goal.returns-clause-seen

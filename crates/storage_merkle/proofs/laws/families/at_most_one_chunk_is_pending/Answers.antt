@@ -1,4 +1,4 @@
-use Rattle.storage_merkle.specs.ShapeLaws.{one_pending, none_pending}
+use Rattle.storage_merkle.specs.Laws.Shape.{one_pending, none_pending}
 use Rattle.storage_merkle.proofs.laws.families.at_most_one_chunk_is_pending.Goals as goal
 
 pub returns-clause-one : goal.returns-clause-one

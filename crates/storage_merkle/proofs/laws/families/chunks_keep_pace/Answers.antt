@@ -1,4 +1,4 @@
-use Rattle.storage_merkle.specs.PaceLaws.{mmr_keeps_pace, mmb_keeps_pace}
+use Rattle.storage_merkle.specs.Laws.Pace.{mmr_keeps_pace, mmb_keeps_pace}
 use Rattle.storage_merkle.proofs.laws.families.chunks_keep_pace.Goals as goal
 
 pub returns : goal.returns

@@ -1,4 +1,4 @@
-use Rattle.storage_merkle.specs.MmrLaws.{mmr_laws}
+use Rattle.storage_merkle.specs.Laws.Mmr.{mmr_laws}
 use Rattle.storage_merkle.proofs.laws.families.mmr_is_lawful.Goals as goal
 
 pub returns : goal.returns

@@ -1,4 +1,4 @@
-use Rattle.storage_merkle.specs.PeakLaws.{peaks_nest}
+use Rattle.storage_merkle.specs.Laws.Peaks.{peaks_nest}
 use Rattle.storage_merkle.proofs.laws.families.peaks_nest.Goals as goal
 
 pub returns : goal.returns

@@ -1,4 +1,4 @@
-use Rattle.storage_merkle.specs.ShapeLaws.{same_node, every}
+use Rattle.storage_merkle.specs.Laws.Shape.{same_node, every}
 use Rattle.storage_merkle.proofs.laws.families.positions_are_of_one_node.Goals as goal
 
 pub returns-clause-once : goal.returns-clause-once

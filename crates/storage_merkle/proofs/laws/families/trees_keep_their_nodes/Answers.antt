@@ -1,4 +1,4 @@
-use Rattle.storage_merkle.specs.PeakLaws.{inside_grows}
+use Rattle.storage_merkle.specs.Laws.Peaks.{inside_grows}
 use Rattle.storage_merkle.proofs.laws.families.trees_keep_their_nodes.Goals as goal
 
 pub returns : goal.returns

@@ -1,6 +1,6 @@
 use Rattle.std.proofs.Common.{◌+◌, ◌-◌, ◌/◌, ◌≤◌, arith}
 use Rattle.storage_merkle.specs.Shape.{size}
-use Rattle.storage_merkle.specs.ShapeLaws.{size_order}
+use Rattle.storage_merkle.specs.Laws.Shape.{size_order}
 use Rattle.storage_merkle.proofs.merkle.countable.most_leaves_within.Goals as goal
 
 pub nodes_over-requires : goal.nodes_over-requires

@@ -1,8 +1,7 @@
-use Rattle.std.proofs.Common.{arith, ◌≡◌, ◌-◌, ◌^◌}
-use Rattle.std.proofs.Common.{refl}
+use Rattle.std.proofs.Common.{arith, ◌≡◌, ◌-◌, ◌^◌, refl}
 use Rattle.std.proofs.lemmas.Bool.{false≢true}
 use Rattle.std.proofs.lemmas.Nat.{pow_pos}
-use Rattle.storage_merkle.specs.InactiveLaws.{at_start, at_next, stopped, past_end, aligned, best_start, best_new, best_old}
+use Rattle.storage_merkle.specs.Laws.Inactive.{at_start, at_next, stopped, past_end, aligned_found, best_start, best_new, best_old}
 use Rattle.storage_merkle.proofs.merkle.family.aligned_inactive.Goals as goal
 
 pub loop-left-init : goal.loop-left-init
@@ -45,13 +44,13 @@ pub returns-after-loop-left : goal.returns-after-loop-left
 returns-after-loop-left g c =
     let z : c.loop-left.left ≡ 0 = omega arith in
     let r = rw z at c.loop-left.invariant.reached in
-    aligned g.F.Family.shape _ _ _ _ _ _ c.loop-left.invariant.reached c.loop-left.invariant.early
+    aligned_found g.F.Family.shape _ _ _ _ _ _ c.loop-left.invariant.reached c.loop-left.invariant.early
     c.loop-left.invariant.best
     (past_end g.F.Family.shape g.met.F.Family.laws c.args.leaves c.loop-left.count c.args.floor r)
 
 pub returns-then-leaves-rest : goal.returns-then-leaves-rest
 returns-then-leaves-rest g c =
-    aligned g.F.Family.shape _ _ _ _ _ _ c.loop-left.invariant.reached c.loop-left.invariant.early
+    aligned_found g.F.Family.shape _ _ _ _ _ _ c.loop-left.invariant.reached c.loop-left.invariant.early
     c.loop-left.invariant.best
     (stopped g.F.Family.shape g.met.F.Family.laws _ _ _ c.first_peak.result c.args.floor c.loop-left.invariant.reached
     c.first_peak.ensures.first c.first_peak.ensures.within (omega (arith, c.power.ensures, c.if-leaves-rest.true)))

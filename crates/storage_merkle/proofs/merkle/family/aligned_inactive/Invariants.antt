@@ -1,5 +1,5 @@
 use Rattle.std.proofs.Common.{◌+◌, ◌-◌, ◌≤◌}
-use Rattle.storage_merkle.specs.InactiveLaws.{Reached, Best}
+use Rattle.storage_merkle.specs.Inactive.{Reached, Best}
 use Rattle.storage_merkle.proofs.merkle.family.aligned_inactive.Given as goal
 
 abbrev pub invariant-loop-left : goal.invariant-loop-left

@@ -1,4 +1,4 @@
-use Rattle.storage_merkle.specs.InactiveLaws.{unaligned}
+use Rattle.storage_merkle.specs.Laws.Inactive.{unaligned}
 use Rattle.storage_merkle.proofs.merkle.family.exact_inactive.Goals as goal
 
 pub returns : goal.returns

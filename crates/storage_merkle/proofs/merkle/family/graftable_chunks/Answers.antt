@@ -1,5 +1,5 @@
 use Rattle.std.proofs.Common.{arith}
-use Rattle.storage_merkle.specs.ShapeLaws.{chunk_birth, graftable_none, graftable_some}
+use Rattle.storage_merkle.specs.Laws.Shape.{chunk_birth, graftable_none, graftable_some}
 use Rattle.storage_merkle.proofs.merkle.family.graftable_chunks.Goals as goal
 
 pub birth-birth-requires : goal.birth-birth-requires

@@ -1,5 +1,5 @@
 use Rattle.std.proofs.Common.{arith, rules, ◌+◌, ◌*◌, ◌≤◌, ◌^◌}
-use Rattle.storage_merkle.specs.ShapeLaws.{up, covers_up}
+use Rattle.storage_merkle.specs.Laws.Shape.{up, covers_up}
 use Rattle.storage_merkle.proofs.merkle.family.grafted_to_ops_pos.Goals as goal
 
 pub power-requires : goal.power-requires

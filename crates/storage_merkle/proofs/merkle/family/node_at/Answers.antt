@@ -1,5 +1,5 @@
 use Rattle.std.proofs.Common.{arith, rules}
-use Rattle.storage_merkle.specs.ShapeLaws.{node_small, node_birth}
+use Rattle.storage_merkle.specs.Laws.Shape.{node_small, node_birth}
 use Rattle.storage_merkle.proofs.merkle.family.node_at.Goals as goal
 
 pub returns-clause-small : goal.returns-clause-small

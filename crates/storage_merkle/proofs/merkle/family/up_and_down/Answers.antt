@@ -1,4 +1,4 @@
-use Rattle.storage_merkle.specs.ShapeLaws.{covers_once}
+use Rattle.storage_merkle.specs.Laws.Shape.{covers_once}
 use Rattle.storage_merkle.proofs.merkle.family.up_and_down.Goals as goal
 
 pub ops_to_grafted_pos-requires-clause-valid : goal.ops_to_grafted_pos-requires-clause-valid

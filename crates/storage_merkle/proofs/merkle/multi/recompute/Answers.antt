@@ -1,5 +1,5 @@
 use Rattle.std.proofs.Common.{arith, true, ◌≡◌, ◌<◌, ◌≤◌, ◌^◌, ◌+◌, ◌++◌, length, map, sym, ap, ◌∙◌, subst}
-use Rattle.storage_merkle.specs.CheckSteps.{Serves}
+use Rattle.storage_merkle.specs.CheckParts.{Serves}
 use Rattle.storage_merkle.specs.Multi.{Ascend, claims_of, locations, needed_sites, multi_values}
 use Rattle.storage_merkle.specs.Trees.{ungrafted}
 use Rattle.storage_merkle.proofs.Siblings.{positions, not_both}

@@ -1,5 +1,5 @@
 use Rattle.std.proofs.Common.{rules, ap, ◌++◌, ◌∷◌, [], ◌∙◌}
-use Rattle.storage_merkle.specs.ShapeLaws.{step, no_peaks}
+use Rattle.storage_merkle.specs.Laws.Shape.{step, no_peaks}
 use Rattle.storage_merkle.proofs.Siblings.{on_ok}
 use Rattle.storage_merkle.proofs.Store.Steps.{past_none, past_pushed, past_not_yet, past_folded}
 use Rattle.storage_merkle.proofs.merkle.proof_store.+add_past.Goals as goal

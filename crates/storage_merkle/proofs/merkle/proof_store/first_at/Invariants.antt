@@ -1,8 +1,8 @@
 use Rattle.std.proofs.Common.{◌≡◌, drop}
-use Rattle.storage_merkle.specs.Extracted.{texts}
+use Rattle.storage_merkle.specs.Extracted.{by_bytes}
 use Rattle.storage_merkle.specs.Stores.{entry_at}
 use Rattle.storage_merkle.proofs.merkle.proof_store.first_at.Given as goal
 
 abbrev pub invariant-loop-at : goal.invariant-loop-at
-invariant-loop-at g l = entry_at l.position (texts g.D.Write.text l.entries)
-    ≡ entry_at l.position (texts g.D.Write.text (drop l.at-index l.entries))
+invariant-loop-at g l = entry_at l.position (by_bytes g.D.Write.text l.entries)
+    ≡ entry_at l.position (by_bytes g.D.Write.text (drop l.at-index l.entries))

@@ -4,13 +4,14 @@ ghost use Rattle.std.specs.Prelude.{◌≡◌, ◌≤◌, ◌+◌, ◌-◌, ◌*
 ghost use Rattle.std.specs.Int.{w64, to_be_bytes};
 ghost use Rattle.storage_codec.specs.Codec.{Gives};
 ghost use Rattle.storage_codec.specs.Parts.{AppendsStart, IsEnding, size_of};
+ghost use Rattle.storage_merkle.specs.Shape.{max_leaves};
 ghost use Rattle.storage_ops.specs.Operations.{OperationView, operation_map, parts, is_admitted};
-ghost use Rattle.storage_ops.specs.UpdatesLaws.{ordered_sized, ordered_back, unordered_sized, unordered_back};
+ghost use Rattle.storage_ops.specs.Laws.Updates.{ordered_sized, ordered_back, unordered_sized, unordered_back};
 ghost use Rattle.storage_ops.specs.Updates.{ordered_at, unordered_at};
-ghost use Rattle.storage_ops.specs.OperationsLaws.{operation_same};
-ghost use Rattle.storage_ops.specs.OperationPartsLaws.{fixed_parts};
-ghost use Rattle.storage_ops.specs.FixedLaws.{fixed_again, fixed_sized};
-ghost use Rattle.storage_ops.specs.FixedBackLaws.{fixed_back, fixed_one};
+ghost use Rattle.storage_ops.specs.Laws.Operations.{operation_same};
+ghost use Rattle.storage_ops.specs.Laws.OperationParts.{fixed_parts};
+ghost use Rattle.storage_ops.specs.Laws.Fixed.{fixed_operation_again, fixed_operation_sized};
+ghost use Rattle.storage_ops.specs.Laws.FixedBack.{fixed_operation_back, fixed_one};
 ghost use Rattle.storage_ops.specs.Fixed.{fixed_size, presence_text, fixed_operation_text, commit_payload_at, fixed_payload_at, fixed_operation_at};
 
 use crate::qmdb::any::operation::update::{FixedUpdate, Ordered, Unordered, Update};
@@ -50,7 +51,7 @@ fn update_size<S: FixedUpdate>() -> usize
 }
 
 /// Appends to `out` the byte `tag`, what `value` is written as, and then `n` zeros.
-#[tactic(auto, using(storage_codec::specs::PartsLaws::starts_then, storage_codec::specs::PartsLaws::starts_first))]
+#[tactic(auto, using(storage_codec::specs::Laws::Parts::starts_then, storage_codec::specs::Laws::Parts::starts_first))]
 fn write_padded<T: Write>(tag: u8, value: &T, n: usize, out: &mut Vec<u8>) -> Result<(), NoMemory>
     ensures ok { OnOk result
         (out.new.items ≡ out.old.items ++ ((tag ∷ T.text value.now) ++ replicate n 0)) }
@@ -63,7 +64,7 @@ fn write_padded<T: Write>(tag: u8, value: &T, n: usize, out: &mut Vec<u8>) -> Re
 }
 
 /// Appends to `out` the value of a commit, or none, where a value has `size` bytes, its floor, and then `n` zeros.
-#[tactic(auto, using(storage_codec::specs::PartsLaws::starts_then, storage_codec::specs::PartsLaws::starts_first))]
+#[tactic(auto, using(storage_codec::specs::Laws::Parts::starts_then, storage_codec::specs::Laws::Parts::starts_first))]
 fn write_commit_padded<F: Family, V: Write>(
     value: &Option<V>,
     floor: Location<F>,
@@ -82,7 +83,7 @@ fn write_commit_padded<F: Family, V: Write>(
 }
 
 /// Reads the value, or none, and the floor of a commit from the front of `buf`.
-#[tactic(auto, using(storage_codec::specs::PartsLaws::ends_then))]
+#[tactic(auto, using(storage_codec::specs::Laws::Parts::ends_then))]
 fn read_commit<F: Family, V: FixedValue, S: FixedUpdate + Update<Value = V>, B: Buf>(
     alloc: Global,
     buf: &mut B,
@@ -97,7 +98,7 @@ fn read_commit<F: Family, V: FixedValue, S: FixedUpdate + Update<Value = V>, B: 
 }
 
 /// Reads what follows the tag `tag` from the front of `buf`.
-#[tactic(auto, using(storage_codec::specs::PartsLaws::ends_then))]
+#[tactic(auto, using(storage_codec::specs::Laws::Parts::ends_then))]
 fn read_payload<F: Family, V: FixedValue, S: FixedUpdate + Update<Value = V>, B: Buf>(
     alloc: Global,
     buf: &mut B,
@@ -151,7 +152,7 @@ where
     ghost operation_view = { operation_map S.Key.view S.view V.view };
 
     ghost operation_admits = { λ _.
-        is_admitted (S.Key.admits tt) (S.admits tt) (V.admits tt) (λ n. n ≤ 2 ^ 62) };
+        is_admitted (S.Key.admits tt) (S.admits tt) (V.admits tt) (λ n. n ≤ max_leaves) };
 
     ghost operation_fits = { λ _.
         is_admitted (S.Key.admits tt) (S.admits tt) (V.admits tt) (λ n. n < 2 ^ 64) };
@@ -159,7 +160,7 @@ where
     ghost operation_parse = { λ _.
         fixed_operation_at (S.Key.parse tt) (S.parse tt) (V.parse tt) S.Key.size S.size V.size };
 
-    #[tactic(auto, using(storage_codec::specs::PartsLaws::starts_cons, crate::proofs::Starts::starts_none))]
+    #[tactic(auto, using(storage_codec::specs::Laws::Parts::starts_cons, crate::proofs::Starts::starts_none))]
     fn write_operation(operation: &Operation<F, S>, out: &mut Vec<u8>) -> Result<(), NoMemory> {
         let key = small_size::<S::Key>();
         let update = update_size::<S>();
@@ -177,7 +178,7 @@ where
         }
     }
 
-    #[tactic(auto, using(storage_codec::specs::PartsLaws::ends_then, storage_codec::specs::PartsLaws::ends_same))]
+    #[tactic(auto, using(storage_codec::specs::Laws::Parts::ends_then, storage_codec::specs::Laws::Parts::ends_same))]
     fn read_operation<B: Buf>(
         alloc: Global,
         buf: &mut B,
@@ -196,7 +197,7 @@ where
     }
 
     ghost operation_again = { λ _ op rest h.
-        fixed_again S.Key.text S.text V.text S.Key.view S.view V.view (S.Key.parse tt) (S.parse tt)
+        fixed_operation_again S.Key.text S.text V.text S.Key.view S.view V.view (S.Key.parse tt) (S.parse tt)
         (V.parse tt) (S.Key.admits tt) (S.admits tt) (V.admits tt) S.Key.size S.size V.size
         (record { again = S.Key.again tt }) (record { again = S.again tt })
         (record { again = V.again tt }) S.Key.sized S.sized V.sized op rest h };
@@ -233,7 +234,7 @@ impl<F: Family, K: Key + Small + Read<Cfg = ()>, V: FixedValue> FixedSize
     }
 
     ghost sized = { λ x.
-        fixed_sized K.text (λ u. K.text u.key ++ V.text u.value ++ K.text u.next_key) V.text K.size
+        fixed_operation_sized K.text (λ u. K.text u.key ++ V.text u.value ++ K.text u.next_key) V.text K.size
         (K.size + V.size + K.size) V.size K.sized (λ u. ordered_sized K.text V.text K.size V.size
         K.sized V.sized u.key u.value u.next_key) V.sized (parts x) };
 }
@@ -247,7 +248,7 @@ impl<F: Family, K: Key + Small + Read<Cfg = ()>, V: FixedValue> EncodeSize
 
 impl<F: Family, K: Key + Canonical + Small + Read<Cfg = ()>, V: FixedValue + Canonical> Canonical
     for Operation<F, Ordered<K, FixedEncoding<V>>> {
-    ghost back = { λ _ bytes x rest fits e. fixed_back K.text (λ u. K.text u.key ++ V.text u.value
+    ghost back = { λ _ bytes x rest fits e. fixed_operation_back K.text (λ u. K.text u.key ++ V.text u.value
         ++ K.text u.next_key) V.text K.view (λ u. (K.view u.key, V.view u.value, K.view u.next_key))
         V.view (K.parse tt) (ordered_at (K.parse tt) (V.parse tt)) (V.parse tt) K.size
         (K.size + V.size + K.size) V.size (record { back = K.back tt })
@@ -270,7 +271,7 @@ impl<F: Family, K: Key + Small + Read<Cfg = ()>, V: FixedValue> FixedSize
         )
     }
 
-    ghost sized = { λ x. fixed_sized K.text (λ u. K.text u.0 ++ V.text u.1) V.text K.size
+    ghost sized = { λ x. fixed_operation_sized K.text (λ u. K.text u.0 ++ V.text u.1) V.text K.size
         (K.size + V.size) V.size K.sized (λ u. unordered_sized K.text V.text K.size V.size K.sized
         V.sized u.0 u.1) V.sized (parts x) };
 }
@@ -285,7 +286,7 @@ impl<F: Family, K: Key + Small + Read<Cfg = ()>, V: FixedValue> EncodeSize
 impl<F: Family, K: Key + Canonical + Small + Read<Cfg = ()>, V: FixedValue + Canonical> Canonical
     for Operation<F, Unordered<K, FixedEncoding<V>>> {
     ghost back = { λ _ bytes x rest fits e.
-        fixed_back K.text (λ u. K.text u.0 ++ V.text u.1) V.text K.view
+        fixed_operation_back K.text (λ u. K.text u.0 ++ V.text u.1) V.text K.view
         (λ u. (K.view u.0, V.view u.1)) V.view (K.parse tt) (unordered_at (K.parse tt) (V.parse tt))
         (V.parse tt) K.size (K.size + V.size) V.size (record { back = K.back tt })
         (record {

@@ -116,7 +116,7 @@ pub trait FixedUpdate: CodecUpdate + FixedSize + Read<Cfg = ()> {
 }
 
 /// Appends to `out` what `first` and `second` are written as.
-#[tactic(auto, using(storage_codec::specs::PartsLaws::starts_then, storage_codec::specs::PartsLaws::starts_first))]
+#[tactic(auto, using(storage_codec::specs::Laws::Parts::starts_then, storage_codec::specs::Laws::Parts::starts_first))]
 fn write_pair<A: Write, B: Write>(first: &A, second: &B, out: &mut Vec<u8>) -> Result<(), NoMemory>
     ensures ok { OnOk result
         (out.new.items ≡ out.old.items ++ (A.text first.now ++ B.text second.now)) }

@@ -3,13 +3,14 @@
 ghost use Rattle.std.specs.Prelude.{◌≡◌, ◌≤◌, ◌<◌, ◌+◌, ◌^◌, ℕ, List, ◌++◌, length, Ok, OnOk, OnErr};
 ghost use Rattle.storage_codec.specs.Codec.{Gives};
 ghost use Rattle.storage_codec.specs.Parts.{AppendsStart, IsEnding, size_of};
+ghost use Rattle.storage_merkle.specs.Shape.{max_leaves};
 ghost use Rattle.storage_ops.specs.Operations.{OperationView, operation_map, parts, is_admitted};
-ghost use Rattle.storage_ops.specs.OperationsLaws.{operation_same};
-ghost use Rattle.storage_ops.specs.OperationPartsLaws.{variable_parts};
+ghost use Rattle.storage_ops.specs.Laws.Operations.{operation_same};
+ghost use Rattle.storage_ops.specs.Laws.OperationParts.{variable_parts};
 ghost use Rattle.storage_ops.specs.Updates.{ordered_at, unordered_at};
-ghost use Rattle.storage_ops.specs.UpdatesLaws.{ordered_back, unordered_back};
+ghost use Rattle.storage_ops.specs.Laws.Updates.{ordered_back, unordered_back};
 ghost use Rattle.storage_ops.specs.Variable.{variable_operation_text, variable_commit_at, variable_operation_at};
-ghost use Rattle.storage_ops.specs.VariableLaws.{variable_again, variable_back, variable_one};
+ghost use Rattle.storage_ops.specs.Laws.Variable.{variable_again, variable_back, variable_one};
 
 use crate::qmdb::any::operation::update::{CodecUpdate, Ordered, Unordered, Update};
 use crate::qmdb::any::operation::{
@@ -25,7 +26,7 @@ use storage_codec::codec::{Buf, Canonical, EncodeSize, Error, Read, Write};
 use storage_merkle::merkle::{Family, Location};
 
 /// Reads the value, or none, and the floor of a commit from the front of `buf`; the value's reader is told `cfg`.
-#[tactic(auto, using(storage_codec::specs::PartsLaws::ends_then))]
+#[tactic(auto, using(storage_codec::specs::Laws::Parts::ends_then))]
 fn read_commit<F: Family, V: VariableValue, S: CodecUpdate + Update<Value = V>, B: Buf>(
     alloc: Global,
     buf: &mut B,
@@ -72,7 +73,7 @@ impl<
     ghost operation_view = { operation_map S.Key.view S.view V.view };
 
     ghost operation_admits = { λ cfg.
-        is_admitted (S.Key.admits cfg.0) (S.admits cfg) (V.admits cfg.1) (λ n. n ≤ 2 ^ 62) };
+        is_admitted (S.Key.admits cfg.0) (S.admits cfg) (V.admits cfg.1) (λ n. n ≤ max_leaves) };
 
     ghost operation_fits = { λ cfg.
         is_admitted (S.Key.admits cfg.0) (S.admits cfg) (V.admits cfg.1) (λ n. n < 2 ^ 64) };
@@ -80,7 +81,7 @@ impl<
     ghost operation_parse = { λ cfg.
         variable_operation_at (S.Key.parse cfg.0) (S.parse cfg) (V.parse cfg.1) };
 
-    #[tactic(auto, using(storage_codec::specs::PartsLaws::starts_cons, crate::proofs::Starts::starts_none))]
+    #[tactic(auto, using(storage_codec::specs::Laws::Parts::starts_cons, crate::proofs::Starts::starts_none))]
     fn write_operation(operation: &Operation<F, S>, out: &mut Vec<u8>) -> Result<(), NoMemory> {
         match operation {
             Operation::Delete(key) => write_tagged(DELETE_CONTEXT, key, out),
@@ -92,7 +93,7 @@ impl<
         }
     }
 
-    #[tactic(auto, using(storage_codec::specs::PartsLaws::ends_then, storage_codec::specs::PartsLaws::ends_same))]
+    #[tactic(auto, using(storage_codec::specs::Laws::Parts::ends_then, storage_codec::specs::Laws::Parts::ends_same))]
     fn read_operation<B: Buf>(
         alloc: Global,
         buf: &mut B,

@@ -1,5 +1,5 @@
 use Rattle.std.proofs.Common.{map, option_map, arith, rules}
-use Rattle.storage_merkle.specs.ProofWireLaws.{all_digests}
+use Rattle.storage_merkle.specs.Laws.ProofWire.{all_digests}
 use Rattle.storage_bitmap.proofs.Bits.{chunk_positive}
 use Rattle.storage_bitmap.proofs.BitChecks.{accepted_computed, chained, same_option}
 use Rattle.storage_bitmap.proofs.bitmap.authenticated.BitMap.verify_bit_inclusion.Goals as goal
@@ -17,8 +17,8 @@ returns-clause-exact g c = λ same.
     (omega arith) (g.D.Write.text c.args.root.now) (option_map g.D.Write.text c.in_ok-computed.computed)
     (c.in_ok-computed.ensures.root same))
 
-pub returns-clause-means : goal.returns-clause-means
-returns-clause-means g c = λ same yes.
+pub returns-clause-meaning : goal.returns-clause-meaning
+returns-clause-meaning g c = λ same yes.
     c.bit_proofs_are_sound.ensures g.D.FixedSize.size g.H.Hasher.hash_of g.met.H.Hasher.sized
     (g.H.Hasher.bagging c.args.hasher.now) g.row.N (chunk_positive g.row.N c.requires.size)
     (record {

@@ -3,9 +3,9 @@ use Rattle.storage_merkle.specs.Calc.{be8}
 use Rattle.storage_merkle.specs.Hashing.{node_over}
 use Rattle.storage_merkle.specs.Kept.{StandsBut}
 use Rattle.storage_merkle.specs.Mmr.{mmr}
-use Rattle.storage_merkle.specs.MmrLaws.{mmr_laws}
+use Rattle.storage_merkle.specs.Laws.Mmr.{mmr_laws}
 use Rattle.storage_merkle.specs.Shape.{size}
-use Rattle.storage_merkle.specs.ShapeLaws.{grows_at_most}
+use Rattle.storage_merkle.specs.Laws.Shape.{grows_at_most}
 use Rattle.storage_bitmap.specs.Chunks.{bit_count, chunk}
 use Rattle.storage_bitmap.proofs.Rehashing.{added, chunks_fit}
 use Rattle.storage_bitmap.proofs.bitmap.authenticated.rehashed.add_chunks.Goals as goal

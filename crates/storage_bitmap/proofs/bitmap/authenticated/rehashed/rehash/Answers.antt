@@ -1,9 +1,9 @@
 use Rattle.std.proofs.Common.{ℕ, List, arith, ◌/◌, ◌*◌, ◌≤◌, ◌-◌, ◌++◌, inl, inr}
 use Rattle.storage_merkle.specs.Calc.{be8}
 use Rattle.storage_merkle.specs.Mmr.{mmr}
-use Rattle.storage_merkle.specs.MmrLaws.{mmr_laws}
+use Rattle.storage_merkle.specs.Laws.Mmr.{mmr_laws}
 use Rattle.storage_merkle.specs.Shape.{size}
-use Rattle.storage_merkle.specs.ShapeLaws.{grows_at_most}
+use Rattle.storage_merkle.specs.Laws.Shape.{grows_at_most}
 use Rattle.storage_bitmap.specs.Chunks.{bit_count, chunk}
 use Rattle.storage_bitmap.proofs.Rehashing.{rewritten, chunks_fit, none_away}
 use Rattle.storage_bitmap.proofs.bitmap.authenticated.rehashed.rehash.Goals as goal

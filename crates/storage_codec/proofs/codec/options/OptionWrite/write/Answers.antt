@@ -1,5 +1,5 @@
 use Rattle.std.proofs.Common.{arith}
-use Rattle.storage_codec.specs.PartsLaws.{starts_cons}
+use Rattle.storage_codec.specs.Laws.Parts.{starts_cons}
 use Rattle.std.proofs.lemmas.Grind.{common_steps}
 use Rattle.storage_codec.proofs.codec.options.OptionWrite.write.Goals as goal
 

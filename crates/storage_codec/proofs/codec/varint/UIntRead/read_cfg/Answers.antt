@@ -1,6 +1,6 @@
 use Rattle.std.proofs.Common.{rules, arith}
 use Rattle.storage_codec.specs.Codec.{varint_at}
-use Rattle.storage_codec.specs.PartsLaws.{ends_then}
+use Rattle.storage_codec.specs.Laws.Parts.{ends_then}
 use Rattle.storage_codec.proofs.Varint.{limit_cap}
 use Rattle.storage_codec.proofs.codec.varint.UIntRead.read_cfg.Goals as goal
 

@@ -1,6 +1,6 @@
 use Rattle.std.proofs.Common.{rules, arith}
 use Rattle.std.proofs.lemmas.Grind.{common_steps}
-use Rattle.storage_codec.specs.PartsLaws.{ends_then}
+use Rattle.storage_codec.specs.Laws.Parts.{ends_then}
 use Rattle.storage_codec.proofs.codec.vector.VecU8Read.read_cfg.Goals as goal
 
 pub returns-in_err-bytes-clause-looks_first : goal.returns-in_err-bytes-clause-looks_first

@@ -1,5 +1,5 @@
 use Rattle.std.proofs.Common.{arith}
-use Rattle.storage_codec.specs.PartsLaws.{starts_first, starts_then}
+use Rattle.storage_codec.specs.Laws.Parts.{starts_first, starts_then}
 use Rattle.std.proofs.lemmas.Grind.{common_steps}
 use Rattle.storage_codec.proofs.codec.vector.VecU8Write.write.Goals as goal
 

@@ -1,9 +1,9 @@
 use Rattle.std.proofs.Common.{◌≡◌, ◌<◌, ◌-◌, ◌*◌, ◌^◌, ℕ, length, arith, ◌∙◌, refl, length-append, pow_pos}
 use Rattle.std.proofs.lemmas.List.{length-map}
-use Rattle.storage_merkle.specs.HashingLaws.{length-leaf_digests}
+use Rattle.storage_merkle.specs.Laws.Hashing.{length-leaf_digests}
 use Rattle.storage_merkle.specs.Kept.{kept_at}
 use Rattle.storage_merkle.specs.Trees.{ungrafted, listed, tree_node}
-use Rattle.storage_current.specs.GraftingLaws.{height_of_power}
+use Rattle.storage_current.specs.Laws.Grafting.{height_of_power}
 use Rattle.storage_current.specs.Snapshots.{Grafting, graftable, height, view_node}
 use Rattle.storage_current.proofs.MemViews.{chunk_grafted, chunk_site, kept_is, kept_some, more_grafted, told_bytes}
 use Rattle.storage_current.proofs.qmdb.current.view.graft_chunks.Goals as goal

@@ -4,12 +4,12 @@ ghost use Rattle.std.specs.Prelude.{◌≡◌, ℕ, ◌+◌, [], ◌∷◌, ◌+
 ghost use Rattle.storage_codec.specs.Codec.{Gives, byte_at, whole};
 ghost use Rattle.storage_codec.specs.Parts.{AppendsStart, IsEnding, size_of};
 ghost use Rattle.storage_ops.specs.Updates.{ordered_at};
-ghost use Rattle.storage_ops.specs.UpdatesLaws.{ordered_again, ordered_back};
+ghost use Rattle.storage_ops.specs.Laws.Updates.{ordered_again, ordered_back};
 ghost use Rattle.storage_current.specs.CurrentWire.{IsAdmittedArray, IsAdmittedSized, operation_at, sized_operation_at};
 ghost use Rattle.storage_current.specs.HeldKeys.{exclusion_of};
 ghost use Rattle.storage_current.specs.KeyProofs.{Exclusion};
-ghost use Rattle.storage_current.specs.KeyWire.{IsAdmittedExclusion, exclusion_at, exclusion_map, exclusion_text, pair_at};
-ghost use Rattle.storage_current.specs.KeyWireLaws.{Sized, array_read, array_spelled, excluded_digests, exclusion_again, exclusion_back, sized_read, sized_spelled, with_digests};
+ghost use Rattle.storage_current.specs.KeyWire.{IsAdmittedExclusion, exclusion_at, exclusion_map, exclusion_text, pair_at, WithDigests};
+ghost use Rattle.storage_current.specs.Laws.KeyWire.{array_read, array_spelled, excluded_digests, exclusion_again, exclusion_back, sized_read, sized_spelled, with_digests};
 
 use crate::qmdb::current::ordered::codec::read_pair;
 use crate::qmdb::current::ordered::{ExclusionProof, UpdateCodec};
@@ -32,7 +32,7 @@ pub(crate) const KEY_VALUE_CONTEXT: u8 = 0;
 pub(crate) const COMMIT_CONTEXT: u8 = 1;
 
 /// Appends to `out` the byte `tag`, and then what `first` and `second` are written as.
-#[tactic(auto, using(storage_codec::specs::PartsLaws::starts_cons, storage_codec::specs::PartsLaws::starts_then, storage_codec::specs::PartsLaws::starts_first))]
+#[tactic(auto, using(storage_codec::specs::Laws::Parts::starts_cons, storage_codec::specs::Laws::Parts::starts_then, storage_codec::specs::Laws::Parts::starts_first))]
 fn write_tagged<A: Write, B: Write>(
     tag: u8,
     first: &A,
@@ -49,7 +49,7 @@ fn write_tagged<A: Write, B: Write>(
 }
 
 /// Appends to `out` what `first` and `second` are written as.
-#[tactic(auto, using(storage_codec::specs::PartsLaws::starts_then, storage_codec::specs::PartsLaws::starts_first))]
+#[tactic(auto, using(storage_codec::specs::Laws::Parts::starts_then, storage_codec::specs::Laws::Parts::starts_first))]
 fn write_both<A: Write, B: Write>(first: &A, second: &B, out: &mut Vec<u8>) -> Result<(), NoMemory>
     ensures ok { OnOk result
         (out.new.items ≡ out.old.items ++ (A.text first.now ++ B.text second.now)) }
@@ -108,7 +108,7 @@ fn read_tag<B: Buf>(buf: &mut B) -> Result<u8, Error>
 
 /// Reads from the front of `buf` a value of `A`, whose reader is told `first`, and then an update, whose reader is told
 /// `update`.
-#[tactic(auto, using(storage_codec::specs::PartsLaws::ends_then))]
+#[tactic(auto, using(storage_codec::specs::Laws::Parts::ends_then))]
 fn read_before_update<A: Read, K: Key, V: UpdateCodec<K>, B: Buf>(
     alloc: Global,
     buf: &mut B,
@@ -154,7 +154,7 @@ impl<F: Graftable, K: Key, V: UpdateCodec<K>, D: Digest, const N: usize> Read
     ghost parse = { λ cfg. exclusion_at (operation_at F.has_pending D.size N cfg.0) (ordered_at
         (K.parse (V.key_cfg cfg.1)) (V.Value.parse (V.value_cfg cfg.1))) (V.Value.parse cfg.2) };
 
-    #[tactic(auto, using(storage_codec::specs::PartsLaws::ends_then))]
+    #[tactic(auto, using(storage_codec::specs::Laws::Parts::ends_then))]
     fn read_cfg<B: Buf>(
         alloc: Global,
         buf: &mut B,
@@ -189,7 +189,7 @@ impl<F: Graftable, K: Key, V: UpdateCodec<K>, D: Digest, const N: usize> Read
 impl<F: Graftable, K: Key, V: UpdateCodec<K>, D: Digest> ExclusionProof<F, K, V, D, Bytes> {
     /// Reads as `read_cfg` does, with the configurations of the parts lent apart: `proof`, the size of the chunk in bytes
     /// and the greatest number of digests; `update` and `value`, what the readers of the update and of the value are told.
-    #[tactic(auto, using(storage_codec::specs::PartsLaws::ends_then))]
+    #[tactic(auto, using(storage_codec::specs::Laws::Parts::ends_then))]
     fn read_with<B: Buf>(
         alloc: Global,
         buf: &mut B,
@@ -299,7 +299,7 @@ impl<F: Graftable, K: Key, V: UpdateCodec<K>, D: Digest, const N: usize> Codec
         ++ K.text t.2) V.Value.text (λ t. (K.view t.0, V.Value.view t.1, K.view t.2)) V.Value.view
         (operation_at F.has_pending D.size N cfg.0) (ordered_at (K.parse (V.key_cfg cfg.1))
         (V.Value.parse (V.value_cfg cfg.1))) (V.Value.parse cfg.2)
-        (Sized D.size (IsAdmittedArray F.has_pending N cfg.0)) (λ t. K.admits (V.key_cfg cfg.1) t.0
+        (WithDigests D.size (IsAdmittedArray F.has_pending N cfg.0)) (λ t. K.admits (V.key_cfg cfg.1) t.0
         × V.Value.admits (V.value_cfg cfg.1) t.1 × K.admits (V.key_cfg cfg.1) t.2)
         (V.Value.admits cfg.2) (array_read F.has_pending D.size N cfg.0)
         (record {
@@ -322,7 +322,7 @@ impl<F: Graftable, K: Key, V: UpdateCodec<K>, D: Digest> Codec
         ++ K.text t.2) V.Value.text (λ t. (K.view t.0, V.Value.view t.1, K.view t.2)) V.Value.view
         (sized_operation_at F.has_pending D.size cfg.0.0 cfg.0.1)
         (ordered_at (K.parse (V.key_cfg cfg.1)) (V.Value.parse (V.value_cfg cfg.1)))
-        (V.Value.parse cfg.2) (Sized D.size (IsAdmittedSized F.has_pending cfg.0.0 cfg.0.1))
+        (V.Value.parse cfg.2) (WithDigests D.size (IsAdmittedSized F.has_pending cfg.0.0 cfg.0.1))
         (λ t. K.admits (V.key_cfg cfg.1) t.0 × V.Value.admits (V.value_cfg cfg.1) t.1
         × K.admits (V.key_cfg cfg.1) t.2) (V.Value.admits cfg.2)
         (sized_read F.has_pending D.size cfg.0.0 cfg.0.1)

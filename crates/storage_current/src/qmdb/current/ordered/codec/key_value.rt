@@ -4,10 +4,10 @@ ghost use Rattle.std.specs.Prelude.{◌≡◌, ℕ, [], ◌++◌};
 ghost use Rattle.storage_codec.specs.Codec.{Gives, whole};
 ghost use Rattle.storage_codec.specs.Parts.{IsEnding};
 ghost use Rattle.storage_current.specs.CurrentWire.{IsAdmittedArray, IsAdmittedSized, operation_at, operation_text, sized_operation_at};
-ghost use Rattle.storage_current.specs.CurrentWireLaws.{held_digests};
-ghost use Rattle.storage_current.specs.Held.{operation_of};
-ghost use Rattle.storage_current.specs.KeyWire.{pair_at};
-ghost use Rattle.storage_current.specs.KeyWireLaws.{Sized, array_read, array_spelled, pair_again, pair_back, sized_read, sized_spelled};
+ghost use Rattle.storage_current.specs.Laws.CurrentWire.{held_digests};
+ghost use Rattle.storage_current.specs.Held.{operation_proof_of};
+ghost use Rattle.storage_current.specs.KeyWire.{pair_at, WithDigests};
+ghost use Rattle.storage_current.specs.Laws.KeyWire.{array_read, array_spelled, pair_again, pair_back, sized_read, sized_spelled};
 ghost use Rattle.storage_current.specs.Snapshots.{OperationProof};
 
 use crate::qmdb::current::ordered::KeyValueProof;
@@ -24,9 +24,9 @@ use storage_ops::qmdb::operation::Key;
 
 impl<F: Graftable, K: Key, D: Digest, C: Chunk> Write for KeyValueProof<F, K, D, C> {
     ghost text = { λ x.
-        operation_text F.has_pending (operation_of D.text C.text x.proof) ++ K.text x.next_key };
+        operation_text F.has_pending (operation_proof_of D.text C.text x.proof) ++ K.text x.next_key };
 
-    #[tactic(auto, using(storage_codec::specs::PartsLaws::starts_then, storage_codec::specs::PartsLaws::starts_first))]
+    #[tactic(auto, using(storage_codec::specs::Laws::Parts::starts_then, storage_codec::specs::Laws::Parts::starts_first))]
     fn write(&self, out: &mut Vec<u8>) -> Result<(), NoMemory> {
         self.proof.write(out)?;
         self.next_key.write(out)
@@ -49,10 +49,10 @@ impl<F: Graftable, K: Key, D: Digest, const N: usize> Read for KeyValueProof<F, 
 
     ghost View = { OperationProof × K.View };
 
-    ghost view = { λ x. (operation_of D.text (λ c. c) x.proof, K.view x.next_key) };
+    ghost view = { λ x. (operation_proof_of D.text (λ c. c) x.proof, K.view x.next_key) };
 
     ghost admits = { λ cfg x. IsAdmittedArray F.has_pending N cfg.0
-        (operation_of D.text (λ c. c) x.proof) × K.admits cfg.1 x.next_key };
+        (operation_proof_of D.text (λ c. c) x.proof) × K.admits cfg.1 x.next_key };
 
     ghost parse = { λ cfg. pair_at (operation_at F.has_pending D.size N cfg.0) (K.parse cfg.1) };
 
@@ -73,7 +73,7 @@ impl<F: Graftable, K: Key, D: Digest> KeyValueProof<F, K, D, Bytes> {
         proof: &(usize, usize),
         key: &K::Cfg,
     ) -> Result<Self, Error>
-        ensures gives { Gives (λ x. (operation_of D.text (λ c. c) x.proof, K.view x.next_key))
+        ensures gives { Gives (λ x. (operation_proof_of D.text (λ c. c) x.proof, K.view x.next_key))
             result (B.unread buf.new) (pair_at (sized_operation_at F.has_pending D.size proof.now.0
             proof.now.1) (K.parse key.now) (B.unread buf.old)) }
         ensures ends { IsEnding (B.unread buf.old) (B.unread buf.new) }
@@ -97,7 +97,11 @@ impl<F: Graftable, K: Key, D: Digest> KeyValueProof<F, K, D, Bytes> {
         proof: &(usize, usize),
         key: &K::Cfg,
     ) -> Result<Self, Error>
-        ensures { Gives (λ x. (operation_of D.text (λ c. c) x.proof, K.view x.next_key)) result []
+        ensures { Gives (λ x. (
+          operation_proof_of D.text
+              (λ c. c) x.proof,
+          K.view x.next_key,
+        )) result []
             (whole (pair_at (sized_operation_at F.has_pending D.size proof.now.0 proof.now.1)
             (K.parse key.now) (B.unread buf))) }
     {
@@ -118,10 +122,10 @@ impl<F: Graftable, K: Key, D: Digest> Read for KeyValueProof<F, K, D, Bytes> {
 
     ghost View = { OperationProof × K.View };
 
-    ghost view = { λ x. (operation_of D.text (λ c. c) x.proof, K.view x.next_key) };
+    ghost view = { λ x. (operation_proof_of D.text (λ c. c) x.proof, K.view x.next_key) };
 
     ghost admits = { λ cfg x. IsAdmittedSized F.has_pending cfg.0.0 cfg.0.1
-        (operation_of D.text (λ c. c) x.proof) × K.admits cfg.1 x.next_key };
+        (operation_proof_of D.text (λ c. c) x.proof) × K.admits cfg.1 x.next_key };
 
     ghost parse = { λ cfg.
         pair_at (sized_operation_at F.has_pending D.size cfg.0.0 cfg.0.1) (K.parse cfg.1) };
@@ -138,9 +142,9 @@ impl<F: Graftable, K: Key, D: Digest> Read for KeyValueProof<F, K, D, Bytes> {
 impl<F: Graftable, K: Key, D: Digest, const N: usize> Codec for KeyValueProof<F, K, D, [u8; N]> {
     ghost again = { λ cfg x rest ok. pair_again (operation_text F.has_pending) K.text
         (λ p. p) K.view (operation_at F.has_pending D.size N cfg.0) (K.parse cfg.1)
-        (Sized D.size (IsAdmittedArray F.has_pending N cfg.0)) (K.admits cfg.1)
+        (WithDigests D.size (IsAdmittedArray F.has_pending N cfg.0)) (K.admits cfg.1)
         (array_read F.has_pending D.size N cfg.0) (record { again = K.again cfg.1 })
-        (operation_of D.text (λ c. c) x.proof) x.next_key rest
+        (operation_proof_of D.text (λ c. c) x.proof) x.next_key rest
         ((held_digests D.text D.size D.sized x.proof.range_proof, ok.0), ok.1) };
 }
 
@@ -149,15 +153,15 @@ impl<F: Graftable, K: Key + Canonical, D: Digest, const N: usize> Canonical
     ghost back = { λ cfg bytes x rest fits e. pair_back (operation_text F.has_pending) K.text
         (λ p. p) K.view (operation_at F.has_pending D.size N cfg.0) (K.parse cfg.1)
         (array_spelled F.has_pending D.size N cfg.0) (record { back = K.back cfg.1 }) bytes
-        (operation_of D.text (λ c. c) x.proof) x.next_key rest fits e };
+        (operation_proof_of D.text (λ c. c) x.proof) x.next_key rest fits e };
 }
 
 impl<F: Graftable, K: Key, D: Digest> Codec for KeyValueProof<F, K, D, Bytes> {
     ghost again = { λ cfg x rest ok. pair_again (operation_text F.has_pending) K.text
         (λ p. p) K.view (sized_operation_at F.has_pending D.size cfg.0.0 cfg.0.1) (K.parse cfg.1)
-        (Sized D.size (IsAdmittedSized F.has_pending cfg.0.0 cfg.0.1)) (K.admits cfg.1)
+        (WithDigests D.size (IsAdmittedSized F.has_pending cfg.0.0 cfg.0.1)) (K.admits cfg.1)
         (sized_read F.has_pending D.size cfg.0.0 cfg.0.1) (record { again = K.again cfg.1 })
-        (operation_of D.text (λ c. c) x.proof) x.next_key rest
+        (operation_proof_of D.text (λ c. c) x.proof) x.next_key rest
         ((held_digests D.text D.size D.sized x.proof.range_proof, ok.0), ok.1) };
 }
 
@@ -165,5 +169,5 @@ impl<F: Graftable, K: Key + Canonical, D: Digest> Canonical for KeyValueProof<F,
     ghost back = { λ cfg bytes x rest fits e. pair_back (operation_text F.has_pending) K.text
         (λ p. p) K.view (sized_operation_at F.has_pending D.size cfg.0.0 cfg.0.1) (K.parse cfg.1)
         (sized_spelled F.has_pending D.size cfg.0.0 cfg.0.1) (record { back = K.back cfg.1 }) bytes
-        (operation_of D.text (λ c. c) x.proof) x.next_key rest fits e };
+        (operation_proof_of D.text (λ c. c) x.proof) x.next_key rest fits e };
 }

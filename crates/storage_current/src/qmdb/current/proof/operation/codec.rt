@@ -1,19 +1,18 @@
 //! Operation proofs as bytes: the location, the chunk with no length before it, the range proof.
 
 ghost use Rattle.std.specs.Prelude.{◌≡◌, ℕ, ◌+◌};
-ghost use Rattle.storage_current.specs.Held.{current_of};
+ghost use Rattle.storage_current.specs.Held.{range_proof_of};
 ghost use Rattle.storage_current.specs.Snapshots.{OperationProof};
 ghost use Rattle.storage_current.specs.CurrentWire.{operation_text, operation_at, sized_operation_at, IsAdmittedArray, IsAdmittedSized};
-ghost use Rattle.storage_current.specs.CurrentWireLaws.{operation_again, operation_back, sized_again, sized_back, held_digests};
+ghost use Rattle.storage_current.specs.Laws.CurrentWire.{operation_again, operation_back, sized_again, sized_back, held_digests};
 
 use crate::qmdb::current::grafting;
-use crate::qmdb::current::proof::codec::sum;
 use crate::qmdb::current::proof::operation::Proof;
 use crate::qmdb::current::proof::{Chunk, RangeProof};
 use bytes::Bytes;
 use std::alloc::Global;
 use storage_codec::NoMemory;
-use storage_codec::codec::{Buf, Canonical, Codec, EncodeSize, Error, Read, Write};
+use storage_codec::codec::{Buf, Canonical, Codec, EncodeSize, Error, Read, Write, sum};
 use storage_codec::digest::Digest;
 use storage_merkle::merkle::{Graftable, Location};
 
@@ -21,7 +20,7 @@ impl<F: Graftable, D: Digest, C: Chunk> Write for Proof<F, D, C> {
     ghost text = { λ p. operation_text F.has_pending (record {
       location = p.loc;
       chunk = C.text p.chunk;
-      range = current_of D.text p.range_proof;
+      range = range_proof_of D.text p.range_proof;
     }) };
 
     fn write(&self, out: &mut Vec<u8>) -> Result<(), NoMemory> {
@@ -49,14 +48,14 @@ impl<F: Graftable, D: Digest, const N: usize> Read for Proof<F, D, [u8; N]> {
     ghost View = { OperationProof };
 
     ghost view = { λ p.
-        record { location = p.loc; chunk = p.chunk; range = current_of D.text p.range_proof } };
+        record { location = p.loc; chunk = p.chunk; range = range_proof_of D.text p.range_proof } };
 
     ghost admits = { λ most p. IsAdmittedArray F.has_pending N most
-        (record { location = p.loc; chunk = p.chunk; range = current_of D.text p.range_proof }) };
+        (record { location = p.loc; chunk = p.chunk; range = range_proof_of D.text p.range_proof }) };
 
     ghost parse = { λ most. operation_at F.has_pending D.size N most };
 
-    #[tactic(auto, using(storage_codec::specs::PartsLaws::ends_then))]
+    #[tactic(auto, using(storage_codec::specs::Laws::Parts::ends_then))]
     fn read_cfg<B: Buf>(alloc: Global, buf: &mut B, most: &usize) -> Result<Self, Error> {
         let loc = match Location::read_cfg(alloc, buf, &()) {
             Ok(loc) => loc,
@@ -83,14 +82,14 @@ impl<F: Graftable, D: Digest> Read for Proof<F, D, Bytes> {
     ghost View = { OperationProof };
 
     ghost view = { λ p.
-        record { location = p.loc; chunk = p.chunk; range = current_of D.text p.range_proof } };
+        record { location = p.loc; chunk = p.chunk; range = range_proof_of D.text p.range_proof } };
 
     ghost admits = { λ cfg p. IsAdmittedSized F.has_pending cfg.0 cfg.1
-        (record { location = p.loc; chunk = p.chunk; range = current_of D.text p.range_proof }) };
+        (record { location = p.loc; chunk = p.chunk; range = range_proof_of D.text p.range_proof }) };
 
     ghost parse = { λ cfg. sized_operation_at F.has_pending D.size cfg.0 cfg.1 };
 
-    #[tactic(auto, using(storage_codec::specs::PartsLaws::ends_then))]
+    #[tactic(auto, using(storage_codec::specs::Laws::Parts::ends_then))]
     fn read_cfg<B: Buf>(alloc: Global, buf: &mut B, cfg: &(usize, usize)) -> Result<Self, Error> {
         let (chunk_size, most) = *cfg;
         if grafting::chunk_height(chunk_size).is_none() {
@@ -117,7 +116,7 @@ impl<F: Graftable, D: Digest> Read for Proof<F, D, Bytes> {
 
 impl<F: Graftable, D: Digest, const N: usize> Codec for Proof<F, D, [u8; N]> {
     ghost again = { λ most p rest ok. operation_again F.has_pending D.size N most
-        (record { location = p.loc; chunk = p.chunk; range = current_of D.text p.range_proof }) rest
+        (record { location = p.loc; chunk = p.chunk; range = range_proof_of D.text p.range_proof }) rest
         (held_digests D.text D.size D.sized p.range_proof) ok.chunk ok.proof };
 }
 
@@ -126,13 +125,13 @@ impl<F: Graftable, D: Digest, const N: usize> Canonical for Proof<F, D, [u8; N]>
         operation_back F.has_pending D.size N most bytes (record {
           location = p.loc;
           chunk = p.chunk;
-          range = current_of D.text p.range_proof;
+          range = range_proof_of D.text p.range_proof;
         }) rest fits e };
 }
 
 impl<F: Graftable, D: Digest> Codec for Proof<F, D, Bytes> {
     ghost again = { λ cfg p rest ok. sized_again F.has_pending D.size cfg.0 cfg.1
-        (record { location = p.loc; chunk = p.chunk; range = current_of D.text p.range_proof }) rest
+        (record { location = p.loc; chunk = p.chunk; range = range_proof_of D.text p.range_proof }) rest
         (held_digests D.text D.size D.sized p.range_proof) ok };
 }
 
@@ -141,6 +140,6 @@ impl<F: Graftable, D: Digest> Canonical for Proof<F, D, Bytes> {
         sized_back F.has_pending D.size cfg.0 cfg.1 bytes (record {
           location = p.loc;
           chunk = p.chunk;
-          range = current_of D.text p.range_proof;
+          range = range_proof_of D.text p.range_proof;
         }) rest fits e };
 }

@@ -1,7 +1,7 @@
 //! Operation proofs from stores that may fail.
 
 ghost use Rattle.std.specs.Prelude.{◌≡◌, ℕ, ◌+◌, ◌-◌, ◌*◌, ◌/◌, ◌%◌, ◌<◌, ◌≤◌, ◌^◌, ◌⊎◌, IfOk, IfErr, OnOk};
-ghost use Rattle.storage_current.specs.Held.{operation_of};
+ghost use Rattle.storage_current.specs.Held.{operation_proof_of};
 ghost use Rattle.storage_current.specs.Served.{AreServedOf, Counts, IsNotMade, IsServable, IsStoreFault};
 ghost use Rattle.storage_current.specs.Snapshots.{Snapshot as SnapshotOf, first_chunk, own_operation_proof, grafting_of};
 
@@ -39,7 +39,7 @@ impl<F: Graftable, D: Digest, const N: usize> Proof<F, D, [u8; N]> {
             IfOk result (λ proof. (s : SnapshotOf)
             → AreServedOf (S.nodes storage.old) (S.node storage.old) g loc (loc + 1)
             (R.retained status.now) D.text H.hash_of floor (D.text ops_root) s
-            → operation_of D.text (λ c. c) proof ≡ own_operation_proof H.hash_of g s loc) }
+            → operation_proof_of D.text (λ c. c) proof ≡ own_operation_proof H.hash_of g s loc) }
         ensures made { let g = grafting_of F.shape N in
             OnOk result (IsServable (S.nodes storage.old) (S.node storage.old) g loc (loc + 1)
             (R.retained status.now) F) }

@@ -4,15 +4,14 @@
 ghost use Rattle.std.specs.Prelude.{◌≡◌, ℕ, ◌+◌, ◌<◌, ◌^◌, List, option_map};
 ghost use Rattle.storage_current.specs.Snapshots.{Witness};
 ghost use Rattle.storage_current.specs.WitnessWire.{counted_at, counted_text, witness_at, witness_of, witness_text, IsAdmittedWitness};
-ghost use Rattle.storage_current.specs.WitnessWireLaws.{witness_again, witness_back};
+ghost use Rattle.storage_current.specs.Laws.WitnessWire.{witness_again, witness_back};
 
 use crate::qmdb::current::proof::OpsRootWitness;
-use crate::qmdb::current::proof::codec::sum;
 use std::alloc::Global;
 use std::marker::PhantomData;
 use storage_codec::NoMemory;
 use storage_codec::codec::{
-    Buf, Canonical, Codec, EncodeSize, Error, Read, UInt, Write, small_size,
+    Buf, Canonical, Codec, EncodeSize, Error, Read, UInt, Write, small_size, sum,
 };
 use storage_codec::digest::Digest;
 use storage_merkle::merkle::Graftable;
@@ -53,7 +52,7 @@ impl<D: Digest> Read for Counted<D> {
 
     ghost parse = { λ _. counted_at D.size };
 
-    #[tactic(auto, using(storage_codec::specs::PartsLaws::ends_then))]
+    #[tactic(auto, using(storage_codec::specs::Laws::Parts::ends_then))]
     fn read_cfg<B: Buf>(alloc: Global, buf: &mut B, _cfg: &()) -> Result<Self, Error> {
         let UInt(bits) = UInt::read_cfg(alloc, buf, &())?;
         match D::read(alloc, buf) {
@@ -102,7 +101,7 @@ impl<F: Graftable, D: Digest> Read for OpsRootWitness<F, D> {
 
     ghost parse = { λ _. witness_at F.has_pending D.size };
 
-    #[tactic(auto, using(storage_codec::specs::PartsLaws::ends_then))]
+    #[tactic(auto, using(storage_codec::specs::Laws::Parts::ends_then))]
     fn read_cfg<B: Buf>(alloc: Global, buf: &mut B, _cfg: &()) -> Result<Self, Error> {
         let grafted_root = match D::read(alloc, buf) {
             Ok(root) => root,

@@ -1,7 +1,7 @@
 use Rattle.std.proofs.Common.{Bool, List, [], ◌∷◌, ◌++◌, ap, subst}
 use Rattle.storage_bitmap.specs.Chunks.{Retained}
 use Rattle.storage_current.specs.Keys.{keyed_by}
-use Rattle.storage_current.specs.KeptSnapshots.{StandsFor}
+use Rattle.storage_current.specs.KeptSnapshots.{StandsForSnapshot}
 use Rattle.storage_current.specs.Snapshots.{Snapshot, IsSnapshot, grafting_of}
 use Rattle.storage_db.specs.Kept.{IsCopy}
 use Rattle.storage_db.specs.Parts.{texts}
@@ -23,6 +23,6 @@ returns-clause-snapshot g c =
     let made : List Bool → Snapshot
     = λ bits. record { operations = texts log ++ c.args.bytes.now ∷ []; bits = bits; floor = c.args.floor } in
     let P : List Bool → Type 0 = λ bits. IsSnapshot (made bits)
-    × StandsFor g.H.Hasher.hash_of (grafting_of g.F.Family.shape g.row.N) c.in-Ok.snapshot (made bits) in
+    × StandsForSnapshot g.H.Hasher.hash_of (grafting_of g.F.Family.shape g.row.N) c.in-Ok.snapshot (made bits) in
     subst P (ap (λ (r : Retained). r.bits) c.in_ok-status.ensures)
     (c.in-Ok.ensures.stands (texts log ++ c.args.bytes.now ∷ []) c.in_ok-tree.ensures)

@@ -2,7 +2,7 @@ use Rattle.std.proofs.Common.{◌-◌, ℕ, Option, option_map, sym, ap, ◌∙�
 use Rattle.storage_current.specs.Keys.{Keyed, keyed_by}
 use Rattle.storage_current.specs.Snapshots.{grafting_of}
 use Rattle.storage_db.specs.Databases.{commit}
-use Rattle.storage_db.specs.Kept.{Kept, KeptCommit, Keeps}
+use Rattle.storage_db.specs.Kept.{KeptDatabase, KeptCommit, Keeps}
 use Rattle.storage_db.proofs.Cases.{err_and}
 use Rattle.storage_db.proofs.Keeping.{kept_from, refused_from, on_err}
 use Rattle.storage_db.proofs.db.ordered.Ordered.commit.Goals as goal
@@ -11,9 +11,9 @@ pub returns-clause-ok : goal.returns-clause-ok
 returns-clause-ok g c = λ d keeps.
     let e : Keyed g.row.K.Denot g.row.V-Value.Denot
     = keyed_by g.K.Write.text g.V.Value.Write.text g.V.OperationCodec.operation_text g.K.Ord.cmp in
-    let P : Kept g.row.K.Denot g.row.V-Value.Denot → Type 0
+    let P : KeptDatabase g.row.K.Denot g.row.V-Value.Denot → Type 0
     = λ k. Keeps e g.H.Hasher.hash_of (grafting_of g.F.Family.shape g.row.N) k d in
-    let location : Kept g.row.K.Denot g.row.V-Value.Denot → Option ℕ
+    let location : KeptDatabase g.row.K.Denot g.row.V-Value.Denot → Option ℕ
     = λ k. option_map (λ (x : KeptCommit g.row.K.Denot g.row.V-Value.Denot). x.count - 1) k.last in
     c.in_ok-commit.ensures.ok c.self.inside.last (c.last_location-before.ensures ∙ ap location (sym c.self.view_is)) d
     (subst P (sym c.self.view_is) keeps)

@@ -1,4 +1,4 @@
-use Rattle.storage_merkle.specs.ShapeLaws.{at_height, children, children_of}
+use Rattle.storage_merkle.specs.Laws.Shape.{at_height, children, children_of}
 use Rattle.storage_merkle.proofs.merkle.family.Family.children.Goals as goal
 
 pub position-left-requires-clause-aligned : goal.position-left-requires-clause-aligned

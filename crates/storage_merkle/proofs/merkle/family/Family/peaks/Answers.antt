@@ -1,5 +1,5 @@
 use Rattle.std.proofs.Common.{◌≡◌, sym, ◌∙◌}
-use Rattle.storage_merkle.specs.ShapeLaws.{valid_size, leaves_of_size}
+use Rattle.storage_merkle.specs.Laws.Shape.{valid_size, leaves_of_size}
 use Rattle.storage_merkle.proofs.merkle.family.Family.peaks.Goals as goal
 
 pub leaves_within-requires : goal.leaves_within-requires

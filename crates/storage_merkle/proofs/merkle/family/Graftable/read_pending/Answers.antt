@@ -1,5 +1,5 @@
 use Rattle.std.proofs.Common.{rules, arith}
-use Rattle.storage_codec.specs.PartsLaws.{ends_then}
+use Rattle.storage_codec.specs.Laws.Parts.{ends_then}
 use Rattle.storage_merkle.proofs.merkle.family.Graftable.read_pending.Goals as goal
 
 pub returns-clause-gives : goal.returns-clause-gives

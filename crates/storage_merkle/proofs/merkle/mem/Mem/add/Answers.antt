@@ -3,7 +3,7 @@ use Rattle.std.specs.Result.{is_err}
 use Rattle.std.proofs.lemmas.List.{length-append}
 use Rattle.storage_merkle.specs.Calc.{be8}
 use Rattle.storage_merkle.specs.Hashing.{node_over}
-use Rattle.storage_merkle.specs.Kept.{Holds}
+use Rattle.storage_merkle.specs.Kept.{HoldsDigests}
 use Rattle.storage_merkle.specs.Shape.{size}
 use Rattle.storage_merkle.proofs.merkle.mem.Mem.add.Goals as goal
 
@@ -22,7 +22,7 @@ returns-clause-grown g c list dirty s =
     let same : c.self.inside.leaves ≡ c.args.self.now.leaves = ap (λ m. m.leaves) c.self.view_is in
     record {
       count = rw length-append (omega (arith, s'.count));
-      holds = subst (λ (n : ℕ). Holds S (N (list ++ g.H.Hasher.hash_of (be8 (size S n) ++ c.args.element.now) ∷ []))
+      holds = subst (λ (n : ℕ). HoldsDigests S (N (list ++ g.H.Hasher.hash_of (be8 (size S n) ++ c.args.element.now) ∷ []))
           dirty c.self.inside.boundary (size S (c.self.inside.leaves + 1)) (map f c.self.inside.pinned.items)
           (map f c.grow.new.nodes.items)) same more;
     }

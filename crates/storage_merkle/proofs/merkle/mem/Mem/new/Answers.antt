@@ -1,5 +1,5 @@
 use Rattle.std.proofs.Common.{arith, refl, ap, ◌∙◌, sym, length, map, []}
-use Rattle.storage_merkle.specs.ShapeLaws.{no_peaks}
+use Rattle.storage_merkle.specs.Laws.Shape.{no_peaks}
 use Rattle.storage_merkle.specs.Kept.{at_peaks}
 use Rattle.storage_merkle.proofs.merkle.mem.Mem.new.Goals as goal
 

@@ -1,7 +1,7 @@
 use Rattle.std.proofs.Common.{arith, map, length, ◌≡◌, ◌+◌, ◌-◌, ◌<◌, ◌≤◌, [], ap, ◌∙◌, sym, drop, take}
 use Rattle.std.proofs.lemmas.List.{drop-map, length-take-le}
 use Rattle.storage_merkle.specs.Shape.{size}
-use Rattle.storage_merkle.specs.ShapeLaws.{grows_at_most}
+use Rattle.storage_merkle.specs.Laws.Shape.{grows_at_most}
 use Rattle.storage_merkle.proofs.Keeping.{holds_pruned, holds_at, rotated}
 use Rattle.storage_merkle.proofs.merkle.mem.Mem.prune.Goals as goal
 

@@ -2,7 +2,7 @@ use Rattle.std.proofs.Common.{◌≡◌, ◌+◌, ◌-◌, ◌≤◌, ◌++◌, 
 use Rattle.storage_merkle.specs.Shape.{size}
 use Rattle.storage_merkle.specs.Calc.{be8}
 use Rattle.storage_merkle.specs.Hashing.{node_over}
-use Rattle.storage_merkle.specs.Kept.{Holds}
+use Rattle.storage_merkle.specs.Kept.{HoldsDigests}
 use Rattle.storage_merkle.proofs.merkle.mem.nodes.grow.Given as goal
 
 abbrev pub invariant-loop-offset : goal.invariant-loop-offset
@@ -15,6 +15,6 @@ invariant-loop-offset g l =
       room : vec_len l.nodes + (l.more - l.offset) ≤ vec_capacity l.nodes;
       count : length l.nodes.items + size S l.boundary ≡ size S l.leaves + l.offset;
       held : (list : List (List ℕ)) (dirty : List ℕ) → length list ≡ l.leaves
-          → Holds S (N list) dirty l.boundary (size S l.leaves) (map f l.pinned) (map f l.fn.nodes.items) → Holds S
+          → HoldsDigests S (N list) dirty l.boundary (size S l.leaves) (map f l.pinned) (map f l.fn.nodes.items) → HoldsDigests S
           (N (list ++ leaf ∷ [])) dirty l.boundary (size S l.leaves + l.offset) (map f l.pinned) (map f l.nodes.items);
     }

@@ -1,6 +1,6 @@
 use Rattle.std.proofs.Common.{◌≡◌, ◌+◌, ◌++◌, [], List, ℕ, length, map, take}
 use Rattle.storage_merkle.specs.Shape.{size}
-use Rattle.storage_merkle.specs.Kept.{Holds, at_peaks}
+use Rattle.storage_merkle.specs.Kept.{HoldsDigests, at_peaks}
 use Rattle.storage_merkle.proofs.Topmost.{Walk}
 use Rattle.storage_merkle.proofs.merkle.mem.nodes.peaks_over.Given as goal
 
@@ -9,7 +9,7 @@ invariant-loop-left g l = record {
   walk : Walk g.F.Family.shape g.met.F.Family.laws l.leaves l.first l.left;
   room : length l.digests ≡ 64;
   count : l.count + length (g.F.Family.shape.peaks l.left) ≡ length (g.F.Family.shape.peaks l.leaves);
-  digests : (node : ℕ → ℕ → List ℕ) → Holds g.F.Family.shape node [] l.boundary
+  digests : (node : ℕ → ℕ → List ℕ) → HoldsDigests g.F.Family.shape node [] l.boundary
       (length l.nodes + size g.F.Family.shape l.boundary) (map g.D.Write.text l.pinned) (map g.D.Write.text l.nodes)
       → map g.D.Write.text (take l.count l.digests) ++ at_peaks node l.first (g.F.Family.shape.peaks l.left)
       ≡ at_peaks node 0 (g.F.Family.shape.peaks l.leaves);

@@ -1,7 +1,7 @@
 use Rattle.std.proofs.Common.{arith, rules, map, length, ◌≡◌, ◌-◌, ◌*◌, ◌/◌, ◌<◌, ◌≤◌, ◌^◌, ap, ap₂, ◌∙◌}
 use Rattle.std.proofs.lemmas.List.{length-map, map-set, length-set}
 use Rattle.storage_merkle.specs.Shape.{size}
-use Rattle.storage_merkle.specs.ShapeLaws.{grows_at_most, grows_below}
+use Rattle.storage_merkle.specs.Laws.Shape.{grows_at_most, grows_below}
 use Rattle.storage_merkle.specs.Hashing.{node_over}
 use Rattle.storage_merkle.specs.Rewriting.{over}
 use Rattle.storage_merkle.proofs.Rewriting.{over_is, room, written_first, written_more, written_all, written_until, place_late, place_early, birth_small}

@@ -1,7 +1,7 @@
 use Rattle.std.proofs.Common.{All, ◌≡◌, ◌≤◌, ◌<◌, ◌++◌, ℕ, List, length, map}
 use Rattle.storage_merkle.specs.Shape.{size}
 use Rattle.storage_merkle.specs.Hashing.{node_over}
-use Rattle.storage_merkle.specs.Kept.{Holds}
+use Rattle.storage_merkle.specs.Kept.{HoldsDigests}
 use Rattle.storage_merkle.proofs.Rewriting.{Halfway}
 use Rattle.storage_merkle.proofs.merkle.mem.nodes.write_leaves.Given as goal
 
@@ -14,7 +14,7 @@ invariant-loop-update g l =
     record {
       there : All (λ u. (l.boundary ≤ u.0) × (u.0 < l.leaves)) l.left;
       held : (list : List (List ℕ)) (dirty : List ℕ) → length list ≡ l.leaves
-          → Holds S (node_over g.H.Hasher.hash_of T chunk list) (map (λ u. u.0) l.fn.updates ++ dirty) l.boundary
+          → HoldsDigests S (node_over g.H.Hasher.hash_of T chunk list) (map (λ u. u.0) l.fn.updates ++ dirty) l.boundary
           (size S l.leaves) (map f l.pinned) (map f l.fn.nodes) → Halfway S g.met.F.Family.laws g.H.Hasher.hash_of T
           chunk f list l.fn.updates l.left dirty l.boundary l.leaves (map f l.pinned) (map f l.nodes);
     }

@@ -1,5 +1,5 @@
 use Rattle.std.proofs.Common.{arith, ◌≤◌, ◌-◌, rules}
-use Rattle.storage_merkle.specs.MmbLaws.{mmb_birth_low}
+use Rattle.storage_merkle.specs.Laws.Mmb.{mmb_birth_low}
 use Rattle.storage_merkle.proofs.merkle.mmb.FamilyFamily.birth.Goals as goal
 
 pub power-requires : goal.power-requires

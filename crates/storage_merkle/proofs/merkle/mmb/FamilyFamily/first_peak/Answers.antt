@@ -1,6 +1,6 @@
 use Rattle.std.proofs.Common.{arith, ◌+◌, ◌-◌}
-use Rattle.storage_merkle.specs.MmbLaws.{mmb_top_big, mmb_top_mid, log_some, places_half}
-use Rattle.storage_merkle.specs.Multiples.{quotient_at_least, quotient_below}
+use Rattle.storage_merkle.specs.Laws.Mmb.{mmb_top_big, mmb_top_mid, log_some, places_half}
+use Rattle.storage_merkle.specs.Laws.Multiples.{quotient_at_least, quotient_below}
 use Rattle.storage_merkle.proofs.merkle.mmb.FamilyFamily.first_peak.Goals as goal
 
 pub returns-then-leaves-places-ge3-clause-first : goal.returns-then-leaves-places-ge3-clause-first

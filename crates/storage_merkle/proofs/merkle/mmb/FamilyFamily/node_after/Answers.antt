@@ -1,5 +1,5 @@
 use Rattle.std.proofs.Common.{arith, rules, ◌≤◌, ◌+◌, ◌*◌, ◌^◌}
-use Rattle.storage_merkle.specs.MmbLaws.{mmb_offset}
+use Rattle.storage_merkle.specs.Laws.Mmb.{mmb_offset}
 use Rattle.storage_merkle.proofs.merkle.mmb.FamilyFamily.node_after.Goals as goal
 
 pub power-requires : goal.power-requires

@@ -1,5 +1,5 @@
 use Rattle.std.proofs.Common.{arith, rules, ◌+◌, ◌-◌, ◌<◌, ◌^◌}
-use Rattle.storage_merkle.specs.MmbLaws.{mmb_size_sum, mmb_log_at_most, mmb_room_above}
+use Rattle.storage_merkle.specs.Laws.Mmb.{mmb_size_sum, mmb_log_at_most, mmb_room_above}
 use Rattle.storage_merkle.proofs.merkle.mmb.FamilyFamily.nodes_over.Goals as goal
 
 pub overflow_add-leaves : goal.overflow_add-leaves

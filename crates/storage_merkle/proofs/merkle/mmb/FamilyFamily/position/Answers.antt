@@ -1,6 +1,6 @@
 use Rattle.std.proofs.Common.{arith, rules, ◌≤◌, ◌-◌, ◌+◌, ◌*◌, ◌^◌, ◌<◌}
-use Rattle.storage_merkle.specs.MmbLaws.{mmb_raised}
-use Rattle.storage_merkle.specs.Multiples.{pow_le}
+use Rattle.storage_merkle.specs.Laws.Mmb.{mmb_raised}
+use Rattle.storage_merkle.specs.Laws.Multiples.{pow_le}
 use Rattle.std.proofs.lemmas.Nat.{pow_pos}
 use Rattle.storage_merkle.proofs.merkle.mmb.FamilyFamily.position.Goals as goal
 

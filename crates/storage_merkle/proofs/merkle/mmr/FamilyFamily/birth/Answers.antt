@@ -1,4 +1,4 @@
-use Rattle.storage_merkle.specs.MmrLaws.{mmr_birth_height}
+use Rattle.storage_merkle.specs.Laws.Mmr.{mmr_birth_height}
 use Rattle.std.proofs.Common.{rules}
 use Rattle.storage_merkle.proofs.merkle.mmr.FamilyFamily.birth.Goals as goal
 

@@ -1,4 +1,4 @@
-use Rattle.storage_merkle.specs.MmrLaws.{mmr_top}
+use Rattle.storage_merkle.specs.Laws.Mmr.{mmr_top}
 use Rattle.storage_merkle.proofs.merkle.mmr.FamilyFamily.first_peak.Goals as goal
 
 pub returns-clause-first : goal.returns-clause-first

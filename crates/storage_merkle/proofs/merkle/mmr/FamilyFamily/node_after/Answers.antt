@@ -1,5 +1,5 @@
 use Rattle.std.proofs.Common.{arith, rules, ◌≤◌}
-use Rattle.storage_merkle.specs.MmrLaws.{mmr_offset, mmr_after}
+use Rattle.storage_merkle.specs.Laws.Mmr.{mmr_offset, mmr_after}
 use Rattle.storage_merkle.proofs.merkle.mmr.FamilyFamily.node_after.Goals as goal
 
 pub overflow_cast-height : goal.overflow_cast-height

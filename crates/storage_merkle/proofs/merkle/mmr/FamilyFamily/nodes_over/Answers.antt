@@ -1,6 +1,6 @@
 use Rattle.std.proofs.Common.{arith, rules, ◌+◌, ◌-◌, ◌<◌, ◌^◌}
 use lib.Count.{ones}
-use Rattle.storage_merkle.specs.MmrLaws.{mmr_size_sum}
+use Rattle.storage_merkle.specs.Laws.Mmr.{mmr_size_sum}
 use Rattle.storage_merkle.proofs.merkle.mmr.FamilyFamily.nodes_over.Goals as goal
 
 pub overflow_add-result : goal.overflow_add-result

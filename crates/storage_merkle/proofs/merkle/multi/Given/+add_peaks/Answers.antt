@@ -1,5 +1,5 @@
 use Rattle.std.proofs.Common.{rules, arith, refl, length, ap, ◌+◌, ◌^◌, ◌∙◌}
-use Rattle.storage_merkle.specs.ShapeLaws.{no_peaks}
+use Rattle.storage_merkle.specs.Laws.Shape.{no_peaks}
 use Rattle.storage_merkle.proofs.Walks.{peak_in_tree, peaks_next}
 use Rattle.storage_merkle.proofs.Siblings.{on_ok}
 use Rattle.storage_merkle.proofs.Multi.Nodes.{given_peak, peak_rises, peaks_none, peaks_more}

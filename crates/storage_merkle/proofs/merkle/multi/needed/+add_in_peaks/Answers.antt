@@ -1,5 +1,5 @@
 use Rattle.std.proofs.Common.{rules, arith, ◌+◌, ◌≤◌, ◌^◌}
-use Rattle.storage_merkle.specs.ShapeLaws.{step, no_peaks}
+use Rattle.storage_merkle.specs.Laws.Shape.{step, no_peaks}
 use Rattle.storage_merkle.specs.Trees.{ungrafted}
 use Rattle.storage_merkle.proofs.Siblings.{on_ok}
 use Rattle.storage_merkle.proofs.Multi.Needed.{adds_no_peaks, adds_peak, peaks_ascend}

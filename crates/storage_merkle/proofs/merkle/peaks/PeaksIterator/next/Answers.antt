@@ -1,6 +1,6 @@
 use Rattle.std.proofs.Common.{◌≡◌, [], arith, sym, ◌∙◌, rules}
 use Rattle.storage_merkle.specs.Nodes.{placed}
-use Rattle.storage_merkle.specs.ShapeLaws.{no_peaks, step}
+use Rattle.storage_merkle.specs.Laws.Shape.{no_peaks, step}
 use Rattle.storage_merkle.proofs.merkle.peaks.PeaksIterator.next.Goals as goal
 
 pub returns-then-self-eq0-clause-steps : goal.returns-then-self-eq0-clause-steps

@@ -1,5 +1,5 @@
 use Rattle.std.proofs.Common.{◌+◌, ◌≤◌, ◌^◌, arith}
-use Rattle.storage_merkle.specs.ShapeLaws.{no_peaks}
+use Rattle.storage_merkle.specs.Laws.Shape.{no_peaks}
 use Rattle.storage_merkle.proofs.Walks.{peaks_next}
 use Rattle.storage_merkle.proofs.Rests.{passing_starts, passing_goes_on, passing_stops, passing_unfolded, passing_ends}
 use Rattle.storage_merkle.proofs.merkle.plan.Rest.after_leading.Goals as goal

@@ -2,9 +2,9 @@ use Rattle.std.proofs.Common.{arith, refl, sym, ap, ap₂, map, length, take, dr
 use Rattle.std.proofs.lemmas.List.{length-map}
 use Rattle.storage_merkle.specs.Hashers.{forward_of}
 use Rattle.storage_merkle.specs.Pinned.{recomputed}
-use Rattle.storage_merkle.specs.PinnedSteps.{AgreesWith, digest_before}
+use Rattle.storage_merkle.specs.PinnedParts.{AgreesWith, digest_before}
 use Rattle.storage_merkle.specs.PlanParts.{peaks_by}
-use Rattle.storage_merkle.specs.RangeProofs.{RangeProof, CountsFit, check_values, leading, position_of}
+use Rattle.storage_merkle.specs.RangeProofs.{Proof, CountsFit, check_values, leading, position_of}
 use Rattle.storage_merkle.specs.Rests.{peaks_from}
 use Rattle.storage_merkle.specs.Siblings.{sibling_sites}
 use Rattle.storage_merkle.specs.Trees.{Content, ungrafted}
@@ -189,7 +189,7 @@ returns g c = λ elements as_many.
     (let count : length c.args.pinned.now ≡ c.peak_count.result = c.if-pinned-peak_count.false in length-map c.args.pinned.now text ∙ count ∙ c.peak_count.ensures) in
     let left = map text c.in-Some-after_fold.tops.now in
     let starts = sym front ∙ c.in-Some-after_fold.ensures in
-    let proof : RangeProof = record { leaves = n; inactive = i; digests = map text items } in
+    let proof : Proof = record { leaves = n; inactive = i; digests = map text items } in
     let claim : Content = record { elements = elements; chunk = chunk } in
     let values = check_values h T b proof low claim in
     let again = recomputed h T b proof low claim pinned in

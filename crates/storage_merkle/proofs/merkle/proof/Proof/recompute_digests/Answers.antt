@@ -2,7 +2,7 @@ use Rattle.std.proofs.Common.{rules, ap, sym, subst, map, length, Some, option_m
 use Rattle.std.proofs.lemmas.List.Sorted.{IsNonDecreasingBy-from_sort_by_key}
 use Rattle.storage_merkle.specs.Checks.{IsRecomputed}
 use Rattle.storage_merkle.specs.Shape.{Laws}
-use Rattle.storage_merkle.specs.Extracted.{checked_sites, digest_at, extracted, texts}
+use Rattle.storage_merkle.specs.Extracted.{checked_sites, digest_at, extracted, by_bytes}
 use Rattle.storage_merkle.specs.RangeProofs.{apart, check_values}
 use Rattle.storage_merkle.proofs.Extracted.{aligned_checked}
 use Rattle.storage_merkle.proofs.Handed.{sorted_entries, taken, on_proof}
@@ -44,14 +44,14 @@ returns-clause-digests g c =
     let L = subst Laws (sym same) g.met.F.Family.laws in
     let sites = checked_sites T c.lent.result.leaves c.args.start high in
     let found = taken _ c.new.result c.in-Some-Some.digests c.recompute.new.found c.in_ok-root.root c.in-Some-Some.root
-    _ c.in-Some-Some.is-0 c.in-Some-Some.is-1 (ap (texts g.D.Write.text) c.new.ensures.items)
+    _ c.in-Some-Some.is-0 c.in-Some-Some.is-1 (ap (by_bytes g.D.Write.text) c.new.ensures.items)
     c.in_ok-root.ensures.found in
     let up = IsNonDecreasingBy-from_sort_by_key (λ e. e.0) c.sort_unstable_by_key.new.self.items
     c.sort_unstable_by_key.ensures.sorted (λ a r q' k. search rules) in
     let all = sorted_entries T L (digest_at h values T (apart c.args.start high)) g.D.Write.text sites
     (aligned_checked T L c.lent.result.leaves c.args.start high) c.in-Some-Some.digests.items
     c.sort_unstable_by_key.new.self.items found c.sort_unstable_by_key.ensures.permutation up in
-    on_proof (λ p. texts g.D.Write.text c.sort_unstable_by_key.new.self.items ≡ extracted g.H.Hasher.hash_of
+    on_proof (λ p. by_bytes g.D.Write.text c.sort_unstable_by_key.new.self.items ≡ extracted g.H.Hasher.hash_of
     (g.H.Hasher.layout c.args.hasher.now) (g.H.Hasher.bagging c.args.hasher.now) p c.args.start
     (record { elements = map g.E.AsSlice.items c.args.elements.now; chunk = g.H.Hasher.chunk c.args.hasher.now }))
     c.lent.result.leaves c.args.self.now.leaves c.lent.result.inactive_peaks c.args.self.now.inactive_peaks

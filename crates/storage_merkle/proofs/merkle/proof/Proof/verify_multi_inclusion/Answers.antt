@@ -1,6 +1,6 @@
 use Rattle.std.proofs.Common.{[], map, option_map, refl, sym, subst}
 use Rattle.storage_merkle.specs.Multi.{claims_of}
-use Rattle.storage_merkle.specs.ProofWireLaws.{all_digests}
+use Rattle.storage_merkle.specs.Laws.ProofWire.{all_digests}
 use Rattle.storage_merkle.specs.Shape.{Laws}
 use Rattle.storage_merkle.specs.Trees.{listed}
 use Rattle.storage_merkle.proofs.Meaning.{chained, same_option}
@@ -19,8 +19,8 @@ returns-then-is_empty-clause-exact g c = chained (c.verify_nothing.ensures (list
     }) (g.H.Hasher.chunk c.args.hasher.now) (g.D.Write.text c.args.root.now)
     g.E.AsSlice.items c.args.elements.now c.new.result c.new.ensures c.if-is_empty.ensures)
 
-pub returns-then-is_empty-clause-means : goal.returns-then-is_empty-clause-means
-returns-then-is_empty-clause-means g c = λ accepted.
+pub returns-then-is_empty-clause-meaning : goal.returns-then-is_empty-clause-meaning
+returns-then-is_empty-clause-meaning g c = λ accepted.
     let same = g.met.H.Hasher.over c.args.hasher.now in
     multi_sound g.D.FixedSize.size g.H.Hasher.hash_of g.met.H.Hasher.sized (g.H.Hasher.layout c.args.hasher.now)
     (subst Laws (sym same) g.met.F.Family.laws) (g.H.Hasher.bagging c.args.hasher.now)
@@ -53,8 +53,8 @@ returns-clause-exact g c =
     (g.H.Hasher.chunk c.args.hasher.now) (g.D.Write.text c.args.root.now) g.E.AsSlice.items c.args.elements.now
     c.if-is_empty.ensures (option_map g.D.Write.text c.in_ok-recomputed.recomputed) c.in_ok-recomputed.ensures)
 
-pub returns-clause-means : goal.returns-clause-means
-returns-clause-means g c = λ accepted.
+pub returns-clause-meaning : goal.returns-clause-meaning
+returns-clause-meaning g c = λ accepted.
     let same = g.met.H.Hasher.over c.args.hasher.now in
     multi_sound g.D.FixedSize.size g.H.Hasher.hash_of g.met.H.Hasher.sized (g.H.Hasher.layout c.args.hasher.now)
     (subst Laws (sym same) g.met.F.Family.laws) (g.H.Hasher.bagging c.args.hasher.now)

@@ -1,6 +1,6 @@
 use Rattle.std.proofs.Common.{◌==◌, ◌∙◌, map, ap, subst, sym}
 use Rattle.std.proofs.lemmas.List.{length-map}
-use Rattle.storage_merkle.specs.ProofWireLaws.{all_digests}
+use Rattle.storage_merkle.specs.Laws.ProofWire.{all_digests}
 use Rattle.storage_merkle.specs.Shape.{Laws}
 use Rattle.storage_merkle.proofs.Meaning.{no_elements, some_elements}
 use Rattle.storage_merkle.proofs.Pinned.Meaning.{if_ok, nothing_pinned, counts_fit, agreeing_pinned, pinned_proved}
@@ -22,8 +22,8 @@ returns-then-is_empty-clause-exact g c =
     (no_elements g.E.AsSlice.items c.args.elements.now c.if-is_empty.ensures) c.is_empty-then-is_empty.result
     (c.is_empty-then-is_empty.ensures ∙ ap (λ n. n == 0) (sym (length-map c.args.pinned.now g.D.Write.text)))
 
-pub returns-then-is_empty-clause-means : goal.returns-then-is_empty-clause-means
-returns-then-is_empty-clause-means g c = λ plain empty y.
+pub returns-then-is_empty-clause-meaning : goal.returns-then-is_empty-clause-meaning
+returns-then-is_empty-clause-meaning g c = λ plain empty y.
     let same = g.met.H.Hasher.over c.args.hasher.now in
     pinned_proved g.D.FixedSize.size g.H.Hasher.hash_of g.met.H.Hasher.sized g.F.Family.shape g.met.F.Family.laws
     (g.H.Hasher.layout c.args.hasher.now) plain (g.H.Hasher.chunk c.args.hasher.now) empty
@@ -76,8 +76,8 @@ returns-clause-exact g c =
     (map g.D.Write.text c.args.pinned.now) (g.D.Write.text c.args.root.now) accepted
     (some_elements g.E.AsSlice.items c.args.elements.now c.if-is_empty.ensures))))
 
-pub returns-clause-means : goal.returns-clause-means
-returns-clause-means g c = λ plain empty.
+pub returns-clause-meaning : goal.returns-clause-meaning
+returns-clause-meaning g c = λ plain empty.
     if_ok _ _ c.agrees_with.result (λ answer i y. pinned_proved g.D.FixedSize.size g.H.Hasher.hash_of
     g.met.H.Hasher.sized g.F.Family.shape g.met.F.Family.laws (g.H.Hasher.layout c.args.hasher.now) plain
     (g.H.Hasher.chunk c.args.hasher.now) empty (g.H.Hasher.bagging c.args.hasher.now)

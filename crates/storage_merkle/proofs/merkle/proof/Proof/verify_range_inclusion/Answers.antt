@@ -1,5 +1,5 @@
 use Rattle.std.proofs.Common.{map, option_map, subst, sym, rules}
-use Rattle.storage_merkle.specs.ProofWireLaws.{all_digests}
+use Rattle.storage_merkle.specs.Laws.ProofWire.{all_digests}
 use Rattle.storage_merkle.specs.Shape.{Laws}
 use Rattle.storage_merkle.proofs.Meaning.{accepted_proved, accepted_nothing, accepted_some, chained, no_elements, some_elements, same_option}
 use Rattle.storage_merkle.proofs.merkle.proof.Proof.verify_range_inclusion.Goals as goal
@@ -18,8 +18,8 @@ returns-then-is_empty-clause-exact g c =
     (record { elements = map g.E.AsSlice.items c.args.elements.now; chunk = g.H.Hasher.chunk c.args.hasher.now })
     (g.D.Write.text c.args.root.now) (no_elements g.E.AsSlice.items c.args.elements.now c.if-is_empty.ensures))
 
-pub returns-then-is_empty-clause-means : goal.returns-then-is_empty-clause-means
-returns-then-is_empty-clause-means g c = λ accepted.
+pub returns-then-is_empty-clause-meaning : goal.returns-then-is_empty-clause-meaning
+returns-then-is_empty-clause-meaning g c = λ accepted.
     let same = g.met.H.Hasher.over c.args.hasher.now in
     accepted_proved g.H.Hasher.hash_of (g.H.Hasher.layout c.args.hasher.now) (g.H.Hasher.bagging c.args.hasher.now)
     (record {
@@ -62,8 +62,8 @@ returns-clause-exact g c =
     (g.D.Write.text c.args.root.now) (some_elements g.E.AsSlice.items c.args.elements.now c.if-is_empty.ensures)
     (option_map g.D.Write.text c.in_ok-computed.computed) c.in_ok-computed.ensures)
 
-pub returns-clause-means : goal.returns-clause-means
-returns-clause-means g c = λ accepted.
+pub returns-clause-meaning : goal.returns-clause-meaning
+returns-clause-meaning g c = λ accepted.
     let same = g.met.H.Hasher.over c.args.hasher.now in
     accepted_proved g.H.Hasher.hash_of (g.H.Hasher.layout c.args.hasher.now) (g.H.Hasher.bagging c.args.hasher.now)
     (record {

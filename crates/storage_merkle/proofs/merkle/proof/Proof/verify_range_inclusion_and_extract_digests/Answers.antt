@@ -1,8 +1,8 @@
 use Rattle.std.proofs.Common.{◌≡◌, inl, inr, refl, map, option_map, sym, subst, ap, MatchOption, arith}
-use Rattle.storage_merkle.specs.ProofWireLaws.{all_digests}
+use Rattle.storage_merkle.specs.Laws.ProofWire.{all_digests}
 use Rattle.storage_merkle.specs.Shape.{Laws}
 use Rattle.storage_merkle.specs.Checks.{IsRecomputed}
-use Rattle.storage_merkle.specs.Extracted.{extracted, texts}
+use Rattle.storage_merkle.specs.Extracted.{extracted, by_bytes}
 use Rattle.storage_merkle.proofs.Meaning.{no_elements, some_elements}
 use Rattle.storage_merkle.proofs.HandedOut.{handed_none, handed_some, misfit_none, other_root, other_root_none, differ, alike}
 use Rattle.std.proofs.lemmas.Grind.{common_steps}
@@ -23,7 +23,7 @@ returns-in-Ok-clause-handed g c =
     g.met.D.FixedSize.sized c.args.self.now.digests.items) (c.in-Ok.ensures
     (record { elements = map g.E.AsSlice.items c.args.elements.now; chunk = g.H.Hasher.chunk c.args.hasher.now })
     (no_elements g.E.AsSlice.items c.args.elements.now c.if-is_empty.ensures)) _
-    (ap (texts g.D.Write.text) c.new.ensures.items)
+    (ap (by_bytes g.D.Write.text) c.new.ensures.items)
 
 pub returns-in-Err-clause-why : goal.returns-in-Err-clause-why
 returns-in-Err-clause-why g c =
@@ -95,7 +95,7 @@ returns-clause-handed g c =
     }) c.args.start
     (record { elements = map g.E.AsSlice.items c.args.elements.now; chunk = g.H.Hasher.chunk c.args.hasher.now })
     (option_map (λ p. g.D.Write.text p.0) o)) c.in-Some.is c.in_ok-given.ensures.root in
-    let all = subst (λ o. MatchOption o (Unit {0}) (λ p. texts g.D.Write.text p.1.items
+    let all = subst (λ o. MatchOption o (Unit {0}) (λ p. by_bytes g.D.Write.text p.1.items
     ≡ extracted g.H.Hasher.hash_of (g.H.Hasher.layout c.args.hasher.now) (g.H.Hasher.bagging c.args.hasher.now)
     (record {
       leaves = c.args.self.now.leaves;

@@ -1,13 +1,13 @@
 use Rattle.std.proofs.Common.{arith, refl, map, option_map, length, ap, sym, ◌≡◌, ◌+◌, ◌-◌, ◌≤◌, ◌++◌, ◌∙◌}
 use Rattle.std.proofs.lemmas.List.{length-map}
-use Rattle.storage_merkle.specs.CheckSteps.{top_sites}
+use Rattle.storage_merkle.specs.CheckParts.{top_sites}
 use Rattle.storage_merkle.specs.RangeProofs.{apart, CountsFit, position_of, check_values, recomputed_root}
 use Rattle.storage_merkle.specs.Rests.{peaks_from}
 use Rattle.storage_merkle.specs.Siblings.{sibling_sites}
 use Rattle.storage_merkle.specs.Trees.{ungrafted}
 use Rattle.storage_merkle.proofs.Check.Siblings.{siblings_rise, siblings_present, siblings_serve}
 use Rattle.storage_merkle.proofs.Check.Roots.{too_few, not_as_many, fit, tops_read, siblings_read, root_is, apart_count, after_all, claim_on}
-use Rattle.storage_merkle.specs.Extracted.{checked, checked_sites, digest_at, entries, texts}
+use Rattle.storage_merkle.specs.Extracted.{checked, checked_sites, digest_at, entries, by_bytes}
 use Rattle.storage_merkle.proofs.Found.{adds_same, found_rest}
 use Rattle.std.proofs.lemmas.Grind.{common_steps}
 use Rattle.storage_merkle.proofs.merkle.proof.check.recompute.Goals as goal
@@ -257,8 +257,8 @@ returns-clause-found g c =
     let all = found_rest h T low c.in-Some.end values g.F.Family.shape c.as_u64-leaves.result c.all-all.result.folded
     c.after_leading-rest.result.first c.after_leading-rest.result.left
     c.after_leading-rest.result.folded same after in
-    claim_on (λ z w. option_map (λ v. texts g.H.Digest.Write.text v.items) c.bag.new.found
-    ≡ option_map (λ v. texts g.H.Digest.Write.text v.items ++ checked h T (g.H.Hasher.bagging c.args.hasher.now)
+    claim_on (λ z w. option_map (λ v. by_bytes g.H.Digest.Write.text v.items) c.bag.new.found
+    ≡ option_map (λ v. by_bytes g.H.Digest.Write.text v.items ++ checked h T (g.H.Hasher.bagging c.args.hasher.now)
     (record {
       leaves = z;
       inactive = c.args.proof.now.inactive_peaks;

@@ -1,6 +1,6 @@
 use Rattle.std.proofs.Common.{◌∷◌, [], arith, map, ap, ◌∙◌}
 use Rattle.std.proofs.lemmas.List.{map-append}
-use Rattle.storage_codec.specs.PartsLaws.{ends_then}
+use Rattle.storage_codec.specs.Laws.Parts.{ends_then}
 use Rattle.storage_merkle.proofs.Written.{reading_next, reading_stops}
 use Rattle.storage_merkle.proofs.merkle.proof.codec.read_digests.Goals as goal
 

@@ -1,5 +1,5 @@
 use Rattle.std.proofs.Common.{◌≡◌, ◌+◌, ◌++◌, map, drop}
-use Rattle.storage_merkle.specs.CheckSteps.{top_sites}
+use Rattle.storage_merkle.specs.CheckParts.{top_sites}
 use Rattle.storage_merkle.specs.Plans.{ArePeaks}
 use Rattle.storage_merkle.specs.RangeProofs.{trailing}
 use Rattle.storage_merkle.specs.Rests.{peaks_from}

@@ -2,8 +2,8 @@ use Rattle.std.proofs.Common.{◌≡◌, ◌+◌, ◌≤◌, ◌^◌, [], take, 
 use Rattle.storage_merkle.specs.Plans.{ArePeaks}
 use Rattle.storage_merkle.specs.RangeProofs.{leading}
 use Rattle.storage_merkle.specs.Rests.{peaks_from, AreAfterLeading}
-use Rattle.storage_merkle.specs.CheckSteps.{folded_before}
-use Rattle.storage_merkle.specs.ShapeLaws.{no_peaks}
+use Rattle.storage_merkle.specs.CheckParts.{folded_before}
+use Rattle.storage_merkle.specs.Laws.Shape.{no_peaks}
 use Rattle.storage_merkle.specs.Stores.{Store}
 use Rattle.storage_merkle.proofs.Check.Roots.{after_all}
 use Rattle.storage_merkle.proofs.Walks.{peaks_step, peaks_next}

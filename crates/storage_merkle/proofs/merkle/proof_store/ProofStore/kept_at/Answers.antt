@@ -1,7 +1,7 @@
 use Rattle.std.proofs.Common.{rules, of_calls, arith, ap, sym, ltb, length, None, ◌≡◌, ◌≢◌, ◌<◌, ◌∙◌}
 use Rattle.std.proofs.lemmas.List.{get_or_default}
 use Rattle.std.proofs.lemmas.List.Sorted.{IsPartitionedBy-ltb, IsPartitionPoint-from_clause}
-use Rattle.storage_merkle.specs.Extracted.{texts}
+use Rattle.storage_merkle.specs.Extracted.{by_bytes}
 use Rattle.storage_merkle.specs.Stores.{Store, entry_at}
 use Rattle.storage_merkle.proofs.Store.Steps.{kept_found, kept_none, entries_rise, stands_elsewhere, stands_there}
 use Rattle.storage_merkle.proofs.merkle.proof_store.ProofStore.kept_at.Goals as goal
@@ -16,7 +16,7 @@ returns-then-index-len g c =
     let parts = rw c.deref.ensures.value at (IsPartitionPoint-from_clause (λ y. ltb y.0 p) c.deref.result.now i
     c.partition_point-index.ensures.partitioned (IsPartitionedBy-ltb (λ y. y.0) c.deref.result.now p
     (rw c.deref.ensures.value (entries_rise es c.self.invariant.1))) (λ a r f k. search (rules, of_calls))) in
-    let none : entry_at p (texts text es) ≡ None = elim c.then-index-len.branch [
+    let none : entry_at p (by_bytes text es) ≡ None = elim c.then-index-len.branch [
       | then-index-len-via-then-index-len w ↦ kept_none text p es i parts c.self.invariant.1
           (λ l d. absurd (let last : i ≡ c.len.result = w.if-index-len.true in omega (arith, c.len.ensures)))
       | then-index-len-via-else-index-len+then-ne w ↦ kept_none text p es i parts c.self.invariant.1

@@ -1,6 +1,6 @@
 use Rattle.std.proofs.Common.{None, ap, sym, ◌≡◌, ◌∙◌, subst, inl, inr, map}
 use Rattle.storage_merkle.specs.Multi.{Ascend}
-use Rattle.storage_merkle.specs.Extracted.{texts}
+use Rattle.storage_merkle.specs.Extracted.{by_bytes}
 use Rattle.storage_merkle.specs.Stores.{Store, location_refusal}
 use Rattle.storage_merkle.proofs.Store.Steps.{ascends, map_itself, multi_is, multi_digests}
 use Rattle.storage_merkle.proofs.merkle.proof_store.ProofStore.multi_proof.Goals as goal
@@ -17,7 +17,7 @@ returns-in-Ok-clause-given g c =
     let F = g.row.F.Denot in
     let S = g.F.Family.shape in
     let store = c.args.self.now in
-    let peaks = texts g.D.Write.text c.args.peaks.now in
+    let peaks = by_bytes g.D.Write.text c.args.peaks.now in
     let ls = c.args.locations.now in
     let n = c.as_u64-2.result in
     let leaves : n ≡ store.leaves = c.as_u64-2.ensures ∙ ap (λ (v : Store). v.leaves) c.self.view_is in
@@ -44,7 +44,7 @@ returns-clause-why g c =
     let F = g.row.F.Denot in
     let S = g.F.Family.shape in
     let store = c.args.self.now in
-    let peaks = texts g.D.Write.text c.args.peaks.now in
+    let peaks = by_bytes g.D.Write.text c.args.peaks.now in
     let ls = c.args.locations.now in
     let n = c.as_u64-2.result in
     let leaves : n ≡ store.leaves = c.as_u64-2.ensures ∙ ap (λ (v : Store). v.leaves) c.self.view_is in

@@ -2,9 +2,9 @@ use Rattle.std.proofs.Common.{◌≡◌, ◌+◌, inl, inr, refl, length, map, o
 use Rattle.std.proofs.lemmas.List.{length-map}
 use Rattle.storage_merkle.specs.Shape.{Laws}
 use Rattle.storage_merkle.specs.Checks.{IsRecomputed}
-use Rattle.storage_merkle.specs.Extracted.{checked, checked_sites, texts}
-use Rattle.storage_merkle.specs.ProofWireLaws.{all_digests}
-use Rattle.storage_merkle.specs.RangeProofs.{RangeProof}
+use Rattle.storage_merkle.specs.Extracted.{checked, checked_sites, by_bytes}
+use Rattle.storage_merkle.specs.Laws.ProofWire.{all_digests}
+use Rattle.storage_merkle.specs.RangeProofs.{Proof}
 use Rattle.storage_merkle.specs.Trees.{Content}
 use Rattle.storage_merkle.proofs.Meaning.{no_elements, some_elements}
 use Rattle.storage_merkle.proofs.Handed.{taken, on_proof}
@@ -19,7 +19,7 @@ returns-in-Ok-clause-made g c =
     let same = g.met.H.Hasher.over c.args.hasher.now in
     let claim : Content =
     record { elements = map g.E.AsSlice.items c.args.elements.now; chunk = g.H.Hasher.chunk c.args.hasher.now } in
-    let proof : RangeProof = record {
+    let proof : Proof = record {
       leaves = c.args.proof.now.leaves;
       inactive = c.args.proof.now.inactive_peaks;
       digests = map g.D.Write.text c.args.proof.now.digests.items;
@@ -34,7 +34,7 @@ pub returns-in-Err-clause-why : goal.returns-in-Err-clause-why
 returns-in-Err-clause-why g c =
     let claim : Content =
     record { elements = map g.E.AsSlice.items c.args.elements.now; chunk = g.H.Hasher.chunk c.args.hasher.now } in
-    let proof : RangeProof = record {
+    let proof : Proof = record {
       leaves = c.args.proof.now.leaves;
       inactive = c.args.proof.now.inactive_peaks;
       digests = map g.D.Write.text c.args.proof.now.digests.items;
@@ -59,7 +59,7 @@ returns-in_default-clause-why g c = inr (inl (
   refl,
   let claim : Content =
       record { elements = map g.E.AsSlice.items c.args.elements.now; chunk = g.H.Hasher.chunk c.args.hasher.now } in
-      let proof : RangeProof = record {
+      let proof : Proof = record {
         leaves = c.args.proof.now.leaves;
         inactive = c.args.proof.now.inactive_peaks;
         digests = map g.D.Write.text c.args.proof.now.digests.items;
@@ -67,7 +67,7 @@ returns-in_default-clause-why g c = inr (inl (
       misfit g.H.Hasher.hash_of (g.H.Hasher.layout c.args.hasher.now)
       (g.H.Hasher.bagging c.args.hasher.now) proof c.args.start claim (g.D.Write.text c.args.root.now)
       (some_elements g.E.AsSlice.items c.args.elements.now c.if-is_empty.ensures) (elim c.in_default.branch [
-        | in_default-via-in-Some+in_default w ↦ absurd (not_lost (λ v. texts g.D.Write.text v.items) c.new.result
+        | in_default-via-in-Some+in_default w ↦ absurd (not_lost (λ v. by_bytes g.D.Write.text v.items) c.new.result
             c.recompute.new.found c.in_ok-computed.computed w.in_default.field-0-0 _ w.in_default.is-0 w.in_default.is-1
             c.in_ok-computed.ensures.found)
         | in_default-via-in_default w ↦ on_proof (λ p. IsRecomputed g.H.Hasher.hash_of
@@ -95,7 +95,7 @@ returns-then-ne-clause-why g c = inr (inr (
       let text = g.D.Write.text in
       let claim : Content =
       record { elements = map g.E.AsSlice.items c.args.elements.now; chunk = g.H.Hasher.chunk c.args.hasher.now } in
-      let proof : RangeProof = record {
+      let proof : Proof = record {
         leaves = c.args.proof.now.leaves;
         inactive = c.args.proof.now.inactive_peaks;
         digests = map text c.args.proof.now.digests.items;
@@ -124,13 +124,13 @@ returns-clause-made g c =
     let text = g.D.Write.text in
     let claim : Content =
     record { elements = map g.E.AsSlice.items c.args.elements.now; chunk = g.H.Hasher.chunk c.args.hasher.now } in
-    let proof : RangeProof = record {
+    let proof : Proof = record {
       leaves = c.args.proof.now.leaves;
       inactive = c.args.proof.now.inactive_peaks;
       digests = map text c.args.proof.now.digests.items;
     } in
     let high = c.args.start + length claim.elements in
-    let moved : (P : RangeProof → Type 0) → P (record {
+    let moved : (P : Proof → Type 0) → P (record {
       leaves = c.lent.result.leaves;
       inactive = c.lent.result.inactive_peaks;
       digests = map text c.lent.result.digests.now;
@@ -145,10 +145,10 @@ returns-clause-made g c =
       digests = map text c.lent.result.digests.now;
     }) c.args.start claim (option_map text o)) c.in-Some-Some.is-0
     c.in_ok-computed.ensures.root) in
-    let found = moved (λ p. texts text c.in-Some-Some.kept.items ≡ checked h T b p c.args.start claim
-    (checked_sites T p.leaves c.args.start high)) (taken (λ v. texts text v.items) c.new.result c.in-Some-Some.kept
+    let found = moved (λ p. by_bytes text c.in-Some-Some.kept.items ≡ checked h T b p c.args.start claim
+    (checked_sites T p.leaves c.args.start high)) (taken (λ v. by_bytes text v.items) c.new.result c.in-Some-Some.kept
     c.recompute.new.found c.in_ok-computed.computed c.in-Some-Some.computed _ c.in-Some-Some.is-0
-    c.in-Some-Some.is-1 (ap (texts text) c.new.ensures.items) c.in_ok-computed.ensures.found) in
+    c.in-Some-Some.is-1 (ap (by_bytes text) c.new.ensures.items) c.in_ok-computed.ensures.found) in
     made_some h T b proof c.args.start claim (text c.args.root.now) g.D.FixedSize.size g.met.H.Hasher.sized
     (subst Laws (sym same) g.met.F.Family.laws) (all_digests text g.D.FixedSize.size g.met.D.FixedSize.sized
     c.args.proof.now.digests.items) c.in_ok-of_checked.field-0 (text c.in-Some-Some.computed) r

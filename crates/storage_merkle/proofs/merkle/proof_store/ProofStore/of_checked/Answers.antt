@@ -1,9 +1,9 @@
 use Rattle.std.proofs.Common.{◌≡◌, ℕ, ◌+◌, [], ◌≤◌, ◌++◌, List, length, map, drop, option_map, refl, sym, ap, ◌∙◌, arith, rules, subst}
 use Rattle.std.proofs.lemmas.List.Sorted.{IsNonDecreasingBy-from_sort_by_key}
 use Rattle.storage_merkle.specs.Calc.{Site, front}
-use Rattle.storage_merkle.specs.CheckSteps.{top_sites}
-use Rattle.storage_merkle.specs.Extracted.{entries, texts}
-use Rattle.storage_merkle.specs.RangeProofs.{RangeProof, check_values}
+use Rattle.storage_merkle.specs.CheckParts.{top_sites}
+use Rattle.storage_merkle.specs.Extracted.{entries, by_bytes}
+use Rattle.storage_merkle.specs.RangeProofs.{Proof, check_values}
 use Rattle.storage_merkle.specs.Rests.{AreFolded, AreAfterLeading, peaks_from}
 use Rattle.storage_merkle.specs.StoreParts.{back_among, nodes_among}
 use Rattle.storage_merkle.specs.Trees.{ungrafted}
@@ -68,7 +68,7 @@ returns g c = λ T claim same range found.
     let r = c.after_leading-rest.result in
     let start = c.args.start in
     let high = start + length claim.elements in
-    let proof : RangeProof = record { leaves = n; inactive = i; digests = map text items } in
+    let proof : Proof = record { leaves = n; inactive = i; digests = map text items } in
     let v = check_values h T b proof start claim in
     let parts : AreFolded S b i n f = subst (λ m. AreFolded S b i m f) c.as_u64.ensures c.all-all.ensures.folded in
     let after : AreAfterLeading S start 0 n f r.first r.left r.folded =
@@ -79,7 +79,7 @@ returns g c = λ T claim same range found.
     let kept = c.keep_peaks.new.kept.items in
     let Read : ℕ → ℕ → Type 0 = λ z w. (digest : Site → List ℕ) (later : List (List ℕ))
     → map text c.if-rest-gt0.front_fold.1.now ≡ map digest (tops_at z w) ++ later
-    → (texts text kept ≡ texts text c.args.found.items ++ entries (ungrafted S) digest (nodes_among (tops_at z w)))
+    → (by_bytes text kept ≡ by_bytes text c.args.found.items ++ entries (ungrafted S) digest (nodes_among (tops_at z w)))
     × (option_map text c.in_ok-back_fold.back_fold ≡ back_among digest (tops_at z w)) in
     let read : Read start high = subst (Read start) range (subst (λ z. Read z c.args.past) c.as_u64-3.ensures (subst
     (Read c.as_u64-3.result) c.as_u64-4.ensures (λ digest later e. c.in_ok-back_fold.ensures digest later e))) in
@@ -116,7 +116,7 @@ returns g c = λ T claim same range found.
     c.sort_unstable_by_key.ensures.permutation up in
     store_is h T b proof start claim c.root_bagging.result c.args.past (text c.if-rest-gt0.front_fold.0)
     (text c.unwrap_or.result)
-    (texts text c.sort_unstable_by_key.new.self.items) c.root_bagging.ensures range front_is back_fold all
+    (by_bytes text c.sort_unstable_by_key.new.self.items) c.root_bagging.ensures range front_is back_fold all
 
 pub index-requires : goal.index-requires
 index-requires g c = grind (arith, common_steps)

@@ -1,7 +1,7 @@
 use Rattle.std.proofs.Common.{◌≡◌, ℕ, ◌+◌, ◌≤◌, ◌++◌, List, length, map}
 use Rattle.storage_merkle.specs.Calc.{Site}
-use Rattle.storage_merkle.specs.CheckSteps.{top_sites}
-use Rattle.storage_merkle.specs.Extracted.{texts}
+use Rattle.storage_merkle.specs.CheckParts.{top_sites}
+use Rattle.storage_merkle.specs.Extracted.{by_bytes}
 use Rattle.storage_merkle.specs.Plans.{ArePeaks}
 use Rattle.storage_merkle.specs.Rests.{peaks_from}
 use Rattle.storage_merkle.specs.StoreParts.{back_among}
@@ -16,8 +16,8 @@ invariant-loop-rest g l = record {
   reads : (digest : Site → List ℕ) (later : List (List ℕ))
       → map g.D.Write.text l.initial.digests ≡ map digest (top_sites l.start l.end
       (peaks_from g.F.Family.shape l.initial.rest.first l.initial.rest.left) l.initial.rest.folded) ++ later →
-      Reads g.F.Family.shape digest later (map g.D.Write.text l.digests) (texts g.D.Write.text l.kept.items)
-      (texts g.D.Write.text l.fn.kept.items ++ peak_entries g.F.Family.shape digest later (top_sites l.start l.end
+      Reads g.F.Family.shape digest later (map g.D.Write.text l.digests) (by_bytes g.D.Write.text l.kept.items)
+      (by_bytes g.D.Write.text l.fn.kept.items ++ peak_entries g.F.Family.shape digest later (top_sites l.start l.end
       (peaks_from g.F.Family.shape l.initial.rest.first l.initial.rest.left) l.initial.rest.folded))
       (top_sites l.start l.end (peaks_from g.F.Family.shape l.rest.first l.rest.left) l.rest.folded)
       (back_among digest (top_sites l.start l.end

@@ -1,7 +1,7 @@
 use Rattle.storage_ops.proofs.Failing.{fails_then, hands_on, may_fail}
 use Rattle.storage_ops.proofs.ReadingCommits.{value_read, value_fails, none_read, none_fails}
 use Rattle.std.proofs.Common.{arith}
-use Rattle.storage_codec.specs.PartsLaws.{ends_same, ends_then}
+use Rattle.storage_codec.specs.Laws.Parts.{ends_same, ends_then}
 use Rattle.storage_ops.proofs.qmdb.operation.commit.read_presence.Goals as goal
 
 pub returns-in_err-read_cfg-clause-gives : goal.returns-in_err-read_cfg-clause-gives

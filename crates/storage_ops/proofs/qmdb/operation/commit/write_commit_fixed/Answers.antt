@@ -1,4 +1,4 @@
-use Rattle.storage_codec.specs.PartsLaws.{starts_then, starts_first}
+use Rattle.storage_codec.specs.Laws.Parts.{starts_then, starts_first}
 use Rattle.storage_ops.proofs.Starts.{appended, on_err}
 use Rattle.storage_ops.proofs.qmdb.operation.commit.write_commit_fixed.Goals as goal
 

@@ -1,6 +1,6 @@
 use Rattle.std.proofs.Common.{arith}
 use Rattle.std.proofs.lemmas.Grind.{common_steps}
-use Rattle.storage_codec.specs.PartsLaws.{starts_cons}
+use Rattle.storage_codec.specs.Laws.Parts.{starts_cons}
 use Rattle.storage_ops.proofs.qmdb.operation.commit.write_presence.Goals as goal
 
 pub returns-in_err-put_zeros-in-None-clause-err : goal.returns-in_err-put_zeros-in-None-clause-err

@@ -1,6 +1,6 @@
 use Rattle.std.proofs.Common.{arith}
 use Rattle.storage_ops.proofs.Zeros.{zeros_done, zeros_step}
-use Rattle.storage_codec.specs.PartsLaws.{ends_same, ends_then}
+use Rattle.storage_codec.specs.Laws.Parts.{ends_same, ends_then}
 use Rattle.storage_ops.proofs.qmdb.operation.padding.ensure_zeros.Goals as goal
 
 pub returns-in_err-byte-clause-gives : goal.returns-in_err-byte-clause-gives

@@ -6,9 +6,9 @@ pub returns-clause-exact : goal.returns-clause-exact
 returns-clause-exact g c = rw (c.deref.ensures.value, c.in_ok-elements.ensures.all, c.hasher.ensures) at
     c.verify_multi_inclusion.ensures.exact
 
-pub returns-clause-means : goal.returns-clause-means
-returns-clause-means g c = rw (c.deref.ensures.value, c.in_ok-elements.ensures.all, c.hasher.ensures) at
-    c.verify_multi_inclusion.ensures.means
+pub returns-clause-meaning : goal.returns-clause-meaning
+returns-clause-meaning g c = rw (c.deref.ensures.value, c.in_ok-elements.ensures.all, c.hasher.ensures) at
+    c.verify_multi_inclusion.ensures.meaning
 
 pub returns-clause-none : goal.returns-clause-none
 returns-clause-none g c = grind (arith, common_steps)

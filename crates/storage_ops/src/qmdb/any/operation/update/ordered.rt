@@ -6,7 +6,7 @@ ghost use Rattle.storage_codec.specs.Parts.{AppendsStart, IsEnding};
 ghost use Rattle.hex.specs.Hex.{encode_lower};
 ghost use Rattle.storage_ops.specs.Shown.{shown_ordered};
 ghost use Rattle.storage_ops.specs.Updates.{ordered_at};
-ghost use Rattle.storage_ops.specs.UpdatesLaws.{ordered_again, ordered_back, ordered_sized, three_small};
+ghost use Rattle.storage_ops.specs.Laws.Updates.{ordered_again, ordered_back, ordered_sized, three_small};
 
 use crate::qmdb::any::operation::display::{hex_of_bytes, hex_of_value};
 use crate::qmdb::any::operation::update::{
@@ -119,7 +119,7 @@ impl<K: Key, V: ValueEncoding> UpdateTrait for Update<K, V> {
 impl<K: Key, V: ValueEncoding> Write for Update<K, V> {
     ghost text = { λ u. K.text u.key ++ V.Value.text u.value ++ K.text u.next_key };
 
-    #[tactic(auto, using(storage_codec::specs::PartsLaws::starts_then, storage_codec::specs::PartsLaws::starts_first))]
+    #[tactic(auto, using(storage_codec::specs::Laws::Parts::starts_then, storage_codec::specs::Laws::Parts::starts_first))]
     fn write(&self, out: &mut Vec<u8>) -> Result<(), NoMemory> {
         write_pair(&self.key, &self.value, out)?;
         self.next_key.write(out)?;
@@ -129,7 +129,7 @@ impl<K: Key, V: ValueEncoding> Write for Update<K, V> {
 
 /// Reads the key, the value and the next key, one after another, from the front of `buf`; the reader of a key is told
 /// `key`, that of the value `value`. Refuses as the first of them that does.
-#[tactic(auto, using(storage_codec::specs::PartsLaws::ends_then))]
+#[tactic(auto, using(storage_codec::specs::Laws::Parts::ends_then))]
 fn read<K: Key, V: ValueEncoding, B: Buf>(
     alloc: Global,
     buf: &mut B,

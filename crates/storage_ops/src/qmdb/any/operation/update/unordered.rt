@@ -6,7 +6,7 @@ ghost use Rattle.storage_codec.specs.Parts.{AppendsStart, IsEnding};
 ghost use Rattle.hex.specs.Hex.{encode_lower};
 ghost use Rattle.storage_ops.specs.Shown.{shown_unordered};
 ghost use Rattle.storage_ops.specs.Updates.{unordered_at};
-ghost use Rattle.storage_ops.specs.UpdatesLaws.{unordered_again, unordered_back, unordered_sized, two_small};
+ghost use Rattle.storage_ops.specs.Laws.Updates.{unordered_again, unordered_back, unordered_sized, two_small};
 
 use crate::qmdb::any::operation::display::{hex_of_bytes, hex_of_value};
 use crate::qmdb::any::operation::update::{
@@ -105,7 +105,7 @@ impl<K: Key, V: ValueEncoding> UpdateTrait for Update<K, V> {
 impl<K: Key, V: ValueEncoding> Write for Update<K, V> {
     ghost text = { λ u. K.text u.0 ++ V.Value.text u.1 };
 
-    #[tactic(auto, using(storage_codec::specs::PartsLaws::starts_then, storage_codec::specs::PartsLaws::starts_first))]
+    #[tactic(auto, using(storage_codec::specs::Laws::Parts::starts_then, storage_codec::specs::Laws::Parts::starts_first))]
     fn write(&self, out: &mut Vec<u8>) -> Result<(), NoMemory> {
         write_pair(&self.0, &self.1, out)
     }
@@ -113,7 +113,7 @@ impl<K: Key, V: ValueEncoding> Write for Update<K, V> {
 
 /// Reads the key and the value, one after the other, from the front of `buf`, whose readers are told `key` and
 /// `value`. Refuses as the first of them that does.
-#[tactic(auto, using(storage_codec::specs::PartsLaws::ends_then))]
+#[tactic(auto, using(storage_codec::specs::Laws::Parts::ends_then))]
 fn read<K: Key, V: ValueEncoding, B: Buf>(
     alloc: Global,
     buf: &mut B,

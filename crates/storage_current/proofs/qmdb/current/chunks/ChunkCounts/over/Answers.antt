@@ -1,5 +1,5 @@
 use Rattle.std.proofs.Common.{arith}
-use Rattle.storage_current.specs.GraftingLaws.{graftable_is}
+use Rattle.storage_current.specs.Laws.Grafting.{graftable_is}
 use Rattle.storage_current.proofs.Windows.{graftable_within}
 use Rattle.storage_current.proofs.qmdb.current.chunks.ChunkCounts.over.Goals as goal
 

@@ -1,6 +1,6 @@
 use Rattle.std.proofs.Common.{arith, refl, ◌≤◌}
-use Rattle.storage_merkle.specs.Multiples.{in_units}
-use Rattle.storage_merkle.specs.ShapeLaws.{down, valid_height}
+use Rattle.storage_merkle.specs.Laws.Multiples.{in_units}
+use Rattle.storage_merkle.specs.Laws.Shape.{down, valid_height}
 use Rattle.storage_current.proofs.Regrafting.{had_at, under_raised}
 use Rattle.storage_current.proofs.qmdb.current.grafting.storage.grafted_digest.Goals as goal
 

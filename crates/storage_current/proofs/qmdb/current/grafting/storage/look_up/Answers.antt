@@ -1,7 +1,7 @@
 use Rattle.std.proofs.Common.{arith, ◌≤◌, ◌-◌, ◌/◌, ◌^◌, sym, refl, ◌∙◌}
 use Rattle.storage_merkle.specs.Shape.{size}
 use Rattle.storage_merkle.specs.Nodes.{CoversSame}
-use Rattle.storage_merkle.specs.ShapeLaws.{covers_down}
+use Rattle.storage_merkle.specs.Laws.Shape.{covers_down}
 use Rattle.storage_current.specs.GraftedTrees.{regrafted}
 use Rattle.storage_current.proofs.Joined.{joined_below, joined_above}
 use Rattle.storage_current.proofs.qmdb.current.grafting.storage.look_up.Goals as goal

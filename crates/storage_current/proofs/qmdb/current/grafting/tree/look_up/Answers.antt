@@ -1,7 +1,7 @@
 use Rattle.std.proofs.Common.{arith, ◌≡◌, ◌+◌, ◌-◌, ◌<◌, ◌≤◌, ◌^◌, ap, sym, ◌∙◌, ⊎_elim}
 use Rattle.std.proofs.lemmas.Bool.{cases_lt}
 use Rattle.storage_merkle.specs.Shape.{size}
-use Rattle.storage_merkle.specs.ShapeLaws.{grows_at_most}
+use Rattle.storage_merkle.specs.Laws.Shape.{grows_at_most}
 use Rattle.storage_merkle.specs.Kept.{paired}
 use Rattle.storage_current.specs.GraftedTrees.{leaf_places}
 use Rattle.storage_current.proofs.Pinned.{leaf_found, no_leaf, no_size, tree_at_high, tree_at_low}

@@ -1,5 +1,5 @@
 use Rattle.std.proofs.Common.{arith, ◌≡◌, [], ◌∷◌, length, ap, ◌∙◌, length-append}
-use Rattle.storage_merkle.specs.ShapeLaws.{no_peaks}
+use Rattle.storage_merkle.specs.Laws.Shape.{no_peaks}
 use Rattle.storage_merkle.specs.Hashing.{join_digest, node_over}
 use Rattle.storage_current.proofs.Pinned.{under_within, walk_aligned, walk_here, walk_next}
 use Rattle.storage_current.proofs.Pruning.{peak_had, peak_true, walk_end, walk_fits, walk_push}

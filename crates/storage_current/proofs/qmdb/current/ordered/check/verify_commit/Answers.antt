@@ -1,12 +1,12 @@
 use Rattle.std.proofs.Common.{length}
-use Rattle.storage_current.specs.Held.{operation_of}
+use Rattle.storage_current.specs.Held.{operation_proof_of}
 use Rattle.storage_current.specs.KeyProofs.{Commit}
 use Rattle.storage_current.proofs.KeyAnswers.{means_absent, commit_same}
 use Rattle.storage_current.proofs.qmdb.current.ordered.check.verify_commit.Goals as goal
 
 pub returns-clause-meaning : goal.returns-clause-meaning
 returns-clause-meaning g c = λ wide.
-    let p = operation_of g.D.Write.text g.C.Chunk.text c.args.proof.now in
+    let p = operation_proof_of g.D.Write.text g.C.Chunk.text c.args.proof.now in
     means_absent g.H.Hasher.hash_of (record { shape = g.F.Family.shape; bytes = length p.chunk })
     (g.D.Write.text c.args.root.now) c.verify.result
     (record {

@@ -1,6 +1,6 @@
 use Rattle.std.proofs.Common.{ℕ, List, ◌++◌, length}
 use Rattle.storage_ops.specs.declared.qmdb.any.operation.update.ordered.Update.{Update as Ordered}
-use Rattle.storage_current.specs.Held.{operation_of}
+use Rattle.storage_current.specs.Held.{operation_proof_of}
 use Rattle.storage_current.specs.KeyProofs.{KeyValue}
 use Rattle.storage_current.proofs.KeyAnswers.{means_absent, update_same}
 use Rattle.storage_current.proofs.qmdb.current.ordered.check.verify_span.Goals as goal
@@ -10,7 +10,7 @@ update_bytes key value u = key u.key ++ value u.value ++ key u.next_key
 
 pub returns-clause-meaning : goal.returns-clause-meaning
 returns-clause-meaning g c = λ wide.
-    let p = operation_of g.D.Write.text g.C.Chunk.text c.args.proof.now in
+    let p = operation_proof_of g.D.Write.text g.C.Chunk.text c.args.proof.now in
     let u = c.args.update.now in
     let text = update_bytes g.K.Write.text g.V.Value.Write.text in
     means_absent g.H.Hasher.hash_of (record { shape = g.F.Family.shape; bytes = length p.chunk })

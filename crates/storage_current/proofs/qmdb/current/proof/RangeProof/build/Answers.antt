@@ -1,5 +1,5 @@
 use Rattle.std.proofs.Common.{◌≡◌, ◌∙◌, arith, sym, inl, inr, refl, min}
-use Rattle.storage_current.specs.GraftingLaws.{height_of_power}
+use Rattle.storage_current.specs.Laws.Grafting.{height_of_power}
 use Rattle.storage_current.specs.Snapshots.{Grafting, height}
 use Rattle.storage_current.proofs.Roots.{AreCounts, counts_at}
 use Rattle.storage_current.proofs.Built.{built_inactive, built_range, built_current}

@@ -1,13 +1,13 @@
 use Rattle.std.proofs.Common.{◌^◌, ◌∙◌, arith, map}
-use Rattle.storage_merkle.specs.ShapeLaws.{size_order}
-use Rattle.storage_current.specs.Held.{current_of}
+use Rattle.storage_merkle.specs.Laws.Shape.{size_order}
+use Rattle.storage_current.specs.Held.{range_proof_of}
 use Rattle.storage_current.specs.Snapshots.{Grafting}
 use Rattle.storage_current.proofs.Checks.{seen_lengths, unmatched, unfit, decided}
 use Rattle.storage_current.proofs.qmdb.current.proof.RangeProof.decide_in.Goals as goal
 
 pub returns-then-not-match_chunks : goal.returns-then-not-match_chunks
 returns-then-not-match_chunks g c = λ n of sized.
-    let P = current_of g.D.Write.text c.args.self.now in
+    let P = range_proof_of g.D.Write.text c.args.self.now in
     let S : Grafting = record { shape = g.F.Family.shape; bytes = n } in
     let seen = seen_lengths g.E.AsSlice.items g.C.Chunk.text c.args.operations.now c.args.chunks.now S
     c.args.self.now.proof.leaves c.args.start c.args.window.now of in (
@@ -24,7 +24,7 @@ recompute_root-requires g c = λ p few below.
 
 pub returns-in_default : goal.returns-in_default
 returns-in_default g c = λ n of sized.
-    let P = current_of g.D.Write.text c.args.self.now in
+    let P = range_proof_of g.D.Write.text c.args.self.now in
     let S : Grafting = record { shape = g.F.Family.shape; bytes = n } in
     let v = c.new-verifier.result in
     let e = c.new-verifier.ensures in
@@ -40,7 +40,7 @@ returns-in_default g c = λ n of sized.
 
 pub returns : goal.returns
 returns g c = λ n of sized.
-    let P = current_of g.D.Write.text c.args.self.now in
+    let P = range_proof_of g.D.Write.text c.args.self.now in
     let S : Grafting = record { shape = g.F.Family.shape; bytes = n } in
     let v = c.new-verifier.result in
     let e = c.new-verifier.ensures in

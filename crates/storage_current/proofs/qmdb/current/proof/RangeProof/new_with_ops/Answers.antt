@@ -1,9 +1,9 @@
 use Rattle.std.proofs.Common.{◌≡◌, ◌≤◌, ◌<◌, ◌∙◌, ◌/◌, ◌^◌, length, map, arith, sym, subst, inl, inr, rules}
 use Rattle.storage_bitmap.specs.Chunks.{bit_count}
-use Rattle.storage_current.specs.GraftingLaws.{height_of_power}
-use Rattle.storage_current.specs.Held.{current_of}
+use Rattle.storage_current.specs.Laws.Grafting.{height_of_power}
+use Rattle.storage_current.specs.Held.{range_proof_of}
 use Rattle.storage_current.specs.Served.{AreServedOf, HoldsRange, IsNotMade, IsServable, end_of}
-use Rattle.storage_current.specs.Snapshots.{Grafting, own_current_proof}
+use Rattle.storage_current.specs.Snapshots.{Grafting, own_range_proof}
 use Rattle.storage_current.proofs.Making.{same_count}
 use Rattle.storage_current.proofs.Serving.{end_after, end_within, holds_range, log_counts_moved, power_of_size, range_moved, touched_moved}
 use Rattle.storage_current.proofs.qmdb.current.proof.RangeProof.new_with_ops.Goals as goal
@@ -58,11 +58,11 @@ returns-in-Ok-read_range-clause-own g c = λ s served.
     let count = bit_count g.row.N status in
     let high = end_of start c.args.spec.max_ops count in
     let end : c.in-Ok.end ≡ high = c.in-Ok.ensures.end in
-    let proof = current_of text c.in-Ok-new.proof in
+    let proof = range_proof_of text c.in-Ok-new.proof in
     let served_here = subst (λ h. AreServedOf nodes node G start h status text hash c.args.spec.inactivity_floor
     (text c.args.spec.ops_root) s) (sym end) served in
-    let own : proof ≡ own_current_proof hash G s start high =
-    subst (λ h. proof ≡ own_current_proof hash G s start h) end (c.in-Ok-new.ensures.own s served_here) in
+    let own : proof ≡ own_range_proof hash G s start high =
+    subst (λ h. proof ≡ own_range_proof hash G s start h) end (c.in-Ok-new.ensures.own s served_here) in
     let made = c.in-Ok-new.ensures.made in
     let kept = c.in-Ok.ensures.kept in
     let all : count ≡ length s.operations = made.bits.all ∙ sym

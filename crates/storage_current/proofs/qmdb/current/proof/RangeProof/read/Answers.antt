@@ -2,7 +2,7 @@ use Rattle.std.proofs.Common.{◌≡◌, ℕ, Option, Some, map, rules}
 use Rattle.std.specs.List.{Contains}
 use Rattle.std.specs.List.Sorted.{IsStrictlyIncreasing}
 use Rattle.std.proofs.lemmas.Result.{IfOk-weaker}
-use Rattle.storage_current.specs.Held.{current_of}
+use Rattle.storage_current.specs.Held.{range_proof_of}
 use Rattle.storage_current.specs.Snapshots.{Grafting}
 use Rattle.storage_current.proofs.Fetching.{unread_not_read, parts_told, are_answered, on_ok, why_from}
 use Rattle.storage_current.proofs.qmdb.current.proof.RangeProof.read.Goals as goal
@@ -40,6 +40,6 @@ returns-clause-why g c =
     let f = c.in-Ok.ensures in
     why_from _ c.build.result g.D.Write.text g.H.Hasher.hash_of G c.args.plan
     (g.R.Readable.retained c.args.status.now) c.args.floor (g.D.Write.text c.args.ops_root)
-    (current_of g.D.Write.text) c.build.ensures.own c.build.ensures.why node c.in-Ok.fetched.positions.items
+    (range_proof_of g.D.Write.text) c.build.ensures.own c.build.ensures.why node c.in-Ok.fetched.positions.items
     c.in-Ok.fetched.digests.items f.positions f.digests (λ p a has ans.
     (let e : (n : ℕ → Option g.row.D.Denot) → IsStrictlyIncreasing c.in-Ok.fetched.positions.items → map Some c.in-Ok.fetched.digests.items ≡ map n c.in-Ok.fetched.positions.items → Contains c.in-Ok.fetched.positions.items p → a ≡ n p = search rules in e node f.rising f.digests has))

@@ -2,7 +2,7 @@ use Rattle.std.specs.Bool.{IsTrue}
 use Rattle.std.specs.Result.{IfOk}
 use Rattle.std.proofs.Common.{◌∙◌, ℕ, List, map, ap, subst, arith}
 use Rattle.storage_current.specs.CurrentSoundness.{MeansCurrent}
-use Rattle.storage_current.specs.Held.{current_of}
+use Rattle.storage_current.specs.Held.{range_proof_of}
 use Rattle.std.proofs.lemmas.Grind.{common_steps}
 use Rattle.storage_current.proofs.qmdb.current.proof.RangeProof.verify_with_chunk_size.Goals as goal
 
@@ -10,7 +10,7 @@ pub returns-clause-meaning : goal.returns-clause-meaning
 returns-clause-meaning g c = λ wide.
     let all = c.in_ok-elements.ensures in
     subst (λ (operations : List (List ℕ)). IfOk c.verify_in.result (λ yes. IsTrue yes → MeansCurrent g.H.Hasher.hash_of
-    (record { shape = g.F.Family.shape; bytes = c.args.chunk_size }) (current_of g.D.Write.text c.args.self.now)
+    (record { shape = g.F.Family.shape; bytes = c.args.chunk_size }) (range_proof_of g.D.Write.text c.args.self.now)
     c.args.start operations (map g.C.Chunk.text c.args.chunks.now) (g.D.Write.text c.args.root.now)))
     (ap (map (λ e. e.items)) c.deref.ensures.value ∙ all.bytes)
     (c.verify_in.ensures.meaning c.args.chunk_size

@@ -1,8 +1,8 @@
 use Rattle.std.proofs.Common.{◌≡◌, ◌^◌, ◌∙◌, arith, inl, inr, map, refl, true}
-use Rattle.storage_merkle.specs.Extracted.{extracted, texts}
-use Rattle.storage_merkle.specs.ShapeLaws.{size_order}
+use Rattle.storage_merkle.specs.Extracted.{extracted, by_bytes}
+use Rattle.storage_merkle.specs.Laws.Shape.{size_order}
 use Rattle.storage_merkle.specs.declared.merkle.bagging.Bagging.TheVariants.{BackwardFold}
-use Rattle.storage_current.specs.Held.{current_of}
+use Rattle.storage_current.specs.Held.{range_proof_of}
 use Rattle.storage_current.specs.Snapshots.{Grafting}
 use Rattle.storage_current.proofs.Checks.{seen_lengths, unmatched, unfit, decided, to_claim}
 use Rattle.storage_current.proofs.Extracting.{equal, unequal}
@@ -10,7 +10,7 @@ use Rattle.storage_current.proofs.qmdb.current.proof.extract.extract_in.Goals as
 
 pub returns-then-not-match_chunks : goal.returns-then-not-match_chunks
 returns-then-not-match_chunks g c = λ n of sized.
-    let P = current_of g.H.Digest.Write.text c.args.proof.now in
+    let P = range_proof_of g.H.Digest.Write.text c.args.proof.now in
     let S : Grafting = record { shape = g.F.Family.shape; bytes = n } in
     let seen = seen_lengths g.E.AsSlice.items g.C.Chunk.text c.args.operations.now c.args.chunks.now S
     c.args.proof.now.proof.leaves c.args.start c.args.window.now of in
@@ -28,7 +28,7 @@ recompute_digests-requires g c = λ p few below.
 
 pub returns-in_default : goal.returns-in_default
 returns-in_default g c = λ n of sized.
-    let P = current_of g.H.Digest.Write.text c.args.proof.now in
+    let P = range_proof_of g.H.Digest.Write.text c.args.proof.now in
     let S : Grafting = record { shape = g.F.Family.shape; bytes = n } in
     let v = c.new-verifier.result in
     let e = c.new-verifier.ensures in
@@ -46,7 +46,7 @@ returns-in_default g c = λ n of sized.
 pub returns-then-ne : goal.returns-then-ne
 returns-then-ne g c = λ n of sized.
     let text = g.H.Digest.Write.text in
-    let P = current_of text c.args.proof.now in
+    let P = range_proof_of text c.args.proof.now in
     let S : Grafting = record { shape = g.F.Family.shape; bytes = n } in
     let v = c.new-verifier.result in
     let e = c.new-verifier.ensures in
@@ -72,7 +72,7 @@ returns-then-ne g c = λ n of sized.
 pub returns : goal.returns
 returns g c = λ n of sized.
     let text = g.H.Digest.Write.text in
-    let P = current_of text c.args.proof.now in
+    let P = range_proof_of text c.args.proof.now in
     let S : Grafting = record { shape = g.F.Family.shape; bytes = n } in
     let v = c.new-verifier.result in
     let e = c.new-verifier.ensures in
@@ -90,7 +90,7 @@ returns g c = λ n of sized.
           (map g.C.Chunk.text c.args.chunks.now) c.args.window.now seen
           v.height v.start_chunk_index v.graftable_chunks (map (λ b. b.now) v.chunks.items) e.height e.start e.graftable
           (e.chunks ∙ c.in_ok-lent.ensures)
-          (λ T claim. texts text c.in-Some.computed.1.items
+          (λ T claim. by_bytes text c.in-Some.computed.1.items
           ≡ extracted g.H.Hasher.hash_of T BackwardFold P.range c.args.start claim)
           (rw c.in-Some.is at c.in_ok-computed.ensures.digests),
     )

@@ -1,5 +1,5 @@
 use Rattle.std.proofs.Common.{◌≡◌, ◌/◌, ◌^◌, inr, refl}
-use Rattle.storage_current.specs.GraftingLaws.{height_of_power}
+use Rattle.storage_current.specs.Laws.Grafting.{height_of_power}
 use Rattle.storage_current.specs.Snapshots.{Grafting, height, first_chunk}
 use Rattle.storage_current.proofs.qmdb.current.proof.with_ops.range_end.Goals as goal
 

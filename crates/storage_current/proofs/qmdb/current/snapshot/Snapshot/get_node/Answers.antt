@@ -2,7 +2,7 @@ use Rattle.std.proofs.Common.{◌≡◌, ◌≤◌, length, arith, ap, ◌∙◌
 use Rattle.std.specs.List.{slice_get}
 use Rattle.std.specs.Option.{option_map}
 use Rattle.std.proofs.lemmas.Option.{slice_get_past}
-use Rattle.storage_current.specs.GraftingLaws.{height_of_power}
+use Rattle.storage_current.specs.Laws.Grafting.{height_of_power}
 use Rattle.storage_current.specs.Snapshots.{Grafting, height, view_node}
 use Rattle.storage_current.proofs.MemViews.{seen_value}
 use Rattle.storage_current.proofs.Roots.{looked_up, none_there}

@@ -1,14 +1,14 @@
 use Rattle.std.proofs.Common.{◌≡◌, ℕ, ◌*◌, arith, length, map, ap, ◌∙◌, sym, refl}
 use Rattle.std.proofs.Math.Nat.{zero-mul}
 use Rattle.std.specs.Option.{option_map}
-use Rattle.storage_merkle.specs.HashingLaws.{length-leaf_digests}
+use Rattle.storage_merkle.specs.Laws.Hashing.{length-leaf_digests}
 use Rattle.storage_merkle.specs.Hashing.{leaf_digests}
 use Rattle.storage_merkle.specs.Shape.{size}
 use Rattle.storage_merkle.specs.Trees.{listed, tree_root, ungrafted}
 use Rattle.storage_merkle.specs.declared.merkle.bagging.Bagging.TheVariants.{BackwardFold}
 use Rattle.storage_current.specs.CombinedViews.{chunk_node}
 use Rattle.storage_current.specs.Grafted.{grafted_over}
-use Rattle.storage_current.specs.GraftingLaws.{height_of_power}
+use Rattle.storage_current.specs.Laws.Grafting.{height_of_power}
 use Rattle.storage_current.specs.NodeLists.{AreHad, AreNodes, seen_in, seen_list}
 use Rattle.storage_current.specs.Snapshots.{Grafting, IsGrafting, Snapshot, IsSnapshot, height, graftable, graftable_at, view, content, view_node, exact_of, aligned_of, ops_root_of, grafted_root_of, pending_of, partial_of}
 use Rattle.storage_current.proofs.Heights.{whole_within, rest_within}

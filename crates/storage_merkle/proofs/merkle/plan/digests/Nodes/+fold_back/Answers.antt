@@ -2,7 +2,7 @@ use Rattle.std.proofs.Common.{rules, refl, ◌<◌, ◌^◌, ◌+◌, ◌-◌}
 use Rattle.std.proofs.lemmas.Nat.{pow_pos}
 use Rattle.storage_merkle.specs.PlanParts.{ArePlannedAll}
 use Rattle.storage_merkle.specs.Rests.{peaks_from}
-use Rattle.storage_merkle.specs.ShapeLaws.{step, no_peaks}
+use Rattle.storage_merkle.specs.Laws.Shape.{step, no_peaks}
 use Rattle.storage_merkle.proofs.Plan.Folds.{all_first, all_rest, back_more, back_none}
 use Rattle.storage_merkle.proofs.merkle.plan.digests.Nodes.+fold_back.Goals as goal
 

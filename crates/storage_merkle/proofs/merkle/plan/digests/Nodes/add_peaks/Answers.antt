@@ -1,5 +1,5 @@
 use Rattle.std.proofs.Common.{◌<◌, ◌≤◌, ◌⊎◌, ◌+◌, inl, inr, refl, sym, Some, arith}
-use Rattle.storage_merkle.specs.ShapeLaws.{no_peaks}
+use Rattle.storage_merkle.specs.Laws.Shape.{no_peaks}
 use Rattle.storage_merkle.proofs.Walks.{peaks_step, peaks_next}
 use Rattle.storage_merkle.proofs.Plan.Folds.{apart_first, apart_rest}
 use Rattle.storage_merkle.proofs.Siblings.{on_ok}

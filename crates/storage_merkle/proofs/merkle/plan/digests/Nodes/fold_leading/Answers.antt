@@ -1,7 +1,7 @@
 use Rattle.std.proofs.Common.{◌≡◌, refl, ◌+◌, ◌≤◌, ◌^◌, [], take, option_map, arith}
 use Rattle.storage_merkle.specs.RangeProofs.{leading}
 use Rattle.storage_merkle.specs.Rests.{peaks_from}
-use Rattle.storage_merkle.specs.ShapeLaws.{no_peaks}
+use Rattle.storage_merkle.specs.Laws.Shape.{no_peaks}
 use Rattle.storage_merkle.proofs.Walks.{peaks_step, peaks_next}
 use Rattle.storage_merkle.proofs.Plan.Folds.{leading_first, leading_rest, forward_leads, forward_ends, leads_not, leads_none, leads_end}
 use Rattle.storage_merkle.proofs.Rests.{passing_starts, passing_goes_on, passing_stops, passing_unfolded, passing_ends}

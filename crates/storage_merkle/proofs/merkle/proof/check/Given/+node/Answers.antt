@@ -1,5 +1,5 @@
 use Rattle.std.proofs.Common.{arith, rules, map, refl, sym, [], ◌∙◌}
-use Rattle.storage_merkle.specs.CheckSteps.{given_values}
+use Rattle.storage_merkle.specs.CheckParts.{given_values}
 use Rattle.storage_merkle.proofs.Walks.{in_tree_leaves, in_tree_left, in_tree_right, halves}
 use Rattle.storage_merkle.proofs.Check.Nodes.{present_itself, present_halves, node_sibling, node_leaf, node_halves, element_at}
 use Rattle.storage_merkle.proofs.Found.{adds_nothing, adds_then, keeps_last, found_itself, found_leaf, found_halves}

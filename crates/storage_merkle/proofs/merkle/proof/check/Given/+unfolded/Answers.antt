@@ -1,14 +1,14 @@
 use Rattle.std.proofs.Common.{rules, arith, Some, map, length, inr, refl, ap, ◌<◌, ◌^◌, ◌∙◌}
 use Rattle.std.proofs.lemmas.Nat.{pow_pos}
 use Rattle.storage_merkle.specs.Calc.{back, eval}
-use Rattle.storage_merkle.specs.CheckSteps.{given_values}
+use Rattle.storage_merkle.specs.CheckParts.{given_values}
 use Rattle.storage_merkle.specs.Plans.{ArePeaks}
 use Rattle.storage_merkle.specs.RangeProofs.{apart}
 use Rattle.storage_merkle.specs.Trees.{part}
 use Rattle.storage_merkle.proofs.Walks.{peak_in_tree, peaks_next}
 use Rattle.storage_merkle.proofs.Check.Nodes.{first_of}
 use Rattle.storage_merkle.proofs.Check.Tops.{first_and_others, tops_fold, tops, present_first, present_others, some_top, tops_left, top_here, tops_after, right_step, right_end, right_fold}
-use Rattle.storage_merkle.specs.ShapeLaws.{no_peaks}
+use Rattle.storage_merkle.specs.Laws.Shape.{no_peaks}
 use Rattle.storage_merkle.proofs.Found.{adds_nothing, adds_then, found_none, found_past, found_first}
 use Rattle.storage_merkle.proofs.merkle.proof.check.Given.+unfolded.Goals as goal
 

@@ -1,6 +1,6 @@
 use Rattle.std.proofs.Common.{map, length, ap, refl, inl, inr, ◌≤◌, ◌⊎◌, ◌∙◌, option_map, arith}
 use Rattle.storage_merkle.specs.Calc.{back, eval}
-use Rattle.storage_merkle.specs.CheckSteps.{given_values}
+use Rattle.storage_merkle.specs.CheckParts.{given_values}
 use Rattle.storage_merkle.specs.RangeProofs.{apart}
 use Rattle.storage_merkle.specs.Trees.{part}
 use Rattle.storage_merkle.proofs.Walks.{peak_in_tree, peaks_next}

@@ -1,12 +1,12 @@
 use Rattle.std.proofs.Common.{◌≡◌, ◌++◌, List, ℕ, length, map, option_map}
 use Rattle.storage_merkle.specs.Calc.{Site, front, back, eval}
-use Rattle.storage_merkle.specs.CheckSteps.{front_before, top_sites, folded_before, bag_onto, given_values, Serves, PresentIn}
+use Rattle.storage_merkle.specs.CheckParts.{front_before, top_sites, folded_before, bag_onto, given_values, Serves, PresentIn}
 use Rattle.storage_merkle.specs.Plans.{ArePeaks}
 use Rattle.storage_merkle.specs.RangeProofs.{apart}
 use Rattle.storage_merkle.specs.Rests.{peaks_from}
 use Rattle.storage_merkle.specs.Trees.{part}
 use Rattle.storage_merkle.proofs.Check.Tops.{tops}
-use Rattle.storage_merkle.specs.Extracted.{texts}
+use Rattle.storage_merkle.specs.Extracted.{by_bytes}
 use Rattle.storage_merkle.proofs.Found.{found_peaks}
 use Rattle.storage_merkle.proofs.merkle.proof.check.Given.bag.Given as goal
 
@@ -30,10 +30,10 @@ invariant-loop-rest g l = record {
       (given_values digest l.self.start (map g.E.AsSlice.items l.self.elements.now) (g.H.Hasher.chunk l.hasher))
       (part (g.H.Hasher.layout l.hasher) (apart l.self.start l.self.end) p)) (digest back) l.self.end (folded_before
       (digest front) l.fn.rest.first) (peaks_from g.F.Family.shape l.fn.rest.first l.fn.rest.left) l.fn.rest.folded)
-      × (option_map (λ v. texts g.D.Write.text v.items ++ found_peaks g.H.Hasher.hash_of (g.H.Hasher.layout l.hasher)
+      × (option_map (λ v. by_bytes g.D.Write.text v.items ++ found_peaks g.H.Hasher.hash_of (g.H.Hasher.layout l.hasher)
       l.self.start l.self.end (given_values digest l.self.start (map g.E.AsSlice.items l.self.elements.now)
       (g.H.Hasher.chunk l.hasher)) (peaks_from g.F.Family.shape l.rest.first l.rest.left)) l.found
-      ≡ option_map (λ v. texts g.D.Write.text v.items ++ found_peaks g.H.Hasher.hash_of (g.H.Hasher.layout l.hasher)
+      ≡ option_map (λ v. by_bytes g.D.Write.text v.items ++ found_peaks g.H.Hasher.hash_of (g.H.Hasher.layout l.hasher)
       l.self.start l.self.end (given_values digest l.self.start (map g.E.AsSlice.items l.self.elements.now)
       (g.H.Hasher.chunk l.hasher)) (peaks_from g.F.Family.shape l.fn.rest.first l.fn.rest.left)) l.fn.found);
 }

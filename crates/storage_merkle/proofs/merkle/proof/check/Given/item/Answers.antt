@@ -1,6 +1,6 @@
 use Rattle.std.proofs.Common.{arith, map, refl, sym, []}
 use Rattle.storage_merkle.specs.Calc.{node}
-use Rattle.storage_merkle.specs.CheckSteps.{given_values}
+use Rattle.storage_merkle.specs.CheckParts.{given_values}
 use Rattle.storage_merkle.proofs.Check.Nodes.{node_sibling, first_of}
 use Rattle.storage_merkle.proofs.Walks.{in_tree_leaves}
 use Rattle.storage_merkle.proofs.Found.{adds_nothing, adds_then, found_apart, found_not_apart}

@@ -1,7 +1,7 @@
 use Rattle.std.proofs.Common.{◌≡◌, length, map, arith, ap, ◌∙◌}
 use Rattle.std.proofs.lemmas.List.{length-map}
 use Rattle.storage_codec.specs.Parts.{size_of}
-use Rattle.storage_merkle.specs.ProofWireLaws.{all_digests, proof_length}
+use Rattle.storage_merkle.specs.Laws.ProofWire.{all_digests, proof_length}
 use Rattle.storage_merkle.proofs.merkle.proof.codec.ProofEncodeSize.encode_size.Goals as goal
 
 pub returns : goal.returns

@@ -1,4 +1,4 @@
-use Rattle.storage_codec.specs.PartsLaws.{ends_then}
+use Rattle.storage_codec.specs.Laws.Parts.{ends_then}
 use Rattle.std.proofs.Common.{rules, arith}
 use Rattle.storage_merkle.proofs.merkle.proof.codec.ProofRead.read_cfg.Goals as goal
 

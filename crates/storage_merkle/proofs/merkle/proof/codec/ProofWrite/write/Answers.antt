@@ -1,7 +1,7 @@
 use Rattle.std.proofs.Common.{◌≡◌, length, map, ◌++◌, arith, ap, subst, ◌∙◌}
 use Rattle.std.proofs.lemmas.List.{length-map}
 use Rattle.storage_codec.specs.Parts.{AppendsStart, varint_text}
-use Rattle.storage_codec.specs.PartsLaws.{starts_then, starts_first}
+use Rattle.storage_codec.specs.Laws.Parts.{starts_then, starts_first}
 use Rattle.storage_merkle.specs.ProofWire.{joined_text}
 use Rattle.storage_merkle.proofs.Written.{on_err, on_err_to}
 use Rattle.std.proofs.lemmas.Grind.{common_steps}

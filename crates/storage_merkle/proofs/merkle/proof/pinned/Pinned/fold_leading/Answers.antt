@@ -1,8 +1,8 @@
 use Rattle.std.proofs.Common.{◌≡◌, refl, map, ◌+◌, ◌≤◌, ◌^◌, [], take, option_map, arith}
-use Rattle.storage_merkle.specs.PinnedSteps.{digest_before}
+use Rattle.storage_merkle.specs.PinnedParts.{digest_before}
 use Rattle.storage_merkle.specs.RangeProofs.{leading}
 use Rattle.storage_merkle.specs.Rests.{peaks_from}
-use Rattle.storage_merkle.specs.ShapeLaws.{no_peaks}
+use Rattle.storage_merkle.specs.Laws.Shape.{no_peaks}
 use Rattle.storage_merkle.proofs.Walks.{peak_in_tree, peaks_next}
 use Rattle.storage_merkle.proofs.Plan.Folds.{forward_leads, forward_ends, leads_not, leads_none, leads_end}
 use Rattle.storage_merkle.proofs.Rests.{passing_starts, passing_goes_on, passing_stops, passing_unfolded, passing_ends}

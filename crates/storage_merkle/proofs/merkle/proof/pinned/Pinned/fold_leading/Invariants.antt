@@ -1,6 +1,6 @@
 use Rattle.std.proofs.Common.{◌≡◌, take, option_map, map}
 use Rattle.storage_merkle.specs.Hashers.{forward_of}
-use Rattle.storage_merkle.specs.PinnedSteps.{digest_before}
+use Rattle.storage_merkle.specs.PinnedParts.{digest_before}
 use Rattle.storage_merkle.specs.PlanParts.{peaks_by}
 use Rattle.storage_merkle.specs.Plans.{ArePeaks}
 use Rattle.storage_merkle.specs.RangeProofs.{leading}

@@ -1,7 +1,7 @@
 use Rattle.std.proofs.Common.{arith, refl, sym, inl, inr, All, subst, ◌∙◌, ◌+◌, ◌<◌, ◌≤◌, ◌^◌}
 use Rattle.std.proofs.lemmas.List.Elements.{All-head, All-tail}
 use Rattle.storage_merkle.specs.Shape.{size}
-use Rattle.storage_merkle.specs.ShapeLaws.{valid_size}
+use Rattle.storage_merkle.specs.Laws.Shape.{valid_size}
 use Rattle.storage_merkle.proofs.Pinned.Match.{passes, fails, none_left, differs, agrees}
 use Rattle.storage_merkle.proofs.merkle.proof.pinned.Pinned.give_siblings.Goals as goal
 use Rattle.storage_merkle.proofs.merkle.proof.pinned.Pinned.give_siblings.Goals.{else-first-power-via-then-first-power+else-ne, else-first-power-via-else-first-power}

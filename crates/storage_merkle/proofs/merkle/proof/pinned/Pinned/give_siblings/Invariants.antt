@@ -1,6 +1,6 @@
 use Rattle.std.proofs.Common.{◌≡◌, ◌<◌, All, List, ℕ, map}
 use Rattle.storage_merkle.specs.Calc.{Site, node}
-use Rattle.storage_merkle.specs.PinnedSteps.{AreNodesAt, digest_before}
+use Rattle.storage_merkle.specs.PinnedParts.{AreNodesAt, digest_before}
 use Rattle.storage_merkle.specs.Shape.{size}
 use Rattle.storage_merkle.proofs.Pinned.Match.{Left}
 use Rattle.storage_merkle.proofs.merkle.proof.pinned.Pinned.give_siblings.Given as goal

@@ -1,5 +1,5 @@
 use Rattle.std.proofs.Common.{arith, map, length, ap}
-use Rattle.storage_merkle.specs.ShapeLaws.{no_peaks}
+use Rattle.storage_merkle.specs.Laws.Shape.{no_peaks}
 use Rattle.storage_merkle.proofs.Pinned.Nodes.{some_left}
 use Rattle.std.proofs.lemmas.Grind.{common_steps}
 use Rattle.storage_merkle.proofs.merkle.proof.pinned.Pinned.pinned.Goals as goal

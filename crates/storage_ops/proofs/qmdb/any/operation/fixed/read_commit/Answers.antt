@@ -1,8 +1,8 @@
-use Rattle.storage_ops.specs.Reading.{commit_steps}
+use Rattle.storage_ops.specs.Laws.Reading.{commit_steps}
 use Rattle.storage_ops.specs.Fixed.{floor_at}
 use Rattle.storage_ops.proofs.Failing.{fails_then, hands_on}
 use Rattle.std.proofs.Common.{arith}
-use Rattle.storage_codec.specs.PartsLaws.{ends_then}
+use Rattle.storage_codec.specs.Laws.Parts.{ends_then}
 use Rattle.storage_ops.proofs.qmdb.any.operation.fixed.read_commit.Goals as goal
 
 pub returns-in_err-value-clause-gives : goal.returns-in_err-value-clause-gives

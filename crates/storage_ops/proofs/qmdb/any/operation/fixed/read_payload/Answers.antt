@@ -1,7 +1,7 @@
 use Rattle.storage_ops.proofs.Failing.{hands_on, may_fail}
 use Rattle.storage_ops.proofs.Padded.{padded_read, padded_fails}
 use Rattle.std.proofs.Common.{arith}
-use Rattle.storage_codec.specs.PartsLaws.{ends_then}
+use Rattle.storage_codec.specs.Laws.Parts.{ends_then}
 use Rattle.storage_ops.proofs.qmdb.any.operation.fixed.read_payload.Goals as goal
 
 pub returns-in_err-ensure_zeros-in-210-clause-gives : goal.returns-in_err-ensure_zeros-in-210-clause-gives

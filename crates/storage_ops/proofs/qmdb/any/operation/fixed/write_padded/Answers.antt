@@ -1,5 +1,5 @@
 use Rattle.std.proofs.Common.{replicate}
-use Rattle.storage_codec.specs.PartsLaws.{starts_then, starts_first}
+use Rattle.storage_codec.specs.Laws.Parts.{starts_then, starts_first}
 use Rattle.storage_ops.proofs.Starts.{appended, on_err}
 use Rattle.storage_ops.proofs.qmdb.any.operation.fixed.write_padded.Goals as goal
 

@@ -1,5 +1,5 @@
 use Rattle.std.proofs.Common.{arith, ap, length, ◌^◌}
-use Rattle.storage_merkle.specs.ShapeLaws.{no_peaks}
+use Rattle.storage_merkle.specs.Laws.Shape.{no_peaks}
 use Rattle.storage_current.proofs.Pruning.{new_keeps, take_whole}
 use Rattle.storage_current.proofs.qmdb.current.grafting.tree.GraftedTree.new.Goals as goal
 

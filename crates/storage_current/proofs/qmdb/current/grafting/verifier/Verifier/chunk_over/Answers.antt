@@ -1,5 +1,5 @@
 use Rattle.std.proofs.Common.{arith, rules, List, ℕ, Bor}
-use Rattle.storage_merkle.specs.ShapeLaws.{same_node}
+use Rattle.storage_merkle.specs.Laws.Shape.{same_node}
 use Rattle.storage_current.proofs.Grafts.{grafted_some}
 use Rattle.std.proofs.lemmas.Grind.{common_steps}
 use Rattle.storage_current.proofs.qmdb.current.grafting.verifier.Verifier.chunk_over.Goals as goal

@@ -1,5 +1,5 @@
 use Rattle.std.proofs.Common.{arith}
-use Rattle.storage_codec.specs.PartsLaws.{ends_then}
+use Rattle.storage_codec.specs.Laws.Parts.{ends_then}
 use Rattle.storage_current.proofs.qmdb.current.ordered.codec.exclusion.read_before_update.Goals as goal
 
 pub returns-in-Ok-read_update-clause-ends : goal.returns-in-Ok-read_update-clause-ends

@@ -1,15 +1,15 @@
 use Rattle.std.proofs.Common.{◌≡◌, ◌∙◌, length, ap, sym, arith}
 use Rattle.storage_codec.specs.Parts.{size_of, option_text}
 use Rattle.storage_merkle.specs.Wire.{slot_text}
-use Rattle.storage_current.specs.Held.{current_of}
+use Rattle.storage_current.specs.Held.{range_proof_of}
 use Rattle.storage_current.specs.CurrentWire.{as_is}
-use Rattle.storage_current.specs.CurrentWireLaws.{current_length, slot_bytes, option_bytes}
+use Rattle.storage_current.specs.Laws.CurrentWire.{current_length, slot_bytes, option_bytes}
 use Rattle.storage_current.proofs.Written.{fits}
 use Rattle.storage_current.proofs.qmdb.current.proof.codec.RangeProofEncodeSize.encode_size.Goals as goal
 
 pub returns : goal.returns
 returns g c =
-    let p = current_of g.D.Write.text c.args.self.now in
+    let p = range_proof_of g.D.Write.text c.args.self.now in
     let there = g.F.Graftable.has_pending in
     let root : c.small_size.result ≡ length p.ops_root =
     c.small_size.ensures.value ∙ sym (g.met.D.FixedSize.sized c.args.self.now.ops_root) in

@@ -1,5 +1,5 @@
 use Rattle.std.proofs.Common.{refl}
-use Rattle.storage_codec.specs.PartsLaws.{ends_then}
+use Rattle.storage_codec.specs.Laws.Parts.{ends_then}
 use Rattle.storage_current.proofs.Failing.{fails_then}
 use Rattle.storage_current.proofs.qmdb.current.proof.codec.RangeProofRead.read_cfg.Goals as goal
 

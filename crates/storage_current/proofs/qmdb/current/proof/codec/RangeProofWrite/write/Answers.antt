@@ -1,23 +1,23 @@
 use Rattle.std.proofs.Common.{◌++◌, ◌∙◌, ap, subst}
 use Rattle.storage_codec.specs.Parts.{AppendsStart, option_text}
-use Rattle.storage_codec.specs.PartsLaws.{starts_then, starts_first}
+use Rattle.storage_codec.specs.Laws.Parts.{starts_then, starts_first}
 use Rattle.storage_merkle.specs.Wire.{slot_text}
 use Rattle.storage_merkle.specs.ProofWire.{proof_text}
-use Rattle.storage_current.specs.Held.{current_of}
+use Rattle.storage_current.specs.Held.{range_proof_of}
 use Rattle.storage_current.specs.CurrentWire.{as_is}
-use Rattle.storage_current.specs.CurrentWireLaws.{slot_bytes, option_bytes}
+use Rattle.storage_current.specs.Laws.CurrentWire.{slot_bytes, option_bytes}
 use Rattle.storage_current.proofs.Written.{on_err, on_err_to}
 use Rattle.storage_current.proofs.qmdb.current.proof.codec.RangeProofWrite.write.Goals as goal
 
 pub returns-in_err-write-clause-err : goal.returns-in_err-write-clause-err
 returns-in_err-write-clause-err g c =
-    let p = current_of g.D.Write.text c.args.self.now in
+    let p = range_proof_of g.D.Write.text c.args.self.now in
     on_err c.from_residual.result _ (starts_first (slot_text g.F.Graftable.has_pending as_is p.pending
     ++ (option_text as_is p.partial ++ p.ops_root)) c.in_err-write.ensures.err)
 
 pub returns-in_err-write_pending-clause-err : goal.returns-in_err-write_pending-clause-err
 returns-in_err-write_pending-clause-err g c =
-    let p = current_of g.D.Write.text c.args.self.now in
+    let p = range_proof_of g.D.Write.text c.args.self.now in
     let there = g.F.Graftable.has_pending in
     let slot = slot_bytes g.D.Write.text there c.args.self.now.pending_chunk_digest in
     on_err c.from_residual-in_err-write_pending.result _
@@ -28,7 +28,7 @@ returns-in_err-write_pending-clause-err g c =
 
 pub returns-in_err-write-2-clause-err : goal.returns-in_err-write-2-clause-err
 returns-in_err-write-2-clause-err g c =
-    let p = current_of g.D.Write.text c.args.self.now in
+    let p = range_proof_of g.D.Write.text c.args.self.now in
     let there = g.F.Graftable.has_pending in
     let slot = slot_bytes g.D.Write.text there c.args.self.now.pending_chunk_digest in
     let partial = option_bytes g.D.Write.text c.args.self.now.partial_chunk_digest in
@@ -42,7 +42,7 @@ returns-in_err-write-2-clause-err g c =
 
 pub returns-clause-err : goal.returns-clause-err
 returns-clause-err g c =
-    let p = current_of g.D.Write.text c.args.self.now in
+    let p = range_proof_of g.D.Write.text c.args.self.now in
     let there = g.F.Graftable.has_pending in
     let slot = slot_bytes g.D.Write.text there c.args.self.now.pending_chunk_digest in
     let partial = option_bytes g.D.Write.text c.args.self.now.partial_chunk_digest in

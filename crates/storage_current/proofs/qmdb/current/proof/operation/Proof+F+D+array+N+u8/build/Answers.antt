@@ -1,8 +1,8 @@
 use Rattle.std.proofs.Common.{◌≡◌, ◌+◌, ◌/◌, ◌^◌, arith, inl, inr, refl, ap, subst}
 use Rattle.storage_ops.specs.declared.qmdb.error.Error.TheVariants.{OperationPruned}
-use Rattle.storage_current.specs.GraftingLaws.{height_of_power}
+use Rattle.storage_current.specs.Laws.Grafting.{height_of_power}
 use Rattle.storage_current.specs.Snapshots.{Grafting, height, first_chunk}
-use Rattle.storage_current.specs.Held.{current_of}
+use Rattle.storage_current.specs.Held.{range_proof_of}
 use Rattle.storage_current.proofs.Heights.{chunk_of}
 use Rattle.storage_current.proofs.Built.{built_operation, moved_plan}
 use Rattle.storage_current.proofs.qmdb.current.proof.operation.«Proof+F+D+array+N+u8».build.Goals as goal
@@ -37,7 +37,7 @@ returns-in-Ok-clause-own g c = λ s parts.
     let index : c.as_u64.result / 2 ^ c.height.result ≡ first_chunk G c.args.plan.start =
     rw (level, c.as_u64.ensures, c.location-loc.ensures.value) refl in
     let range = moved_plan text _ h G c.args.plan c.into.result (g.R.Readable.retained c.args.status.now) c.args.floor
-    (text c.args.ops_root) (current_of text c.in-Ok.range_proof) c.into.ensures.value c.in-Ok.ensures.own s parts in
+    (text c.args.ops_root) (range_proof_of text c.in-Ok.range_proof) c.into.ensures.value c.in-Ok.ensures.own s parts in
     let one = subst (λ q. q.end ≡ q.start + 1) c.into.ensures.value c.into.ensures.one in
     built_operation text _ h G c.args.plan (g.R.Readable.retained c.args.status.now) c.args.floor
     (text c.args.ops_root) s parts _ _ _ _ c.location-loc.ensures.value one index

@@ -1,7 +1,7 @@
 use Rattle.std.proofs.Common.{◌≡◌, ◌∙◌, ◌%◌, ◌^◌, length, sym}
 use Rattle.storage_bitmap.specs.Packed.{bit_in}
 use Rattle.storage_current.specs.Snapshots.{height}
-use Rattle.storage_current.specs.GraftingLaws.{height_of_power}
+use Rattle.storage_current.specs.Laws.Grafting.{height_of_power}
 use Rattle.storage_current.proofs.qmdb.current.proof.operation.Proof.is_active.Goals as goal
 
 pub returns : goal.returns

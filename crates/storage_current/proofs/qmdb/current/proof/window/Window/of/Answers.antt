@@ -1,5 +1,5 @@
 use Rattle.std.proofs.Common.{refl, sym, arith}
-use Rattle.storage_current.specs.GraftingLaws.{height_of_power}
+use Rattle.storage_current.specs.Laws.Grafting.{height_of_power}
 use Rattle.storage_current.proofs.qmdb.current.proof.window.Window.of.Goals as goal
 
 pub returns-then-last_chunk-first_chunk : goal.returns-then-last_chunk-first_chunk

@@ -1,5 +1,5 @@
 use Rattle.std.proofs.Common.{rules, arith}
-use Rattle.storage_codec.specs.PartsLaws.{ends_then, ends_same}
+use Rattle.storage_codec.specs.Laws.Parts.{ends_then, ends_same}
 use Rattle.storage_ops.proofs.qmdb.any.operation.variable.VariableEncodingOperationCodec.read_operation.Goals as goal
 
 pub returns-in_default-clause-gives : goal.returns-in_default-clause-gives

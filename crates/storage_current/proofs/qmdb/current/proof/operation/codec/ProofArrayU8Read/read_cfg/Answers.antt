@@ -1,5 +1,5 @@
 use Rattle.std.proofs.Common.{rules, arith}
-use Rattle.storage_codec.specs.PartsLaws.{ends_then}
+use Rattle.storage_codec.specs.Laws.Parts.{ends_then}
 use Rattle.storage_current.proofs.qmdb.current.proof.operation.codec.ProofArrayU8Read.read_cfg.Goals as goal
 
 pub returns-in-Ok-read_cfg-clause-gives : goal.returns-in-Ok-read_cfg-clause-gives

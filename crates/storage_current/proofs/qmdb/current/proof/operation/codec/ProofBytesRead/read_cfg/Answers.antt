@@ -1,4 +1,4 @@
-use Rattle.storage_codec.specs.PartsLaws.{ends_then}
+use Rattle.storage_codec.specs.Laws.Parts.{ends_then}
 use Rattle.std.proofs.Common.{rules}
 use Rattle.storage_current.proofs.qmdb.current.proof.operation.codec.ProofBytesRead.read_cfg.Goals as goal
 

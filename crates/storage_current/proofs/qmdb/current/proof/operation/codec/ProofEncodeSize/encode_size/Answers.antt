@@ -1,7 +1,7 @@
 use Rattle.std.proofs.Common.{◌≡◌, ◌∙◌, length, ap, arith}
 use Rattle.storage_codec.specs.Parts.{size_of}
-use Rattle.storage_current.specs.Held.{current_of}
-use Rattle.storage_current.specs.CurrentWireLaws.{operation_length}
+use Rattle.storage_current.specs.Held.{range_proof_of}
+use Rattle.storage_current.specs.Laws.CurrentWire.{operation_length}
 use Rattle.storage_current.proofs.Written.{fits}
 use Rattle.storage_current.proofs.qmdb.current.proof.operation.codec.ProofEncodeSize.encode_size.Goals as goal
 
@@ -12,5 +12,5 @@ returns g c =
     ∙ ap size_of (operation_length g.F.Graftable.has_pending (record {
       location = c.args.self.now.loc;
       chunk = g.C.Chunk.text c.args.self.now.chunk;
-      range = current_of g.D.Write.text c.args.self.now.range_proof;
+      range = range_proof_of g.D.Write.text c.args.self.now.range_proof;
     }))

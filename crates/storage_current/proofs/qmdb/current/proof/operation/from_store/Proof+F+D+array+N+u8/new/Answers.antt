@@ -1,7 +1,7 @@
 use Rattle.std.proofs.Common.{◌≡◌, ◌<◌, ◌∙◌, ◌+◌, ◌/◌, ◌^◌, length, arith, inl, inr, refl, ap, subst}
 use Rattle.storage_merkle.specs.Plans.{PlanOf}
-use Rattle.storage_current.specs.GraftingLaws.{height_of_power}
-use Rattle.storage_current.specs.Held.{current_of}
+use Rattle.storage_current.specs.Laws.Grafting.{height_of_power}
+use Rattle.storage_current.specs.Held.{range_proof_of}
 use Rattle.storage_current.specs.Served.{held_at, plan_over}
 use Rattle.storage_current.specs.Snapshots.{Grafting, height, first_chunk}
 use Rattle.storage_current.proofs.Built.{built_operation}
@@ -82,7 +82,7 @@ returns-in-Ok-read-clause-own g c = λ s served.
     let at : c.location-loc.result ≡ c.args.loc = c.location-loc.ensures.value ∙ ap (λ (p : PlanOf). p.start) plan.1 in
     let range = served_own (g.S.Storage.nodes c.args.storage.now) node G c.args.loc
     (c.args.loc + 1) status g.met.F.Family.laws c.in-Ok.leaves c.into.result text h c.args.floor
-    (text c.args.ops_root) (current_of text c.in-Ok-read.range_proof) c.in-Ok.ensures.tree
+    (text c.args.ops_root) (range_proof_of text c.in-Ok-read.range_proof) c.in-Ok.ensures.tree
     (c.into.ensures.value ∙ plan.1) c.in-Ok-read.ensures.own s served in
     built_operation text (held_at node) h G (plan_over (length s.operations) c.args.loc (c.args.loc + 1)) status
     c.args.floor (text c.args.ops_root) s served.parts _ _ _ _ at refl index

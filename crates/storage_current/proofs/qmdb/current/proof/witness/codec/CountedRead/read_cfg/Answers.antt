@@ -1,5 +1,5 @@
 use Rattle.std.proofs.Common.{arith, rules}
-use Rattle.storage_codec.specs.PartsLaws.{ends_then}
+use Rattle.storage_codec.specs.Laws.Parts.{ends_then}
 use Rattle.storage_current.proofs.qmdb.current.proof.witness.codec.CountedRead.read_cfg.Goals as goal
 
 pub returns-in-Ok-clause-ends : goal.returns-in-Ok-clause-ends

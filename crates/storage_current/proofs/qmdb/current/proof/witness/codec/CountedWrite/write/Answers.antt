@@ -1,5 +1,5 @@
 use Rattle.storage_codec.specs.Parts.{varint_text}
-use Rattle.storage_codec.specs.PartsLaws.{starts_then, starts_first}
+use Rattle.storage_codec.specs.Laws.Parts.{starts_then, starts_first}
 use Rattle.storage_current.proofs.Written.{on_err, on_err_to}
 use Rattle.std.proofs.Common.{arith}
 use Rattle.std.proofs.lemmas.Grind.{common_steps}

@@ -2,9 +2,9 @@ use Rattle.std.proofs.Common.{◌≡◌, ◌∙◌, length, ap, sym, arith}
 use Rattle.storage_codec.specs.Parts.{size_of, option_text}
 use Rattle.storage_merkle.specs.Wire.{slot_text}
 use Rattle.storage_current.specs.CurrentWire.{as_is}
-use Rattle.storage_current.specs.CurrentWireLaws.{slot_bytes}
+use Rattle.storage_current.specs.Laws.CurrentWire.{slot_bytes}
 use Rattle.storage_current.specs.WitnessWire.{counted_text, witness_of}
-use Rattle.storage_current.specs.WitnessWireLaws.{witness_length}
+use Rattle.storage_current.specs.Laws.WitnessWire.{witness_length}
 use Rattle.storage_current.proofs.WitnessWritten.{held_same}
 use Rattle.storage_current.proofs.Written.{fits}
 use Rattle.storage_current.proofs.qmdb.current.proof.witness.codec.OpsRootWitnessEncodeSize.encode_size.Goals as goal

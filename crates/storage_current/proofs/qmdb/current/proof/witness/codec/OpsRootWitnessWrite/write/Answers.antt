@@ -1,9 +1,9 @@
 use Rattle.std.proofs.Common.{◌++◌, ◌∙◌, ap, subst, arith}
 use Rattle.storage_codec.specs.Parts.{AppendsStart, option_text}
-use Rattle.storage_codec.specs.PartsLaws.{starts_then, starts_first}
+use Rattle.storage_codec.specs.Laws.Parts.{starts_then, starts_first}
 use Rattle.storage_merkle.specs.Wire.{slot_text}
 use Rattle.storage_current.specs.CurrentWire.{as_is}
-use Rattle.storage_current.specs.CurrentWireLaws.{slot_bytes}
+use Rattle.storage_current.specs.Laws.CurrentWire.{slot_bytes}
 use Rattle.storage_current.specs.WitnessWire.{counted_text, witness_of}
 use Rattle.storage_current.proofs.WitnessWritten.{held_same}
 use Rattle.storage_current.proofs.Written.{on_err, on_err_to}

@@ -1,0 +1,4 @@
+pub mod KeyWire
+pub mod Grafting
+pub mod CurrentWire
+pub mod WitnessWire

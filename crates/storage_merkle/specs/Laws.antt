@@ -1,0 +1,16 @@
+pub mod Wire
+pub mod Digits
+pub mod MmrSteps
+pub mod MmbSteps
+pub mod Inactive
+pub mod Multiples
+pub mod Shape
+pub mod Peaks
+pub mod Mmr
+pub mod Mmb
+pub mod Pace
+pub mod Calc
+pub mod Equality
+pub mod Hashing
+pub mod Kept
+pub mod ProofWire

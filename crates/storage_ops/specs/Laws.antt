@@ -1,0 +1,9 @@
+pub mod PrefixFree
+pub mod Operations
+pub mod OperationParts
+pub mod Updates
+pub mod Fixed
+pub mod FixedBack
+pub mod Variable
+pub mod Vectors
+pub mod Reading
