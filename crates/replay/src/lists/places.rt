@@ -5,10 +5,11 @@ use crate::columns::{
 };
 use crate::lists::refusals::codec_refusal;
 use crate::lists::spelling::spell_bytes;
+use commonware_storage::qmdb::current::grafting::{aligned_inactive, exact_inactive};
 use std::alloc::Global;
 use storage_codec::codec::{Encode, EncodeSize};
 use storage_codec::digest::Hasher;
-use storage_merkle::merkle::family::{aligned_inactive, exact_inactive, node_at};
+use storage_merkle::merkle::family::node_at;
 use storage_merkle::merkle::{Graftable, Location, MAX_LEAVES, Position};
 
 /// The answer of a list of that name.

@@ -7,11 +7,12 @@ ghost use Rattle.storage_merkle.specs.Shape.{size, max_leaves};
 use crate::columns::{Fault, Series, number, spaced_four, spaced_three, spaced_two, spelled};
 use crate::lists::combined::failing;
 use crate::lists::{places, plain, proofs, required};
+use commonware_storage::qmdb::current::grafting::{
+    graftable_chunks, grafted_to_ops_pos, ops_to_grafted_pos,
+};
 use reference::shape::Digits;
 use std::alloc::Global;
-use storage_merkle::merkle::family::{
-    graftable_chunks, grafted_to_ops_pos, leaves_within, node_at, ops_to_grafted_pos,
-};
+use storage_merkle::merkle::family::{leaves_within, node_at};
 use storage_merkle::merkle::{Countable, Graftable, Location, MAX_LEAVES, Position, mmb, mmr};
 
 /// The answer of a list whose first column is the family.

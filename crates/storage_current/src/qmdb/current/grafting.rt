@@ -5,19 +5,21 @@ ghost use Rattle.storage_merkle.specs.Calc.{grafted_digest, is_zero as all_zero}
 ghost use Rattle.storage_bitmap.specs.Chunks.{IsChunkSize};
 
 mod hasher;
+mod positions;
 mod rebuild;
 mod storage;
 mod tree;
 mod verifier;
 
 pub use hasher::GraftedHasher;
+pub use positions::{
+    aligned_inactive, exact_inactive, graftable_chunks, grafted_to_ops_pos, ops_to_grafted_pos,
+    up_and_down,
+};
 pub use storage::Storage;
 pub(crate) use storage::{Look, look_up};
 use storage_codec::digest::{Digest, Hasher};
 pub(crate) use storage_merkle::merkle::family::power;
-pub use storage_merkle::merkle::family::{
-    aligned_inactive, exact_inactive, graftable_chunks, grafted_to_ops_pos, ops_to_grafted_pos,
-};
 pub use tree::GraftedTree;
 pub use verifier::Verifier;
 

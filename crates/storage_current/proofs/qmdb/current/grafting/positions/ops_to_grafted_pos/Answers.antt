@@ -1,6 +1,6 @@
 use Rattle.std.proofs.Common.{sym, ◌∙◌, ◌≤◌}
 use Rattle.storage_merkle.specs.Laws.Shape.{down, covers_down}
-use Rattle.storage_merkle.proofs.merkle.family.ops_to_grafted_pos.Goals as goal
+use Rattle.storage_current.proofs.qmdb.current.grafting.positions.ops_to_grafted_pos.Goals as goal
 
 pub position-requires-clause-aligned : goal.position-requires-clause-aligned
 position-requires-clause-aligned g c =

@@ -1,5 +1,5 @@
 use Rattle.storage_merkle.specs.Laws.Inactive.{unaligned}
-use Rattle.storage_merkle.proofs.merkle.family.exact_inactive.Goals as goal
+use Rattle.storage_current.proofs.qmdb.current.grafting.positions.exact_inactive.Goals as goal
 
 pub returns : goal.returns
 returns g c =

@@ -1,6 +1,6 @@
 use Rattle.std.proofs.Common.{arith, rules, ◌+◌, ◌*◌, ◌≤◌, ◌^◌}
 use Rattle.storage_merkle.specs.Laws.Shape.{up, covers_up}
-use Rattle.storage_merkle.proofs.merkle.family.grafted_to_ops_pos.Goals as goal
+use Rattle.storage_current.proofs.qmdb.current.grafting.positions.grafted_to_ops_pos.Goals as goal
 
 pub power-requires : goal.power-requires
 power-requires g c = let u =

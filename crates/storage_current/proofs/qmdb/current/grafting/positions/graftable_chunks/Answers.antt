@@ -1,6 +1,6 @@
 use Rattle.std.proofs.Common.{arith}
 use Rattle.storage_merkle.specs.Laws.Shape.{chunk_birth, graftable_none, graftable_some}
-use Rattle.storage_merkle.proofs.merkle.family.graftable_chunks.Goals as goal
+use Rattle.storage_current.proofs.qmdb.current.grafting.positions.graftable_chunks.Goals as goal
 
 pub birth-birth-requires : goal.birth-birth-requires
 birth-birth-requires g c = chunk_birth g.F.Family.shape g.met.F.Family.laws c.args.height c.requires.high
