@@ -16,7 +16,7 @@ use Rattle.storage_bitmap.specs.Chunks.{halves}
 use Rattle.storage_current.specs.Snapshots.{RangeProof, OperationProof}
 use Rattle.storage_current.specs.CurrentSoundness.{HasDigests}
 use Rattle.storage_current.specs.CurrentProofs as check
-use Rattle.storage_current.specs.declared.qmdb.current.proof.RangeProof.{Proof as Held}
+use Rattle.storage_current.specs.declared.qmdb.current.proof.RangeProof.{RangeProof as Held}
 use Rattle.storage_current.specs.Held.{range_proof_of}
 use Rattle.storage_current.specs.CurrentWire.{as_is, range_proof_text, range_proof_at, operation_text, operation_at, sized_operation_at, IsAdmittedRangeProof, IsAdmittedOperation, IsAdmittedSized}
 
