@@ -1,6 +1,6 @@
 //! How the leaves, nodes and roots of a tree are hashed.
 
-ghost use Rattle.std.specs.Prelude.{◌≡◌, ℕ, ◌^◌, ◌≤◌, ◌++◌, List, [], flat_map, length, map, false, refl, All, Option, option_map};
+ghost use Rattle.std.specs.Prelude.{◌≡◌, ℕ, ◌%◌, ◌^◌, ◌<◌, ◌≤◌, ◌++◌, List, [], flat_map, length, map, false, refl, All, Option, option_map};
 ghost use Rattle.std.specs.List.{AllZip};
 ghost use Rattle.storage_codec.specs.Digests.{HashFunction, IsSized};
 ghost use Rattle.storage_merkle.specs.Shape.{size};
@@ -74,6 +74,26 @@ pub trait Hasher<F: Family> {
         ensures { (first height : ℕ) → IsNode F.shape position first height
             → Self.Digest.text result ≡ join_digest hash_of (layout self.now) (chunk self.now) first
             height (Self.Digest.text left.now) (Self.Digest.text right.now) };
+
+    /// The digest of the node of height `height` over the leaves from `first` on, from `left` and `right`, those of its
+    /// children: what [`node_digest`](Self::node_digest) answers at its position. A hasher that asks which leaves a node
+    /// covers need not find them by the position here.
+    #[inline(always)]
+    fn node_digest_over(
+        &self,
+        first: u64,
+        height: u32,
+        left: &Self::Digest,
+        right: &Self::Digest,
+    ) -> Self::Digest
+        requires aligned { first % 2 ^ height ≡ 0 }
+        requires fits { F.shape.position first height < 2 ^ 64 }
+        requires takes { takes self.now (F.shape.position first height) }
+        ensures { Self.Digest.text result ≡ join_digest hash_of (layout self.now) (chunk self.now)
+            first height (Self.Digest.text left.now) (Self.Digest.text right.now) }
+    {
+        self.node_digest(Position::new(F::position(first, height)), left, right)
+    }
 
     /// The digests of two nodes, each given as (position, digest of the left child, digest of the right child).
     final fn node_digest_pair(

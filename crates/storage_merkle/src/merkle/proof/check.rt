@@ -299,7 +299,8 @@ impl<F: Family, D: Digest, E: AsSlice<u8>> Given<'_, F, D, E> {
         }
         let left = self.node(hasher, first, height - 1, found)?;
         let right = self.node(hasher, first + power(height - 1), height - 1, found)?;
-        keep(found, position, hasher.node_digest(position, &left, &right))
+        let digest = hasher.node_digest_over(first, height, &left, &right);
+        keep(found, position, digest)
     }
 
     /// The digest of the sibling at `position`.

@@ -1,11 +1,11 @@
 //! The hasher of a tree over chunks.
 
-ghost use Rattle.std.specs.Prelude.{◌≡◌, ℕ, ◌+◌, ◌*◌, ◌^◌, ◌≤◌};
+ghost use Rattle.std.specs.Prelude.{◌≡◌, ℕ, ◌+◌, ◌*◌, ◌%◌, ◌^◌, ◌<◌, ◌≤◌};
 ghost use Rattle.storage_merkle.specs.Nodes.{IsNode};
 ghost use Rattle.storage_merkle.specs.Hashing.{join_digest};
 ghost use Rattle.storage_current.specs.Combined.{IsRaised, over_chunks};
 
-use crate::qmdb::current::grafting::grafted_to_ops_pos;
+use crate::qmdb::current::grafting::{grafted_to_ops_pos, power};
 use std::marker::PhantomData;
 use storage_merkle::merkle::hasher::Hasher;
 use storage_merkle::merkle::{Bagging, Graftable, Position};
@@ -65,6 +65,26 @@ impl<F: Graftable, H: Hasher<F>> Hasher<F> for GraftedHasher<F, H> {
     {
         let position = grafted_to_ops_pos::<F>(position, self.height);
         self.inner.node_digest(position, left, right)
+    }
+
+    fn node_digest_over(
+        &self,
+        first: u64,
+        height: u32,
+        left: &H::Digest,
+        right: &H::Digest,
+    ) -> H::Digest
+        requires aligned { first % 2 ^ height ≡ 0 }
+        requires fits { F.shape.position first height < 2 ^ 64 }
+        requires takes { IsRaised F.shape (H.takes self.now.inner) self.now.height
+            (F.shape.position first height) }
+        ensures { H.Digest.text result ≡ join_digest H.hash_of (over_chunks self.now.height
+            (H.layout self.now.inner)) (λ a. H.chunk self.now.inner (a * 2 ^ self.now.height)) first
+            height (H.Digest.text left.now) (H.Digest.text right.now) }
+    {
+        let first = first * power(self.height);
+        self.inner
+            .node_digest_over(first, height + self.height, left, right)
     }
 
     ghost sized = { H.sized };

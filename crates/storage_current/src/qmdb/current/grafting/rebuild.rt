@@ -81,5 +81,5 @@ fn rebuild<F: Family, R: Readable<Family = F>, H: Hasher<F, Digest = R::Digest>>
     }
     let left = rebuild(tree, hasher, first, height - 1)?;
     let right = rebuild(tree, hasher, first + power(height - 1), height - 1)?;
-    Some(hasher.node_digest(position, &left, &right))
+    Some(hasher.node_digest_over(first, height, &left, &right))
 }

@@ -11,21 +11,21 @@ ghost use Rattle.storage_current.specs.Grafted.{IsGraftedWith, IsUngrafted, graf
 use crate::qmdb::current::grafting::graft;
 use std::alloc::AllocError;
 use std::marker::PhantomData;
-use storage_codec::digest;
+use storage_codec::digest::{self, Digest};
 use storage_merkle::merkle::family::node_at;
-use storage_merkle::merkle::hasher::{Hasher, Standard};
+use storage_merkle::merkle::hasher::Hasher;
 use storage_merkle::merkle::{Bagging, Graftable, Position};
 
 /// The hasher of checks over a grafted view: a node at the height of a chunk, whose chunk is graftable, supplied and not
 /// all zero, is hashed once more with that chunk before its digest. The chunks are lent.
 #[derive(Drop)]
 pub struct Verifier<'a, F, H> {
-    hasher: Standard<H>,
     height: u32,
     start_chunk_index: u64,
     chunks: Vec<&'a [u8]>,
     graftable_chunks: u64,
     family: PhantomData<F>,
+    function: PhantomData<H>,
 }
 
 impl<'a, F: Graftable, H: digest::Hasher> Verifier<'a, F, H> {
@@ -44,26 +44,26 @@ impl<'a, F: Graftable, H: digest::Hasher> Verifier<'a, F, H> {
         ensures graftable { result.graftable_chunks ≡ graftable_chunks }
     {
         Verifier {
-            hasher: Standard::new(Bagging::BackwardFold),
             height,
             start_chunk_index,
             chunks,
             graftable_chunks,
             family: PhantomData,
+            function: PhantomData,
         }
     }
 
-    /// The chunk that is grafted over the node at `position`; none where there is none, or it is not supplied.
-    fn chunk_over(&self, position: Position<F>) -> Option<&'a [u8]>
-        requires { position ≤ size F.shape max_leaves }
-        ensures { (first height : ℕ) → IsNode F.shape position first height
-            → MatchOption result (IsUngrafted self.now.height self.now.start_chunk_index
+    /// The chunk that is grafted over the node of height `height` over the leaf `first`; none where there is none, or it
+    /// is not supplied.
+    fn chunk_over(&self, first: u64, height: u32) -> Option<&'a [u8]>
+        requires aligned { first % 2 ^ height ≡ 0 }
+        requires small { height ≤ 62 }
+        ensures { MatchOption result (IsUngrafted self.now.height self.now.start_chunk_index
             (map (λ c. c.now) self.now.chunks.items) self.now.graftable_chunks first height)
             (λ chunk. IsGraftedWith self.now.height self.now.start_chunk_index
             (map (λ c. c.now) self.now.chunks.items) self.now.graftable_chunks first
             height chunk.now) }
     {
-        let (first, height) = node_at::<F>(position.as_u64());
         if height != self.height {
             return None;
         }
@@ -137,8 +137,33 @@ impl<F: Graftable, H: digest::Hasher> Hasher<F> for Verifier<'_, F, H> {
             (a / 2 ^ self.now.height)) first height (H.Digest.text left.now)
             (H.Digest.text right.now) }
     {
-        let inner = <Standard<H> as Hasher<F>>::node_digest(&self.hasher, position, left, right);
-        match self.chunk_over(position) {
+        let (first, height) = node_at::<F>(position.as_u64());
+        self.node_digest_over(first, height, left, right)
+    }
+
+    #[tactic(auto, unfolding(storage_merkle::specs::Calc::be8))]
+    fn node_digest_over(
+        &self,
+        first: u64,
+        height: u32,
+        left: &H::Digest,
+        right: &H::Digest,
+    ) -> H::Digest
+        requires aligned { first % 2 ^ height ≡ 0 }
+        requires fits { F.shape.position first height < 2 ^ 64 }
+        requires takes { F.shape.position first height ≤ size F.shape max_leaves }
+        ensures { H.Digest.text result ≡ join_digest H.hash_of (record {
+          shape = F.shape;
+          position = F.shape.position;
+          grafted = grafted_over self.now.height self.now.graftable_chunks;
+        })
+            (λ a. supplied self.now.start_chunk_index (map (λ c. c.now) self.now.chunks.items)
+            (a / 2 ^ self.now.height)) first height (H.Digest.text left.now)
+            (H.Digest.text right.now) }
+    {
+        let position = F::position(first, height).to_be_bytes();
+        let inner = H::hash(&[&position, left.bytes(), right.bytes()]);
+        match self.chunk_over(first, height) {
             Some(chunk) => graft::<H>(chunk, inner),
             None => inner,
         }

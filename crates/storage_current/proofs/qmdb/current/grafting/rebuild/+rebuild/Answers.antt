@@ -82,6 +82,4 @@ returns g t c =
     sym c.rebuild.ensures ∙ ap (option_map text) c.in_ok-left.was in
     let right : rebuilt S J K (c.args.height - 1) (c.args.first + 2 ^ (c.args.height - 1)) ≡ Some (text c.in_ok-right.right) =
     sym (rw c.power.ensures at c.rebuild-2.ensures) ∙ ap (option_map text) c.in_ok-right.was in
-    let node = c.node_digest.ensures c.args.first c.args.height
-    (record { aligned = c.requires.aligned; at = sym (c.new-position.ensures ∙ c.position.ensures) }) in
-    ap Some node ∙ sym (halves_are ∙ ap₂ (made_of (J c.args.first c.args.height)) left right)
+    ap Some c.node_digest_over.ensures ∙ sym (halves_are ∙ ap₂ (made_of (J c.args.first c.args.height)) left right)

@@ -1,6 +1,6 @@
 use Rattle.std.proofs.Common.{arith, rules, map, refl, sym, [], ◌∙◌}
 use Rattle.storage_merkle.specs.CheckParts.{given_values}
-use Rattle.storage_merkle.proofs.Walks.{in_tree_leaves, in_tree_left, in_tree_right, halves}
+use Rattle.storage_merkle.proofs.Walks.{fits_within, in_tree_leaves, in_tree_left, in_tree_right, halves}
 use Rattle.storage_merkle.proofs.Check.Nodes.{present_itself, present_halves, node_sibling, node_leaf, node_halves, element_at}
 use Rattle.storage_merkle.proofs.Found.{adds_nothing, adds_then, keeps_last, found_itself, found_leaf, found_halves}
 use Rattle.storage_merkle.proofs.merkle.proof.check.Given.+node.Goals as goal
@@ -88,6 +88,19 @@ node-requires-2 g t c κs within =
     c.args.height c.args.first c.if-is_apart.ensures c.if-height-eq0.false c.requires.present).1 in
     rw c.power.ensures (search rules)
 
+pub node_digest_over-digest-requires-clause-fits : goal.node_digest_over-digest-requires-clause-fits
+node_digest_over-digest-requires-clause-fits g t c =
+    fits_within g.F.Family.shape g.met.F.Family.laws c.args.first c.args.height c.requires.within.aligned
+    (omega (
+      arith,
+      in_tree_leaves g.F.Family.shape g.met.F.Family.laws
+          c.args.self.now.leaves c.args.first c.args.height c.requires.within,
+      c.requires.given.few,
+    ))
+
+pub node_digest_over-digest-requires-clause-takes : goal.node_digest_over-digest-requires-clause-takes
+node_digest_over-digest-requires-clause-takes g t c = c.requires.takes _ c.requires.given.few c.requires.within.inside
+
 pub returns : goal.returns
 returns g t c = λ digest serves.
     let same = g.met.H.Hasher.over c.args.hasher.now in
@@ -98,9 +111,8 @@ returns g t c = λ digest serves.
     let is =
     node_halves g.H.Hasher.hash_of (g.H.Hasher.layout c.args.hasher.now) c.args.self.now.start c.args.self.now.end v
     c.args.height c.args.first _ _ _ c.if-is_apart.ensures c.if-height-eq0.false left.0 right.0
-    (c.node_digest.ensures c.args.first c.args.height
-    (record { aligned = c.requires.within.aligned; at = sym c.node_position-position.ensures })) in
-    keeps_last g.D.Write.text _ c.keep-2.result c.node_digest.result _ c.node_position-position.result c.args.found.now
+    c.node_digest_over-digest.ensures in
+    keeps_last g.D.Write.text _ c.keep-2.result c.node_digest_over-digest.result _ c.node_position-position.result c.args.found.now
     c.node-2.new.found c.keep-2.new.found _ _ is
     (found_halves g.H.Hasher.hash_of (g.H.Hasher.layout c.args.hasher.now) c.args.self.now.start c.args.self.now.end v
     g.F.Family.shape c.args.height c.args.first c.node_position-position.result same c.if-is_apart.ensures
