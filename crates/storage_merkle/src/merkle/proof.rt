@@ -151,7 +151,7 @@ impl<F: Family, D: Digest> Proof<F, D> {
             (H.bagging hasher.now) (proof_of D.text self.now) start (content_of
             (map E.items elements.now) (H.chunk hasher.now)) (option_map D.text root)) }
     {
-        self.lent().recompute_root(alloc, hasher, elements, start)
+        check::recompute(&self.lent(), alloc, hasher, elements, start, &mut None)
     }
 
     /// The root of the tree in which `elements` stand at the leaves from `start` on.

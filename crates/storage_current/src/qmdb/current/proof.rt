@@ -164,6 +164,7 @@ impl<F: Graftable, D: Digest> RangeProof<F, D> {
             return Ok(false);
         };
         let elements = encoded(alloc, operations)?;
+        current_proofs_are_sound();
         self.verify_in::<H, Vec<u8>, C>(alloc, &window, start, &elements, chunks, root)
     }
 
@@ -193,6 +194,7 @@ impl<F: Graftable, D: Digest> RangeProof<F, D> {
     {
         match self.window(start, operations.len(), chunks, chunk_size) {
             Some(window) => {
+                current_proofs_are_sound();
                 self.verify_in::<H, E, C>(alloc, &window, start, operations, chunks, root)
             }
             None => Ok(false),
@@ -223,39 +225,8 @@ impl<F: Graftable, D: Digest> RangeProof<F, D> {
         }
     }
 
-    /// The check of a claim whose counts and lengths fit, as [`verify`](Self::verify) answers it and with the meaning of
-    /// a yes; `window` is where the claim stands.
-    fn verify_in<H: Hasher<Digest = D>, E: AsSlice<u8>, C: Chunk>(
-        &self,
-        alloc: Global,
-        window: &Window,
-        start: Location<F>,
-        operations: &[E],
-        chunks: &[C],
-        root: &D,
-    ) -> Result<bool, NoMemory>
-        requires { (n : ℕ) × IsWindowOf (grafting_of F.shape n) self.now.proof.leaves start
-            (length operations.now) (length chunks.now) window.now }
-        ensures exact { (n : ℕ) → IsWindowOf (grafting_of F.shape n) self.now.proof.leaves start
-            (length operations.now) (length chunks.now) window.now
-            → AreDigests n (map C.text chunks.now)
-            → IfOk result (λ yes. IsTrue yes
-            ↔ IsCurrent H.hash_of (grafting_of F.shape n) (range_proof_of D.text self.now) start
-            (map E.items operations.now) (map C.text chunks.now) (D.text root.now)) }
-        ensures meaning { (n : ℕ) → IsWindowOf (grafting_of F.shape n) self.now.proof.leaves start
-            (length operations.now) (length chunks.now) window.now
-            → AreDigests n (map C.text chunks.now)
-            → (D.size ≡ 32) ⊎ (D.size ≡ 64)
-            → IfOk result (λ yes. IsTrue yes
-            → MeansCurrent H.hash_of (grafting_of F.shape n) (range_proof_of D.text self.now) start
-            (map E.items operations.now) (map C.text chunks.now) (D.text root.now)) }
-    {
-        current_proofs_are_sound();
-        self.decide_in::<H, E, C>(alloc, window, start, operations, chunks, root)
-    }
-
     /// What the check answers of a claim whose counts and lengths fit; `window` is where the claim stands.
-    fn decide_in<H: Hasher<Digest = D>, E: AsSlice<u8>, C: Chunk>(
+    fn verify_in<H: Hasher<Digest = D>, E: AsSlice<u8>, C: Chunk>(
         &self,
         alloc: Global,
         window: &Window,
