@@ -226,7 +226,7 @@ impl<F: Graftable, D: Digest> RangeProof<F, D> {
     }
 
     /// What the check answers of a claim whose counts and lengths fit; `window` is where the claim stands.
-    fn verify_in<H: Hasher<Digest = D>, E: AsSlice<u8>, C: Chunk>(
+    pub(crate) fn verify_in<H: Hasher<Digest = D>, E: AsSlice<u8>, C: Chunk>(
         &self,
         alloc: Global,
         window: &Window,

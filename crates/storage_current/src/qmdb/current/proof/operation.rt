@@ -1,6 +1,6 @@
 //! Proofs that one operation is active.
 
-ghost use Rattle.std.specs.Prelude.{◌≡◌, ◌↔◌, ◌⊎◌, OnOk, IfOk, IfErr, IsTrue, Ok, true, false, ℕ, ◌+◌, ◌-◌, ◌*◌, ◌/◌, ◌%◌, ◌^◌, ◌<◌, ◌≤◌, length};
+ghost use Rattle.std.specs.Prelude.{◌≡◌, ◌↔◌, ◌⊎◌, OnOk, IfOk, IfErr, IfSome, MatchOption, IsTrue, Ok, true, false, ℕ, ◌+◌, ◌-◌, ◌*◌, ◌/◌, ◌%◌, ◌^◌, ◌<◌, ◌≤◌, length};
 ghost use Rattle.std.specs.List.{All};
 ghost use Rattle.storage_merkle.specs.Plans.{planned};
 ghost use Rattle.storage_bitmap.specs.Chunks.{IsChunkSize};
@@ -16,6 +16,7 @@ mod from_store;
 
 use crate::laws::operation_proofs_are_sound;
 use crate::qmdb::current::grafting;
+use crate::qmdb::current::proof::window::Window;
 use crate::qmdb::current::proof::{Chunk, RangeProof};
 use std::alloc::Global;
 use storage_bitmap::bitmap::Readable;
@@ -142,20 +143,22 @@ impl<F: Graftable, D: Digest, C: Chunk> Proof<F, D, C> {
             (grafting_of F.shape (length (C.text self.now.chunk)))) ≡ true → ⊥)
             → result ≡ Ok false }
     {
-        if !self.is_active() {
+        let Some(height) = self.active_height() else {
             return Ok(false);
-        }
+        };
+        let leaves = self.range_proof.proof.leaves.as_u64();
+        let Some(window) = Window::of_height::<F>(leaves, self.loc.as_u64(), 1, 1, height) else {
+            return Ok(false);
+        };
         operation_proofs_are_sound();
-        let chunk = self.chunk.bytes();
-        self.range_proof
-            .verify_encoded::<H, &[u8], &[u8]>(
-                alloc,
-                self.loc,
-                &[operation],
-                &[chunk],
-                chunk.len(),
-                root,
-            )
+        self.range_proof.verify_in::<H, &[u8], &[u8]>(
+            alloc,
+            &window,
+            self.loc,
+            &[operation],
+            &[self.chunk.bytes()],
+            root,
+        )
     }
 
     /// Whether the chunk has a size that chunks may have, a power of two up to `2^59` bytes, and the bit of the
@@ -165,11 +168,27 @@ impl<F: Graftable, D: Digest, C: Chunk> Proof<F, D, C> {
             × (bit_in (C.text self.now.chunk) (self.now.loc % 2 ^ height
             (grafting_of F.shape (length (C.text self.now.chunk)))) ≡ true)) }
     {
+        self.active_height().is_some()
+    }
+
+    /// The height of the node over the operations of a chunk of this one's size; none where no chunk may have it, or the
+    /// bit of the location is not set in the chunk.
+    fn active_height(&self) -> Option<u32>
+        ensures bit { let n = length (C.text self.now.chunk) in
+            MatchOption result (IsChunkSize n → bit_in (C.text self.now.chunk)
+            (self.now.loc % 2 ^ height (grafting_of F.shape n)) ≡ true → ⊥)
+            (λ _. IsChunkSize n × (bit_in (C.text self.now.chunk)
+            (self.now.loc % 2 ^ height (grafting_of F.shape n)) ≡ true)) }
+        ensures power { IfSome result (λ k.
+            (8 * length (C.text self.now.chunk) ≡ 2 ^ k) × (1 ≤ k) × (k ≤ 62)) }
+    {
         let chunk = self.chunk.bytes();
-        let Some(height) = grafting::chunk_height(chunk.len()) else {
-            return false;
-        };
-        is_set(chunk, self.loc.as_u64() % grafting::power(height))
+        let height = grafting::chunk_height(chunk.len())?;
+        if is_set(chunk, self.loc.as_u64() % grafting::power(height)) {
+            Some(height)
+        } else {
+            None
+        }
     }
 }
 

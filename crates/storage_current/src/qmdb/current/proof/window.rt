@@ -1,6 +1,7 @@
 //! Where a claimed range of operations stands among the chunks.
 
 ghost use Rattle.std.specs.Prelude.{◌≡◌, ℕ, ◌+◌, ◌-◌, ◌*◌, ◌/◌, ◌%◌, ◌^◌, ◌<◌, ◌≤◌, MatchOption};
+ghost use Rattle.storage_bitmap.specs.Chunks.{IsChunkSize};
 ghost use Rattle.storage_current.specs.Snapshots.{grafting_of};
 ghost use Rattle.storage_current.specs.Windows.{IsWindow, IsWindowOf};
 
@@ -36,6 +37,23 @@ impl Window {
             chunks → ⊥) (IsWindowOf (grafting_of F.shape chunk_size) leaves start count chunks) }
     {
         let height = grafting::chunk_height(chunk_size)?;
+        Self::of_height::<F>(leaves, start, count, chunks, height)
+    }
+
+    /// As [`of`](Self::of), for chunks of any size that they may have whose node has the height `height`.
+    pub(crate) fn of_height<F: Family>(
+        leaves: u64,
+        start: u64,
+        count: usize,
+        chunks: usize,
+        height: u32,
+    ) -> Option<Window>
+        requires low { 1 ≤ height }
+        requires high { height ≤ 62 }
+        ensures { (n : ℕ) → IsChunkSize n → 8 * n ≡ 2 ^ height
+            → MatchOption result (IsWindow (grafting_of F.shape n) leaves start count chunks → ⊥)
+            (IsWindowOf (grafting_of F.shape n) leaves start count chunks) }
+    {
         let end = start.checked_add(count as u64)?;
         if count == 0 || end > leaves || leaves > MAX_LEAVES {
             return None;

@@ -1,24 +1,24 @@
 use Rattle.std.proofs.Common.{refl, sym, arith}
 use Rattle.storage_current.specs.Laws.Grafting.{height_of_power}
-use Rattle.storage_current.proofs.qmdb.current.proof.window.Window.of.Goals as goal
+use Rattle.storage_current.proofs.qmdb.current.proof.window.Window.of_height.Goals as goal
 
 pub returns-then-last_chunk-first_chunk : goal.returns-then-last_chunk-first_chunk
-returns-then-last_chunk-first_chunk g c = λ w.
-    let e = height_of_power g.F.Family.shape c.args.chunk_size c.in_ok-height.height c.in_ok-height.ensures.power.0 in
+returns-then-last_chunk-first_chunk g c = λ n size power w.
+    let e = height_of_power g.F.Family.shape n c.args.height power in
     c.if-last_chunk-first_chunk.true (rw c.in_ok-end.ensures.1 (sym (rw e at w.chunk_count)))
 
 pub returns-then-counts-gt1 : goal.returns-then-counts-gt1
-returns-then-counts-gt1 g c = λ w.
-    let e = height_of_power g.F.Family.shape c.args.chunk_size c.in_ok-height.height c.in_ok-height.ensures.power.0 in
+returns-then-counts-gt1 g c = λ n size power w.
+    let e = height_of_power g.F.Family.shape n c.args.height power in
     let one = rw e at w.one_pending in
     absurd (omega (arith, one, c.over-counts.ensures.complete, c.over-counts.ensures.graftable, c.if-counts-gt1.true))
 
 pub returns : goal.returns
-returns g c =
-    let e = height_of_power g.F.Family.shape c.args.chunk_size c.in_ok-height.height c.in_ok-height.ensures.power.0 in
+returns g c = λ n size power.
+    let e = height_of_power g.F.Family.shape n c.args.height power in
     record {
       fits = record {
-        size = c.in_ok-height.ensures.size;
+        size = size;
         some = omega arith;
         few = omega arith;
         within = omega (arith, c.in_ok-end.ensures.1);
