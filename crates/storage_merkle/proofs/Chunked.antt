@@ -1,5 +1,5 @@
 -- Chunks of one length, where a tree's calculations graft them.
-use Rattle.std.proofs.Common.{◌≡◌, ℕ, zero, suc, ◌+◌, ◌≤◌, ◌^◌, List, [], ◌∷◌, ◌++◌, length, map, Bool, true, false, if◌then◌else◌, refl, arith, Option, Some, None}
+use Rattle.std.proofs.Common.{◌≡◌, ℕ, zero, suc, ◌+◌, ◌^◌, List, [], ◌∷◌, ◌++◌, length, map, Bool, true, false, if◌then◌else◌, refl, arith, Option, Some, None}
 use Rattle.storage_merkle.specs.Shape.{AreAligned}
 use Rattle.storage_merkle.specs.Calc.{node, Calc, given, leaf, pair, graft, be8, Values}
 use Rattle.storage_merkle.specs.Laws.Calc.{IsChunked}

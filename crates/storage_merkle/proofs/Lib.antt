@@ -17,6 +17,7 @@ pub mod Rewriting
 pub mod Alike
 pub mod Ascending
 pub mod Walks
+pub mod Walked
 pub mod Plan
 pub mod Greatest
 pub mod Folds

@@ -1,4 +1,3 @@
-pub mod Walk
 pub mod Sites
 pub mod Answers
 pub mod Folds

@@ -1,13 +1,11 @@
 -- The own proof of a tree is accepted.
-use Rattle.std.proofs.Common.{◌≡◌, ℕ, zero, suc, ◌+◌, ◌-◌, ◌%◌, ◌<◌, ◌≤◌, ◌^◌, List, [], ◌∷◌, ◌++◌, length, map, get_or, Bool, true, false, if◌then◌else◌, inl, inr, refl, sym, ap, ap₂, ◌∙◌, arith, subst, Option, Some, None, leb, leb-false, eqb, eqb-true, ◌&&◌, pow_pos}
+use Rattle.std.proofs.Common.{◌≡◌, ℕ, zero, suc, ◌+◌, ◌-◌, ◌<◌, ◌≤◌, ◌^◌, List, [], ◌∷◌, ◌++◌, length, map, get_or, Bool, true, false, if◌then◌else◌, inl, refl, sym, ap, ap₂, ◌∙◌, arith, subst, Option, Some, None, leb, leb-false, eqb, eqb-true, ◌&&◌}
 use Rattle.std.proofs.lemmas.List.{length-map}
 use Rattle.storage_codec.specs.Digests.{HashFunction}
-use Rattle.storage_merkle.specs.Shape.{Laws, Inside, AreAligned}
-use Rattle.storage_merkle.specs.Laws.Multiples.{pow_two, multiple_down, multiple_add, power_multiple}
+use Rattle.storage_merkle.specs.Shape.{Laws}
 use Rattle.storage_merkle.specs.Calc.{Site, front, back, node, Calc, given, leaf, pair, graft, be8, grafted_digest, Values, eval, Agree}
 use Rattle.storage_merkle.specs.declared.merkle.bagging.Bagging.{Bagging}
-use Rattle.storage_merkle.specs.declared.merkle.bagging.Bagging.TheVariants.{ForwardFold, BackwardFold}
-use Rattle.storage_merkle.specs.Trees.{Layout, Content, Peak, places, peaks_of, folded, unfolded, bag, eval_bag, part, tree_root, root_head, node_calc, join_calc, fold_forward, fold_backward}
+use Rattle.storage_merkle.specs.Trees.{Layout, Content, Peak, peaks_of, folded, unfolded, bag, eval_bag, part, tree_root, root_head, node_calc, join_calc, fold_forward, fold_backward}
 use Rattle.storage_merkle.specs.RangeProofs.{Proof, apart, leading, not_leading, up_to, trailing, front_given, back_given, check_bag, own_proof, IsAccepted, IsOwn, check_values, look_up, same_site, sites_of, sites_over, sites_in, front_sites, back_sites, by_position}
 use Rattle.storage_merkle.proofs.Prune.{up_to-all}
 use Rattle.storage_merkle.proofs.Agreeing.{AllPeaks, AgreeAll, AgreeBag, up_to-leading}

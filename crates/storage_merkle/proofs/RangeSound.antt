@@ -101,7 +101,7 @@ leaves-split zero ks = omega arith
 leaves-split (suc i) [] = refl
 leaves-split (suc i) (k ∷ ks) = omega (arith, leaves-split i ks)
 
-all_any : (ps : List Peak) → AllPeaks (λ p. Unit {0}) ps
+pub all_any : (ps : List Peak) → AllPeaks (λ p. Unit {0}) ps
 all_any [] = tt
 all_any (p ∷ ps) = (tt, all_any ps)
 

@@ -4,7 +4,6 @@ pub mod Multi
 pub mod Made
 pub mod Given
 pub mod Steps
-pub mod Tops
 pub mod Reads
 pub mod Kept
 pub mod Range

@@ -1,10 +1,12 @@
 -- Walking along the peaks of a tree, and down from a node to its halves.
-use Rattle.std.proofs.Common.{◌≡◌, ◌≢◌, ℕ, zero, suc, ◌+◌, ◌-◌, ◌*◌, ◌%◌, ◌^◌, ◌<◌, ◌≤◌, ◌∷◌, length, inl, inr, arith, refl, sym, subst, pow_pos}
-use Rattle.storage_merkle.specs.Shape.{Shape, Laws, size, Inside}
+use Rattle.std.proofs.Common.{◌≡◌, ◌≢◌, ℕ, zero, suc, ◌+◌, ◌-◌, ◌*◌, ◌%◌, ◌^◌, ◌<◌, ◌≤◌, List, [], ◌∷◌, length, inl, inr, arith, refl, sym, subst, pow_pos}
+use Rattle.storage_merkle.specs.Shape.{Shape, Laws, size, Inside, AreAligned}
 use Rattle.storage_merkle.specs.Laws.Multiples.{pow_two, multiple_down, multiple_add, power_multiple}
 use Rattle.storage_merkle.specs.Laws.Shape.{step, early_fits, length_at_most}
 use Rattle.storage_merkle.specs.Peaks.{Step}
 use Rattle.storage_merkle.specs.Plans.{InTree, ArePeaks}
+use Rattle.storage_merkle.specs.Rests.{EachPeak, peaks_from}
+use Rattle.storage_merkle.specs.Trees.{places}
 
 -- a node's halves
 pub record Halves (a k : ℕ) : Type 0 where
@@ -71,6 +73,21 @@ module _ (S : Shape) (L : Laws S) where
       let t = peaks_step n s r h few p e in
       let i = p.inside s h (subst (λ hs. Inside hs s s h) (sym e) (inl (omega arith, omega arith))) in
       record { aligned = t.aligned; inside = (L.born n s h t.aligned).1 ((L.inside n s h t.aligned).0 i) }
+
+  all_in_tree : (n a : ℕ) (ks : List ℕ) → AreAligned ks a
+      → ((b k : ℕ) → Inside ks a b k → Inside (S.peaks n) 0 b k) → EachPeak (InTree S n) (places a ks)
+  unfolding AreAligned Inside
+  all_in_tree n a [] al i = tt
+  all_in_tree n a (k ∷ ks) al i = (
+    record {
+      aligned = al.0;
+      inside = (L.born n a k al.0).1 ((L.inside n a k al.0).0 (i a k (inl (omega arith, omega arith))));
+    },
+    all_in_tree n (a + 2 ^ k) ks al.1 (λ b j x. i b j (inr x)),
+  )
+
+  pub peaks_in_tree : (n s r : ℕ) → ArePeaks S n s r → EachPeak (InTree S n) (peaks_from S s r)
+  peaks_in_tree n s r p = all_in_tree n s (S.peaks r) p.aligned p.inside
 
   pub peak_count : (n m : ℕ) → m ≡ size S n → 2 * n - m ≡ length (S.peaks n)
   peak_count n m e = omega (arith, length_at_most (S.peaks n), L.sum n)

@@ -27,6 +27,7 @@ pub mod ProofWire
 pub mod Built
 pub mod Siblings
 pub mod Rests
+pub mod Walked
 pub mod Checks
 pub mod CheckParts
 pub mod Multi

@@ -1,13 +1,15 @@
--- What the parts of a plan answer: the digests that stand at positions, and the peaks and folds apart from a range.
-use Rattle.std.specs.Prelude.{◌≡◌, ℕ, ◌⊎◌, List, [], ◌∷◌, ◌++◌, length, map, true, Option, Some, None}
+-- What the parts of a plan answer: the digests that stand at positions, and those of the peaks and folds apart from a range.
+use Rattle.std.specs.Prelude.{◌≡◌, ℕ, ◌⊎◌, List, [], ◌∷◌, length, map, true, Option, Some, None}
 use Rattle.std.specs.List.Sorted.{IsNonDecreasing}
 use Rattle.storage_codec.specs.Digests.{HashFunction}
 use Rattle.storage_merkle.specs.Shape.{Shape}
 use Rattle.storage_merkle.specs.Nodes.{IsNode}
 use Rattle.storage_merkle.specs.Calc.{Site, front, back, node}
-use Rattle.storage_merkle.specs.Trees.{Layout, Peak}
-use Rattle.storage_merkle.specs.RangeProofs.{apart, leading, not_leading, trailing, sites_in, front_sites, back_sites}
+use Rattle.storage_merkle.specs.Trees.{Peak}
+use Rattle.storage_merkle.specs.RangeProofs.{apart, leading, trailing}
 use Rattle.storage_merkle.specs.Hashers.{forward_of, folded_onto}
+use Rattle.storage_merkle.specs.Rests.{EachPeak}
+use Rattle.storage_merkle.specs.Walked.{Met, one, past}
 
 -- the position p is one of these
 abbrev pub IsAmong : List ℕ → ℕ → Type 0
@@ -25,13 +27,16 @@ pub record AreInOrder {D : Type 0} (positions : List ℕ) (digests : List D) : T
 
 -- the positions of these peaks are among the planned ones, where they are apart from the range; and those of all of them
 abbrev pub ArePlannedApart : Shape → ℕ → ℕ → List ℕ → List Peak → Type 0
-ArePlannedApart S low high positions [] = Unit {0}
-ArePlannedApart S low high positions (p ∷ ps) = (apart low high p.first p.height ≡ true
-    → IsAmong positions (S.position p.first p.height)) × ArePlannedApart S low high positions ps
+ArePlannedApart S low high positions ps =
+    EachPeak (λ a k. apart low high a k ≡ true → IsAmong positions (S.position a k)) ps
 
 abbrev pub ArePlannedAll : Shape → List ℕ → List Peak → Type 0
-ArePlannedAll S positions [] = Unit {0}
-ArePlannedAll S positions (p ∷ ps) = IsAmong positions (S.position p.first p.height) × ArePlannedAll S positions ps
+ArePlannedAll S positions ps = EachPeak (λ a k. IsAmong positions (S.position a k)) ps
+
+-- the position of a peak that a walk meets, or of each of the peaks past the range
+abbrev pub IsPlannedMet : Shape → List ℕ → Met → Type 0
+IsPlannedMet S positions (one p) = IsAmong positions (S.position p.first p.height)
+IsPlannedMet S positions (past ps) = ArePlannedAll S positions ps
 
 -- the digest d stands at the position p
 abbrev pub StandsAt : {D : Type 0} → List ℕ → List D → ℕ → D → Type 0
@@ -53,14 +58,14 @@ digest_or none (Some x) = x
 abbrev pub peaks_by : (ℕ → ℕ → List ℕ) → List Peak → List (List ℕ)
 peaks_by digest_of ps = map (λ p. digest_of p.first p.height) ps
 
+-- the digest of what a walk meets
+abbrev pub met_digest : HashFunction → (ℕ → ℕ → List ℕ) → Met → Option (List ℕ)
+met_digest h digest_of (one p) = Some (digest_of p.first p.height)
+met_digest h digest_of (past ps) = folded_onto h (peaks_by digest_of ps) None
+
 module _ (low high : ℕ) (xs ys : List Peak) where
   -- the digest at each site of a range, where the peaks xs are folded from the left and the peaks ys from the right
   abbrev pub site_digest : HashFunction → (ℕ → ℕ → List ℕ) → Site → List ℕ
   site_digest h digest_of front = digest_or (h []) (forward_of h (peaks_by digest_of (leading low xs)))
   site_digest h digest_of back = digest_or (h []) (folded_onto h (peaks_by digest_of (trailing high ys)) None)
   site_digest h digest_of (node a k) = digest_of a k
-
-  -- the peaks and folds apart from the range, in leaf order
-  abbrev pub tops : Layout → List Site
-  tops T = front_sites (leading low xs) ++ (sites_in T (apart low high) (leading low ys)
-      ++ (sites_in T (apart low high) (trailing high (not_leading low xs)) ++ back_sites (trailing high ys)))

@@ -9,6 +9,11 @@ use Rattle.storage_merkle.specs.RangeProofs.{leading, not_leading}
 abbrev pub peaks_from : Shape → ℕ → ℕ → List Peak
 peaks_from S a r = places a (S.peaks r)
 
+-- each of some peaks, by first leaf and height
+abbrev pub EachPeak : (ℕ → ℕ → Type 0) → List Peak → Type 0
+EachPeak P [] = Unit {0}
+EachPeak P (p ∷ ps) = P p.first p.height × EachPeak P ps
+
 -- past some peaks from the leaf a on stands the leaf b
 abbrev pub IsPast : ℕ → ℕ → List Peak → Type 0
 IsPast a b [] = b ≡ a

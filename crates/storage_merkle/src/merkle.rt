@@ -16,6 +16,7 @@ mod position;
 mod proof;
 mod proof_store;
 mod storage;
+mod walk;
 
 pub use bagging::Bagging;
 pub use countable::{Countable, leaves_of};

@@ -1,6 +1,7 @@
 -- The sites of a range proof, as a check walks along them.
-use Rattle.std.proofs.Common.{◌≡◌, ℕ, zero, suc, ◌+◌, ◌<◌, ◌≤◌, ◌^◌, List, [], ◌∷◌, ◌++◌, take, drop, true, false, if◌then◌else◌, ◌||◌, ◌⊎◌, inl, inr, refl, sym, ap, ap₂, ◌∙◌, arith, subst, leb, le-leb, pow_pos, append_assoc, take-append-drop}
+use Rattle.std.proofs.Common.{◌≡◌, ℕ, zero, suc, ◌+◌, ◌<◌, ◌≤◌, ◌^◌, List, [], ◌∷◌, ◌++◌, map, take, drop, true, false, if◌then◌else◌, ◌||◌, ◌⊎◌, inl, inr, refl, sym, ap, ap₂, ◌∙◌, arith, subst, leb, le-leb, pow_pos, append_assoc, take-append-drop}
 use Rattle.std.proofs.lemmas.Bool.{lt-leb, cases_lt}
+use Rattle.std.proofs.lemmas.List.{map-append}
 use Rattle.storage_merkle.specs.Shape.{leaves_under}
 use Rattle.storage_merkle.specs.Calc.{Site, back, node}
 use Rattle.storage_merkle.specs.Trees.{Layout, Peak, places, part}
@@ -222,3 +223,14 @@ module _ (T : Layout) (low high : ℕ) where
         ap (λ ss. (F ++ ss) ++ X) mid ∙ append_assoc F (A ++ (B ++ C)) X
         ∙ ap (λ ss. F ++ ss) (append_assoc A (B ++ C) X ∙ ap (λ ss. A ++ ss) (append_assoc B C X))
         )
+
+    -- the digests at those in front, then at the others, then at the siblings
+    pub all_added : (site : Site → List ℕ) (one two all : List (List ℕ)) → one ≡ map site (front_before a)
+        → two ≡ one ++ map site (top_sites low high (peaks_from T.shape a r) g)
+        → all ≡ two ++ map site (sibling_sites T n low high) → all ≡ map site (sites T low high b n i)
+    all_added site one two all e1 e2 e3 =
+        let tops = top_sites low high (peaks_from T.shape a r) g in
+        let beside = sibling_sites T n low high in
+        e3 ∙ ap (λ us. us ++ map site beside)
+        (e2 ∙ ap (λ us. us ++ map site tops) e1 ∙ sym (map-append site (front_before a) tops))
+        ∙ sym (map-append site (front_before a ++ tops) beside) ∙ ap (map site) (sym sites_are)

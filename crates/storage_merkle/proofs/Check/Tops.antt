@@ -35,20 +35,6 @@ module _ (S : Shape) (low high : ℕ) where
     tops_step l = ap (λ ps. top_sites low high ps f) first_and_others ∙ tops_first f (peaks_from S a' r') l
         ∙ ap (λ g. if apart low high a h then node a h ∷ tops a' r' g else tops a' r' g) (sym ef)
 
-    pub counts_apart : (0 < f) ⊎ ((f ≤ 0) × (a < high)) → (m n all : ℕ) → true ≡ apart low high a h → n ≡ m + 1
-        → m + length (tops a r f) ≡ all → n + length (tops a' r' f') ≡ all
-    counts_apart l m n all t e1 e2 =
-        let step : tops a r f ≡ node a h ∷ tops a' r' f' =
-        subst (λ b. tops a r f ≡ (if b then node a h ∷ tops a' r' f' else tops a' r' f')) (sym t) (tops_step l) in
-        omega (arith, ap length step)
-
-    pub counts_others : (0 < f) ⊎ ((f ≤ 0) × (a < high)) → (m n all : ℕ) → false ≡ apart low high a h → n ≡ m
-        → m + length (tops a r f) ≡ all → n + length (tops a' r' f') ≡ all
-    counts_others l m n all t e1 e2 =
-        let step : tops a r f ≡ tops a' r' f' =
-        subst (λ b. tops a r f ≡ (if b then node a h ∷ tops a' r' f' else tops a' r' f')) (sym t) (tops_step l) in
-        omega (arith, ap length step)
-
   -- past the range one fold is left
   tops_past : (f a : ℕ) (ks : List ℕ) → 0 < leaves_under ks → f ≤ 0 → high ≤ a
       → top_sites low high (places a ks) f ≡ back ∷ []

@@ -1,7 +1,7 @@
 -- Locations that ascend, and those of the halves of a node.
 use Rattle.std.proofs.Common.{◌≡◌, ◌≢◌, ℕ, zero, suc, ◌+◌, ◌<◌, ◌≤◌, ◌^◌, ◌↔◌, List, [], ◌∷◌, ◌++◌, length, map, get_or, take, drop, Bool, true, false, if◌then◌else◌, ◌||◌, ◌&&◌, not, refl, sym, ap, ap₂, ◌∙◌, arith, subst, leb, ltb, eqb, le-leb, ne_eqb}
 use Rattle.std.specs.List.Sorted.{IsPartitionPoint, IsNonDecreasingBy}
-use Rattle.std.proofs.lemmas.Bool.{lt-ltb, lt-leb, ltb-true, ltb-false}
+use Rattle.std.proofs.lemmas.Bool.{le-ltb, lt-ltb, lt-leb, ltb-true, ltb-false}
 use Rattle.std.proofs.lemmas.List.{map-append, drop_more, drop_all}
 use Rattle.storage_codec.specs.Digests.{HashFunction}
 use Rattle.storage_merkle.specs.Laws.Multiples.{pow_two}
@@ -101,13 +101,6 @@ before_all first n (l ∷ ls) a k u le =
       | true ↦ rw out (before_all (l + 1) n ls a k u.2 (omega arith))
       | false ↦ before_all (l + 1) n ls a k u.2 (omega arith)
     ]
-  where
-    le-ltb : (x y : ℕ) → y ≤ x → ltb x y ≡ false
-    le-ltb x y h = go (ltb x y) refl
-      where
-        go : (b : Bool) → ltb x y ≡ b → b ≡ false
-        go false e = refl
-        go true e = let l : x < y = ltb-true x y e in absurd (omega arith)
 
 or_false : (b : Bool) → (b || false) ≡ b
 or_false true = refl

@@ -5,12 +5,11 @@ use Rattle.std.proofs.lemmas.List.{length-map}
 use Rattle.storage_codec.specs.Digests.{HashFunction}
 use Rattle.storage_merkle.specs.Calc.{Site}
 use Rattle.storage_merkle.specs.declared.merkle.bagging.Bagging.{Bagging}
-use Rattle.storage_merkle.specs.Trees.{Layout, Content, Peak, peaks_of, folded, unfolded, root_head, tree_root}
+use Rattle.storage_merkle.specs.Trees.{Layout, Content, peaks_of, folded, unfolded, root_head, tree_root}
 use Rattle.storage_merkle.specs.RangeProofs.{sites_in}
 use Rattle.storage_merkle.specs.Multi.{Claim, locations, touched, untouched, Ascend, element_at, Stand, needed_sites, own_multi_proof, multi_values, multi_bag, multi_string, ClaimsFit, IsMultiAccepted}
-use Rattle.storage_merkle.proofs.Agreeing.{AllPeaks}
 use Rattle.storage_merkle.proofs.Distinct.{times, times-in, times-by_position}
-use Rattle.storage_merkle.proofs.RangeSound.{folded-all}
+use Rattle.storage_merkle.proofs.RangeSound.{all_any, folded-all}
 use Rattle.storage_merkle.proofs.RangeOwn.{and-true, found, bag_eval, bag_of, parts_of}
 use Rattle.storage_merkle.proofs.Multi.Sound.{tree_values, cut-prunes}
 
@@ -35,10 +34,6 @@ at_claim list (c ∷ cs) st a t =
         let m : c.location < a + 2 ^ 0 = ltb-true c.location (a + 2 ^ 0) r.1 in
         let same : c.location ≡ a = omega arith in
         absurd (let t : eqb c.location a ≡ true = eq-eqb c.location a same in cc)
-
-all_any : (ps : List Peak) → AllPeaks (λ p. Unit {0}) ps
-all_any [] = tt
-all_any (p ∷ ps) = (tt, all_any ps)
 
 module _ (h : HashFunction) (T : Layout) (b : Bagging) (claims : List Claim) (content : Content) (inactive : ℕ) where
   abbrev n : ℕ

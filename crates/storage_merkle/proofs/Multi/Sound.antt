@@ -15,10 +15,10 @@ use Rattle.storage_merkle.specs.Chunked.{AreChunks}
 use Rattle.storage_merkle.specs.Laws.Calc.{IsWide, eval_length, cross_wider, heads, same_head}
 use Rattle.storage_merkle.specs.Multi.{Claim, locations, touched, untouched, Ascend, element_at, Stand, needed_sites, tree_digest, own_multi_proof, multi_values, multi_bag, multi_string, multi_strings, ClaimsFit, default_proof, IsMultiAccepted, IsMultiOwn, IsMultiProved}
 use Rattle.storage_merkle.proofs.Prune.{PrunesBag, prunes_bag}
-use Rattle.storage_merkle.proofs.Agreeing.{AllPeaks, AgreeAll, AgreeBag, agree_leaf, agree_bag, agree_parts, agree_sites_in, agree_by_position}
+use Rattle.storage_merkle.proofs.Agreeing.{AgreeAll, AgreeBag, agree_leaf, agree_bag, agree_parts, agree_sites_in, agree_by_position}
 use Rattle.storage_merkle.proofs.Distinct.{times, times-by_position, each_given_once, read_all}
 use Rattle.storage_merkle.proofs.Chunked.{cut_chunked, uncut}
-use Rattle.storage_merkle.proofs.RangeSound.{law_bag, look_up-wide, folded-all}
+use Rattle.storage_merkle.proofs.RangeSound.{all_any, law_bag, look_up-wide, folded-all}
 use Rattle.storage_merkle.proofs.RangeOwn.{append_of}
 
 -- what stands in a tree, at its nodes too
@@ -49,10 +49,6 @@ cut-prunes h T content cut xs ys =
 or_right : (x y : Bool) → y ≡ true → (x || y) ≡ true
 or_right true y e = refl
 or_right false y e = e
-
-all_any : (ps : List Peak) → AllPeaks (λ p. Unit {0}) ps
-all_any [] = tt
-all_any (p ∷ ps) = (tt, all_any ps)
 
 -- claims that agree with a list at each claimed location stand in it
 module _ (list : List (List ℕ)) (n : ℕ) (all : List Claim)

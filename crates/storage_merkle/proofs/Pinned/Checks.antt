@@ -1,26 +1,26 @@
 -- The pinned digests and the digests of a proof: what a check compares is what is to match.
-use Rattle.std.proofs.Common.{◌≡◌, ◌≢◌, ℕ, zero, suc, ◌+◌, ◌-◌, ◌<◌, ◌≤◌, ◌^◌, ◌↔◌, List, [], ◌∷◌, ◌++◌, All, length, map, take, drop, Bool, true, false, if◌then◌else◌, inl, inr, refl, sym, ap, ◌∙◌, arith, subst, leb, Option}
+use Rattle.std.proofs.Common.{◌≡◌, ◌≢◌, ℕ, zero, suc, ◌+◌, ◌-◌, ◌<◌, ◌≤◌, ◌^◌, ◌↔◌, List, [], ◌∷◌, ◌++◌, All, length, map, take, drop, Bool, true, false, if◌then◌else◌, refl, sym, ap, ◌∙◌, arith, subst, leb, Option}
 use Rattle.std.proofs.lemmas.List.{length-map}
 use Rattle.std.proofs.lemmas.List.Elements.{All-nil, All-cons}
 use Rattle.storage_codec.specs.Digests.{HashFunction}
-use Rattle.storage_merkle.specs.Shape.{Shape, Laws, size, Inside, AreAligned}
+use Rattle.storage_merkle.specs.Shape.{Shape, Laws, size}
 use Rattle.storage_merkle.specs.Calc.{Site, front, back, node, given, leaf, be8, Values, eval}
 use Rattle.storage_merkle.specs.declared.merkle.bagging.Bagging.{Bagging}
 use Rattle.storage_merkle.specs.Trees.{Layout, Content, Peak, places, peaks_of, part, node_calc, join_calc, ungrafted, folded, bag}
-use Rattle.storage_merkle.specs.RangeProofs.{Proof, CountsFit, check_values, sites, apart, leading, not_leading, up_to, sites_of, sites_in, place_in, by_position, fold_digest}
+use Rattle.storage_merkle.specs.RangeProofs.{Proof, check_values, sites, apart, leading, not_leading, up_to, sites_of, sites_in, place_in, by_position, fold_digest}
 use Rattle.storage_merkle.specs.Hashing.{folded_forward}
 use Rattle.storage_merkle.specs.Laws.Hashing.{eval-forward}
 use Rattle.storage_merkle.specs.Hashers.{forward_of}
 use Rattle.storage_merkle.specs.Plans.{InTree}
 use Rattle.storage_merkle.specs.PlanParts.{digest_or, peaks_by}
-use Rattle.storage_merkle.specs.Rests.{peaks_from, IsPast, AreFolded, AreAfterLeading}
+use Rattle.storage_merkle.specs.Rests.{EachPeak, peaks_from, IsPast}
 use Rattle.storage_merkle.specs.Siblings.{sibling_sites}
 use Rattle.storage_merkle.specs.CheckParts.{front_before, top_sites}
 use Rattle.storage_merkle.specs.Pinned.{peak_sites, pinned_sites, pinned_values, pinned_cut, recomputed, Match}
 use Rattle.storage_merkle.specs.PinnedParts.{AgreesWith, AreNodesAt, as_list, digest_before}
-use Rattle.storage_merkle.proofs.Walks.{in_tree_left, in_tree_right}
+use Rattle.storage_merkle.proofs.Walks.{all_peaks, in_tree_left, in_tree_right, peaks_in_tree}
 use Rattle.storage_merkle.proofs.Siblings.{positions, sites-join}
-use Rattle.storage_merkle.proofs.Check.Roots.{split, counted, tops_read, siblings_read}
+use Rattle.storage_merkle.proofs.Check.Roots.{Walk, proof_over, claim, Fits, tops, siblings, split, counted, tops_read, siblings_read}
 use Rattle.storage_merkle.proofs.Pinned.Match.{match_append}
 
 -- ---- siblings are nodes of the tree
@@ -74,20 +74,7 @@ module _ (S : Shape) (L : Laws S) (n : ℕ) where
       ]
 
   abbrev PeaksIn : List Peak → Type 0
-  PeaksIn [] = Unit {0}
-  PeaksIn (p ∷ ps) = InTree S n p.first p.height × PeaksIn ps
-
-  peaks_in : (s : ℕ) (ks : List ℕ) → AreAligned ks s → ((a k : ℕ) → Inside ks s a k → Inside (S.peaks n) 0 a k)
-      → PeaksIn (places s ks)
-  unfolding Inside AreAligned
-  peaks_in s [] al f = tt
-  peaks_in s (k ∷ ks) al f = (
-    record {
-      aligned = al.0;
-      inside = (L.born n s k al.0).1 ((L.inside n s k al.0).0 (f s k (inl (omega arith, omega arith))));
-    },
-    peaks_in (s + 2 ^ k) ks al.1 (λ a j i. f a j (inr i)),
-  )
+  PeaksIn ps = EachPeak (InTree S n) ps
 
   later_in : (low : ℕ) (ps : List Peak) → PeaksIn ps → PeaksIn (not_leading low ps)
   later_in low [] p = tt
@@ -111,7 +98,7 @@ module _ (S : Shape) (L : Laws S) (n : ℕ) where
 
   siblings_in : (low high : ℕ) → AreIn (sibling_sites (ungrafted S) n low high)
   siblings_in low high =
-      let all = peaks_in 0 (S.peaks n) (L.aligned n) (λ a k i. i) in
+      let all = peaks_in_tree S L n 0 n (all_peaks S L n) in
       in_sorted _ (sites_of_in (apart low high) _ (earlier_in high _ (later_in low _ all)))
 
   low_positions : (ss : List Site) → AreIn ss → All (λ p. p < size S n) (positions (ungrafted S) ss)
@@ -200,112 +187,92 @@ module _ (start : ℕ) (f r : Site → List ℕ) (a : ℕ) (fold : List (List �
 
 -- ---- all of it
 
-module _ (S : Shape) (L : Laws S) (h : HashFunction) (T : Layout) (same : T.shape ≡ S) (b : Bagging) (n i low : ℕ)
-    (es : List (List ℕ)) (chunk : ℕ → List ℕ) {D : Type 0} (text : D → List ℕ) (items : List D) (high f a r g : ℕ)
-    (range : high ≡ low + length es) (parts : AreFolded S b i n f) (after : AreAfterLeading S low 0 n f a r g)
-    (pinned : List (List ℕ)) where
-  abbrev proof : Proof
-  proof = record { leaves = n; inactive = i; digests = map text items }
+module _ {D : Type 0} {S : Shape} {text : D → List ℕ} (w : Walk S text) (pinned : List (List ℕ)) where
+  -- what is compared agrees, where the tree has m leaves and the range begins at `start`
+  abbrev pub Agrees : ℕ → ℕ → Type 0
+  Agrees m start = AgreesWith w.h w.T w.b (proof_over w m) start (claim w) pinned
 
-  abbrev claim : Content
-  claim = record { elements = es; chunk = chunk }
+  abbrev pub digest : Site → List ℕ
+  digest = (check_values w.h w.T w.b (proof_over w w.n) w.low (claim w)).digest
 
-  abbrev Fit : Type 0
-  Fit = CountsFit h T b proof low claim
-
-  abbrev Agrees : Type 0
-  Agrees = AgreesWith h T b proof low claim pinned
-
-  abbrev digest : Site → List ℕ
-  digest = (check_values h T b proof low claim).digest
-
-  abbrev again : Site → List ℕ
-  again = recomputed h T b proof low claim pinned
+  abbrev pub again : Site → List ℕ
+  again = recomputed w.h w.T w.b (proof_over w w.n) w.low (claim w) pinned
 
   abbrev later : List Site
-  later = top_sites low high (peaks_from S a r) g
+  later = top_sites w.low w.high (peaks_from S w.a w.r) w.g
 
-  abbrev siblings : List Site
-  siblings = sibling_sites (ungrafted S) n low high
+  -- the leading peaks, by the pinned digests
+  abbrev pub fold_of : List Peak → Option (List ℕ)
+  fold_of ps = forward_of w.h (peaks_by (digest_before w.h w.T w.low pinned w.chunk) (leading w.low ps))
 
-  nonempty : Fit → low < high
-  nonempty fit = let some = fit.some in omega arith
+  pub nonempty : Fits w w.n w.low → w.low < w.high
+  nonempty fit = let some = fit.some in omega (arith, w.range)
 
-  as_many : Fit → length items ≡ length (front_before a ++ later) + length siblings
+  as_many : Fits w w.n w.low → length w.items ≡ length (tops w) + length (siblings w)
   as_many fit =
-      let count : length (map text items) ≡ length (sites T low (low + length es) b n i) = fit.count in
-      omega (
-        arith,
-        length-map items text,
-        counted S h T same b n i low es chunk text items high f a r g range parts after (nonempty fit),
-      )
+      let count : length (map text w.items)
+      ≡ length (sites w.T w.low (w.low + length w.elements) w.b w.n w.i) = fit.count in
+      omega (arith, length-map w.items text, counted w (nonempty fit))
 
-  pub enough : Fit → length siblings ≤ length items
+  pub enough : Fits w w.n w.low → length (siblings w) ≤ length w.items
   enough fit = omega (arith, as_many fit)
 
-  module _ (fit : Fit) (m k : ℕ) (ek : k ≡ length siblings) (em : m + k ≡ length items) where
-    tops_count : m ≡ length (front_before a ++ later)
+  module _ (fit : Fits w w.n w.low) (m k : ℕ) (ek : k ≡ length (siblings w)) (em : m + k ≡ length w.items) where
+    tops_count : m ≡ length (tops w)
     tops_count = omega (arith, as_many fit)
 
-    fits : m ≤ length items
+    fits : m ≤ length w.items
     fits = omega arith
 
-    left_over : length items - m ≡ k
+    left_over : length w.items - m ≡ k
     left_over = omega arith
 
-    tops_are : map text (take m items) ≡ map digest (front_before a ++ later)
-    tops_are = tops_read S h T same b n i low es chunk text items high f a r g range parts after m k tops_count ek fits
-        left_over (nonempty fit)
+    tops_are : map text (take m w.items) ≡ map digest (tops w)
+    tops_are = tops_read w m k tops_count ek fits left_over (nonempty fit)
 
-    pub beside_are : map text (drop m items) ≡ map digest siblings
-    beside_are = siblings_read S h T same b n i low es chunk text items high f a r g range parts after m k tops_count ek
-        fits left_over (nonempty fit)
+    pub beside_are : map text (drop m w.items) ≡ map digest (siblings w)
+    beside_are = siblings_read w m k tops_count ek fits left_over (nonempty fit)
 
-    split_here : sites T low (low + length es) b n i ≡ (front_before a ++ later) ++ siblings
-    split_here = split S h T same b n i low es chunk text items high f a r g range parts after (nonempty fit)
+    matches : Match w.low digest again (sites w.T w.low (w.low + length w.elements) w.b w.n w.i)
+        ↔ (Match w.low digest again (tops w) × Match w.low digest again (siblings w))
+    matches = subst (λ ss. Match w.low digest again ss
+        ↔ (Match w.low digest again (tops w) × Match w.low digest again (siblings w))) (sym (split w (nonempty fit)))
+        (match_append w.low digest again (tops w) (siblings w))
 
-    matches : Match low digest again (sites T low (low + length es) b n i)
-        ↔ (Match low digest again (front_before a ++ later) × Match low digest again siblings)
-    matches = subst (λ ss. Match low digest again ss ↔ (Match low digest again (front_before a ++ later) × Match low
-        digest again siblings)) (sym split_here) (match_append low digest again (front_before a ++ later) siblings)
+    module _ (fold : Option (List ℕ)) (folds : fold ≡ fold_of (take w.f (peaks_from S 0 w.n))) where
+      front_is : again front ≡ digest_or (w.h []) (fold_of (take w.f (peaks_from S 0 w.n)))
+      front_is = fold_is w.h (pinned_values w.h w.T w.b (proof_over w w.n) w.low (claim w) pinned) w.T
+          (pinned_cut w.h w.T w.b (proof_over w w.n) w.low (claim w) pinned)
+          (leading w.low (folded w.b w.i (peaks_of w.T w.n)))
+          ∙ ap (λ ps. digest_or (w.h []) (fold_of ps))
+          (ap (λ U. folded w.b w.i (peaks_from U 0 w.n)) w.same ∙ sym w.parts.folded_are)
 
-    module _ (fold : Option (List ℕ))
-        (folds : fold ≡ forward_of h (peaks_by (digest_before h T low pinned chunk) (leading low (take f (peaks_from S 0 n))))) where
-      front_is : again front ≡ digest_or (h [])
-          (forward_of h (peaks_by (digest_before h T low pinned chunk) (leading low (take f (peaks_from S 0 n)))))
-      front_is =
-          fold_is h (pinned_values h T b proof low claim pinned) T (pinned_cut h T b proof low claim pinned)
-          (leading low (folded b i (peaks_of T n)))
-          ∙ ap (λ ps. digest_or (h []) (forward_of h (peaks_by (digest_before h T low pinned chunk) (leading low ps))))
-          (ap (λ U. folded b i (peaks_from U 0 n)) same ∙ sym parts.folded_are)
+      fold_are : as_list fold ≡ map again (front_before w.a)
+      fold_are = fold_listed w.h (digest_before w.h w.T w.low pinned w.chunk) again w.a
+          (leading w.low (take w.f (peaks_from S 0 w.n))) fold w.after.past folds front_is
 
-      fold_are : as_list fold ≡ map again (front_before a)
-      fold_are = fold_listed h (digest_before h T low pinned chunk) again a
-          (leading low (take f (peaks_from S 0 n))) fold after.past folds front_is
+      pub fold_refused : ((ds : List (List ℕ)) → map text (take m w.items) ≢ as_list fold ++ ds) → Agrees w.n w.low → ⊥
+      fold_refused ne ok = fold_missing w.low digest again w.a (as_list fold) fold_are later
+          (map text (take m w.items)) tops_are ne (matches.0 ok.same).0
 
-      pub fold_refused : ((ds : List (List ℕ)) → map text (take m items) ≢ as_list fold ++ ds) → Agrees → ⊥
-      fold_refused ne ok = fold_missing low digest again a (as_list fold) fold_are later
-          (map text (take m items)) tops_are ne (matches.0 ok.same).0
-
-      module _ (left : List (List ℕ)) (starts : map text (take m items) ≡ as_list fold ++ left) where
+      module _ (left : List (List ℕ)) (starts : map text (take m w.items) ≡ as_list fold ++ left) where
         fold_parts : (left ≡ map digest later)
-            × (Match low digest again later ↔ Match low digest again (front_before a ++ later))
-        fold_parts =
-            fold_matches low digest again a (as_list fold) fold_are later (map text (take m items)) left tops_are starts
+            × (Match w.low digest again later ↔ Match w.low digest again (tops w))
+        fold_parts = fold_matches w.low digest again w.a (as_list fold) fold_are later
+            (map text (take m w.items)) left tops_are starts
 
         pub left_are : left ≡ map digest later
         left_are = fold_parts.0
 
-        pub agree_where : length pinned ≡ length (S.peaks low) → Match low digest again later
-            → Match low digest again siblings → Agrees
+        pub agree_where : length pinned ≡ length (S.peaks w.low) → Match w.low digest again later
+            → Match w.low digest again (siblings w) → Agrees w.n w.low
         agree_where e x y = record {
-          count = e
-              ∙ sym (pinned_counted S h T same b proof low claim pinned);
+          count = e ∙ sym (pinned_counted S w.h w.T w.same w.b (proof_over w w.n) w.low (claim w) pinned);
           same = matches.1 (fold_parts.1.0 x, y);
         }
 
-        pub peaks_agree : Agrees → Match low digest again later
+        pub peaks_agree : Agrees w.n w.low → Match w.low digest again later
         peaks_agree ok = fold_parts.1.1 (matches.0 ok.same).0
 
-        pub siblings_agree : Agrees → Match low digest again siblings
+        pub siblings_agree : Agrees w.n w.low → Match w.low digest again (siblings w)
         siblings_agree ok = (matches.0 ok.same).1

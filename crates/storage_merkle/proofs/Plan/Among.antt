@@ -1,5 +1,5 @@
--- The peaks apart from a range, and the siblings, are among the planned nodes.
-use Rattle.std.proofs.Common.{◌≡◌, ℕ, ◌+◌, ◌≤◌, ◌^◌, List, [], ◌∷◌, ◌++◌, length, map, take, drop, Bool, true, false, inl, inr, refl, sym, ap, ap₂, ◌∙◌, arith, subst}
+-- The peaks apart from a range, and the siblings, are among the planned nodes, and a plan's digests are theirs.
+use Rattle.std.proofs.Common.{◌≡◌, ℕ, ◌+◌, ◌<◌, ◌≤◌, ◌^◌, List, [], ◌∷◌, ◌++◌, length, map, take, drop, Bool, true, false, inl, inr, refl, sym, ap, ap₂, ◌∙◌, arith, subst, Option, option_map, MatchOption}
 use Rattle.std.specs.List.{AllZip}
 use Rattle.std.specs.List.Sorted.{IsNonDecreasing}
 use Rattle.std.proofs.lemmas.List.{map-append}
@@ -9,16 +9,21 @@ use Rattle.storage_merkle.specs.Shape.{Shape, Laws}
 use Rattle.storage_merkle.specs.Calc.{Site, front, back, node}
 use Rattle.storage_merkle.specs.declared.merkle.bagging.Bagging.{Bagging}
 use Rattle.storage_merkle.specs.Trees.{Layout, ungrafted, Peak, places, peaks_of, node_calc, folded, unfolded}
-use Rattle.storage_merkle.specs.RangeProofs.{apart, leading, not_leading, up_to, trailing, sites_of, sites_in, position_of, by_position, same_site}
-use Rattle.storage_merkle.specs.Rests.{peaks_from, AreFolded}
+use Rattle.storage_merkle.specs.RangeProofs.{apart, leading, not_leading, up_to, trailing, sites_of, sites_in, position_of, by_position, sites, same_site}
+use Rattle.storage_merkle.specs.Rests.{peaks_from, IsPast, AreFolded, AreAfterLeading}
+use Rattle.storage_merkle.specs.CheckParts.{front_before, top_sites}
+use Rattle.storage_merkle.specs.Hashers.{forward_of}
 use Rattle.storage_merkle.specs.Siblings.{sibling_sites}
 use Rattle.storage_merkle.specs.Plans.{planned}
-use Rattle.storage_merkle.specs.PlanParts.{IsAmong, AreAmong, AreInOrder, ArePlannedApart, AreOf, StandsAt, site_digest, tops}
+use Rattle.storage_merkle.specs.PlanParts.{IsAmong, AreAmong, AreInOrder, ArePlannedApart, AreOf, StandsAt, peaks_by, site_digest}
 use Rattle.storage_merkle.proofs.Prune.{leading-all, up_to-all}
 use Rattle.storage_merkle.proofs.Distinct.{times, one_if, same_itself, times-append, times-by_position, times-in}
 use Rattle.storage_merkle.proofs.RangeOwn.{same_site-eq}
 use Rattle.storage_merkle.proofs.Rising.{rising_at}
 use Rattle.storage_merkle.proofs.Siblings.{positions, sites-cut, sort_rises}
+use Rattle.storage_merkle.proofs.Check.Sites.{front_before-are, all_added}
+use Rattle.storage_merkle.proofs.Walked.{listed, pushed}
+use Rattle.storage_merkle.proofs.Plan.Tops.{front_listed}
 use Rattle.storage_merkle.proofs.Plan.Sites.{AllSites, IsAlignedNode, aligned_in}
 
 -- positions of sites that stand in a list
@@ -128,34 +133,34 @@ zipped_digests text S low high xs ys h digest_of ps ds are (node b k ∷ ss) (d 
     ap₂ (λ x rest. x ∷ rest) (are (S.position b k) b k d z.0 (record { aligned = a.0; at = refl }))
     (zipped_digests text S low high xs ys h digest_of ps ds are ss added a.1 z.1)
 
--- the digests of the peaks and folds, and then those of the siblings
+-- the digests of the leading fold, of what is met after it, and then of the siblings
 pub proof_digests : {D : Type 0} (text : D → List ℕ) (S : Shape) → Laws S → (h : HashFunction)
-    (digest_of : ℕ → ℕ → List ℕ) (n low high : ℕ) (xs ys : List Peak) (ps sibs : List ℕ) (ds none first last : List D)
+    (digest_of : ℕ → ℕ → List ℕ) (b : Bagging) (i n low high f a r g : ℕ) → low < high → AreFolded S b i n f
+    → AreAfterLeading S low 0 n f a r g → (ps sibs : List ℕ) (ds none one two last : List D) (fold : Option D)
     → ps ≡ planned S n low high → sibs ≡ positions (ungrafted S) (sibling_sites (ungrafted S) n low high) → none ≡ []
-    → AreOf text S ps ds digest_of → (AreOf text S ps ds digest_of → map text first ≡ map text none
-    ++ map (site_digest low high xs ys h digest_of) (tops low high xs ys (ungrafted S))) → (added : List D) → last
-    ≡ first ++ added → AllZip (StandsAt ps ds) sibs added → map text last ≡ map (site_digest low high xs ys h digest_of)
-    (tops low high xs ys (ungrafted S) ++ sibling_sites (ungrafted S) n low high)
-proof_digests {D} text S L h digest_of n low high xs ys ps sibs ds none first last e es z are f added l a =
-    let ss = sibling_sites (ungrafted S) n low high in
-    let ts = tops low high xs ys (ungrafted S) in
+    → AreOf text S ps ds digest_of
+    → option_map text fold ≡ forward_of h (peaks_by digest_of (leading low (take f (peaks_from S 0 n))))
+    → MatchOption fold (one ≡ none) (λ d. one ≡ none ++ d ∷ [])
+    → ((xs ys : List Peak) → trailing high (drop g (peaks_from S a r)) ≡ trailing high ys
+    → map text two ≡ map text one ++ map (site_digest low high xs ys h digest_of)
+    (top_sites low high (peaks_from S a r) g)) → (added : List D) → last ≡ two ++ added
+    → AllZip (StandsAt ps ds) sibs added → map text last ≡ map (site_digest low high (folded b i (peaks_from S 0 n))
+    (unfolded b i (peaks_from S 0 n)) h digest_of) (sites (ungrafted S) low high b n i)
+proof_digests text S L h digest_of b i n low high f a r g some parts after ps sibs ds none one two last fold e es z are ef
+    en add added l at =
+    let T = ungrafted S in
+    let xs = folded b i (peaks_from S 0 n) in
+    let ys = unfolded b i (peaks_from S 0 n) in
     let site = site_digest low high xs ys h digest_of in
-    let begun : map text first ≡ map site ts = f are ∙ ap (λ (ds : List D). map text ds ++ map site ts) z in
-    let ended : map text added ≡ map site ss = zipped_digests text S low high xs ys h digest_of ps ds are ss added
-    (siblings_aligned S L n low high) (subst (λ qs. AllZip (StandsAt ps ds) qs added) es a) in
-    ap (map text) l ∙ map-append text first added ∙ ap₂ (λ us vs. us ++ vs) begun ended ∙ sym (map-append site ts ss)
-
--- what holds of the peaks that a walk begins with holds of those that are folded
-pub of_folded : (Q : List Peak → List Peak → ℕ → ℕ → Type 0) (S : Shape) (b : Bagging)
-    (i n m f a r low high start end : ℕ) → a ≡ 0 → r ≡ m → m ≡ n → start ≡ low → end ≡ high → AreFolded S b i m f
-    → Q (take f (peaks_from S a r)) (drop f (peaks_from S a r)) start end
-    → Q (folded b i (peaks_from S 0 n)) (unfolded b i (peaks_from S 0 n)) low high
-of_folded Q S b i n m f a r low high start end ea er em es ee are q =
-    let x : take f (peaks_from S a r) ≡ folded b i (peaks_from S 0 n) =
-    ap₂ (λ s t. take f (peaks_from S s t)) ea er ∙ are.folded_are ∙ ap (λ t. folded b i (peaks_from S 0 t)) em in
-    let y : drop f (peaks_from S a r) ≡ unfolded b i (peaks_from S 0 n) = ap₂ (λ s t. drop f (peaks_from S s t)) ea er
-    ∙ are.unfolded_are ∙ ap (λ t. unfolded b i (peaks_from S 0 t)) em in
-    subst (λ s. Q (folded b i (peaks_from S 0 n)) (unfolded b i (peaks_from S 0 n)) s high) es
-    (subst (λ e. Q (folded b i (peaks_from S 0 n)) (unfolded b i (peaks_from S 0 n)) start e) ee
-    (subst (λ ys. Q (folded b i (peaks_from S 0 n)) ys start end) y
-    (subst (λ xs. Q xs (drop f (peaks_from S a r)) start end) x q)))
+    let past : IsPast 0 a (leading low xs) =
+    subst (λ ps. IsPast 0 a (leading low ps)) parts.folded_are after.past in
+    let front : map text one ≡ map site (front_before a) = pushed text fold none one en
+    ∙ ap₂ (λ us o. map text us ++ listed o) z (ef ∙ ap (λ ps. forward_of h (peaks_by digest_of (leading low ps)))
+    parts.folded_are) ∙ front_listed h digest_of site (leading low xs) refl
+    ∙ ap (map site) (front_before-are T low high a (leading low xs) past) in
+    let ended : map text added ≡ map site (sibling_sites T n low high) = zipped_digests text S low high xs ys h digest_of
+    ps ds are (sibling_sites T n low high) added (siblings_aligned S L n low high)
+    (subst (λ qs. AllZip (StandsAt ps ds) qs added) es at) in
+    all_added T low high b n i f a r g some parts after site (map text one) (map text two) (map text last) front
+    (add xs ys (ap (trailing high) (after.unfolded_are ∙ parts.unfolded_are)))
+    (ap (map text) l ∙ map-append text two added ∙ ap (λ us. map text two ++ us) ended)

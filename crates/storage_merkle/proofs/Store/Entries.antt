@@ -1,7 +1,7 @@
 -- The digests that a store keeps, by their positions.
-use Rattle.std.proofs.Common.{◌≡◌, ℕ, ◌%◌, ◌≤◌, ◌^◌, List, [], ◌∷◌, ◌++◌, Bool, true, false, if◌then◌else◌, inl, inr, refl, ap, ap₂, arith, leb, eqb, eqb-true, eq-eqb, Some}
+use Rattle.std.proofs.Common.{◌≡◌, ℕ, ◌%◌, ◌≤◌, ◌^◌, List, [], ◌∷◌, ◌++◌, Bool, true, false, if◌then◌else◌, inl, inr, refl, ap, arith, leb, eqb, eqb-true, eq-eqb, Some}
 use Rattle.storage_merkle.specs.Shape.{Laws}
-use Rattle.storage_merkle.specs.Calc.{Site, front, back, node}
+use Rattle.storage_merkle.specs.Calc.{Site}
 use Rattle.storage_merkle.specs.declared.merkle.bagging.Bagging.{Bagging}
 use Rattle.storage_merkle.specs.Trees.{Layout, Peak, peaks_of, folded, unfolded}
 use Rattle.storage_merkle.specs.RangeProofs.{apart, not_leading, up_to, position_of, place_in, by_position, same_site}
@@ -10,8 +10,8 @@ use Rattle.storage_merkle.specs.Stores.{entry_at, kept_sites}
 use Rattle.storage_merkle.proofs.Agreeing.{AllPeaks}
 use Rattle.storage_merkle.proofs.Distinct.{times, one_if}
 use Rattle.storage_merkle.proofs.RangeOwn.{same_site-eq, all_not_leading, all_up_to, all_folded, peaks_under}
-use Rattle.storage_merkle.proofs.Plan.Sites.{AllSites, IsAlignedNode}
-use Rattle.storage_merkle.proofs.Extracted.{tells, aligned_over}
+use Rattle.storage_merkle.proofs.Plan.Sites.{AllSites, IsAlignedNode, one_place}
+use Rattle.storage_merkle.proofs.Extracted.{tells, aligned_over, all_weaker}
 
 -- sorted, all of them
 module _ (Q : Site → Type 0) (T : Layout) where
@@ -31,10 +31,6 @@ module _ (Q : Site → Type 0) (T : Layout) where
 all_joined : (Q : Peak → Type 0) (ps qs : List Peak) → AllPeaks Q ps → AllPeaks Q qs → AllPeaks Q (ps ++ qs)
 all_joined Q [] qs a b = b
 all_joined Q (p ∷ ps) qs a b = (a.0, all_joined Q ps qs a.1 b)
-
-all_weaker : (P Q : Peak → Type 0) → ((p : Peak) → P p → Q p) → (ps : List Peak) → AllPeaks P ps → AllPeaks Q ps
-all_weaker P Q f [] a = tt
-all_weaker P Q f (p ∷ ps) a = (f p a.0, all_weaker P Q f ps a.1)
 
 -- the sites that are kept, before they are sorted
 abbrev pub kept_nodes : Layout → Bagging → ℕ → ℕ → ℕ → ℕ → List Site
@@ -60,14 +56,6 @@ kept_aligned T L b n i low high =
     all_sorted IsAlignedNode T (kept_nodes T b n i low high) (nodes_aligned T L b n i low high)
 
 module _ (T : Layout) (L : Laws T.shape) where
-  -- nodes of one position are one
-  pub one_node : (s t : Site) → IsAlignedNode s → IsAlignedNode t → position_of T s ≡ position_of T t → s ≡ t
-  one_node front t a b e = absurd a
-  one_node back t a b e = absurd a
-  one_node (node a k) front p q e = absurd q
-  one_node (node a k) back p q e = absurd q
-  one_node (node a k) (node b j) p q e = let i = L.injective a k b j p q e in ap₂ node i.0 i.1
-
   module _ (f : Site → List ℕ) where
     -- at a site that is there
     pub entry_there : (ss : List Site) → AllSites IsAlignedNode ss → (s : Site) → IsAlignedNode s → 1 ≤ times s ss
@@ -78,7 +66,7 @@ module _ (T : Layout) (L : Laws T.shape) where
         go : (c : Bool) → eqb (position_of T t) (position_of T s) ≡ c
             → (1 ≤ times s ts → entry_at (position_of T s) (entries T f ts) ≡ Some (f s))
             → (if c then Some (f t) else entry_at (position_of T s) (entries T f ts)) ≡ Some (f s)
-        go true e rest = ap (λ x. Some (f x)) (one_node t s al.0 a (eqb-true (position_of T t) (position_of T s) e))
+        go true e rest = ap (λ x. Some (f x)) (one_place T L t s al.0 a (eqb-true (position_of T t) (position_of T s) e))
         go false e rest = elim (tells (same_site t s)) [
           | inl c ↦
               absurd (let same : position_of T t ≡ position_of T s = ap (position_of T) (same_site-eq t s c) in let yes_it : eqb (position_of T t) (position_of T s) ≡ true = eq-eqb (position_of T t) (position_of T s) same in cc)

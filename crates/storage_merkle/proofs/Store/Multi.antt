@@ -7,9 +7,9 @@ use Rattle.storage_merkle.specs.Trees.{Layout, Content, ungrafted, peaks_of}
 use Rattle.storage_merkle.specs.RangeProofs.{Proof, position_of, sites_in}
 use Rattle.storage_merkle.specs.Multi.{untouched, needed_sites, tree_digest, own_multi_proof}
 use Rattle.storage_merkle.specs.Stores.{Store, entry_at, or_else, kept_sites, first_of, location_refusal, found_at, unless_there, needed_refusal, needed_positions, suffix_positions, multi_refusal, store_multi_proof, IsStoreOf, AreTrueAt}
-use Rattle.storage_merkle.proofs.Plan.Sites.{AllSites, IsAlignedNode, aligned_in}
+use Rattle.storage_merkle.proofs.Plan.Sites.{AllSites, IsAlignedNode, aligned_in, one_place}
 use Rattle.storage_merkle.proofs.Multi.Checks.{plain_needed}
-use Rattle.storage_merkle.proofs.Store.Entries.{all_sorted, kept_aligned, one_node, entry_of}
+use Rattle.storage_merkle.proofs.Store.Entries.{all_sorted, kept_aligned, entry_of}
 
 some_same : {A : Type 0} (x y : A) → Some x ≡ Some y → x ≡ y
 some_same x y e = cc
@@ -41,7 +41,7 @@ module _ (h : HashFunction) (T : Layout) (L : Laws T.shape) (store : Store) (con
           let al = kept_aligned T L store.bagging store.leaves store.inactive store.start store.past in
           let ss = kept_sites T store.bagging store.leaves store.inactive store.start store.past in
           let r = entry_of T L (tree_digest h T content) ss p y (ap (entry_at p) (sym st.kept_are) ∙ e) al in
-          let same = one_node T L r.0 (node b m) r.1 a r.2 in
+          let same = one_place T L r.0 (node b m) r.1 a r.2 in
           sym (some_same y x g) ∙ r.3 ∙ ap (tree_digest h T content) same
 
   all_found : (F : Type 0) (suffix : List ℕ) (ss : List Site) → AllSites IsAlignedNode ss

@@ -1,27 +1,25 @@
 -- The range proofs that a store gives, digest by digest.
-use Rattle.std.proofs.Common.{◌≡◌, ℕ, zero, suc, ◌+◌, ◌-◌, ◌<◌, ◌≤◌, ◌^◌, List, [], ◌∷◌, ◌++◌, length, map, get_or, take, drop, true, false, if◌then◌else◌, ◌⊎◌, inl, inr, refl, sym, ap, ap₂, ◌∙◌, arith, subst, leb, le-leb, append_assoc, append-nil, Option, Some, None}
-use Rattle.std.proofs.lemmas.Bool.{lt-leb}
+use Rattle.std.proofs.Common.{◌≡◌, ℕ, zero, suc, ◌+◌, ◌<◌, ◌≤◌, List, [], ◌∷◌, ◌++◌, length, map, get_or, take, drop, true, false, if◌then◌else◌, refl, sym, ap, ap₂, ◌∙◌, arith, subst, leb, append_assoc, append-nil, Option, Some, None}
 use Rattle.std.proofs.lemmas.List.{map-append, drop_more, drop_all}
 use Rattle.storage_codec.specs.Digests.{HashFunction}
-use Rattle.storage_merkle.specs.Shape.{Shape, Laws}
-use Rattle.storage_merkle.specs.Laws.Shape.{no_peaks}
+use Rattle.storage_merkle.specs.Shape.{Shape}
 use Rattle.storage_merkle.specs.Calc.{Site, front, back, node, Calc, given, Values, eval}
-use Rattle.storage_merkle.specs.declared.merkle.bagging.Bagging.{Bagging}
-use Rattle.storage_merkle.specs.Trees.{Layout, Peak, places, peaks_of, ungrafted, folded, unfolded, fold_backward, bag}
-use Rattle.storage_merkle.specs.RangeProofs.{Proof, apart, leading, not_leading, up_to, trailing, front_given, back_given, front_sites, back_sites, sites_in, position_of, by_position, same_site, sites, fold_digest}
+use Rattle.storage_merkle.specs.Trees.{Layout, Peak, peaks_of, ungrafted, fold_backward, bag}
+use Rattle.storage_merkle.specs.RangeProofs.{Proof, apart, leading, not_leading, up_to, trailing, front_given, back_given, sites_in, position_of, same_site, sites, fold_digest}
 use Rattle.storage_merkle.specs.Laws.Hashing.{eval-forward}
 use Rattle.storage_merkle.specs.Hashers.{forward_of, folded_onto, prepended}
 use Rattle.storage_merkle.specs.PlanParts.{peaks_by}
 use Rattle.storage_merkle.specs.Rests.{peaks_from, IsPast, AreFolded, AreAfterLeading}
 use Rattle.storage_merkle.specs.Siblings.{sibling_sites}
+use Rattle.storage_merkle.specs.StoreParts.{kept_met}
+use Rattle.storage_merkle.specs.Walked.{walked}
 use Rattle.storage_merkle.specs.CheckParts.{front_before, top_sites, right_of, folded_before}
 use Rattle.storage_merkle.specs.Stores.{Store, entry_at, or_else, peak_given, store_values, fore, aft, store_digest, store_proof, stored_at}
-use Rattle.storage_merkle.proofs.Check.Roots.{plain_in, plain_sorted}
+use Rattle.storage_merkle.proofs.Check.Roots.{plain_sites}
 use Rattle.storage_merkle.proofs.Check.Bags.{fold_for, right_of-folded}
-use Rattle.storage_merkle.proofs.Check.Sites.{sites_are}
-use Rattle.storage_merkle.proofs.Check.Tops.{tops_end}
-use Rattle.storage_merkle.proofs.Plan.Folds.{forward_from, no_peaks_from}
-use Rattle.storage_merkle.proofs.Plan.Tops.{listed}
+use Rattle.storage_merkle.proofs.Check.Sites.{all_added}
+use Rattle.storage_merkle.proofs.Plan.Folds.{forward_from}
+use Rattle.storage_merkle.proofs.Walked.{listed, all_listed, digests_met}
 use Rattle.storage_merkle.proofs.Distinct.{times, times-by_position, no_fold_in}
 use Rattle.storage_merkle.proofs.Store.Own.{map_at, lead_split, trail_trail}
 
@@ -37,24 +35,6 @@ module _ (h : HashFunction) (v : Values) where
   onto_some : (c : Calc) (cs : List Calc) → folded_onto h (map E (c ∷ cs)) None ≡ Some (E (fold_backward c cs))
   onto_some c [] = refl
   onto_some c (d ∷ cs) = ap (λ o. Some (prepended h (E c) o)) (onto_some d cs)
-
--- ---- the peaks past a range, where the first of some peaks is passed
-
-module _ (S : Shape) (high a r f k a' r' f' : ℕ) (first : S.peaks r ≡ k ∷ S.peaks (r - 2 ^ k)) (ea : a' ≡ a + 2 ^ k)
-    (er : r' ≡ r - 2 ^ k) (ef : f' ≡ f - 1) where
-  opened : peaks_from S a r ≡ (record { first = a; height = k }) ∷ peaks_from S a' r'
-  opened = ap (places a) first ∙ ap₂ (λ x y. (record { first = a; height = k }) ∷ peaks_from S x y) (sym ea) (sym er)
-
-  passed : (g : ℕ) (ps : List Peak) → (0 < g) ⊎ ((g ≤ 0) × (a < high))
-      → trailing high (drop (g - 1) ps) ≡ trailing high (drop g ((record { first = a; height = k }) ∷ ps))
-  passed zero ps (inl l) = absurd (omega arith)
-  passed zero ps (inr l) = rw (lt-leb high a l.1) refl
-  passed (suc g) ps l = let less : suc g - 1 ≡ g = omega arith in rw less refl
-
-  pub late_next : (0 < f) ⊎ ((f ≤ 0) × (a < high))
-      → trailing high (drop f' (peaks_from S a' r')) ≡ trailing high (drop f (peaks_from S a r))
-  late_next l = ap (λ g. trailing high (drop g (peaks_from S a' r'))) ef ∙ passed f (peaks_from S a' r') l
-      ∙ ap (λ ps. trailing high (drop f ps)) (sym opened)
 
 -- ---- of one store
 
@@ -148,40 +128,11 @@ module _ (h : HashFunction) (S : Shape) (store : Store) where
         (sym (trail_trail T store.start store.past low high from until ys))
         ∙ ap (λ qs. fold_digest h values (bag [] (back_calcs qs))) (sym e)
 
-    pub back_listed : (a : ℕ) (ks : List ℕ) (o : Option (List ℕ)) → high ≤ a → trailing high (places a ks)
-        ≡ trailing high ys → o ≡ last_fold (places a ks) → listed o ≡ map site (top_sites low high (places a ks) 0)
-    back_listed a [] o u e eo = ap listed eo
-    back_listed a (k ∷ ks) o u e eo =
-        let here = places a (k ∷ ks) in
-        let past = le-leb high a u in
-        let all : here ≡ trailing high ys = (let t : trailing high here ≡ here = rw past refl in sym t) ∙ e in
-        ap listed (eo ∙ some_back (record { first = a; height = k }) (places (a + 2 ^ k) ks)
-        ∙ ap (λ x. Some x) (sym (site_back here all))) ∙ rw past refl
-
-    -- past the others, of which none is left or the first is past the range
-    pub last_listed : Laws S → (a r f : ℕ) (o : Option (List ℕ)) → (r ≤ 0) ⊎ ((f ≤ 0) × (high ≤ a))
-        → trailing high (drop f (peaks_from S a r)) ≡ trailing high ys → o ≡ last_fold (peaks_from S a r)
-        → listed o ≡ map site (top_sites low high (peaks_from S a r) f)
-    last_listed L a r f o (inl z) late eo =
-        let none = no_peaks_from S a r (no_peaks S L) z in
-        ap listed (eo ∙ ap last_fold none) ∙ sym (ap (map site) (tops_end S low high L a r f z))
-    last_listed L a r zero o (inr u) late eo = back_listed a (S.peaks r) o u.1 late eo
-    last_listed L a r (suc f) o (inr u) late eo = absurd (let l = u.0 in omega arith)
-
-    -- ---- the peaks, one after another
-    pub adds_peak : (a k : ℕ) (ss ts : List Site) (now new all : List (List ℕ)) (x : List ℕ) → ss ≡ node a k ∷ ts
-        → x ≡ kept_of a k → new ≡ now ++ x ∷ [] → now ++ map site ss ≡ all → new ++ map site ts ≡ all
-    adds_peak a k ss ts now new all x es ex en r =
-        ap (λ us. us ++ map site ts) en ∙ append_assoc now (x ∷ []) (map site ts) ∙ ap (λ y. now ++ y ∷ map site ts) ex
-        ∙ ap (λ us. now ++ map site us) (sym es) ∙ r
-
-    pub adds_other : (ss ts : List Site) (now new all : List (List ℕ)) → ss ≡ ts → new ≡ now → now ++ map site ss ≡ all
-        → new ++ map site ts ≡ all
-    adds_other ss ts now new all es en r = ap₂ (λ us ws. us ++ map site ws) en (sym es) ∙ r
-
-    pub adds_last : (ss : List Site) (now new all : List (List ℕ)) (o : Option (List ℕ)) → listed o ≡ map site ss
-        → new ≡ now ++ listed o → now ++ map site ss ≡ all → new ≡ all
-    adds_last ss now new all o eo en r = en ∙ ap (λ us. now ++ us) eo ∙ r
+    -- the digests of what is met after the leading peaks
+    pub kept_are : (ps : List Peak) (f : ℕ) → trailing high (drop f ps) ≡ trailing high ys
+        → all_listed (map (kept_met h T store) (walked low high ps f)) ≡ map site (top_sites low high ps f)
+    kept_are ps f late = digests_met low high site (kept_met h T store) (λ p. refl) ps f
+        (λ q qs t. some_back q qs ∙ ap (λ x. Some x) (sym (site_back (q ∷ qs) (t ∙ late))))
 
     -- ---- the fold in front
     front_one : (ls ms : List Peak) (a : ℕ) → IsPast 0 a (ls ++ ms)
@@ -252,35 +203,11 @@ module _ (h : HashFunction) (S : Shape) (store : Store) where
         → ps ≡ map (position_of T) (sibling_sites T store.leaves low high) → all ≡ two ++ map kept_there ps
         → all ≡ (store_proof h T store low high).digests
     digests_are f a r g some parts after one two all o ps eo e1 e2 ep e3 =
-        let tops = top_sites low high (peaks_from S a r) g in
-        let beside = sibling_sites T store.leaves low high in
         let in_front : one ≡ map site (front_before a) = e1 ∙ ap listed eo ∙ front_listed f a r g parts after in
-        e3
-        ∙ ap₂ (λ us ws. us ++ ws) (e2 ∙ ap (λ us. us ++ map site tops) in_front
-        ∙ sym (map-append site (front_before a) tops)) (ap (map kept_there) ep ∙ beside_are)
-        ∙ sym (map-append site (front_before a ++ tops) beside)
-        ∙ ap (map site) (sym (sites_are T low high store.bagging store.leaves store.inactive f a r g some parts after))
+        all_added T low high store.bagging store.leaves store.inactive f a r g some parts after site one two all in_front e2
+        (e3 ∙ ap (λ us. two ++ us) (ap (map kept_there) ep ∙ beside_are))
 
 -- ---- grafting is no matter
-
-plain_sites : (U : Layout) (low high : ℕ) (b : Bagging) (n i : ℕ)
-    → sites U low high b n i ≡ sites (ungrafted U.shape) low high b n i
-plain_sites U low high b n i =
-    let xs = folded b i (peaks_of U n) in
-    let ys = unfolded b i (peaks_of U n) in
-    let W = ungrafted U.shape in
-    let cut = apart low high in
-    let F = front_sites (leading low xs) in
-    let C = back_sites (trailing high ys) in
-    let K : List Site → List Site → List Site → List Site = λ A B P. F ++ (A ++ (B ++ (C ++ P))) in
-    let D : Layout → List Site =
-    λ V. sites_in V cut (up_to high (not_leading low xs)) ++ sites_in V cut (up_to high (not_leading low ys)) in
-    let both : D U ≡ D W = ap₂ (λ us ws. us ++ ws) (plain_in U cut (up_to high (not_leading low xs)))
-    (plain_in U cut (up_to high (not_leading low ys))) in
-    ap₂ (λ A B. K A B (by_position U (D U))) (plain_in U cut (leading low ys))
-    (plain_in U cut (trailing high (not_leading low xs)))
-    ∙ ap (K (sites_in W cut (leading low ys)) (sites_in W cut (trailing high (not_leading low xs))))
-    (plain_sorted U (D U) ∙ ap (by_position W) both)
 
 plain_digest : (h : HashFunction) (U : Layout) (store : Store) (low high : ℕ) (s : Site)
     → store_digest h U store low high s ≡ store_digest h (ungrafted U.shape) store low high s

@@ -16,7 +16,7 @@ use Rattle.storage_merkle.specs.Stores.{or_else}
 use Rattle.storage_merkle.proofs.RangeSound.{folded-all}
 use Rattle.storage_merkle.proofs.Distinct.{times, one_if, times-append, times-by_position, no_fold_in, each_once, read_all}
 use Rattle.storage_merkle.proofs.Extracted.{tells}
-use Rattle.storage_merkle.proofs.Check.Roots.{agree_itself, split}
+use Rattle.storage_merkle.proofs.Check.Roots.{Walk, agree_itself, split}
 
 -- ---- the peaks, one after another
 
@@ -167,6 +167,28 @@ module _ (S : Shape) (h : HashFunction) (b : Bagging) (n i low high : ℕ) {D : 
   abbrev pub all_sites : List Site
   all_sites = (front_before a ++ tops) ++ beside
 
+  abbrev walk : (T : Layout) → T.shape ≡ S → (claim : Content) → high ≡ low + length claim.elements → Walk S text
+  walk T same claim range = record {
+    h = h;
+    T = T;
+    same = same;
+    b = b;
+    n = n;
+    i = i;
+    low = low;
+    elements = claim.elements;
+    chunk = claim.chunk;
+    items = items;
+    high = high;
+    f = f;
+    a = a;
+    r = r;
+    g = g;
+    range = range;
+    parts = parts;
+    after = after;
+  }
+
   -- the counts fit to one claim over the range, and so to each
   module _ (given : Content) (given_range : high ≡ low + length given.elements)
       (fit : CountsFit h (ungrafted S) b proof low given) (T : Layout) (claim : Content) (same : T.shape ≡ S)
@@ -178,11 +200,11 @@ module _ (S : Shape) (h : HashFunction) (b : Bagging) (n i low high : ℕ) {D : 
     some = let positive = fit.some in omega arith
 
     sites_split : sites T low (low + length claim.elements) b n i ≡ all_sites
-    sites_split = split S h T same b n i low claim.elements claim.chunk text items high f a r g range parts after some
+    sites_split = split (walk T same claim range) some
 
     counted : length (map text items) ≡ length (sites T low (low + length claim.elements) b n i)
-    counted = fit.count ∙ ap length (split S h (ungrafted S) refl b n i low given.elements given.chunk text items high f
-        a r g given_range parts after some) ∙ sym (ap length sites_split)
+    counted = fit.count ∙ ap length (split (walk (ungrafted S) refl given given_range) some)
+        ∙ sym (ap length sites_split)
 
     read : map text items ≡ map values.digest all_sites
     read =

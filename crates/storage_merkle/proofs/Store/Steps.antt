@@ -1,7 +1,7 @@
 -- The steps of a multi proof from a store.
 use Rattle.std.proofs.Common.{◌≡◌, ◌≢◌, ℕ, zero, suc, ◌+◌, ◌-◌, ◌<◌, ◌≤◌, ◌^◌, List, [], ◌∷◌, ◌++◌, length, map, get_or, drop, Bool, true, false, if◌then◌else◌, inl, inr, refl, sym, ap, ap₂, ◌∙◌, arith, subst, leb, ltb, eqb, le-leb, eq-eqb, ne_eqb, eqb-true, leb-false, append-nil, append_assoc, Option, Some, None, not, ◌==◌}
 use Rattle.std.specs.List.Sorted.{IsPermutation, IsNonDecreasing, IsNonDecreasingBy, IsPartitionPoint}
-use Rattle.std.proofs.lemmas.Bool.{lt-ltb, lt-leb, ltb-true, ltb-false, cases_lt}
+use Rattle.std.proofs.lemmas.Bool.{le-ltb, lt-ltb, lt-leb, ltb-true, ltb-false, cases_lt}
 use Rattle.std.proofs.lemmas.List.{drop_more, drop_all, map-append, length-map, get_or-map, get_or_default}
 use Rattle.storage_merkle.specs.declared.merkle.error.Error.{Error}
 use Rattle.storage_merkle.specs.declared.merkle.error.Error.TheVariants.{RangeOutOfBounds, ElementPruned, DuplicateLocation, UnsortedLocation, CompressedDigest}
@@ -34,26 +34,12 @@ module _ (F : Type 0) (n : ℕ) (ls : List ℕ) where
     refused_twice u v =
         let e : l + 1 ≡ first = omega arith in
         opened ∙ rw (le-ltb (l + 1) first v, eq-eqb (l + 1) first e) refl
-      where
-        le-ltb : (x y : ℕ) → y ≤ x → ltb x y ≡ false
-        le-ltb x y h = go (ltb x y) refl
-          where
-            go : (b : Bool) → ltb x y ≡ b → b ≡ false
-            go false e = refl
-            go true e = let l : x < y = ltb-true x y e in absurd (omega arith)
 
     past_first : first ≤ l → (rest : Option (Error F)) → (if ltb (l + 1) first then Some (UnsortedLocation l)
         else (if eqb (l + 1) first then Some (DuplicateLocation l) else rest)) ≡ rest
     past_first u rest =
         let ne : l + 1 ≢ first = omega arith in
         rw (le-ltb (l + 1) first (omega arith), ne_eqb (l + 1) first ne) refl
-      where
-        le-ltb : (x y : ℕ) → y ≤ x → ltb x y ≡ false
-        le-ltb x y h = go (ltb x y) refl
-          where
-            go : (b : Bool) → ltb x y ≡ b → b ≡ false
-            go false e = refl
-            go true e = let l : x < y = ltb-true x y e in absurd (omega arith)
 
     pub refused_past : first ≤ l → n ≤ l → Refused first i ≡ Some (RangeOutOfBounds l)
     refused_past u v = opened ∙ past_first u _ ∙ rw (le-leb n l v) refl

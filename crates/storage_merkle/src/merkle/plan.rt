@@ -4,11 +4,11 @@ ghost use Rattle.std.specs.Prelude.{◌≡◌, ℕ, ◌+◌, ◌-◌, ◌*◌, �
 ghost use Rattle.std.specs.List.{All, AllZip};
 ghost use Rattle.std.specs.List.Sorted.{IsStrictlyIncreasing};
 ghost use Rattle.storage_merkle.specs.Held.{proof_of};
-ghost use Rattle.storage_merkle.specs.Shape.{AreAligned, max_leaves};
-ghost use Rattle.storage_merkle.specs.Plans.{ArePeaks, ArePlanned, IsFirstAbsent, IsGathered, IsOwnOfEach, PlanOf, planned, refusal};
-ghost use Rattle.storage_merkle.specs.PlanParts.{AreOf, site_digest, tops};
-ghost use Rattle.storage_merkle.specs.RangeProofs.{apart, position_of, sites_of};
-ghost use Rattle.storage_merkle.specs.Rests.{AreAfterLeading, AreFolded, peaks_from};
+ghost use Rattle.storage_merkle.specs.Shape.{max_leaves};
+ghost use Rattle.storage_merkle.specs.Plans.{ArePlanned, IsFirstAbsent, IsGathered, IsOwnOfEach, PlanOf, planned, refusal};
+ghost use Rattle.storage_merkle.specs.PlanParts.{AreOf, site_digest};
+ghost use Rattle.storage_merkle.specs.RangeProofs.{apart, position_of, sites, sites_of};
+ghost use Rattle.storage_merkle.specs.Rests.{peaks_from};
 ghost use Rattle.storage_merkle.specs.Siblings.{sibling_sites};
 ghost use Rattle.storage_merkle.specs.Trees.{folded, node_calc, unfolded, ungrafted};
 
@@ -16,8 +16,9 @@ pub(crate) mod digests;
 
 use crate::merkle::family::power;
 use crate::merkle::hasher::Hasher;
-use crate::merkle::plan::digests::Nodes;
-use crate::merkle::{Bagging, Error, Family, Location, MAX_LEAVES, Position, Proof};
+use crate::merkle::plan::digests::{Nodes, push_some};
+use crate::merkle::walk::Rest;
+use crate::merkle::{Error, Family, Location, MAX_LEAVES, Position, Proof};
 use std::alloc::{AllocError, Global};
 use std::marker::Model;
 use std::ops::Range;
@@ -183,8 +184,8 @@ impl<F: Family> RangePlan<F> {
             IfOk result (λ v. (digest_of : ℕ → ℕ → List ℕ) → AreOf H.Digest.text F.shape
             (planned F.shape self.now.leaves self.now.start self.now.end) answered.now digest_of
             → map H.Digest.text v.items ≡ map (site_digest self.now.start self.now.end xs ys
-            H.hash_of digest_of) (tops self.now.start self.now.end xs ys (ungrafted F.shape)
-            ++ sibling_sites (ungrafted F.shape) self.now.leaves self.now.start self.now.end)) }
+            H.hash_of digest_of) (sites (ungrafted F.shape) self.now.start self.now.end
+            (H.bagging hasher.now) self.now.leaves inactive)) }
     {
         let nodes = Nodes {
             positions: &self.positions,
@@ -192,13 +193,10 @@ impl<F: Family> RangePlan<F> {
         };
         let mut digests = Vec::with_capacity(alloc, self.positions.len())?;
         let peaks = Rest::all::<F, H>(hasher, self.leaves.as_u64(), inactive);
-        nodes.add_peaks(
-            hasher,
-            peaks,
-            self.start.as_u64(),
-            self.end.as_u64(),
-            &mut digests,
-        )?;
+        let start = self.start.as_u64();
+        push_some(&mut digests, nodes.fold_leading(hasher, peaks, start))?;
+        let rest = peaks.after_leading::<F>(start);
+        nodes.add_peaks(hasher, rest, start, self.end.as_u64(), &mut digests)?;
         nodes.add_all(&self.siblings, &mut digests)?;
         Ok(digests)
     }
@@ -257,87 +255,6 @@ fn answers<F: Family, D: Digest, G: Fn(Position<F>) -> Option<D>>(
         answered.push(digest)?;
     }
     Ok(answered)
-}
-
-/// The peaks over `left` leaves from the leaf `first` on, of which `folded` leading ones are folded from the left.
-#[derive(Clone, Copy)]
-pub(crate) struct Rest {
-    /// The leaf that the first of these peaks begins with.
-    pub first: u64,
-    /// How many leaves they are over.
-    pub left: u64,
-    /// How many leading ones are folded from the left.
-    pub folded: u64,
-}
-
-impl Rest {
-    /// All peaks of the tree over `leaves` leaves, of which the first `inactive` are inactive, folded in the hasher's
-    /// direction.
-    pub fn all<F: Family, H: Hasher<F>>(hasher: &H, leaves: u64, inactive: usize) -> Self
-        requires { leaves ≤ max_leaves }
-        ensures peaks { ArePeaks F.shape leaves result.first result.left }
-        ensures first { result.first ≡ 0 }
-        ensures left { result.left ≡ leaves }
-        ensures folded { AreFolded F.shape (H.bagging hasher.now) inactive leaves result.folded }
-    {
-        Self::bagged::<F>(hasher.root_bagging(), leaves, inactive)
-    }
-
-    /// All peaks of the tree over `leaves` leaves, of which the first `inactive` are inactive, folded in the
-    /// direction `bagging`.
-    pub fn bagged<F: Family>(bagging: Bagging, leaves: u64, inactive: usize) -> Self
-        requires { leaves ≤ max_leaves }
-        ensures peaks { ArePeaks F.shape leaves result.first result.left }
-        ensures first { result.first ≡ 0 }
-        ensures left { result.left ≡ leaves }
-        ensures folded { AreFolded F.shape bagging inactive leaves result.folded }
-    {
-        let folded = match bagging {
-            Bagging::ForwardFold => peak_count::<F>(leaves),
-            Bagging::BackwardFold => inactive as u64,
-        };
-        Rest {
-            first: 0,
-            left: leaves,
-            folded,
-        }
-    }
-
-    /// The peaks after the first one, whose height is `height`.
-    pub fn next(self, height: u32) -> Self
-        requires small { height ≤ 62 }
-        requires within { 2 ^ height ≤ self.left }
-        requires fits { self.first + self.left ≤ max_leaves }
-        ensures first { result.first ≡ self.first + 2 ^ height }
-        ensures left { result.left ≡ self.left - 2 ^ height }
-        ensures folded { result.folded ≡ self.folded - 1 }
-    {
-        let length = power(height);
-        Rest {
-            first: self.first + length,
-            left: self.left - length,
-            folded: self.folded.saturating_sub(1),
-        }
-    }
-
-    /// The peaks after the leading ones that are folded from the left and end at or before `start`.
-    pub fn after_leading<F: Family>(self, start: u64) -> Self
-        requires few { self.first + self.left ≤ max_leaves }
-        requires peaks { ArePeaks F.shape (self.first + self.left) self.first self.left }
-        ensures peaks { ArePeaks F.shape (self.first + self.left) result.first result.left }
-        ensures after { AreAfterLeading F.shape start self.first self.left self.folded result.first
-            result.left result.folded }
-    {
-        let mut rest = self;
-        while rest.left > 0 && rest.folded > 0 {
-            let height = F::first_peak(rest.left);
-            if rest.first + power(height) > start {
-                break;
-            }
-            rest = rest.next(height);
-        }
-        rest
-    }
 }
 
 /// The plan of the proof of one leaf.

@@ -3,16 +3,18 @@
 ghost use Rattle.std.specs.Prelude.{◌≡◌, ℕ, ◌+◌, ◌-◌, ◌*◌, ◌%◌, ◌^◌, ◌<◌, ◌≤◌, ◌∷◌, ◌++◌, List, [], length, map, take, drop, option_map, None, OnOk, MatchOption};
 ghost use Rattle.std.specs.List.{AllZip};
 ghost use Rattle.storage_merkle.specs.Hashers.{folded_onto, forward_of};
-ghost use Rattle.storage_merkle.specs.PlanParts.{AreAmong, AreInOrder, AreOf, ArePlannedApart, ArePlannedAll, IsAmong, StandsAt, peaks_by, site_digest, tops};
-ghost use Rattle.storage_merkle.specs.Plans.{ArePeaks};
-ghost use Rattle.storage_merkle.specs.RangeProofs.{leading};
-ghost use Rattle.storage_merkle.specs.Rests.{AreAfterLeading, peaks_from};
+ghost use Rattle.storage_merkle.specs.PlanParts.{AreAmong, AreInOrder, AreOf, ArePlannedApart, ArePlannedAll, IsAmong, IsPlannedMet, StandsAt, met_digest, peaks_by, site_digest};
+ghost use Rattle.storage_merkle.specs.CheckParts.{top_sites};
+ghost use Rattle.storage_merkle.specs.RangeProofs.{leading, trailing};
+ghost use Rattle.storage_merkle.specs.Rests.{peaks_from};
+ghost use Rattle.storage_merkle.specs.Walked.{IsPlacedTop, met};
 ghost use Rattle.storage_merkle.specs.Shape.{AreAligned, max_leaves};
-ghost use Rattle.storage_merkle.specs.Trees.{ungrafted};
+ghost use Rattle.storage_merkle.specs.Trees.{Peak};
 
 use crate::merkle::family::power;
 use crate::merkle::hasher::{Hasher, append, join};
-use crate::merkle::plan::{Rest, is_apart, node_position};
+use crate::merkle::plan::node_position;
+use crate::merkle::walk::{Leading, Rest, Top, Tops};
 use crate::merkle::{Family, Position};
 use std::alloc::AllocError;
 use storage_codec::digest::Digest;
@@ -64,73 +66,72 @@ impl<F: Family, D: Digest> Nodes<'_, F, D> {
         Ok(())
     }
 
-    /// Adds to `digests` those of the peaks and folds of `peaks` apart from the leaves from `start` to before `end`, in
-    /// leaf order.
-    pub fn add_peaks<H: Hasher<F, Digest = D>>(
+    /// Those of `peaks` that lead, are folded from the left and end at or before `start`, folded from the left; none for
+    /// no peaks.
+    pub fn fold_leading<H: Hasher<F, Digest = D>>(
         &self,
         hasher: &H,
         peaks: Rest,
+        start: u64,
+    ) -> Option<D>
+        requires order { AreInOrder self.now.positions.now self.now.digests.now }
+        requires few { peaks.first + peaks.left ≤ max_leaves }
+        requires peaks { AreAligned (F.shape.peaks peaks.left) peaks.first }
+        requires planned { ArePlannedAll F.shape self.now.positions.now
+            (leading start (take peaks.folded (peaks_from F.shape peaks.first peaks.left))) }
+        ensures { (digest_of : ℕ → ℕ → List ℕ)
+            → AreOf D.text F.shape self.now.positions.now self.now.digests.now digest_of
+            → option_map D.text result ≡ forward_of H.hash_of (peaks_by digest_of
+            (leading start (take peaks.folded (peaks_from F.shape peaks.first peaks.left)))) }
+    {
+        let mut folded = None;
+        for (first, height) in Leading::<F>::of(peaks, start) {
+            folded = Some(append(hasher, folded, &self.node(first, height)));
+        }
+        folded
+    }
+
+    /// Adds to `digests` those of the peaks `rest`, which come after the leading fold, apart from the leaves from
+    /// `start` to before `end`, and the fold of those past this range.
+    pub fn add_peaks<H: Hasher<F, Digest = D>>(
+        &self,
+        hasher: &H,
+        rest: Rest,
         start: u64,
         end: u64,
         digests: &mut Vec<D>,
     ) -> Result<(), AllocError>
         requires order { AreInOrder self.now.positions.now self.now.digests.now }
-        requires some { start < end }
-        requires few { peaks.first + peaks.left ≤ max_leaves }
-        requires peaks { ArePeaks F.shape (peaks.first + peaks.left) peaks.first peaks.left }
+        requires few { rest.first + rest.left ≤ max_leaves }
+        requires peaks { AreAligned (F.shape.peaks rest.left) rest.first }
         requires planned { ArePlannedApart F.shape start end self.now.positions.now
-            (peaks_from F.shape peaks.first peaks.left) }
-        ensures { let xs = take peaks.folded (peaks_from F.shape peaks.first peaks.left) in
-            let ys = drop peaks.folded (peaks_from F.shape peaks.first peaks.left) in
-            OnOk result ((digest_of : ℕ → ℕ → List ℕ)
+            (peaks_from F.shape rest.first rest.left) }
+        ensures { OnOk result ((digest_of : ℕ → ℕ → List ℕ) (xs ys : List Peak)
             → AreOf D.text F.shape self.now.positions.now self.now.digests.now digest_of
-            → map D.text digests.new.items ≡ map D.text digests.old.items ++ map (site_digest start
-            end xs ys H.hash_of digest_of) (tops start end xs ys (ungrafted F.shape))) }
+            → trailing end (drop rest.folded (peaks_from F.shape rest.first rest.left))
+            ≡ trailing end ys → map D.text digests.new.items ≡ map D.text digests.old.items
+            ++ map (site_digest start end xs ys H.hash_of digest_of)
+            (top_sites start end (peaks_from F.shape rest.first rest.left) rest.folded)) }
     {
-        let (front, mut rest) = self.fold_leading(hasher, peaks, start);
-        push_some(digests, front)?;
-        while rest.left > 0 && (rest.folded > 0 || rest.first < end) {
-            let height = F::first_peak(rest.left);
-            if is_apart(start, end, rest.first, height) {
-                digests.push(self.node(rest.first, height))?;
-            }
-            rest = rest.next(height);
+        for top in Tops::<F>::apart(rest, start, end) {
+            push_some(digests, self.top(hasher, top))?;
         }
-        push_some(digests, self.fold_back(hasher, rest.first, rest.left))
+        Ok(())
     }
 
-    /// Those of `peaks` that lead, are folded from the left and end at or before `start`, folded from the left, none
-    /// for no peaks; and the peaks after them.
-    fn fold_leading<H: Hasher<F, Digest = D>>(
-        &self,
-        hasher: &H,
-        peaks: Rest,
-        start: u64,
-    ) -> (Option<D>, Rest)
+    /// The digest of `top`, where that is a peak or some peaks.
+    fn top<H: Hasher<F, Digest = D>>(&self, hasher: &H, top: Top) -> Option<D>
         requires order { AreInOrder self.now.positions.now self.now.digests.now }
-        requires few { peaks.first + peaks.left ≤ max_leaves }
-        requires peaks { ArePeaks F.shape (peaks.first + peaks.left) peaks.first peaks.left }
-        requires planned { ArePlannedAll F.shape self.now.positions.now
-            (leading start (take peaks.folded (peaks_from F.shape peaks.first peaks.left))) }
-        ensures folded { (digest_of : ℕ → ℕ → List ℕ)
+        requires placed { IsPlacedTop F.shape top }
+        requires planned { IsPlannedMet F.shape self.now.positions.now (met F.shape top) }
+        ensures { (digest_of : ℕ → ℕ → List ℕ)
             → AreOf D.text F.shape self.now.positions.now self.now.digests.now digest_of
-            → option_map D.text result.0 ≡ forward_of H.hash_of (peaks_by digest_of
-            (leading start (take peaks.folded (peaks_from F.shape peaks.first peaks.left)))) }
-        ensures peaks { ArePeaks F.shape (peaks.first + peaks.left) result.1.first result.1.left }
-        ensures after { AreAfterLeading F.shape start peaks.first peaks.left peaks.folded
-            result.1.first result.1.left result.1.folded }
+            → option_map D.text result ≡ met_digest H.hash_of digest_of (met F.shape top) }
     {
-        let mut folded = None;
-        let mut rest = peaks;
-        while rest.left > 0 && rest.folded > 0 {
-            let height = F::first_peak(rest.left);
-            if rest.first + power(height) > start {
-                break;
-            }
-            folded = Some(append(hasher, folded, &self.node(rest.first, height)));
-            rest = rest.next(height);
+        match top {
+            Top::One(first, height) => Some(self.node(first, height)),
+            Top::Past(first, left) => self.fold_back(hasher, first, left),
         }
-        (folded, rest)
     }
 
     /// The peaks over the last `left` leaves of a tree, from the leaf `first` on, folded from the right; none for no

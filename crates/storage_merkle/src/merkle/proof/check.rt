@@ -12,13 +12,14 @@ ghost use Rattle.storage_merkle.specs.Plans.{InTree, ArePeaks};
 ghost use Rattle.storage_merkle.specs.RangeProofs.{CountsFit, apart, sites_of};
 ghost use Rattle.storage_merkle.specs.Rests.{peaks_from};
 ghost use Rattle.storage_merkle.specs.Trees.{part, node_calc, ungrafted, content_of};
-ghost use Rattle.storage_merkle.specs.Shape.{max_leaves};
+ghost use Rattle.storage_merkle.specs.Shape.{AreAligned, max_leaves};
 
 use crate::merkle::family::power;
 use crate::merkle::hasher::{Hasher, append, bagged_root, join};
-use crate::merkle::plan::{Rest, is_apart, node_position, peak_count, siblings};
+use crate::merkle::plan::{is_apart, node_position, peak_count, siblings};
 use crate::merkle::proof::LentProof;
 use crate::merkle::proof::found::{Found, keep};
+use crate::merkle::walk::{Rest, Tops};
 use crate::merkle::{Family, Location, MAX_LEAVES, Position};
 use std::alloc::{AllocError, Global};
 use std::convert::AsSlice;
@@ -89,21 +90,16 @@ pub(crate) fn recompute<F: Family, H: Hasher<F>, E: AsSlice<u8>>(
 /// How many digests a proof has for the peaks `rest` apart from the leaves from `start` to before `end`.
 fn count_apart<F: Family>(rest: Rest, start: u64, end: u64) -> usize
     requires few { rest.first + rest.left ≤ max_leaves }
-    requires peaks { ArePeaks F.shape (rest.first + rest.left) rest.first rest.left }
+    requires peaks { AreAligned (F.shape.peaks rest.left) rest.first }
     ensures few { result ≤ rest.left }
     ensures exact { result
         ≡ length (top_sites start end (peaks_from F.shape rest.first rest.left) rest.folded) }
 {
-    let mut rest = rest;
     let mut count = 0;
-    while rest.left > 0 && (rest.folded > 0 || rest.first < end) {
-        let height = F::first_peak(rest.left);
-        if is_apart(start, end, rest.first, height) {
-            count += 1;
-        }
-        rest = rest.next(height);
+    for _top in Tops::<F>::apart(rest, start, end) {
+        count += 1;
     }
-    if rest.left > 0 { count + 1 } else { count }
+    count
 }
 
 /// What the check of a range proof is given, of the leaves from `start` to before `end`.

@@ -10,13 +10,14 @@ ghost use Rattle.storage_merkle.specs.PinnedParts.{AgreesWith, ArePinned, AreNod
 ghost use Rattle.storage_merkle.specs.PlanParts.{peaks_by};
 ghost use Rattle.storage_merkle.specs.Plans.{ArePeaks, InTree};
 ghost use Rattle.storage_merkle.specs.RangeProofs.{CountsFit, leading};
-ghost use Rattle.storage_merkle.specs.Rests.{AreAfterLeading, peaks_from};
+ghost use Rattle.storage_merkle.specs.Rests.{peaks_from};
 ghost use Rattle.storage_merkle.specs.Shape.{size};
 ghost use Rattle.storage_merkle.specs.Trees.{ungrafted, content_of};
 
 use crate::merkle::family::{node_at, power};
 use crate::merkle::hasher::{Hasher, append};
-use crate::merkle::plan::{Rest, node_position, peak_count, siblings};
+use crate::merkle::plan::{node_position, peak_count, siblings};
+use crate::merkle::walk::{Leading, Rest};
 use crate::merkle::{Family, Location, MAX_LEAVES, Position, Proof};
 use std::alloc::Global;
 use std::convert::AsSlice;
@@ -87,7 +88,8 @@ impl<F: Family, D: Digest> Proof<F, D> {
             digests: pinned,
         };
         let peaks = Rest::all::<F, H>(hasher, leaves, self.inactive_peaks);
-        let (fold, rest) = pinned.fold_leading(hasher, peaks);
+        let fold = pinned.fold_leading(hasher, peaks);
+        let rest = peaks.after_leading::<F>(start);
         let siblings = siblings::<F>(alloc, leaves, start, end)?;
         let Some(apart) = self.digests.len().checked_sub(siblings.len()) else {
             return Ok(false);
@@ -125,34 +127,25 @@ struct Pinned<'a, D> {
 
 impl<D: Digest> Pinned<'_, D> {
     /// Those of `peaks`, of the tree of the proof, that lead, are folded from the left and end before the start, folded
-    /// from the left, none for no peaks; and the peaks after them.
+    /// from the left; none for no peaks.
     fn fold_leading<F: Family, H: Hasher<F, Digest = D>>(
         &self,
         hasher: &H,
         peaks: Rest,
-    ) -> (Option<D>, Rest)
+    ) -> Option<D>
         requires pinned { ArePinned F.shape self.now.leaves self.now.start self.now.digests.now }
         requires takes { TakesTree (H.takes hasher.now) F.shape self.now.leaves }
         requires peaks { ArePeaks F.shape self.now.leaves peaks.first peaks.left }
-        ensures folded { option_map D.text result.0 ≡ forward_of H.hash_of (peaks_by (digest_before
+        ensures { option_map D.text result ≡ forward_of H.hash_of (peaks_by (digest_before
             H.hash_of (H.layout hasher.now) self.now.start (map D.text self.now.digests.now)
             (H.chunk hasher.now)) (leading self.now.start (take peaks.folded
             (peaks_from F.shape peaks.first peaks.left)))) }
-        ensures peaks { ArePeaks F.shape self.now.leaves result.1.first result.1.left }
-        ensures after { AreAfterLeading F.shape self.now.start peaks.first peaks.left peaks.folded
-            result.1.first result.1.left result.1.folded }
     {
         let mut folded = None;
-        let mut rest = peaks;
-        while rest.left > 0 && rest.folded > 0 {
-            let height = F::first_peak(rest.left);
-            if rest.first + power(height) > self.start {
-                break;
-            }
-            folded = Some(append(hasher, folded, &self.node(hasher, rest.first, height)));
-            rest = rest.next(height);
+        for (first, height) in Leading::<F>::of(peaks, self.start) {
+            folded = Some(append(hasher, folded, &self.node(hasher, first, height)));
         }
-        (folded, rest)
+        folded
     }
 
     /// Whether those of `digests`, which are of the peaks `rest` and folds apart from the range, that are of peaks ending

@@ -6,17 +6,17 @@ ghost use Rattle.storage_merkle.specs.CheckParts.{top_sites};
 ghost use Rattle.storage_merkle.specs.Extracted.{Fits, checked, checked_sites, entries, by_bytes};
 ghost use Rattle.storage_merkle.specs.Hashers.{TakesTree};
 ghost use Rattle.storage_merkle.specs.Held.{proof_of};
-ghost use Rattle.storage_merkle.specs.Plans.{ArePeaks};
 ghost use Rattle.storage_merkle.specs.RangeProofs.{CountsFit, IsAccepted};
 ghost use Rattle.storage_merkle.specs.Rests.{peaks_from};
 ghost use Rattle.storage_merkle.specs.StoreParts.{back_among, nodes_among};
 ghost use Rattle.storage_merkle.specs.Stores.{IsMadeOf, store_of};
 ghost use Rattle.storage_merkle.specs.Trees.{Content, Layout, ungrafted, content_of};
-ghost use Rattle.storage_merkle.specs.Shape.{max_leaves};
+ghost use Rattle.storage_merkle.specs.Shape.{AreAligned, max_leaves};
 
 use crate::merkle::hasher::Hasher;
-use crate::merkle::plan::{Rest, is_apart, node_position};
+use crate::merkle::plan::node_position;
 use crate::merkle::proof::check;
+use crate::merkle::walk::{Rest, Top, Tops};
 use crate::merkle::{Error, Family, Location, Position, Proof, ProofStore};
 use std::alloc::{AllocError, Global};
 use std::convert::AsSlice;
@@ -149,7 +149,7 @@ fn keep_peaks<F: Family, D: Digest>(
     kept: &mut Vec<(Position<F>, D)>,
 ) -> Result<Option<D>, AllocError>
     requires few { rest.first + rest.left ≤ max_leaves }
-    requires peaks { ArePeaks F.shape (rest.first + rest.left) rest.first rest.left }
+    requires peaks { AreAligned (F.shape.peaks rest.left) rest.first }
     requires enough { length (top_sites start end
         (peaks_from F.shape rest.first rest.left) rest.folded) ≤ length digests.now }
     ensures { (digest : Site → List ℕ) (later : List (List ℕ)) → map D.text digests.now ≡ map digest
@@ -160,19 +160,13 @@ fn keep_peaks<F: Family, D: Digest>(
         × (option_map D.text back ≡ back_among digest
         (top_sites start end (peaks_from F.shape rest.first rest.left) rest.folded))) }
 {
-    let mut rest = rest;
     let mut digests = digests;
-    while rest.left > 0 && (rest.folded > 0 || rest.first < end) {
-        let height = F::first_peak(rest.left);
-        if is_apart(start, end, rest.first, height) {
-            kept.push((node_position(rest.first, height), digests[0]))?;
-            digests = &digests[1..];
+    for top in Tops::<F>::apart(rest, start, end) {
+        match top {
+            Top::One(first, height) => kept.push((node_position(first, height), digests[0]))?,
+            Top::Past(_, _) => return Ok(Some(digests[0])),
         }
-        rest = rest.next(height);
+        digests = &digests[1..];
     }
-    if rest.left > 0 {
-        Ok(Some(digests[0]))
-    } else {
-        Ok(None)
-    }
+    Ok(None)
 }

@@ -10,12 +10,15 @@ ghost use Rattle.storage_merkle.specs.RangeProofs.{front_given, leading, not_lea
 ghost use Rattle.storage_merkle.specs.Rests.{AreFolded, peaks_from};
 ghost use Rattle.storage_merkle.specs.Shape.{AreAligned, max_leaves};
 ghost use Rattle.storage_merkle.specs.Stores.{IsStoreOf, aft, fore, stored_at, or_else, entry_at, peak_given, range_refusal, store_digest, store_proof, store_values};
+ghost use Rattle.storage_merkle.specs.StoreParts.{kept_met};
 ghost use Rattle.storage_merkle.specs.Trees.{Content, Layout, ungrafted};
+ghost use Rattle.storage_merkle.specs.Walked.{IsPlacedTop, met};
 
 use crate::merkle::family::power;
 use crate::merkle::hasher::{Hasher, append, join};
 use crate::merkle::plan::digests::push_some;
-use crate::merkle::plan::{Rest, check_range, is_apart, node_position, siblings};
+use crate::merkle::plan::{check_range, node_position, siblings};
+use crate::merkle::walk::{Leading, Rest, Top, Tops};
 use crate::merkle::{Error, Family, Location, Position, Proof, ProofStore};
 use std::alloc::{AllocError, Global};
 use std::ops::Range;
@@ -109,18 +112,13 @@ impl<F: Family, D: Digest> ProofStore<F, D> {
             ++ map peak_given (leading start
             (not_leading self.now.start (fore H.hash_of (ungrafted F.shape) self.now))))) }
     {
-        let mut rest = self.peaks().after_leading::<F>(self.start.as_u64());
+        let rest = self.peaks().after_leading::<F>(self.start.as_u64());
         let mut folded = None;
         if rest.first > 0 {
             folded = Some(self.front_fold);
         }
-        while rest.left > 0 && rest.folded > 0 {
-            let height = F::first_peak(rest.left);
-            if rest.first + power(height) > start {
-                break;
-            }
-            folded = Some(append(hasher, folded, &self.peak(hasher, rest.first, height)));
-            rest = rest.next(height);
+        for (first, height) in Leading::<F>::of(rest, start) {
+            folded = Some(append(hasher, folded, &self.peak(hasher, first, height)));
         }
         folded
     }
@@ -136,7 +134,7 @@ impl<F: Family, D: Digest> ProofStore<F, D> {
         digests: &mut Vec<D>,
     ) -> Result<(), AllocError>
         requires few { rest.first + rest.left ≤ max_leaves }
-        requires peaks { ArePeaks F.shape (rest.first + rest.left) rest.first rest.left }
+        requires peaks { AreAligned (F.shape.peaks rest.left) rest.first }
         requires range { (self.now.start ≤ start) × (end ≤ self.now.past) }
         requires late { trailing end (drop rest.folded (peaks_from F.shape rest.first rest.left))
             ≡ trailing end (aft H.hash_of (ungrafted F.shape) self.now) }
@@ -144,15 +142,22 @@ impl<F: Family, D: Digest> ProofStore<F, D> {
             ++ map (store_digest H.hash_of (ungrafted F.shape) self.now start end)
             (top_sites start end (peaks_from F.shape rest.first rest.left) rest.folded)) }
     {
-        let mut rest = rest;
-        while rest.left > 0 && (rest.folded > 0 || rest.first < end) {
-            let height = F::first_peak(rest.left);
-            if is_apart(start, end, rest.first, height) {
-                digests.push(self.peak(hasher, rest.first, height))?;
-            }
-            rest = rest.next(height);
+        for top in Tops::<F>::apart(rest, start, end) {
+            push_some(digests, self.top(hasher, top))?;
         }
-        push_some(digests, self.fold_back(hasher, rest.first, rest.left))
+        Ok(())
+    }
+
+    /// The digest that is kept of `top`, where that is a peak or some peaks.
+    fn top<H: Hasher<F, Digest = D>>(&self, hasher: &H, top: Top) -> Option<D>
+        requires { IsPlacedTop F.shape top }
+        ensures { option_map D.text result
+            ≡ kept_met H.hash_of (ungrafted F.shape) self.now (met F.shape top) }
+    {
+        match top {
+            Top::One(first, height) => Some(self.peak(hasher, first, height)),
+            Top::Past(first, left) => self.fold_back(hasher, first, left),
+        }
     }
 
     /// The peaks over the last `left` leaves of the tree, from the leaf `first` on, folded from the right: those that are

@@ -1,5 +1,4 @@
-use Rattle.std.proofs.Common.{[], map, option_map, refl, sym, subst}
-use Rattle.storage_merkle.specs.Multi.{claims_of}
+use Rattle.std.proofs.Common.{[], option_map, refl, sym, subst}
 use Rattle.storage_merkle.specs.Laws.ProofWire.{all_digests}
 use Rattle.storage_merkle.specs.Shape.{Laws}
 use Rattle.storage_merkle.specs.Trees.{listed}
@@ -10,68 +9,22 @@ use Rattle.storage_merkle.proofs.merkle.proof.Proof.verify_multi_inclusion.Goals
 
 pub returns-then-is_empty-clause-exact : goal.returns-then-is_empty-clause-exact
 returns-then-is_empty-clause-exact g c = chained (c.verify_nothing.ensures (listed []) refl)
-    (accepted_none g.H.Hasher.hash_of (g.H.Hasher.layout c.args.hasher.now) (g.H.Hasher.bagging c.args.hasher.now)
-    (record {
-      leaves = c.args.self.now.leaves;
-      inactive = c.args.self.now.inactive_peaks;
-      digests = map g.D.Write.text
-          c.args.self.now.digests.items;
-    }) (g.H.Hasher.chunk c.args.hasher.now) (g.D.Write.text c.args.root.now)
-    g.E.AsSlice.items c.args.elements.now c.new.result c.new.ensures c.if-is_empty.ensures)
+    (accepted_none _ _ _ _ _ _ g.E.AsSlice.items c.args.elements.now c.new.result c.new.ensures c.if-is_empty.ensures)
 
 pub returns-then-is_empty-clause-meaning : goal.returns-then-is_empty-clause-meaning
-returns-then-is_empty-clause-meaning g c = λ accepted.
-    let same = g.met.H.Hasher.over c.args.hasher.now in
-    multi_sound g.D.FixedSize.size g.H.Hasher.hash_of g.met.H.Hasher.sized (g.H.Hasher.layout c.args.hasher.now)
-    (subst Laws (sym same) g.met.F.Family.laws) (g.H.Hasher.bagging c.args.hasher.now)
-    (record {
-      leaves = c.args.self.now.leaves;
-      inactive = c.args.self.now.inactive_peaks;
-      digests = map g.D.Write.text c.args.self.now.digests.items;
-    }) (claims_of g.E.AsSlice.items c.args.elements.now)
-    (g.H.Hasher.chunk c.args.hasher.now) (g.D.Write.text c.args.root.now)
+returns-then-is_empty-clause-meaning g c = λ accepted. multi_sound g.D.FixedSize.size _ g.met.H.Hasher.sized _
+    (subst Laws (sym (g.met.H.Hasher.over c.args.hasher.now)) g.met.F.Family.laws) _ _ _ _ _
     (all_digests g.D.Write.text g.D.FixedSize.size g.met.D.FixedSize.sized c.args.self.now.digests.items)
-    ((chained (c.verify_nothing.ensures (listed []) refl)
-    (accepted_none g.H.Hasher.hash_of (g.H.Hasher.layout c.args.hasher.now) (g.H.Hasher.bagging c.args.hasher.now)
-    (record {
-      leaves = c.args.self.now.leaves;
-      inactive = c.args.self.now.inactive_peaks;
-      digests = map g.D.Write.text c.args.self.now.digests.items;
-    }) (g.H.Hasher.chunk c.args.hasher.now)
-    (g.D.Write.text c.args.root.now) g.E.AsSlice.items c.args.elements.now c.new.result c.new.ensures
-    c.if-is_empty.ensures)).0 accepted)
+    ((returns-then-is_empty-clause-exact g c).0 accepted)
 
 pub returns-clause-exact : goal.returns-clause-exact
-returns-clause-exact g c =
-    chained (same_option g.D.PartialEq.eq g.D.Write.text g.met.D.Digest.same c.in_ok-recomputed.recomputed
-    c.args.root.now c.eq.result c.eq.ensures) (accepted_claims g.H.Hasher.hash_of (g.H.Hasher.layout c.args.hasher.now)
-    (g.H.Hasher.bagging c.args.hasher.now) (record {
-      leaves = c.args.self.now.leaves;
-      inactive = c.args.self.now.inactive_peaks;
-      digests = map g.D.Write.text c.args.self.now.digests.items;
-    })
-    (g.H.Hasher.chunk c.args.hasher.now) (g.D.Write.text c.args.root.now) g.E.AsSlice.items c.args.elements.now
-    c.if-is_empty.ensures (option_map g.D.Write.text c.in_ok-recomputed.recomputed) c.in_ok-recomputed.ensures)
+returns-clause-exact g c = chained (same_option g.D.PartialEq.eq g.D.Write.text g.met.D.Digest.same
+    c.in_ok-recomputed.recomputed c.args.root.now c.eq.result c.eq.ensures) (accepted_claims _ _ _ _ _ _
+    g.E.AsSlice.items c.args.elements.now c.if-is_empty.ensures
+    (option_map g.D.Write.text c.in_ok-recomputed.recomputed) c.in_ok-recomputed.ensures)
 
 pub returns-clause-meaning : goal.returns-clause-meaning
-returns-clause-meaning g c = λ accepted.
-    let same = g.met.H.Hasher.over c.args.hasher.now in
-    multi_sound g.D.FixedSize.size g.H.Hasher.hash_of g.met.H.Hasher.sized (g.H.Hasher.layout c.args.hasher.now)
-    (subst Laws (sym same) g.met.F.Family.laws) (g.H.Hasher.bagging c.args.hasher.now)
-    (record {
-      leaves = c.args.self.now.leaves;
-      inactive = c.args.self.now.inactive_peaks;
-      digests = map g.D.Write.text c.args.self.now.digests.items;
-    }) (claims_of g.E.AsSlice.items c.args.elements.now)
-    (g.H.Hasher.chunk c.args.hasher.now) (g.D.Write.text c.args.root.now)
+returns-clause-meaning g c = λ accepted. multi_sound g.D.FixedSize.size _ g.met.H.Hasher.sized _
+    (subst Laws (sym (g.met.H.Hasher.over c.args.hasher.now)) g.met.F.Family.laws) _ _ _ _ _
     (all_digests g.D.Write.text g.D.FixedSize.size g.met.D.FixedSize.sized c.args.self.now.digests.items)
-    ((chained (same_option g.D.PartialEq.eq g.D.Write.text g.met.D.Digest.same c.in_ok-recomputed.recomputed
-    c.args.root.now c.eq.result c.eq.ensures)
-    (accepted_claims g.H.Hasher.hash_of (g.H.Hasher.layout c.args.hasher.now) (g.H.Hasher.bagging c.args.hasher.now)
-    (record {
-      leaves = c.args.self.now.leaves;
-      inactive = c.args.self.now.inactive_peaks;
-      digests = map g.D.Write.text c.args.self.now.digests.items;
-    }) (g.H.Hasher.chunk c.args.hasher.now)
-    (g.D.Write.text c.args.root.now) g.E.AsSlice.items c.args.elements.now c.if-is_empty.ensures
-    (option_map g.D.Write.text c.in_ok-recomputed.recomputed) c.in_ok-recomputed.ensures)).0 accepted)
+    ((returns-clause-exact g c).0 accepted)

@@ -7,107 +7,31 @@ use Rattle.storage_merkle.proofs.Pinned.Meaning.{if_ok, nothing_pinned, counts_f
 use Rattle.storage_merkle.proofs.merkle.proof.Proof.verify_proof_and_pinned_nodes.Goals as goal
 
 pub returns-then-is_empty-clause-exact : goal.returns-then-is_empty-clause-exact
-returns-then-is_empty-clause-exact g c =
-    let same = g.met.H.Hasher.over c.args.hasher.now in
-    nothing_pinned g.H.Hasher.hash_of (g.H.Hasher.layout c.args.hasher.now) (g.H.Hasher.bagging c.args.hasher.now)
-    (record {
-      leaves = c.args.self.now.leaves;
-      inactive = c.args.self.now.inactive_peaks;
-      digests = map g.D.Write.text c.args.self.now.digests.items;
-    }) c.args.start
-    (record { elements = map g.E.AsSlice.items c.args.elements.now; chunk = g.H.Hasher.chunk c.args.hasher.now })
-    (map g.D.Write.text c.args.pinned.now) (g.D.Write.text c.args.root.now)
+returns-then-is_empty-clause-exact g c = nothing_pinned _ _ _ _ _ _ _ _
     ((c.in_ok-verify_range_inclusion.ensures.exact).0 c.if-not-branch.false)
-    (subst Laws (sym same) g.met.F.Family.laws)
+    (subst Laws (sym (g.met.H.Hasher.over c.args.hasher.now)) g.met.F.Family.laws)
     (no_elements g.E.AsSlice.items c.args.elements.now c.if-is_empty.ensures) c.is_empty-then-is_empty.result
     (c.is_empty-then-is_empty.ensures ∙ ap (λ n. n == 0) (sym (length-map c.args.pinned.now g.D.Write.text)))
 
 pub returns-then-is_empty-clause-meaning : goal.returns-then-is_empty-clause-meaning
-returns-then-is_empty-clause-meaning g c = λ plain empty y.
-    let same = g.met.H.Hasher.over c.args.hasher.now in
-    pinned_proved g.D.FixedSize.size g.H.Hasher.hash_of g.met.H.Hasher.sized g.F.Family.shape g.met.F.Family.laws
-    (g.H.Hasher.layout c.args.hasher.now) plain (g.H.Hasher.chunk c.args.hasher.now) empty
-    (g.H.Hasher.bagging c.args.hasher.now) (record {
-      leaves = c.args.self.now.leaves;
-      inactive = c.args.self.now.inactive_peaks;
-      digests = map g.D.Write.text c.args.self.now.digests.items;
-    })
-    c.args.start (map g.E.AsSlice.items c.args.elements.now) (map g.D.Write.text c.args.pinned.now)
-    (g.D.Write.text c.args.root.now)
+returns-then-is_empty-clause-meaning g c = λ plain empty y. pinned_proved g.D.FixedSize.size _ g.met.H.Hasher.sized _
+    g.met.F.Family.laws _ plain _ empty _ _ _ _ _ _
     (all_digests g.D.Write.text g.D.FixedSize.size g.met.D.FixedSize.sized c.args.self.now.digests.items)
     (all_digests g.D.Write.text g.D.FixedSize.size g.met.D.FixedSize.sized c.args.pinned.now)
-    ((nothing_pinned g.H.Hasher.hash_of (g.H.Hasher.layout c.args.hasher.now) (g.H.Hasher.bagging c.args.hasher.now)
-    (record {
-      leaves = c.args.self.now.leaves;
-      inactive = c.args.self.now.inactive_peaks;
-      digests = map
-          g.D.Write.text c.args.self.now.digests.items;
-    }) c.args.start (record {
-      elements = map g.E.AsSlice.items
-          c.args.elements.now;
-      chunk = g.H.Hasher.chunk c.args.hasher.now;
-    }) (map g.D.Write.text c.args.pinned.now)
-    (g.D.Write.text c.args.root.now) ((c.in_ok-verify_range_inclusion.ensures.exact).0 c.if-not-branch.false)
-    (subst Laws (sym same) g.met.F.Family.laws)
-    (no_elements g.E.AsSlice.items c.args.elements.now c.if-is_empty.ensures) c.is_empty-then-is_empty.result
-    (c.is_empty-then-is_empty.ensures ∙ ap (λ n. n == 0) (sym (length-map c.args.pinned.now g.D.Write.text)))).0 y)
+    ((returns-then-is_empty-clause-exact g c).0 y)
 
 pub returns-clause-exact : goal.returns-clause-exact
 returns-clause-exact g c =
-    (let accepted = ((c.in_ok-verify_range_inclusion.ensures.exact).0 c.if-not-branch.false) in
-    if_ok _ _ c.agrees_with.result (λ answer i.
-    agreeing_pinned g.H.Hasher.hash_of (g.H.Hasher.layout c.args.hasher.now) (g.H.Hasher.bagging c.args.hasher.now)
-    (record {
-      leaves = c.args.self.now.leaves;
-      inactive = c.args.self.now.inactive_peaks;
-      digests = map g.D.Write.text c.args.self.now.digests.items;
-    }) c.args.start
-    (record { elements = map g.E.AsSlice.items c.args.elements.now; chunk = g.H.Hasher.chunk c.args.hasher.now })
-    (map g.D.Write.text c.args.pinned.now) (g.D.Write.text c.args.root.now) accepted answer i)
-    (c.agrees_with.ensures (map g.E.AsSlice.items c.args.elements.now) (length-map c.args.elements.now
-    g.E.AsSlice.items) (counts_fit g.H.Hasher.hash_of (g.H.Hasher.layout c.args.hasher.now)
-    (g.H.Hasher.bagging c.args.hasher.now) (record {
-      leaves = c.args.self.now.leaves;
-      inactive =
-          c.args.self.now.inactive_peaks;
-      digests = map g.D.Write.text c.args.self.now.digests.items;
-    }) c.args.start
-    (record { elements = map g.E.AsSlice.items c.args.elements.now; chunk = g.H.Hasher.chunk c.args.hasher.now })
-    (map g.D.Write.text c.args.pinned.now) (g.D.Write.text c.args.root.now) accepted
-    (some_elements g.E.AsSlice.items c.args.elements.now c.if-is_empty.ensures))))
+    let accepted = (c.in_ok-verify_range_inclusion.ensures.exact).0 c.if-not-branch.false in
+    if_ok _ _ c.agrees_with.result (λ answer i. agreeing_pinned _ _ _ _ _ _ _ _ accepted answer i)
+    (c.agrees_with.ensures (map g.E.AsSlice.items c.args.elements.now)
+    (length-map c.args.elements.now g.E.AsSlice.items)
+    (counts_fit _ _ _ _ _ _ (map g.D.Write.text c.args.pinned.now) _ accepted
+    (some_elements g.E.AsSlice.items c.args.elements.now c.if-is_empty.ensures)))
 
 pub returns-clause-meaning : goal.returns-clause-meaning
-returns-clause-meaning g c = λ plain empty.
-    if_ok _ _ c.agrees_with.result (λ answer i y. pinned_proved g.D.FixedSize.size g.H.Hasher.hash_of
-    g.met.H.Hasher.sized g.F.Family.shape g.met.F.Family.laws (g.H.Hasher.layout c.args.hasher.now) plain
-    (g.H.Hasher.chunk c.args.hasher.now) empty (g.H.Hasher.bagging c.args.hasher.now)
-    (record {
-      leaves = c.args.self.now.leaves;
-      inactive = c.args.self.now.inactive_peaks;
-      digests = map
-          g.D.Write.text c.args.self.now.digests.items;
-    }) c.args.start (map g.E.AsSlice.items c.args.elements.now)
-    (map g.D.Write.text c.args.pinned.now) (g.D.Write.text c.args.root.now)
+returns-clause-meaning g c = λ plain empty. if_ok _ _ c.agrees_with.result (λ answer i y. pinned_proved
+    g.D.FixedSize.size _ g.met.H.Hasher.sized _ g.met.F.Family.laws _ plain _ empty _ _ _ _ _ _
     (all_digests g.D.Write.text g.D.FixedSize.size g.met.D.FixedSize.sized c.args.self.now.digests.items)
     (all_digests g.D.Write.text g.D.FixedSize.size g.met.D.FixedSize.sized c.args.pinned.now) (i.0 y))
-    (let accepted = ((c.in_ok-verify_range_inclusion.ensures.exact).0 c.if-not-branch.false) in
-    if_ok _ _ c.agrees_with.result (λ answer i.
-    agreeing_pinned g.H.Hasher.hash_of (g.H.Hasher.layout c.args.hasher.now) (g.H.Hasher.bagging c.args.hasher.now)
-    (record {
-      leaves = c.args.self.now.leaves;
-      inactive = c.args.self.now.inactive_peaks;
-      digests = map g.D.Write.text c.args.self.now.digests.items;
-    }) c.args.start
-    (record { elements = map g.E.AsSlice.items c.args.elements.now; chunk = g.H.Hasher.chunk c.args.hasher.now })
-    (map g.D.Write.text c.args.pinned.now) (g.D.Write.text c.args.root.now) accepted answer i)
-    (c.agrees_with.ensures (map g.E.AsSlice.items c.args.elements.now) (length-map c.args.elements.now
-    g.E.AsSlice.items) (counts_fit g.H.Hasher.hash_of (g.H.Hasher.layout c.args.hasher.now)
-    (g.H.Hasher.bagging c.args.hasher.now) (record {
-      leaves = c.args.self.now.leaves;
-      inactive =
-          c.args.self.now.inactive_peaks;
-      digests = map g.D.Write.text c.args.self.now.digests.items;
-    }) c.args.start
-    (record { elements = map g.E.AsSlice.items c.args.elements.now; chunk = g.H.Hasher.chunk c.args.hasher.now })
-    (map g.D.Write.text c.args.pinned.now) (g.D.Write.text c.args.root.now) accepted
-    (some_elements g.E.AsSlice.items c.args.elements.now c.if-is_empty.ensures))))
+    (returns-clause-exact g c)

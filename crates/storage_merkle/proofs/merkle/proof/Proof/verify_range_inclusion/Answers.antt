@@ -6,86 +6,28 @@ use Rattle.storage_merkle.proofs.merkle.proof.Proof.verify_range_inclusion.Goals
 
 pub returns-then-is_empty-clause-exact : goal.returns-then-is_empty-clause-exact
 returns-then-is_empty-clause-exact g c =
+    let none = no_elements g.E.AsSlice.items c.args.elements.now c.if-is_empty.ensures in
     chained (c.verify_nothing.ensures
-    (record { elements = map g.E.AsSlice.items c.args.elements.now; chunk = g.H.Hasher.chunk c.args.hasher.now })
-    (no_elements g.E.AsSlice.items c.args.elements.now c.if-is_empty.ensures)) (accepted_nothing g.H.Hasher.hash_of
-    (g.H.Hasher.layout c.args.hasher.now) (g.H.Hasher.bagging c.args.hasher.now)
-    (record {
-      leaves = c.args.self.now.leaves;
-      inactive = c.args.self.now.inactive_peaks;
-      digests = map g.D.Write.text c.args.self.now.digests.items;
-    }) c.args.start
-    (record { elements = map g.E.AsSlice.items c.args.elements.now; chunk = g.H.Hasher.chunk c.args.hasher.now })
-    (g.D.Write.text c.args.root.now) (no_elements g.E.AsSlice.items c.args.elements.now c.if-is_empty.ensures))
+    (record { elements = map g.E.AsSlice.items c.args.elements.now; chunk = g.H.Hasher.chunk c.args.hasher.now }) none)
+    (accepted_nothing _ _ _ _ _ _ _ none)
 
 pub returns-then-is_empty-clause-meaning : goal.returns-then-is_empty-clause-meaning
-returns-then-is_empty-clause-meaning g c = λ accepted.
-    let same = g.met.H.Hasher.over c.args.hasher.now in
-    accepted_proved g.H.Hasher.hash_of (g.H.Hasher.layout c.args.hasher.now) (g.H.Hasher.bagging c.args.hasher.now)
-    (record {
-      leaves = c.args.self.now.leaves;
-      inactive = c.args.self.now.inactive_peaks;
-      digests = map g.D.Write.text c.args.self.now.digests.items;
-    }) c.args.start
-    (record { elements = map g.E.AsSlice.items c.args.elements.now; chunk = g.H.Hasher.chunk c.args.hasher.now })
-    (g.D.Write.text c.args.root.now) g.D.FixedSize.size g.met.H.Hasher.sized
-    (subst Laws (sym same) g.met.F.Family.laws)
+returns-then-is_empty-clause-meaning g c = λ accepted. accepted_proved _ _ _ _ _ _ _ g.D.FixedSize.size
+    g.met.H.Hasher.sized (subst Laws (sym (g.met.H.Hasher.over c.args.hasher.now)) g.met.F.Family.laws)
     (all_digests g.D.Write.text g.D.FixedSize.size g.met.D.FixedSize.sized c.args.self.now.digests.items)
-    ((chained (c.verify_nothing.ensures (record {
-      elements = map g.E.AsSlice.items c.args.elements.now;
-      chunk =
-          g.H.Hasher.chunk c.args.hasher.now;
-    }) (no_elements g.E.AsSlice.items c.args.elements.now c.if-is_empty.ensures))
-    (accepted_nothing g.H.Hasher.hash_of (g.H.Hasher.layout c.args.hasher.now)
-    (g.H.Hasher.bagging c.args.hasher.now) (record {
-      leaves = c.args.self.now.leaves;
-      inactive = c.args.self.now.inactive_peaks;
-      digests = map g.D.Write.text c.args.self.now.digests.items;
-    })
-    c.args.start (record {
-      elements = map g.E.AsSlice.items c.args.elements.now;
-      chunk = g.H.Hasher.chunk c.args.hasher.now;
-    }) (g.D.Write.text c.args.root.now)
-    (no_elements g.E.AsSlice.items c.args.elements.now c.if-is_empty.ensures))).0 accepted)
+    ((returns-then-is_empty-clause-exact g c).0 accepted)
 
 pub returns-clause-exact : goal.returns-clause-exact
-returns-clause-exact g c =
-    chained (same_option g.D.PartialEq.eq g.D.Write.text g.met.D.Digest.same c.in_ok-computed.computed c.args.root.now
-    c.eq.result c.eq.ensures) (accepted_some g.H.Hasher.hash_of (g.H.Hasher.layout c.args.hasher.now)
-    (g.H.Hasher.bagging c.args.hasher.now) (record {
-      leaves = c.args.self.now.leaves;
-      inactive =
-          c.args.self.now.inactive_peaks;
-      digests = map g.D.Write.text c.args.self.now.digests.items;
-    }) c.args.start
-    (record { elements = map g.E.AsSlice.items c.args.elements.now; chunk = g.H.Hasher.chunk c.args.hasher.now })
-    (g.D.Write.text c.args.root.now) (some_elements g.E.AsSlice.items c.args.elements.now c.if-is_empty.ensures)
+returns-clause-exact g c = chained (same_option g.D.PartialEq.eq g.D.Write.text g.met.D.Digest.same
+    c.in_ok-computed.computed c.args.root.now c.eq.result c.eq.ensures) (accepted_some _ _ _ _ _ _ _
+    (some_elements g.E.AsSlice.items c.args.elements.now c.if-is_empty.ensures)
     (option_map g.D.Write.text c.in_ok-computed.computed) c.in_ok-computed.ensures)
 
 pub returns-clause-meaning : goal.returns-clause-meaning
-returns-clause-meaning g c = λ accepted.
-    let same = g.met.H.Hasher.over c.args.hasher.now in
-    accepted_proved g.H.Hasher.hash_of (g.H.Hasher.layout c.args.hasher.now) (g.H.Hasher.bagging c.args.hasher.now)
-    (record {
-      leaves = c.args.self.now.leaves;
-      inactive = c.args.self.now.inactive_peaks;
-      digests = map g.D.Write.text c.args.self.now.digests.items;
-    }) c.args.start
-    (record { elements = map g.E.AsSlice.items c.args.elements.now; chunk = g.H.Hasher.chunk c.args.hasher.now })
-    (g.D.Write.text c.args.root.now) g.D.FixedSize.size g.met.H.Hasher.sized
-    (subst Laws (sym same) g.met.F.Family.laws)
+returns-clause-meaning g c = λ accepted. accepted_proved _ _ _ _ _ _ _ g.D.FixedSize.size g.met.H.Hasher.sized
+    (subst Laws (sym (g.met.H.Hasher.over c.args.hasher.now)) g.met.F.Family.laws)
     (all_digests g.D.Write.text g.D.FixedSize.size g.met.D.FixedSize.sized c.args.self.now.digests.items)
-    ((chained (same_option g.D.PartialEq.eq g.D.Write.text g.met.D.Digest.same c.in_ok-computed.computed c.args.root.now
-    c.eq.result c.eq.ensures) (accepted_some g.H.Hasher.hash_of (g.H.Hasher.layout c.args.hasher.now)
-    (g.H.Hasher.bagging c.args.hasher.now) (record {
-      leaves = c.args.self.now.leaves;
-      inactive =
-          c.args.self.now.inactive_peaks;
-      digests = map g.D.Write.text c.args.self.now.digests.items;
-    }) c.args.start
-    (record { elements = map g.E.AsSlice.items c.args.elements.now; chunk = g.H.Hasher.chunk c.args.hasher.now })
-    (g.D.Write.text c.args.root.now) (some_elements g.E.AsSlice.items c.args.elements.now c.if-is_empty.ensures)
-    (option_map g.D.Write.text c.in_ok-computed.computed) c.in_ok-computed.ensures)).0 accepted)
+    ((returns-clause-exact g c).0 accepted)
 
 pub returns-then-is_empty-clause-none : goal.returns-then-is_empty-clause-none
 returns-then-is_empty-clause-none g c = search rules

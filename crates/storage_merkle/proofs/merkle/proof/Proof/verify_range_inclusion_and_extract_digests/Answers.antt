@@ -1,26 +1,17 @@
-use Rattle.std.proofs.Common.{◌≡◌, inl, inr, refl, map, option_map, sym, subst, ap, MatchOption, arith}
+use Rattle.std.proofs.Common.{inl, inr, refl, map, sym, subst, ap, arith}
 use Rattle.storage_merkle.specs.Laws.ProofWire.{all_digests}
 use Rattle.storage_merkle.specs.Shape.{Laws}
-use Rattle.storage_merkle.specs.Checks.{IsRecomputed}
-use Rattle.storage_merkle.specs.Extracted.{extracted, by_bytes}
+use Rattle.storage_merkle.specs.Extracted.{by_bytes}
 use Rattle.storage_merkle.proofs.Meaning.{no_elements, some_elements}
 use Rattle.storage_merkle.proofs.HandedOut.{handed_none, handed_some, misfit_none, other_root, other_root_none, differ, alike}
 use Rattle.std.proofs.lemmas.Grind.{common_steps}
 use Rattle.storage_merkle.proofs.merkle.proof.Proof.verify_range_inclusion_and_extract_digests.Goals as goal
 
 pub returns-in-Ok-clause-handed : goal.returns-in-Ok-clause-handed
-returns-in-Ok-clause-handed g c =
-    let same = g.met.H.Hasher.over c.args.hasher.now in
-    handed_none g.H.Hasher.hash_of (g.H.Hasher.layout c.args.hasher.now) (g.H.Hasher.bagging c.args.hasher.now)
-    (record {
-      leaves = c.args.self.now.leaves;
-      inactive = c.args.self.now.inactive_peaks;
-      digests = map g.D.Write.text c.args.self.now.digests.items;
-    }) c.args.start
-    (record { elements = map g.E.AsSlice.items c.args.elements.now; chunk = g.H.Hasher.chunk c.args.hasher.now })
-    (g.D.Write.text c.args.root.now) g.D.FixedSize.size g.met.H.Hasher.sized
-    (subst Laws (sym same) g.met.F.Family.laws) (all_digests g.D.Write.text g.D.FixedSize.size
-    g.met.D.FixedSize.sized c.args.self.now.digests.items) (c.in-Ok.ensures
+returns-in-Ok-clause-handed g c = handed_none _ _ _ _ _ _ _ g.D.FixedSize.size g.met.H.Hasher.sized
+    (subst Laws (sym (g.met.H.Hasher.over c.args.hasher.now)) g.met.F.Family.laws)
+    (all_digests g.D.Write.text g.D.FixedSize.size g.met.D.FixedSize.sized c.args.self.now.digests.items)
+    (c.in-Ok.ensures
     (record { elements = map g.E.AsSlice.items c.args.elements.now; chunk = g.H.Hasher.chunk c.args.hasher.now })
     (no_elements g.E.AsSlice.items c.args.elements.now c.if-is_empty.ensures)) _
     (ap (by_bytes g.D.Write.text) c.new.ensures.items)
@@ -32,89 +23,25 @@ returns-in-Err-clause-why g c =
       elements = map g.E.AsSlice.items c.args.elements.now;
       chunk = g.H.Hasher.chunk c.args.hasher.now;
     }) none) [
-      | inl e ↦ inr (inl (
-        e.0,
-        misfit_none g.H.Hasher.hash_of (g.H.Hasher.layout c.args.hasher.now)
-            (g.H.Hasher.bagging c.args.hasher.now) (record {
-              leaves = c.args.self.now.leaves;
-              inactive = c.args.self.now.inactive_peaks;
-              digests = map g.D.Write.text c.args.self.now.digests.items;
-            })
-            c.args.start (record {
-              elements = map g.E.AsSlice.items c.args.elements.now;
-              chunk = g.H.Hasher.chunk c.args.hasher.now;
-            }) (g.D.Write.text c.args.root.now) none e.1,
-      ))
-      | inr e ↦ inr (inr (
-        e.0,
-        other_root_none g.H.Hasher.hash_of (g.H.Hasher.layout c.args.hasher.now)
-            (g.H.Hasher.bagging c.args.hasher.now) (record {
-              leaves = c.args.self.now.leaves;
-              inactive = c.args.self.now.inactive_peaks;
-              digests = map g.D.Write.text c.args.self.now.digests.items;
-            })
-            c.args.start (record {
-              elements = map g.E.AsSlice.items c.args.elements.now;
-              chunk = g.H.Hasher.chunk c.args.hasher.now;
-            }) (g.D.Write.text c.args.root.now) none e.1 e.2,
-      ))
+      | inl e ↦ inr (inl (e.0, misfit_none _ _ _ _ _ _ (g.D.Write.text c.args.root.now) none e.1))
+      | inr e ↦ inr (inr (e.0, other_root_none _ _ _ _ _ _ _ none e.1 e.2))
     ]
 
 pub returns-then-ne-clause-why : goal.returns-then-ne-clause-why
 returns-then-ne-clause-why g c = inr (inr (
   refl,
-  let r = subst (λ o. IsRecomputed g.H.Hasher.hash_of (g.H.Hasher.layout c.args.hasher.now)
-      (g.H.Hasher.bagging c.args.hasher.now) (record {
-        leaves = c.args.self.now.leaves;
-        inactive =
-            c.args.self.now.inactive_peaks;
-        digests = map g.D.Write.text c.args.self.now.digests.items;
-      }) c.args.start
-      (record { elements = map g.E.AsSlice.items c.args.elements.now; chunk = g.H.Hasher.chunk c.args.hasher.now })
-      (option_map (λ p. g.D.Write.text p.0) o)) c.in-Some.is c.in_ok-given.ensures.root in
-      other_root g.H.Hasher.hash_of (g.H.Hasher.layout c.args.hasher.now) (g.H.Hasher.bagging c.args.hasher.now)
-      (record {
-        leaves = c.args.self.now.leaves;
-        inactive = c.args.self.now.inactive_peaks;
-        digests = map g.D.Write.text c.args.self.now.digests.items;
-      }) c.args.start
-      (record { elements = map g.E.AsSlice.items c.args.elements.now; chunk = g.H.Hasher.chunk c.args.hasher.now })
-      (g.D.Write.text c.args.root.now) (some_elements g.E.AsSlice.items c.args.elements.now c.if-is_empty.ensures) _
-      r (differ g.D.PartialEq.eq g.D.Write.text g.met.D.Digest.same _ c.args.root.now c.if-ne.ensures),
+  other_root _ _ _ _ _ _ _ (some_elements g.E.AsSlice.items c.args.elements.now c.if-is_empty.ensures) _
+      (rw c.in-Some.is at c.in_ok-given.ensures.root)
+      (differ g.D.PartialEq.eq g.D.Write.text g.met.D.Digest.same _ c.args.root.now c.if-ne.ensures),
 ))
 
 pub returns-clause-handed : goal.returns-clause-handed
-returns-clause-handed g c =
-    let same = g.met.H.Hasher.over c.args.hasher.now in
-    let r = subst (λ o. IsRecomputed g.H.Hasher.hash_of (g.H.Hasher.layout c.args.hasher.now)
-    (g.H.Hasher.bagging c.args.hasher.now) (record {
-      leaves = c.args.self.now.leaves;
-      inactive =
-          c.args.self.now.inactive_peaks;
-      digests = map g.D.Write.text c.args.self.now.digests.items;
-    }) c.args.start
-    (record { elements = map g.E.AsSlice.items c.args.elements.now; chunk = g.H.Hasher.chunk c.args.hasher.now })
-    (option_map (λ p. g.D.Write.text p.0) o)) c.in-Some.is c.in_ok-given.ensures.root in
-    let all = subst (λ o. MatchOption o (Unit {0}) (λ p. by_bytes g.D.Write.text p.1.items
-    ≡ extracted g.H.Hasher.hash_of (g.H.Hasher.layout c.args.hasher.now) (g.H.Hasher.bagging c.args.hasher.now)
-    (record {
-      leaves = c.args.self.now.leaves;
-      inactive = c.args.self.now.inactive_peaks;
-      digests = map g.D.Write.text c.args.self.now.digests.items;
-    }) c.args.start
-    (record { elements = map g.E.AsSlice.items c.args.elements.now; chunk = g.H.Hasher.chunk c.args.hasher.now })))
-    c.in-Some.is c.in_ok-given.ensures.digests in
-    handed_some g.H.Hasher.hash_of (g.H.Hasher.layout c.args.hasher.now) (g.H.Hasher.bagging c.args.hasher.now)
-    (record {
-      leaves = c.args.self.now.leaves;
-      inactive = c.args.self.now.inactive_peaks;
-      digests = map g.D.Write.text c.args.self.now.digests.items;
-    }) c.args.start
-    (record { elements = map g.E.AsSlice.items c.args.elements.now; chunk = g.H.Hasher.chunk c.args.hasher.now })
-    (g.D.Write.text c.args.root.now) g.D.FixedSize.size g.met.H.Hasher.sized
-    (subst Laws (sym same) g.met.F.Family.laws)
-    (all_digests g.D.Write.text g.D.FixedSize.size g.met.D.FixedSize.sized c.args.self.now.digests.items) _ r
-    (alike g.D.PartialEq.eq g.D.Write.text g.met.D.Digest.same _ c.args.root.now c.if-ne.ensures) _ all
+returns-clause-handed g c = handed_some _ _ _ _ _ _ _ g.D.FixedSize.size g.met.H.Hasher.sized
+    (subst Laws (sym (g.met.H.Hasher.over c.args.hasher.now)) g.met.F.Family.laws)
+    (all_digests g.D.Write.text g.D.FixedSize.size g.met.D.FixedSize.sized c.args.self.now.digests.items) _
+    (rw c.in-Some.is at c.in_ok-given.ensures.root)
+    (alike g.D.PartialEq.eq g.D.Write.text g.met.D.Digest.same _ c.args.root.now c.if-ne.ensures) _
+    (rw c.in-Some.is at c.in_ok-given.ensures.digests)
 
 pub returns-in_default-clause-why : goal.returns-in_default-clause-why
 returns-in_default-clause-why g c = grind (arith, common_steps)

@@ -1,78 +1,58 @@
-use Rattle.std.proofs.Common.{◌≡◌, ◌+◌, ◌≤◌, ◌^◌, [], take, option_map, ap, ◌∙◌, arith, subst}
-use Rattle.storage_merkle.specs.Plans.{ArePeaks}
-use Rattle.storage_merkle.specs.RangeProofs.{leading}
-use Rattle.storage_merkle.specs.Rests.{peaks_from, AreAfterLeading}
+use Rattle.std.proofs.Common.{◌≡◌, option_map, ap, ◌∙◌, arith, subst}
+use Rattle.storage_merkle.specs.PlanParts.{peaks_by}
+use Rattle.storage_merkle.specs.Rests.{AreAfterLeading}
 use Rattle.storage_merkle.specs.CheckParts.{folded_before}
-use Rattle.storage_merkle.specs.Laws.Shape.{no_peaks}
 use Rattle.storage_merkle.specs.Stores.{Store}
 use Rattle.storage_merkle.proofs.Check.Roots.{after_all}
-use Rattle.storage_merkle.proofs.Walks.{peaks_step, peaks_next}
-use Rattle.storage_merkle.proofs.Plan.Folds.{forward_leads, forward_ends, leads_not, leads_end}
+use Rattle.storage_merkle.proofs.Plan.Folds.{forward_ends, forward_from}
 use Rattle.storage_merkle.proofs.Store.Range.{kept_of, front_starts, before_some, before_none}
+use Rattle.storage_merkle.proofs.Walked.{leads_on}
 use Rattle.storage_merkle.proofs.merkle.proof_store.ProofStore.fold_front.Goals as goal
 use Rattle.storage_merkle.proofs.merkle.proof_store.ProofStore.fold_front.Goals.{then-rest-gt0, else-rest-gt0}
 
-pub loop-rest-init : goal.loop-rest-init
-loop-rest-init g c =
+pub of-first-items-requires-clause-few : goal.of-first-items-requires-clause-few
+of-first-items-requires-clause-few g c =
+    omega (arith, c.after_leading-rest.ensures.peaks.sum, c.peaks.ensures.peaks.sum, c.peaks.ensures.few)
+
+pub of-first-items-requires-clause-aligned : goal.of-first-items-requires-clause-aligned
+of-first-items-requires-clause-aligned g c = c.after_leading-rest.ensures.peaks.aligned
+
+pub loop-first-init : goal.loop-first-init
+loop-first-init g c =
     let S = g.F.Family.shape in
+    let h = g.H.Hasher.hash_of in
+    let text = g.D.Write.text in
     let store = c.args.self.now in
     let all = c.peaks.result in
     let r = c.after_leading-rest.result in
     let starts : c.as_u64.result ≡ store.start = c.as_u64.ensures ∙ ap (λ (v : Store). v.start) c.self.view_is in
-    let fold : g.D.Write.text c.self.inside.front_fold ≡ store.front_fold =
-    ap (λ (v : Store). v.front_fold) c.self.view_is in
+    let fold : text c.self.inside.front_fold ≡ store.front_fold = ap (λ (v : Store). v.front_fold) c.self.view_is in
     let after : AreAfterLeading S store.start 0 store.leaves all.folded r.first r.left r.folded =
     subst (λ z. AreAfterLeading S z 0 store.leaves all.folded r.first r.left r.folded) starts
     (after_all S c.as_u64.result store.leaves all.folded all.first all.left r.first r.left r.folded
     c.peaks.ensures.first c.peaks.ensures.left c.after_leading-rest.ensures.after) in
-    let o : option_map g.D.Write.text c.if-rest-gt0.folded ≡ folded_before store.front_fold r.first =
+    let o : option_map text c.if-rest-gt0.folded ≡ folded_before store.front_fold r.first =
     elim c.if-rest-gt0.branch [
-      | then-rest-gt0 w ↦ ap (option_map g.D.Write.text) w.folded-is ∙ before_some
-          (g.D.Write.text c.self.inside.front_fold) r.first w.if-rest-gt0.true ∙ ap (λ x. folded_before x r.first) fold
+      | then-rest-gt0 w ↦ ap (option_map text) w.folded-is ∙ before_some (text c.self.inside.front_fold) r.first
+          w.if-rest-gt0.true ∙ ap (λ x. folded_before x r.first) fold
       | else-rest-gt0 w ↦
-          ap (option_map g.D.Write.text) w.folded-is ∙ before_none store.front_fold r.first w.if-rest-gt0.false
+          ap (option_map text) w.folded-is ∙ before_none store.front_fold r.first w.if-rest-gt0.false
     ] in
-    record {
-      peaks = subst (λ n. ArePeaks S n r.first r.left) c.peaks.ensures.peaks.sum c.after_leading-rest.ensures.peaks;
-      folds = front_starts g.H.Hasher.hash_of S store c.args.start all.folded r.first r.left r.folded
-          (option_map g.D.Write.text c.if-rest-gt0.folded) c.peaks.ensures.folded after o;
-    }
+    ap (λ ps. forward_from h (option_map text c.if-rest-gt0.folded) (peaks_by (kept_of h S store) ps))
+    (c.into_iter-first-iterator.ensures.into_iter_gives ∙ c.of-first-items.ensures)
+    ∙ front_starts h S store c.args.start all.folded r.first r.left r.folded
+    (option_map text c.if-rest-gt0.folded) c.peaks.ensures.folded after o
 
 pub peak-requires-clause-aligned : goal.peak-requires-clause-aligned
-peak-requires-clause-aligned g c = (peaks_step g.F.Family.shape g.met.F.Family.laws c.args.self.now.leaves
-    c.loop-rest.rest.first c.loop-rest.rest.left c.first_peak-height.result c.peaks.ensures.few
-    c.loop-rest.invariant.peaks c.first_peak-height.ensures.first).aligned
+peak-requires-clause-aligned g c = c.in-Some.ensures.steps.1.aligned
 
-pub loop-rest-preserved : goal.loop-rest-preserved
-loop-rest-preserved g c =
-    let S = g.F.Family.shape in
-    let r = c.loop-rest.rest in
-    let k = c.first_peak-height.result in
-    let ends : r.first + 2 ^ k ≤ c.args.start = omega arith in
-    record {
-      peaks = rw (c.next-rest.ensures.first, c.next-rest.ensures.left)
-          (peaks_next S g.met.F.Family.laws c.args.self.now.leaves r.first r.left k c.peaks.ensures.few
-          c.loop-rest.invariant.peaks c.first_peak-height.ensures.first);
-      folds = rw (c.next-rest.ensures.first, c.next-rest.ensures.left, c.next-rest.ensures.folded)
-          (forward_leads S r.first r.left k c.first_peak-height.ensures.first c.args.start r.folded c.if-rest-gt0-2.true
-          ends g.H.Hasher.hash_of (kept_of g.H.Hasher.hash_of S c.args.self.now) _ _ _ _ c.peak.ensures c.append.ensures
-          c.loop-rest.invariant.folds);
-    }
+pub peak-requires-clause-within : goal.peak-requires-clause-within
+peak-requires-clause-within g c = c.in-Some.ensures.steps.1.fits
 
-pub returns-after-loop-rest : goal.returns-after-loop-rest
-returns-after-loop-rest g c =
-    let S = g.F.Family.shape in
-    let r = c.loop-rest.rest in
-    forward_ends g.H.Hasher.hash_of (kept_of g.H.Hasher.hash_of S c.args.self.now)
-    (option_map g.D.Write.text c.loop-rest.folded) _ _ (leads_end S r.first r.left c.args.start r.folded
-    (no_peaks S g.met.F.Family.laws) c.loop-rest-test.false) c.loop-rest.invariant.folds
+pub loop-first-preserved : goal.loop-first-preserved
+loop-first-preserved g c = leads_on g.H.Hasher.hash_of (kept_of g.H.Hasher.hash_of g.F.Family.shape c.args.self.now) _ _
+    _ _ _ _ _ c.in-Some.ensures.steps.0 c.peak.ensures c.append.ensures c.loop-first.invariant
 
-pub returns-then-rest-power : goal.returns-then-rest-power
-returns-then-rest-power g c =
-    let S = g.F.Family.shape in
-    let r = c.loop-rest.rest in
-    let none : leading c.args.start (take r.folded (peaks_from S r.first r.left)) ≡ [] =
-    leads_not S r.first r.left c.first_peak-height.result c.first_peak-height.ensures.first c.args.start r.folded
-    (omega (arith, c.if-rest-power.true, c.power.ensures)) in
-    forward_ends g.H.Hasher.hash_of (kept_of g.H.Hasher.hash_of S c.args.self.now)
-    (option_map g.D.Write.text c.loop-rest.folded) _ _ none c.loop-rest.invariant.folds
+pub returns : goal.returns
+returns g c = forward_ends g.H.Hasher.hash_of (kept_of g.H.Hasher.hash_of g.F.Family.shape c.args.self.now) _ _ _
+    c.in-None.ensures.steps.0 c.loop-first.invariant

@@ -5,7 +5,7 @@ use Rattle.storage_merkle.specs.Siblings.{sibling_sites}
 use Rattle.storage_merkle.specs.Stores.{Store}
 use Rattle.storage_merkle.specs.Trees.{ungrafted}
 use Rattle.storage_merkle.proofs.Check.Roots.{after_all}
-use Rattle.storage_merkle.proofs.Plan.Tops.{pushed, listed}
+use Rattle.storage_merkle.proofs.Walked.{pushed, listed}
 use Rattle.storage_merkle.proofs.Store.Range.{adds_sibling, siblings_end, digests_are}
 use Rattle.storage_merkle.proofs.merkle.proof_store.ProofStore.range_digests.Goals as goal
 

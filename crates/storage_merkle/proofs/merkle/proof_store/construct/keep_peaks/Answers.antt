@@ -1,116 +1,76 @@
-use Rattle.std.proofs.Common.{◌+◌, ◌<◌, ◌≤◌, length, rules, arith, ap, refl, ◌∙◌}
+use Rattle.std.proofs.Common.{◌<◌, ◌-◌, ◌∷◌, ◌++◌, length, map, take, drop, rules, arith, sym, ap, subst, refl, ◌∙◌}
 use Rattle.std.proofs.lemmas.List.{length-drop}
-use Rattle.storage_merkle.proofs.Walks.{peaks_step, peaks_next}
-use Rattle.storage_merkle.proofs.Check.Tops.{tops_fold, tops_end}
-use Rattle.storage_merkle.proofs.Store.Tops.{tops_taken, tops_passed}
-use Rattle.storage_merkle.proofs.Store.Reads.{reads_all, reads_peak, reads_other, reads_fold, reads_end, all_but_first}
+use Rattle.storage_merkle.specs.Calc.{back}
+use Rattle.storage_merkle.specs.CheckParts.{top_sites}
+use Rattle.storage_merkle.specs.Extracted.{by_bytes}
+use Rattle.storage_merkle.specs.Rests.{peaks_from}
+use Rattle.storage_merkle.specs.StoreParts.{back_among}
+use Rattle.storage_merkle.proofs.Store.Reads.{Reads, peak_entries, reads_all, reads_peak, reads_fold, reads_end, all_but_first}
+use Rattle.storage_merkle.proofs.Walked.{PastIsLast, counts_met, met_site, met_sites, past_is_last}
 use Rattle.storage_merkle.proofs.merkle.proof_store.construct.keep_peaks.Goals as goal
-use Rattle.storage_merkle.proofs.merkle.proof_store.construct.keep_peaks.Goals.{then-is_apart+in_ok-push, else-is_apart, then-loop-rest-test+else-rest-end, else-loop-rest-test}
 
-pub loop-rest-init : goal.loop-rest-init
-loop-rest-init g c = record {
-  peaks = c.requires.peaks;
-  enough = c.requires.enough;
-  reads = λ digest later e. reads_all g.F.Family.shape digest later _ _ _ e;
-}
-
-pub is_apart-requires-clause-within : goal.is_apart-requires-clause-within
-is_apart-requires-clause-within g c = omega (arith, c.loop-rest.invariant.peaks.sum)
+pub loop-top-init : goal.loop-top-init
+loop-top-init g c =
+    let S = g.F.Family.shape in
+    let text = g.D.Write.text in
+    let r = c.args.rest in
+    let tops = top_sites c.args.start c.args.end (peaks_from S r.first r.left) r.folded in
+    let at = c.into_iter-top-iterator.ensures.into_iter_gives ∙ c.apart-top-items.ensures in
+    record {
+      last = subst PastIsLast (sym at) (past_is_last c.args.start c.args.end (peaks_from S r.first r.left) r.folded);
+      enough = omega (
+        arith,
+        ap length at,
+        counts_met c.args.start c.args.end (peaks_from S r.first r.left) r.folded,
+        c.requires.enough,
+      );
+      reads = λ digest later e. subst (λ ss. Reads S digest later (map text c.args.digests.now)
+          (by_bytes text c.args.kept.now.items)
+          (by_bytes text c.args.kept.now.items ++ peak_entries S digest later tops) ss (back_among digest tops))
+          (sym (ap (map met_site) at ∙ met_sites c.args.start c.args.end (peaks_from S r.first r.left) r.folded))
+          (reads_all S digest later _ _ tops e);
+    }
 
 pub node_position-requires-clause-aligned : goal.node_position-requires-clause-aligned
-node_position-requires-clause-aligned g c = (peaks_step g.F.Family.shape g.met.F.Family.laws
-    (c.args.rest.first + c.args.rest.left) c.loop-rest.rest.first c.loop-rest.rest.left c.first_peak-height.result
-    c.requires.few c.loop-rest.invariant.peaks c.first_peak-height.ensures.first).aligned
+node_position-requires-clause-aligned g c = (rw c.in-One.is at c.in-Some.ensures.steps.1).aligned
+
+pub node_position-requires-clause-within : goal.node_position-requires-clause-within
+node_position-requires-clause-within g c = (rw c.in-One.is at c.in-Some.ensures.steps.1).fits
 
 pub bounds-digests-0 : goal.bounds-digests-0
 bounds-digests-0 g c =
-    let r = c.loop-rest.rest in
-    let taken = tops_taken g.F.Family.shape c.args.start c.args.end r.first r.left r.folded c.first_peak-height.result _
-    _ _ c.first_peak-height.ensures.first refl refl refl c.if-rest-end.either c.if-is_apart.ensures in
-    let some : 0 < length c.loop-rest.digests.now = omega (arith, ap length taken, c.loop-rest.invariant.enough) in
+    let some : 0 < length c.loop-top.digests.now =
+    omega (arith, ap length c.in-Some.ensures.steps.0, c.loop-top.invariant.enough) in
     search rules
 
-pub loop-rest-preserved : goal.loop-rest-preserved
-loop-rest-preserved g c =
+pub returns-in-Past : goal.returns-in-Past
+returns-in-Past g c = λ digest later e.
+    let steps = rw c.in-Past.is at c.in-Some.ensures.steps.0 in
+    let last = subst PastIsLast steps c.loop-top.invariant.last in
+    reads_fold g.F.Family.shape digest later g.D.Write.text c.loop-top.digests.now c.loop-top.kept.items _ _ _
+    (c.loop-top.invariant.reads digest later e) _ (ap (map met_site) steps ∙ ap (λ ms. back ∷ map met_site ms) last)
+    c.index-digests-0-in-Past.is
+
+pub loop-top-preserved : goal.loop-top-preserved
+loop-top-preserved g c =
     let S = g.F.Family.shape in
-    let text = g.D.Write.text in
-    let r = c.loop-rest.rest in
-    let n = c.next-rest.result in
-    let k = c.first_peak-height.result in
-    let first = c.first_peak-height.ensures.first in
+    let steps = rw c.in-One.is at c.in-Some.ensures.steps.0 in
+    let ds = c.loop-top.digests.now in
+    let left = all_but_first ds (take (length ds - 1) (drop 1 ds)) (length ds - 1) refl (omega arith) in
     record {
-      peaks = rw (c.next-rest.ensures.first, c.next-rest.ensures.left) (peaks_next S g.met.F.Family.laws
-          (c.args.rest.first + c.args.rest.left) r.first r.left k c.requires.few c.loop-rest.invariant.peaks first);
-      enough = elim c.if-is_apart.branch [
-        | then-is_apart+in_ok-push w ↦
-            let taken = tops_taken S c.args.start c.args.end r.first r.left r.folded k n.first n.left n.folded first
-            c.next-rest.ensures.first c.next-rest.ensures.left c.next-rest.ensures.folded c.if-rest-end.either
-            w.if-is_apart.ensures in
-            let left = all_but_first c.loop-rest.digests.now c.if-is_apart.digests.now _ (ap (λ d. d.now) w.digests-is)
-            (omega arith) in
-            omega (
-              arith,
-              ap length taken,
-              ap length left,
-              length-drop 1 c.loop-rest.digests.now,
-              c.loop-rest.invariant.enough,
-            )
-        | else-is_apart w ↦
-            let passed = tops_passed S c.args.start c.args.end r.first r.left r.folded k n.first n.left n.folded first
-            c.next-rest.ensures.first c.next-rest.ensures.left c.next-rest.ensures.folded c.if-rest-end.either
-            w.if-is_apart.ensures in
-            omega (arith, ap length passed, ap (λ d. length d.now) w.digests-is, c.loop-rest.invariant.enough)
-      ];
-      reads = λ digest later e. elim c.if-is_apart.branch [
-        | then-is_apart+in_ok-push w ↦
-            let taken = tops_taken S c.args.start c.args.end r.first r.left r.folded k n.first n.left n.folded first
-            c.next-rest.ensures.first c.next-rest.ensures.left c.next-rest.ensures.folded c.if-rest-end.either
-            w.if-is_apart.ensures in
-            let left = all_but_first c.loop-rest.digests.now c.if-is_apart.digests.now _ (ap (λ d. d.now) w.digests-is)
-            (omega arith) in
-            reads_peak S digest later text c.loop-rest.digests.now c.loop-rest.kept.items _ _ _
-            (c.loop-rest.invariant.reads digest later e) r.first k w.node_position.result _
-            c.if-is_apart.digests.now c.if-is_apart.kept.items w.index-digests-0.result taken
-            w.node_position.ensures left w.index-digests-0.is (ap (λ v. v.items) w.kept-is
-            ∙ w.in_ok-push.ensures.items)
-        | else-is_apart w ↦
-            let passed = tops_passed S c.args.start c.args.end r.first r.left r.folded k n.first n.left n.folded first
-            c.next-rest.ensures.first c.next-rest.ensures.left c.next-rest.ensures.folded c.if-rest-end.either
-            w.if-is_apart.ensures in
-            reads_other S digest later text c.loop-rest.digests.now c.loop-rest.kept.items _ _ _
-            (c.loop-rest.invariant.reads digest later e) _ c.if-is_apart.digests.now c.if-is_apart.kept.items passed
-            (ap (λ d. d.now) w.digests-is) (ap (λ v. v.items) w.kept-is)
-      ];
+      last = subst PastIsLast steps c.loop-top.invariant.last;
+      enough = omega (
+        arith,
+        ap length steps,
+        ap length left,
+        length-drop 1 c.loop-top.digests.now,
+        c.loop-top.invariant.enough,
+      );
+      reads = λ digest later e. reads_peak S digest later g.D.Write.text c.loop-top.digests.now c.loop-top.kept.items _
+          _ _ (c.loop-top.invariant.reads digest later e) _ _ c.node_position.result _ _ _ c.index-digests-0.result
+          (ap (map met_site) steps) c.node_position.ensures left c.index-digests-0.is c.in_ok-push-in-One.ensures.items;
     }
 
-pub bounds-digests-0-then-rest-gt0-2 : goal.bounds-digests-0-then-rest-gt0-2
-bounds-digests-0-then-rest-gt0-2 g c =
-    let r = c.loop-rest.rest in
-    let over : (r.folded ≤ 0) × (c.args.end ≤ r.first) = elim c.loop-rest-test.branch [
-      | then-loop-rest-test+else-rest-end w ↦ (w.if-rest-end.false.0, w.if-rest-end.false.1)
-      | else-loop-rest-test w ↦ absurd (let none = w.loop-rest-test.false in omega arith)
-    ] in
-    let fold = tops_fold g.F.Family.shape c.args.start c.args.end g.met.F.Family.laws r.first r.left r.folded
-    c.if-rest-gt0-2.true over.0 over.1 in
-    let some : 0 < length c.loop-rest.digests.now = omega (arith, ap length fold, c.loop-rest.invariant.enough) in
-    search rules
-
-pub returns-then-rest-gt0-2 : goal.returns-then-rest-gt0-2
-returns-then-rest-gt0-2 g c = λ digest later e.
-    let r = c.loop-rest.rest in
-    let over : (r.folded ≤ 0) × (c.args.end ≤ r.first) = elim c.loop-rest-test.branch [
-      | then-loop-rest-test+else-rest-end w ↦ (w.if-rest-end.false.0, w.if-rest-end.false.1)
-      | else-loop-rest-test w ↦ absurd (let none = w.loop-rest-test.false in omega arith)
-    ] in
-    let fold = tops_fold g.F.Family.shape c.args.start c.args.end g.met.F.Family.laws r.first r.left r.folded
-    c.if-rest-gt0-2.true over.0 over.1 in
-    reads_fold g.F.Family.shape digest later g.D.Write.text c.loop-rest.digests.now c.loop-rest.kept.items _ _ _
-    (c.loop-rest.invariant.reads digest later e) c.index-digests-0-then-rest-gt0-2.result fold
-    c.index-digests-0-then-rest-gt0-2.is
-
-pub returns-else-rest-gt0-2 : goal.returns-else-rest-gt0-2
-returns-else-rest-gt0-2 g c = λ digest later e.
-    let r = c.loop-rest.rest in
-    reads_end g.F.Family.shape digest later g.D.Write.text c.loop-rest.digests.now c.loop-rest.kept.items _ _ _
-    (c.loop-rest.invariant.reads digest later e) (tops_end g.F.Family.shape c.args.start c.args.end
-    g.met.F.Family.laws r.first r.left r.folded c.if-rest-gt0-2.false)
+pub returns : goal.returns
+returns g c = λ digest later e. reads_end g.F.Family.shape digest later g.D.Write.text _ c.loop-top.kept.items _ _ _
+    (c.loop-top.invariant.reads digest later e) (ap (map met_site) c.in-None.ensures.steps.0)

@@ -1,75 +1,53 @@
-use Rattle.std.proofs.Common.{◌≡◌, refl, map, ◌+◌, ◌≤◌, ◌^◌, [], take, option_map, arith}
+use Rattle.std.proofs.Common.{arith, map, sym, ap, subst, ◌∙◌}
+use Rattle.storage_merkle.specs.Hashers.{forward_of}
 use Rattle.storage_merkle.specs.PinnedParts.{digest_before}
-use Rattle.storage_merkle.specs.RangeProofs.{leading}
-use Rattle.storage_merkle.specs.Rests.{peaks_from}
-use Rattle.storage_merkle.specs.Laws.Shape.{no_peaks}
-use Rattle.storage_merkle.proofs.Walks.{peak_in_tree, peaks_next}
-use Rattle.storage_merkle.proofs.Plan.Folds.{forward_leads, forward_ends, leads_not, leads_none, leads_end}
-use Rattle.storage_merkle.proofs.Rests.{passing_starts, passing_goes_on, passing_stops, passing_unfolded, passing_ends}
+use Rattle.storage_merkle.specs.PlanParts.{peaks_by}
+use Rattle.storage_merkle.specs.Plans.{InTree}
+use Rattle.storage_merkle.specs.Rests.{EachPeak, peaks_from}
+use Rattle.storage_merkle.proofs.Plan.Folds.{forward_ends}
+use Rattle.storage_merkle.proofs.Walks.{peaks_in_tree}
+use Rattle.storage_merkle.proofs.Walked.{each_leading, leads_on}
 use Rattle.storage_merkle.proofs.merkle.proof.pinned.Pinned.fold_leading.Goals as goal
-use Rattle.storage_merkle.proofs.merkle.proof.pinned.Pinned.fold_leading.Goals.{then-loop-rest-test+else-rest-gt0, else-loop-rest-test, then-loop-rest-test+then-rest-gt0+then-rest-power}
 
-pub loop-rest-init : goal.loop-rest-init
-loop-rest-init g c = record {
-  peaks = c.requires.peaks;
-  passing = passing_starts g.F.Family.shape c.args.self.now.start
-      c.args.peaks.first c.args.peaks.left c.args.peaks.folded;
-  folds = refl;
-}
-
-pub node-requires-clause-within : goal.node-requires-clause-within
-node-requires-clause-within g c = peak_in_tree g.F.Family.shape g.met.F.Family.laws c.args.self.now.leaves
-    c.loop-rest.rest.first c.loop-rest.rest.left c.first_peak-height.result c.requires.pinned.few
-    c.loop-rest.invariant.peaks c.first_peak-height.ensures.first
-
-pub loop-rest-preserved : goal.loop-rest-preserved
-loop-rest-preserved g c =
-    let ends : c.loop-rest.rest.first + 2 ^ c.first_peak-height.result ≤ c.args.self.now.start = omega arith in
+pub loop-first-init : goal.loop-first-init
+loop-first-init g c =
+    let S = g.F.Family.shape in
+    let peaks = c.args.peaks in
+    let self = c.args.self.now in
+    let at = c.into_iter-first-iterator.ensures.into_iter_gives ∙ c.of-first-items.ensures in
     record {
-      peaks = rw (c.next-rest.ensures.first, c.next-rest.ensures.left) (peaks_next g.F.Family.shape g.met.F.Family.laws
-          c.args.self.now.leaves c.loop-rest.rest.first c.loop-rest.rest.left c.first_peak-height.result
-          c.requires.pinned.few c.loop-rest.invariant.peaks c.first_peak-height.ensures.first);
-      passing = rw (c.next-rest.ensures.first, c.next-rest.ensures.left, c.next-rest.ensures.folded) (passing_goes_on
-          g.F.Family.shape c.args.self.now.start c.args.peaks.first c.args.peaks.left c.args.peaks.folded
-          c.loop-rest.rest.first c.loop-rest.rest.left c.loop-rest.rest.folded c.first_peak-height.result
-          c.if-rest-gt0.true c.first_peak-height.ensures.first ends c.loop-rest.invariant.passing);
-      folds = rw (c.next-rest.ensures.first, c.next-rest.ensures.left, c.next-rest.ensures.folded)
-          (forward_leads g.F.Family.shape c.loop-rest.rest.first c.loop-rest.rest.left c.first_peak-height.result
-          c.first_peak-height.ensures.first c.args.self.now.start c.loop-rest.rest.folded c.if-rest-gt0.true ends
-          g.H.Hasher.hash_of (digest_before g.H.Hasher.hash_of (g.H.Hasher.layout c.args.hasher.now)
-          c.args.self.now.start (map g.D.Write.text c.args.self.now.digests.now) (g.H.Hasher.chunk c.args.hasher.now)) _
-          _ _ _ c.node.ensures c.append.ensures c.loop-rest.invariant.folds);
+      within = subst (EachPeak (InTree S self.leaves)) (sym at)
+          (each_leading self.start (InTree S self.leaves) (InTree S self.leaves) (λ a k l t. t) peaks.folded
+          (peaks_from S peaks.first peaks.left)
+          (peaks_in_tree S g.met.F.Family.laws self.leaves peaks.first peaks.left c.requires.peaks));
+      folds = ap (λ ps. forward_of g.H.Hasher.hash_of (peaks_by (digest_before g.H.Hasher.hash_of
+          (g.H.Hasher.layout c.args.hasher.now) self.start (map g.D.Write.text self.digests.now)
+          (g.H.Hasher.chunk c.args.hasher.now)) ps)) at;
     }
 
-pub returns-clause-folded : goal.returns-clause-folded
-returns-clause-folded g c =
-    let S = g.F.Family.shape in
-    let r = c.loop-rest.rest in
-    let start = c.args.self.now.start in
-    let none : leading start (take r.folded (peaks_from S r.first r.left)) ≡ [] = elim c.loop-rest-test.branch [
-      | then-loop-rest-test+else-rest-gt0 w ↦ leads_none S r.first r.left start r.folded w.if-rest-gt0.false
-      | else-loop-rest-test w ↦
-          leads_end S r.first r.left start r.folded (no_peaks S g.met.F.Family.laws) w.loop-rest-test.false
-      | then-loop-rest-test+then-rest-gt0+then-rest-power w ↦
-          leads_not S r.first r.left w.first_peak-height.result w.first_peak-height.ensures.first start r.folded
-          (omega (arith, w.if-rest-power.true, w.power.ensures))
-    ] in
-    forward_ends g.H.Hasher.hash_of _ (option_map g.D.Write.text c.loop-rest.folded) _ _ none
-    c.loop-rest.invariant.folds
+pub of-first-items-requires-clause-few : goal.of-first-items-requires-clause-few
+of-first-items-requires-clause-few g c = omega (arith, c.requires.peaks.sum, c.requires.pinned.few)
 
-pub returns-clause-after : goal.returns-clause-after
-returns-clause-after g c =
-    let r = c.loop-rest.rest in
-    let start = c.args.self.now.start in
-    elim c.loop-rest-test.branch [
-      | then-loop-rest-test+else-rest-gt0 w ↦
-          passing_unfolded g.F.Family.shape start c.args.peaks.first c.args.peaks.left c.args.peaks.folded r.first
-          r.left r.folded w.if-rest-gt0.false c.loop-rest.invariant.passing
-      | else-loop-rest-test w ↦
-          passing_ends g.F.Family.shape start c.args.peaks.first c.args.peaks.left c.args.peaks.folded r.first r.left
-          r.folded (no_peaks g.F.Family.shape g.met.F.Family.laws) w.loop-rest-test.false c.loop-rest.invariant.passing
-      | then-loop-rest-test+then-rest-gt0+then-rest-power w ↦
-          passing_stops g.F.Family.shape start c.args.peaks.first c.args.peaks.left c.args.peaks.folded r.first r.left
-          r.folded w.first_peak-height.result w.first_peak-height.ensures.first
-          (omega (arith, w.if-rest-power.true, w.power.ensures)) c.loop-rest.invariant.passing
-    ]
+pub of-first-items-requires-clause-aligned : goal.of-first-items-requires-clause-aligned
+of-first-items-requires-clause-aligned g c = c.requires.peaks.aligned
+
+pub node-requires-clause-small : goal.node-requires-clause-small
+node-requires-clause-small g c = c.in-Some.ensures.steps.1.small
+
+pub node-requires-clause-within : goal.node-requires-clause-within
+node-requires-clause-within g c = (subst (EachPeak (InTree g.F.Family.shape c.args.self.now.leaves))
+    c.in-Some.ensures.steps.0 c.loop-first.invariant.within).0
+
+pub loop-first-preserved : goal.loop-first-preserved
+loop-first-preserved g c = record {
+  within = (subst (EachPeak (InTree g.F.Family.shape c.args.self.now.leaves)) c.in-Some.ensures.steps.0
+      c.loop-first.invariant.within).1;
+  folds = leads_on g.H.Hasher.hash_of (digest_before g.H.Hasher.hash_of (g.H.Hasher.layout c.args.hasher.now)
+      c.args.self.now.start (map g.D.Write.text c.args.self.now.digests.now) (g.H.Hasher.chunk c.args.hasher.now)) _ _ _
+      _ _ _ _ c.in-Some.ensures.steps.0 c.node.ensures c.append.ensures c.loop-first.invariant.folds;
+}
+
+pub returns : goal.returns
+returns g c = forward_ends g.H.Hasher.hash_of (digest_before g.H.Hasher.hash_of (g.H.Hasher.layout c.args.hasher.now)
+    c.args.self.now.start (map g.D.Write.text c.args.self.now.digests.now) (g.H.Hasher.chunk c.args.hasher.now)) _ _ _
+    c.in-None.ensures.steps.0 c.loop-first.invariant.folds

@@ -1,6 +1,6 @@
 use Rattle.storage_merkle.proofs.Walks.{all_peaks}
 use Rattle.storage_merkle.proofs.Rests.{all_folded_forward, inactive_folded}
-use Rattle.storage_merkle.proofs.merkle.plan.Rest.bagged.Goals as goal
+use Rattle.storage_merkle.proofs.merkle.walk.Rest.bagged.Goals as goal
 
 pub returns-in-ForwardFold-clause-peaks : goal.returns-in-ForwardFold-clause-peaks
 returns-in-ForwardFold-clause-peaks g c = all_peaks g.F.Family.shape g.met.F.Family.laws c.args.leaves
