@@ -183,7 +183,8 @@ module _ {D : Type 0} {S : Shape} {text : D → List ℕ} (w : Walk S text) wher
     read : map text w.items ≡ map values.digest tops ++ map values.digest siblings
     read =
         read_all (w.h []) all (map text w.items) values values.element values.chunk count
-        (each_once w.T w.low (w.low + length w.elements) (folded w.b w.i (peaks_of w.T w.n)) (unfolded w.b w.i (peaks_of w.T w.n)) (w.T.shape.peaks w.n)
+        (each_once w.T w.low (w.low + length w.elements) (folded w.b w.i (peaks_of w.T w.n))
+        (unfolded w.b w.i (peaks_of w.T w.n)) (w.T.shape.peaks w.n)
         (folded-all w.b w.i (peaks_of w.T w.n)))
         (agree_itself values all)
         ∙ ap (map values.digest) (split some) ∙ map-append values.digest tops siblings
@@ -210,7 +211,8 @@ module _ {D : Type 0} {S : Shape} {text : D → List ℕ} (w : Walk S text) wher
 
     pub root_is : (x : List ℕ) (bagged : Option (List ℕ))
         → bagged ≡ bag_onto w.h (λ p. eval w.h values (part w.T (apart w.low w.high) p)) (values.digest back) w.high
-        (folded_before (values.digest front) w.a) (peaks_from S w.a w.r) w.g → x ≡ w.h (root_head w.T w.b w.n w.i ++ or_nothing bagged)
+        (folded_before (values.digest front) w.a) (peaks_from S w.a w.r) w.g
+        → x ≡ w.h (root_head w.T w.b w.n w.i ++ or_nothing bagged)
         → x ≡ recomputed_root w.h w.T w.b proof w.low claim
     root_is x bagged e ex =
         let item : ℕ → Peak → List ℕ = λ z p. eval w.h values (part w.T (apart w.low z) p) in

@@ -1,14 +1,12 @@
 -- A store reads the peaks and the folds of a proof.
 use Rattle.std.proofs.Common.{◌≡◌, ℕ, zero, suc, ◌+◌, ◌-◌, ◌<◌, ◌≤◌, List, [], ◌∷◌, ◌++◌, length, map, take, drop, get_or, true, false, if◌then◌else◌, inl, inr, refl, sym, ap, ap₂, ◌∙◌, arith, subst, leb, append_assoc, append-nil, Option, Some, None}
 use Rattle.std.proofs.lemmas.List.{map-append, length-map, length-append, length-drop, take_all, drop-map}
-use Rattle.storage_codec.specs.Digests.{HashFunction}
 use Rattle.storage_merkle.specs.Shape.{Shape}
 use Rattle.storage_merkle.specs.Calc.{Site, front, back, node, Values}
-use Rattle.storage_merkle.specs.declared.merkle.bagging.Bagging.{Bagging}
 use Rattle.storage_merkle.specs.Trees.{Layout, Content, Peak, peaks_of, ungrafted}
-use Rattle.storage_merkle.specs.RangeProofs.{Proof, apart, not_leading, up_to, sites_in, same_site, look_up, sites, check_values, CountsFit}
+use Rattle.storage_merkle.specs.RangeProofs.{apart, not_leading, up_to, sites_in, same_site, look_up, sites, check_values, CountsFit}
 use Rattle.storage_merkle.specs.Extracted.{entries, by_bytes}
-use Rattle.storage_merkle.specs.Rests.{peaks_from, AreFolded, AreAfterLeading}
+use Rattle.storage_merkle.specs.Rests.{peaks_from}
 use Rattle.storage_merkle.specs.Siblings.{sibling_sites}
 use Rattle.storage_merkle.specs.CheckParts.{front_before, top_sites}
 use Rattle.storage_merkle.specs.StoreParts.{nodes_among, back_among}
@@ -16,7 +14,7 @@ use Rattle.storage_merkle.specs.Stores.{or_else}
 use Rattle.storage_merkle.proofs.RangeSound.{folded-all}
 use Rattle.storage_merkle.proofs.Distinct.{times, one_if, times-append, times-by_position, no_fold_in, each_once, read_all}
 use Rattle.storage_merkle.proofs.Extracted.{tells}
-use Rattle.storage_merkle.proofs.Check.Roots.{Walk, agree_itself, split}
+use Rattle.storage_merkle.proofs.Check.Roots.{Walk, claim, proof_over, siblings, tops, agree_itself, split}
 
 -- ---- the peaks, one after another
 
@@ -153,154 +151,117 @@ no_back_before (suc a) = refl
 
 -- ---- all of a proof whose counts fit
 
-module _ (S : Shape) (h : HashFunction) (b : Bagging) (n i low high : ℕ) {D : Type 0} (text : D → List ℕ)
-    (items : List D) (f a r g : ℕ) (parts : AreFolded S b i n f) (after : AreAfterLeading S low 0 n f a r g) where
-  abbrev proof : Proof
-  proof = record { leaves = n; inactive = i; digests = map text items }
-
-  abbrev tops : List Site
-  tops = top_sites low high (peaks_from S a r) g
-
-  abbrev beside : List Site
-  beside = sibling_sites (ungrafted S) n low high
+module _ {D : Type 0} {S : Shape} {text : D → List ℕ} (w : Walk S text) where
+  abbrev later : List Site
+  later = top_sites w.low w.high (peaks_from S w.a w.r) w.g
 
   abbrev pub all_sites : List Site
-  all_sites = (front_before a ++ tops) ++ beside
+  all_sites = tops w ++ siblings w
 
-  abbrev walk : (T : Layout) → T.shape ≡ S → (claim : Content) → high ≡ low + length claim.elements → Walk S text
-  walk T same claim range = record {
-    h = h;
-    T = T;
-    same = same;
-    b = b;
-    n = n;
-    i = i;
-    low = low;
-    elements = claim.elements;
-    chunk = claim.chunk;
-    items = items;
-    high = high;
-    f = f;
-    a = a;
-    r = r;
-    g = g;
+  abbrev pub values : Values
+  values = check_values w.h w.T w.b (proof_over w w.n) w.low (claim w)
+
+  -- what comes after the fold in front
+  abbrev pub rest_digests : List (List ℕ)
+  rest_digests = map values.digest (siblings w)
+
+  -- the same walk for another claim over the range
+  abbrev given_walk : (given : Content) → w.high ≡ w.low + length given.elements → Walk S text
+  given_walk given range = record w {
+    T = ungrafted S;
+    same = refl;
+    elements = given.elements;
+    chunk = given.chunk;
     range = range;
-    parts = parts;
-    after = after;
   }
 
   -- the counts fit to one claim over the range, and so to each
-  module _ (given : Content) (given_range : high ≡ low + length given.elements)
-      (fit : CountsFit h (ungrafted S) b proof low given) (T : Layout) (claim : Content) (same : T.shape ≡ S)
-      (range : high ≡ low + length claim.elements) where
-    abbrev values : Values
-    values = check_values h T b proof low claim
+  module _ (given : Content) (given_range : w.high ≡ w.low + length given.elements)
+      (fit : CountsFit w.h (ungrafted S) w.b (proof_over w w.n) w.low given) where
+    some : w.low < w.high
+    some = let positive = fit.some in omega (arith, given_range)
 
-    some : low < high
-    some = let positive = fit.some in omega arith
+    sites_split : sites w.T w.low (w.low + length w.elements) w.b w.n w.i ≡ all_sites
+    sites_split = split w some
 
-    sites_split : sites T low (low + length claim.elements) b n i ≡ all_sites
-    sites_split = split (walk T same claim range) some
+    counted : length (map text w.items) ≡ length (sites w.T w.low (w.low + length w.elements) w.b w.n w.i)
+    counted = fit.count ∙ ap length (split (given_walk given given_range) some) ∙ sym (ap length sites_split)
 
-    counted : length (map text items) ≡ length (sites T low (low + length claim.elements) b n i)
-    counted = fit.count ∙ ap length (split (walk (ungrafted S) refl given given_range) some)
-        ∙ sym (ap length sites_split)
-
-    read : map text items ≡ map values.digest all_sites
+    read : map text w.items ≡ map values.digest all_sites
     read =
-        read_all (h []) (sites T low (low + length claim.elements) b n i)
-        (map text items) values values.element values.chunk counted
-        (each_once T low (low + length claim.elements) _ _ (T.shape.peaks n) (folded-all b i (peaks_of T n)))
-        (agree_itself values (sites T low (low + length claim.elements) b n i))
+        read_all (w.h []) (sites w.T w.low (w.low + length w.elements) w.b w.n w.i)
+        (map text w.items) values values.element values.chunk counted
+        (each_once w.T w.low (w.low + length w.elements) _ _ (w.T.shape.peaks w.n) (folded-all w.b w.i (peaks_of w.T w.n)))
+        (agree_itself values (sites w.T w.low (w.low + length w.elements) w.b w.n w.i))
         ∙ ap (map values.digest) sites_split
 
-    -- what comes after the fold in front
-    abbrev pub rest_digests : List (List ℕ)
-    rest_digests = map values.digest beside
+    opened : map text w.items ≡ map values.digest (front_before w.a) ++ (map values.digest later ++ rest_digests)
+    opened = read ∙ map-append values.digest (tops w) (siblings w)
+        ∙ ap (λ xs. xs ++ rest_digests) (map-append values.digest (front_before w.a) later)
+        ∙ append_assoc (map values.digest (front_before w.a)) (map values.digest later) rest_digests
 
-    opened : map text items ≡ map values.digest (front_before a) ++ (map values.digest tops ++ rest_digests)
-    opened = read ∙ map-append values.digest (front_before a ++ tops) beside
-        ∙ ap (λ xs. xs ++ rest_digests) (map-append values.digest (front_before a) tops)
-        ∙ append_assoc (map values.digest (front_before a)) (map values.digest tops) rest_digests
-
-    pub front_some : 0 < a → (x : D) → x ≡ get_or items 0 x → text x ≡ values.digest front
-    front_some l x ex = go a l items opened ex
+    pub front_some : 0 < w.a → (x : D) → x ≡ get_or w.items 0 x → text x ≡ values.digest front
+    front_some l x ex = go w.a l w.items opened ex
       where
         go : (c : ℕ) → 0 < c → (xs : List D) → map text xs ≡ map values.digest (front_before c)
-            ++ (map values.digest tops ++ rest_digests) → x ≡ get_or xs 0 x → text x ≡ values.digest front
+            ++ (map values.digest later ++ rest_digests) → x ≡ get_or xs 0 x → text x ≡ values.digest front
         go zero l xs e q = absurd (omega arith)
         go (suc c) l [] e q = cc
         go (suc c) l (y ∷ ys) e q = let here : text y ≡ values.digest front = cc in ap text q ∙ here
 
-    pub rest_some : 0 < a → (ds : List D) → ds ≡ drop 1 items → map text ds ≡ map values.digest tops ++ rest_digests
-    rest_some l ds e = ap (map text) e ∙ sym (drop-map text 1 items) ∙ ap (drop 1) opened ∙ go a l
+    pub rest_some : 0 < w.a → (ds : List D) → ds ≡ drop 1 w.items → map text ds ≡ map values.digest later ++ rest_digests
+    rest_some l ds e = ap (map text) e ∙ sym (drop-map text 1 w.items) ∙ ap (drop 1) opened ∙ go w.a l
       where
-        go : (c : ℕ) → 0 < c → drop 1 (map values.digest (front_before c) ++ (map values.digest tops ++ rest_digests))
-            ≡ map values.digest tops ++ rest_digests
+        go : (c : ℕ) → 0 < c → drop 1 (map values.digest (front_before c) ++ (map values.digest later ++ rest_digests))
+            ≡ map values.digest later ++ rest_digests
         go zero l = absurd (omega arith)
         go (suc c) l = refl
 
-    pub rest_none : a ≤ 0 → (ds : List D) → ds ≡ items → map text ds ≡ map values.digest tops ++ rest_digests
-    rest_none l ds e = let z : a ≡ 0 = omega arith in ap (map text) e ∙ opened
-        ∙ ap (λ c. map values.digest (front_before c) ++ (map values.digest tops ++ rest_digests)) z
+    pub rest_none : w.a ≤ 0 → (ds : List D) → ds ≡ w.items → map text ds ≡ map values.digest later ++ rest_digests
+    rest_none l ds e = let z : w.a ≡ 0 = omega arith in ap (map text) e ∙ opened
+        ∙ ap (λ c. map values.digest (front_before c) ++ (map values.digest later ++ rest_digests)) z
 
     absent : (s : Site) → times s all_sites ≡ 0 → ((t : Site) → one_if (same_site t s) ≡ one_if (same_site s t))
-        → values.digest s ≡ h []
-    absent s z sy = not_there (h []) (sites T low (low + length claim.elements) b n i) (map text items) s
+        → values.digest s ≡ w.h []
+    absent s z sy = not_there (w.h []) (sites w.T w.low (w.low + length w.elements) w.b w.n w.i) (map text w.items) s
         (ap (times s) sites_split ∙ z) sy
 
-    pub front_none : a ≤ 0 → h [] ≡ values.digest front
+    pub front_none : w.a ≤ 0 → w.h [] ≡ values.digest front
     front_none l =
-        let z : a ≡ 0 = omega arith in
-        let before : times front (front_before a) ≡ 0 = ap (λ c. times front (front_before c)) z in
+        let z : w.a ≡ 0 = omega arith in
+        let before : times front (front_before w.a) ≡ 0 = ap (λ c. times front (front_before c)) z in
         sym (absent front (omega (
           arith,
-          times-append front (front_before a ++ tops) beside,
-          times-append front (front_before a) tops,
+          times-append front (tops w) (siblings w),
+          times-append front (front_before w.a) later,
           before,
-          no_front low high (peaks_from S a r) g,
-          no_fold_beside (ungrafted S) n low high front (λ c k. refl),
+          no_front w.low w.high (peaks_from S w.a w.r) w.g,
+          no_fold_beside (ungrafted S) w.n w.low w.high front (λ c k. refl),
         )) front_alike)
 
-    pub back_is : (o : Option (List ℕ)) → o ≡ back_among values.digest tops → or_else (h []) o ≡ values.digest back
+    pub back_is : (o : Option (List ℕ)) → o ≡ back_among values.digest later → or_else (w.h []) o ≡ values.digest back
     back_is None e = sym (absent back (omega (
       arith,
-      times-append back (front_before a ++ tops) beside,
-      times-append back (front_before a) tops,
-      no_back_before a,
-      back_nowhere values.digest tops (sym e),
-      no_fold_beside (ungrafted S) n low high back (λ c k. refl),
+      times-append back (tops w) (siblings w),
+      times-append back (front_before w.a) later,
+      no_back_before w.a,
+      back_nowhere values.digest later (sym e),
+      no_fold_beside (ungrafted S) w.n w.low w.high back (λ c k. refl),
     )) back_alike)
-    back_is (Some x) e = back_there values.digest tops x (sym e)
+    back_is (Some x) e = back_there values.digest later x (sym e)
 
-  -- so there are enough
-  module _ (given : Content) (given_range : high ≡ low + length given.elements)
-      (fit : CountsFit h (ungrafted S) b proof low given) where
-    pub first_there : 0 < a → 0 < length items
-    first_there l = go a l (ap length (opened given given_range fit (ungrafted S) given refl given_range))
-      where
-        go : (c : ℕ) → 0 < c → length (map text items)
-            ≡ length (map (values given given_range fit (ungrafted S) given refl given_range).digest (front_before c)
-            ++ (map (values given given_range fit (ungrafted S) given refl given_range).digest tops
-            ++ rest_digests given given_range fit (ungrafted S) given refl given_range)) → 0 < length items
-        go zero l e = absurd (omega arith)
-        go (suc c) l e = omega (arith, length-map items text)
+    -- so there are enough
+    counts : (ds : List D) → map text ds ≡ map values.digest later ++ rest_digests → length later ≤ length ds
+    counts ds e = omega (
+      arith,
+      ap length e,
+      length-map ds text,
+      length-append (map values.digest later) (map values.digest (siblings w)),
+      length-map later values.digest,
+    )
 
-    counts : (ds : List D)
-        → map text ds ≡ map (values given given_range fit (ungrafted S) given refl given_range).digest tops
-        ++ rest_digests given given_range fit (ungrafted S) given refl given_range → length tops ≤ length ds
-    counts ds e =
-        let v = values given given_range fit (ungrafted S) given refl given_range in
-        omega (
-          arith,
-          ap length e,
-          length-map ds text,
-          length-append (map v.digest tops) (map v.digest beside),
-          length-map tops v.digest,
-        )
+    pub enough_some : 0 < w.a → (ds : List D) → ds ≡ drop 1 w.items → length later ≤ length ds
+    enough_some l ds e = counts ds (rest_some l ds e)
 
-    pub enough_some : 0 < a → (ds : List D) → ds ≡ drop 1 items → length tops ≤ length ds
-    enough_some l ds e = counts ds (rest_some given given_range fit (ungrafted S) given refl given_range l ds e)
-
-    pub enough_none : a ≤ 0 → (ds : List D) → ds ≡ items → length tops ≤ length ds
-    enough_none l ds e = counts ds (rest_none given given_range fit (ungrafted S) given refl given_range l ds e)
+    pub enough_none : w.a ≤ 0 → (ds : List D) → ds ≡ w.items → length later ≤ length ds
+    enough_none l ds e = counts ds (rest_none l ds e)
