@@ -46,3 +46,8 @@ pub mod dynamic {
         bytes::Bytes,
     >;
 }
+
+/// The proofs under the path that they have in the Rust crate.
+pub mod proof {
+    pub use crate::qmdb::current::ordered::{ExclusionProof, KeyValueProof, constant, dynamic};
+}
