@@ -71,7 +71,7 @@ handed h g laws proof start operations chunks root digests (Ok v) law t = record
 }
 handed h g laws proof start operations chunks root digests (Err e) law t = tt
 
-pub meaning : ExtractedCurrentDigestsAreTrue → (d : ℕ) (h : HashFunction) → (d ≡ 32) ⊎ (d ≡ 64) → IsSized d h
+pub means : ExtractedCurrentDigestsAreTrue → (d : ℕ) (h : HashFunction) → (d ≡ 32) ⊎ (d ≡ 64) → IsSized d h
     → {V F : Type 0} (g : Grafting) → Laws g.shape
     → (proof : RangeProof) (start : ℕ) (operations chunks : List (List ℕ)) → HasDigests d proof
     → (root : List ℕ) (digests : V → List (ℕ × List ℕ)) (answer : Result V (Error F))

@@ -17,7 +17,8 @@ use std::marker::PhantomData;
 use storage_codec::digest::{Digest, Hasher};
 use storage_merkle::merkle::family::node_at;
 use storage_merkle::merkle::hasher::Standard;
-use storage_merkle::merkle::{self, Bagging, Error, Graftable, Position, Readable};
+use storage_merkle::merkle::{self, Error, Graftable, Position, Readable};
+use storage_ops::qmdb;
 
 /// A tree over the operations and a tree over their chunks as one tree: below the height of a chunk's node it has the
 /// operations' nodes, at and above it those of the tree over chunks. A node above that height which the tree over chunks
@@ -217,7 +218,7 @@ fn grafted_digest<F: Graftable, H: Hasher, R: Readable<Family = F, Digest = H::D
     ensures { (q : ℕ) → CoversSame F.shape height q (F.shape.position first own)
         → result ≡ regrafted H.digest_of H.Digest.text F.shape height (R.node grafted_tree.now) q }
 {
-    let hasher = GraftedHasher::<F, Standard<H>>::new(Standard::new(Bagging::BackwardFold), height);
+    let hasher = GraftedHasher::<F, Standard<H>>::new(qmdb::hasher::<H>(), height);
     node_of(grafted_tree, &hasher, first >> height, own - height)
 }
 
