@@ -203,7 +203,7 @@ fn recomputed_chunks_root<H: Hasher>(
     bytes: &[u8],
 ) -> Result<Option<H::Digest>, AllocError>
     ensures { IfOk result (λ root. IsRecomputed H.hash_of (ungrafted mmr) bagging
-        (record { leaves = complete_chunks; inactive = 0; digests = map H.Digest.text digests.now }) place
+        (record { leaves = complete; inactive = 0; digests = map H.Digest.text digests.now }) place
         (listed (bytes.now ∷ [])) (option_map H.Digest.text root)) }
 {
     let mut copies = Vec::new(alloc);

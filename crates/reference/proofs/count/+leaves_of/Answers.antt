@@ -3,7 +3,7 @@ use Rattle.storage_merkle.specs.Shape.{leaves_under}
 use Rattle.reference.proofs.Digits.{small_height}
 use Rattle.reference.proofs.Nodes.{leaves_cons}
 use Rattle.reference.proofs.Counts.{leaves_none}
-use Rattle.reference.proofs.count.+leaves_under.Goals as goal
+use Rattle.reference.proofs.count.+leaves_of.Goals as goal
 
 pub power-requires : goal.power-requires
 power-requires t c =
