@@ -2,10 +2,10 @@
 use Rattle.std.proofs.Common.{◌≡◌, ℕ, ◌+◌, ◌-◌, ◌<◌, false, ◌==◌, List, [], ◌∷◌, ◌++◌, length, map, get_or, refl, ap, ap₂, sym, ◌∙◌, arith}
 use Rattle.std.proofs.lemmas.List.{map-append}
 use Rattle.storage_codec.specs.Digests.{HashFunction}
-use Rattle.storage_merkle.specs.Calc.{Site, Values, eval}
+use Rattle.storage_merkle.specs.Calc.{Site, Values, eval, front, back, given}
 use Rattle.storage_merkle.specs.Hashing.{bagged}
 use Rattle.storage_merkle.specs.Laws.Hashing.{eval-bag}
-use Rattle.storage_merkle.specs.RangeProofs.{Proof, apart, leading, not_leading, up_to, trailing, front_given, back_given, look_up, sites, recomputed_root}
+use Rattle.storage_merkle.specs.RangeProofs.{Proof, apart, leading, not_leading, up_to, trailing, one_for, look_up, sites, recomputed_root}
 use Rattle.storage_merkle.specs.Trees.{Layout, Content, Peak, eval_bag, folded, unfolded, part, peaks_of, root_head}
 use Rattle.storage_merkle.specs.declared.merkle.bagging.Bagging.{Bagging}
 use Rattle.reference.specs.Layouts.{valued}
@@ -20,20 +20,20 @@ module _ (h : HashFunction) (v : Values) (T : Layout) (low high : ℕ)
   -- what is bagged, from the digests of its parts
   pub claimed_from : before ≡ leading low xs → others ≡ not_leading low xs → reached ≡ up_to high ys
       → past ≡ trailing high ys
-      → (front rest : List (List ℕ)) (out : List ℕ) → front ≡ map (eval h v) (front_given before) ++ map each others
-      → rest ≡ map each reached ++ map (eval h v) (back_given past)
-      → out ≡ bagged h front rest → out ≡ eval_bag h v (bag_of_claim T low high xs ys)
-  claimed_from eb eo er ep front rest out front_is rest_is e =
-      let fs = front_given (leading low xs) in
+      → (fronts rest : List (List ℕ)) (out : List ℕ) → fronts ≡ map (eval h v) (one_for (given front) before) ++ map each others
+      → rest ≡ map each reached ++ map (eval h v) (one_for (given back) past)
+      → out ≡ bagged h fronts rest → out ≡ eval_bag h v (bag_of_claim T low high xs ys)
+  claimed_from eb eo er ep fronts rest out front_is rest_is e =
+      let fs = one_for (given front) (leading low xs) in
       let gs = map (part T (apart low high)) (not_leading low xs) in
       let hs = map (part T (apart low high)) (up_to high ys) in
-      let bs = back_given (trailing high ys) in
-      let front_all : front ≡ map (eval h v) (fs ++ gs) =
-      front_is ∙ ap₂ (λ (b o : List Peak). map (eval h v) (front_given b) ++ map each o) eb eo
+      let bs = one_for (given back) (trailing high ys) in
+      let front_all : fronts ≡ map (eval h v) (fs ++ gs) =
+      front_is ∙ ap₂ (λ (b o : List Peak). map (eval h v) (one_for (given front) b) ++ map each o) eb eo
       ∙ ap (λ (ds : List (List ℕ)). map (eval h v) fs ++ ds)
       (map_twice (eval h v) (part T (apart low high)) (not_leading low xs)) ∙ sym (map-append (eval h v) fs gs) in
       let rest_all : rest ≡ map (eval h v) (hs ++ bs) =
-      rest_is ∙ ap₂ (λ (r p : List Peak). map each r ++ map (eval h v) (back_given p)) er ep
+      rest_is ∙ ap₂ (λ (r p : List Peak). map each r ++ map (eval h v) (one_for (given back) p)) er ep
       ∙ ap (λ (ds : List (List ℕ)). ds ++ map (eval h v) bs)
       (map_twice (eval h v) (part T (apart low high)) (up_to high ys)) ∙ sym (map-append (eval h v) hs bs) in
       e ∙ ap₂ (bagged h) front_all rest_all ∙ sym (eval-bag h v (fs ++ gs) (hs ++ bs))

@@ -1,12 +1,12 @@
 //! The check of a range proof.
 
 ghost use Rattle.std.specs.Prelude.{◌≡◌, ◌↔◌, ℕ, ◌+◌, ◌-◌, ◌^◌, ◌<◌, ◌≤◌, ◌++◌, List, [], length, map, option_map, get_or, IfOk, OnOk, IsTrue};
-ghost use Rattle.storage_merkle.specs.Calc.{eval};
+ghost use Rattle.storage_merkle.specs.Calc.{back, eval, front, given};
 ghost use Rattle.storage_merkle.specs.Hashers.{or_nothing};
 ghost use Rattle.storage_merkle.specs.Trees.{eval_bag, content_of};
 ghost use Rattle.storage_merkle.specs.Checks.{IsRecomputed};
 ghost use Rattle.storage_merkle.specs.Held.{proof_of};
-ghost use Rattle.storage_merkle.specs.RangeProofs.{IsAccepted, apart, back_given, front_given, look_up};
+ghost use Rattle.storage_merkle.specs.RangeProofs.{IsAccepted, apart, look_up, one_for};
 ghost use Rattle.reference.specs.Layouts.{laid_out, valued};
 ghost use Rattle.reference.specs.Sites.{bag_of_claim, site_of};
 
@@ -97,7 +97,7 @@ fn push_front<H: Hasher, E: AsSlice<u8>>(
     ensures { OnOk result ((item chunk : ℕ → List ℕ)
         → map H.Digest.text digests.new.items ≡ map H.Digest.text digests.old.items
         ++ map (eval H.hash_of (valued (look_up (H.hash_of []) (map site_of claim.now.sites.now)
-        (map H.Digest.text claim.now.digests.now)) item chunk)) (front_given peaks.now)) }
+        (map H.Digest.text claim.now.digests.now)) item chunk)) (one_for (given front) peaks.now)) }
 {
     if !peaks.is_empty() {
         digests.push(look_up::<H>(claim.sites, claim.digests, Site::Front))?;
@@ -114,7 +114,7 @@ fn push_back<H: Hasher, E: AsSlice<u8>>(
     ensures { OnOk result ((item chunk : ℕ → List ℕ)
         → map H.Digest.text digests.new.items ≡ map H.Digest.text digests.old.items
         ++ map (eval H.hash_of (valued (look_up (H.hash_of []) (map site_of claim.now.sites.now)
-        (map H.Digest.text claim.now.digests.now)) item chunk)) (back_given peaks.now)) }
+        (map H.Digest.text claim.now.digests.now)) item chunk)) (one_for (given back) peaks.now)) }
 {
     if !peaks.is_empty() {
         digests.push(look_up::<H>(claim.sites, claim.digests, Site::Back))?;

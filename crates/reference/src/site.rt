@@ -1,7 +1,8 @@
 //! Which digests a range proof has, in their order.
 
 ghost use Rattle.std.specs.Prelude.{◌≡◌, ℕ, ◌+◌, ◌≤◌, ◌++◌, List, [], Bool, length, map, take, drop, IfOk, OnOk, ◌∷◌, ◌<◌};
-ghost use Rattle.storage_merkle.specs.RangeProofs.{apart, back_sites, by_position, front_sites, leading, not_leading, place_in, position_of, same_site, sites, sites_in, sites_over, sites_of, trailing, up_to};
+ghost use Rattle.storage_merkle.specs.Calc.{back, front};
+ghost use Rattle.storage_merkle.specs.RangeProofs.{apart, by_position, leading, not_leading, one_for, place_in, position_of, same_site, sites, sites_in, sites_of, sites_over, trailing, up_to};
 ghost use Rattle.storage_merkle.specs.Trees.{Layout, folded, part, unfolded};
 ghost use Rattle.storage_merkle.specs.Shape.{max_leaves};
 ghost use Rattle.reference.specs.Layouts.{laid_out};
@@ -210,7 +211,7 @@ pub(crate) fn by_position<F: Digits>(alloc: Global, sites: &[Site]) -> Result<Ve
 /// Appends to `sites` the fold before the range, where `peaks`, those in it, are not empty.
 fn push_front(sites: &mut Vec<Site>, peaks: &[Node]) -> Result<(), AllocError>
     ensures { OnOk result
-        (map site_of sites.new.items ≡ map site_of sites.old.items ++ front_sites peaks.now) }
+        (map site_of sites.new.items ≡ map site_of sites.old.items ++ one_for front peaks.now) }
 {
     if !peaks.is_empty() {
         sites.push(Site::Front)?;
@@ -221,7 +222,7 @@ fn push_front(sites: &mut Vec<Site>, peaks: &[Node]) -> Result<(), AllocError>
 /// Appends to `sites` the fold past the range, where `peaks`, those in it, are not empty.
 fn push_back(sites: &mut Vec<Site>, peaks: &[Node]) -> Result<(), AllocError>
     ensures { OnOk result
-        (map site_of sites.new.items ≡ map site_of sites.old.items ++ back_sites peaks.now) }
+        (map site_of sites.new.items ≡ map site_of sites.old.items ++ one_for back peaks.now) }
 {
     if !peaks.is_empty() {
         sites.push(Site::Back)?;

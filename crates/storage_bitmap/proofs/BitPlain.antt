@@ -5,12 +5,12 @@ use Rattle.std.specs.Result.{IfOk}
 use Rattle.std.proofs.lemmas.Result.{IfOk-weaker}
 use Rattle.storage_codec.specs.Digests.{HashFunction}
 use Rattle.storage_merkle.specs.Shape.{Shape}
-use Rattle.storage_merkle.specs.Calc.{Site, node, Calc, given, leaf, Values, be8, eval}
+use Rattle.storage_merkle.specs.Calc.{Site, node, Calc, given, leaf, Values, be8, eval, front, back}
 use Rattle.storage_merkle.specs.Hashing.{bagged}
 use Rattle.storage_merkle.specs.Laws.Hashing.{eval-bag}
 use Rattle.storage_merkle.specs.declared.merkle.bagging.Bagging.{Bagging}
 use Rattle.storage_merkle.specs.Trees.{Layout, Content, Peak, ungrafted, listed, node_calc, join_calc, part, peaks_of, folded, unfolded, eval_bag, root_head}
-use Rattle.storage_merkle.specs.RangeProofs.{Proof, CountsFit, apart, leading, not_leading, up_to, trailing, front_given, back_given, check_bag, check_values, recomputed_root}
+use Rattle.storage_merkle.specs.RangeProofs.{Proof, CountsFit, apart, leading, not_leading, up_to, trailing, one_for, check_bag, check_values, recomputed_root}
 use Rattle.storage_merkle.specs.Checks.{IsRecomputed}
 
 module _ (h : HashFunction) (S : Shape) (digest : Site → List ℕ) (element : ℕ → List ℕ) (c d : ℕ → List ℕ) where
@@ -43,13 +43,9 @@ module _ (h : HashFunction) (S : Shape) (digest : Site → List ℕ) (element : 
   parts_plain cut [] = refl
   parts_plain cut (p ∷ ps) = ap₂ (λ x xs. x ∷ xs) (node_plain cut p.height p.first) (parts_plain cut ps)
 
-  front_plain : (ps : List Peak) → map (eval h v) (front_given ps) ≡ map (eval h w) (front_given ps)
-  front_plain [] = refl
-  front_plain (p ∷ ps) = refl
-
-  back_plain : (ps : List Peak) → map (eval h v) (back_given ps) ≡ map (eval h w) (back_given ps)
-  back_plain [] = refl
-  back_plain (p ∷ ps) = refl
+  one_plain : (s : Site) (ps : List Peak) → map (eval h v) (one_for (given s) ps) ≡ map (eval h w) (one_for (given s) ps)
+  one_plain s [] = refl
+  one_plain s (p ∷ ps) = refl
 
   append_plain : (ts us : List Calc) → map (eval h v) ts ≡ map (eval h w) ts → map (eval h v) us ≡ map (eval h w) us
       → map (eval h v) (ts ++ us) ≡ map (eval h w) (ts ++ us)
@@ -62,14 +58,14 @@ module _ (h : HashFunction) (S : Shape) (digest : Site → List ℕ) (element : 
       let xs = folded b i (peaks_of (ungrafted S) n) in
       let ys = unfolded b i (peaks_of (ungrafted S) n) in
       let cut = apart low high in
-      let first = front_given (leading low xs) ++ map (part (ungrafted S) cut) (not_leading low xs) in
-      let second = map (part (ungrafted S) cut) (up_to high ys) ++ back_given (trailing high ys) in
+      let first = one_for (given front) (leading low xs) ++ map (part (ungrafted S) cut) (not_leading low xs) in
+      let second = map (part (ungrafted S) cut) (up_to high ys) ++ one_for (given back) (trailing high ys) in
       eval-bag h v first second
       ∙ (ap₂ (bagged h)
-      (append_plain (front_given (leading low xs)) (map (part (ungrafted S) cut) (not_leading low xs))
-      (front_plain (leading low xs)) (parts_plain cut (not_leading low xs)))
-      (append_plain (map (part (ungrafted S) cut) (up_to high ys)) (back_given (trailing high ys))
-      (parts_plain cut (up_to high ys)) (back_plain (trailing high ys)))
+      (append_plain (one_for (given front) (leading low xs)) (map (part (ungrafted S) cut) (not_leading low xs))
+      (one_plain front (leading low xs)) (parts_plain cut (not_leading low xs)))
+      (append_plain (map (part (ungrafted S) cut) (up_to high ys)) (one_for (given back) (trailing high ys))
+      (parts_plain cut (up_to high ys)) (one_plain back (trailing high ys)))
       ∙ sym (eval-bag h w first second))
 
 module _ (h : HashFunction) (S : Shape) (b : Bagging) (proof : Proof) (start : ℕ) (es : List (List ℕ))

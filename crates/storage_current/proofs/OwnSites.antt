@@ -3,11 +3,11 @@ use Rattle.std.proofs.Common.{◌≡◌, ℕ, zero, suc, ◌+◌, ◌<◌, ◌�
 use Rattle.std.proofs.lemmas.Bool.{cases_lt, lt-leb}
 use Rattle.storage_merkle.specs.Shape.{Laws, leaves_under}
 use Rattle.storage_merkle.specs.Laws.Multiples.{pow_two, pow_order}
-use Rattle.storage_merkle.specs.Calc.{Site, Calc, pair, graft, be8}
+use Rattle.storage_merkle.specs.Calc.{Site, Calc, pair, graft, be8, front, back}
 use Rattle.storage_merkle.specs.declared.merkle.bagging.Bagging.{Bagging}
 use Rattle.storage_merkle.specs.declared.merkle.bagging.Bagging.TheVariants.{ForwardFold, BackwardFold}
 use Rattle.storage_merkle.specs.Trees.{Layout, Peak, places, peaks_of, folded, unfolded, node_calc, join_calc, part}
-use Rattle.storage_merkle.specs.RangeProofs.{apart, leading, not_leading, up_to, trailing, sites_of, sites_in, front_sites, back_sites, position_of, place_in, by_position, sites}
+use Rattle.storage_merkle.specs.RangeProofs.{apart, leading, not_leading, up_to, trailing, sites_of, sites_in, one_for, position_of, place_in, by_position, sites}
 
 length-place_in : (T : Layout) (s : Site) (ss : List Site) → length (place_in T s ss) ≡ suc (length ss)
 length-place_in T s [] = refl
@@ -139,13 +139,9 @@ module _ (T : Layout) (low : ℕ) where
   both_folds ForwardFold i ps = omega arith
   both_folds BackwardFold i ps = cut_at i ps
 
-  one_front : (ps : List Peak) → length (front_sites ps) ≤ 1
-  one_front [] = omega arith
-  one_front (p ∷ ps) = omega arith
-
-  one_back : (ps : List Peak) → length (back_sites ps) ≤ 1
-  one_back [] = omega arith
-  one_back (p ∷ ps) = omega arith
+  at_most_one : (s : Site) (ps : List Peak) → length (one_for s ps) ≤ 1
+  at_most_one s [] = omega arith
+  at_most_one s (p ∷ ps) = omega arith
 
   -- ---- in all: at most 63 peaks, 62 levels below the one with the leaf, and two folds
 
@@ -155,15 +151,15 @@ module _ (T : Layout) (low : ℕ) where
       let ps = peaks_of T n in
       let xs = folded b i ps in
       let ys = unfolded b i ps in
-      let A = front_sites (leading low xs) in
+      let A = one_for front (leading low xs) in
       let B = sites_in T cut (leading low ys) in
       let C = sites_in T cut (trailing high (not_leading low xs)) in
-      let D = back_sites (trailing high ys) in
+      let D = one_for back (trailing high ys) in
       let E = sites_in T cut (up_to high (not_leading low xs)) in
       let F = sites_in T cut (up_to high (not_leading low ys)) in
       let G = by_position T (E ++ F) in
-      let a = one_front (leading low xs) in
-      let d = one_back (trailing high ys) in
+      let a = at_most_one front (leading low xs) in
+      let d = at_most_one back (trailing high ys) in
       let ef = length-append E F in
       let g = length-by_position T (E ++ F) in
       let dg = length-append D G in

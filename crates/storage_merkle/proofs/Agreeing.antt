@@ -5,7 +5,7 @@ use Rattle.std.proofs.lemmas.Nat.{le-div}
 use Rattle.storage_merkle.specs.Calc.{Site, node, Calc, given, leaf, pair, graft, be8, Values, Agree}
 use Rattle.storage_merkle.specs.Shape.{leaves_under, Inside, AreAligned}
 use Rattle.storage_merkle.specs.Trees.{Layout, Peak, node_calc, part, fold_forward, fold_backward, bag, join_calc, places}
-use Rattle.storage_merkle.specs.RangeProofs.{apart, front_given, back_given, leading, not_leading, up_to, trailing, sites_of, position_of, place_in, by_position, front_sites, back_sites, sites_in}
+use Rattle.storage_merkle.specs.RangeProofs.{apart, one_for, leading, not_leading, up_to, trailing, sites_of, position_of, place_in, by_position, sites_in}
 use Rattle.storage_merkle.specs.Laws.Shape.{inside_between}
 use Rattle.storage_merkle.specs.Laws.Multiples.{multiple_down, pow_order, quotient}
 
@@ -176,13 +176,9 @@ module _ (v w : Values) where
     agree_sites_in [] a = tt
     agree_sites_in (p ∷ ps) a = agree_at_append _ _ (agree_sites (part T cut p) a.0) (agree_sites_in ps a.1)
 
-  pub agree_front_sites : (ps : List Peak) → AgreeAll (front_given ps) → AgreeAt (front_sites ps)
-  agree_front_sites [] a = tt
-  agree_front_sites (p ∷ ps) a = a
-
-  pub agree_back_sites : (ps : List Peak) → AgreeAll (back_given ps) → AgreeAt (back_sites ps)
-  agree_back_sites [] a = tt
-  agree_back_sites (p ∷ ps) a = a
+  pub agree_one_for : (s : Site) (ps : List Peak) → AgreeAll (one_for (given s) ps) → AgreeAt (one_for s ps)
+  agree_one_for s [] a = tt
+  agree_one_for s (p ∷ ps) a = a
 
 module _ (low high : ℕ) (some : low < high) where
   -- what is before the range is not past it

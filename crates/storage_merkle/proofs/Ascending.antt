@@ -2,9 +2,9 @@
 use Rattle.std.proofs.Common.{◌≡◌, List, [], ◌∷◌, ◌++◌, Bool, true, false, if◌then◌else◌, leb, leb-true, leb-false, refl, sym, ap, ◌∙◌, arith, append_assoc}
 use Rattle.std.specs.List.Sorted.{IsPermutation}
 use Rattle.std.proofs.lemmas.List.Sorted.{IsPermutation-refl, IsPermutation-cons, IsPermutation-swap, IsPermutation-trans}
-use Rattle.storage_merkle.specs.Calc.{Site}
+use Rattle.storage_merkle.specs.Calc.{Site, front, back}
 use Rattle.storage_merkle.specs.Trees.{Layout, peaks_of, folded, unfolded}
-use Rattle.storage_merkle.specs.RangeProofs.{apart, leading, not_leading, up_to, trailing, sites_in, front_sites, back_sites, position_of, place_in, by_position}
+use Rattle.storage_merkle.specs.RangeProofs.{apart, leading, not_leading, up_to, trailing, sites_in, one_for, position_of, place_in, by_position}
 use Rattle.storage_merkle.specs.Soundness.{Ascends, SiblingsAscend}
 
 module _ (T : Layout) where
@@ -50,10 +50,10 @@ pub siblings_ascend : SiblingsAscend
 siblings_ascend T b n i low high =
     let xs = folded b i (peaks_of T n) in
     let ys = unfolded b i (peaks_of T n) in
-    let A = front_sites (leading low xs) in
+    let A = one_for front (leading low xs) in
     let B = sites_in T (apart low high) (leading low ys) in
     let C = sites_in T (apart low high) (trailing high (not_leading low xs)) in
-    let D = back_sites (trailing high ys) in
+    let D = one_for back (trailing high ys) in
     let inside = sites_in T (apart low high) (up_to high (not_leading low xs))
     ++ sites_in T (apart low high) (up_to high (not_leading low ys)) in
     let E = by_position T inside in

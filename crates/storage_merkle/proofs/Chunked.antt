@@ -1,12 +1,12 @@
 -- Chunks of one length, where a tree's calculations graft them.
 use Rattle.std.proofs.Common.{◌≡◌, ℕ, zero, suc, ◌+◌, ◌^◌, List, [], ◌∷◌, ◌++◌, length, map, Bool, true, false, if◌then◌else◌, refl, arith, Option, Some, None}
 use Rattle.storage_merkle.specs.Shape.{AreAligned}
-use Rattle.storage_merkle.specs.Calc.{node, Calc, given, leaf, pair, graft, be8, Values}
+use Rattle.storage_merkle.specs.Calc.{Site, front, back, node, Calc, given, leaf, pair, graft, be8, Values}
 use Rattle.storage_merkle.specs.Laws.Calc.{IsChunked}
 use Rattle.storage_merkle.specs.Chunked.{AreChunks}
 use Rattle.storage_merkle.specs.declared.merkle.bagging.Bagging.{Bagging}
 use Rattle.storage_merkle.specs.Trees.{Layout, Peak, peaks_of, folded, unfolded, part, bag, fold_forward, fold_backward, join_calc, node_calc, never}
-use Rattle.storage_merkle.specs.RangeProofs.{apart, leading, not_leading, up_to, trailing, front_given, back_given, check_bag}
+use Rattle.storage_merkle.specs.RangeProofs.{apart, leading, not_leading, up_to, trailing, one_for, check_bag}
 use Rattle.storage_merkle.proofs.Agreeing.{AllPeaks}
 use Rattle.storage_merkle.proofs.Under.{IsUnder, under_halves, peaks_under, all_folded, all_not_leading, all_up_to}
 
@@ -42,13 +42,9 @@ module _ (N : ℕ) (v : Values) where
   chunked_append [] us a b = b
   chunked_append (t ∷ ts) us a b = (a.0, chunked_append ts us a.1 b)
 
-  chunked_front : (ps : List Peak) → ChunkedAll (front_given ps)
-  chunked_front [] = tt
-  chunked_front (p ∷ ps) = (tt, tt)
-
-  chunked_back : (ps : List Peak) → ChunkedAll (back_given ps)
-  chunked_back [] = tt
-  chunked_back (p ∷ ps) = (tt, tt)
+  chunked_one : (s : Site) (ps : List Peak) → ChunkedAll (one_for (given s) ps)
+  chunked_one s [] = tt
+  chunked_one s (p ∷ ps) = (tt, tt)
 
   -- where each chunk has that length, grafted or not
   always : ((a : ℕ) → length (v.chunk a) ≡ N) → (t : Calc) → IsChunked N v t
@@ -109,9 +105,9 @@ module _ (N : ℕ) (v : Values) where
       let xs = folded b i (peaks_of T n) in
       let ys = unfolded b i (peaks_of T n) in
       let parts = all_folded Q b i (peaks_of T n) (under T n (apart low high) aligned chunks) in
-      chunked_bag (front_given (leading low xs) ++ map (part T (apart low high)) (not_leading low xs))
-      (map (part T (apart low high)) (up_to high ys) ++ back_given (trailing high ys))
-      (chunked_append _ _ (chunked_front (leading low xs)) (chunked_parts T n (apart low high) aligned chunks
+      chunked_bag (one_for (given front) (leading low xs) ++ map (part T (apart low high)) (not_leading low xs))
+      (map (part T (apart low high)) (up_to high ys) ++ one_for (given back) (trailing high ys))
+      (chunked_append _ _ (chunked_one front (leading low xs)) (chunked_parts T n (apart low high) aligned chunks
       (not_leading low xs) (all_not_leading low Q xs parts.0)))
       (chunked_append _ _ (chunked_parts T n (apart low high) aligned chunks (up_to high ys)
-      (all_up_to high Q ys parts.1)) (chunked_back (trailing high ys)))
+      (all_up_to high Q ys parts.1)) (chunked_one back (trailing high ys)))

@@ -3,7 +3,7 @@ use Rattle.std.proofs.Common.{◌≡◌, ℕ, zero, suc, ◌+◌, ◌*◌, ◌<�
 use Rattle.std.proofs.lemmas.Bool.{cases_lt}
 use Rattle.storage_merkle.specs.Calc.{Site, front, back, node, Calc, given, leaf, pair, graft, be8, Values}
 use Rattle.storage_merkle.specs.Trees.{Layout, Peak, node_calc, part, join_calc, places}
-use Rattle.storage_merkle.specs.RangeProofs.{apart, leading, not_leading, up_to, trailing, sites_of, position_of, place_in, by_position, front_sites, back_sites, sites_in, sites_over, same_site, look_up}
+use Rattle.storage_merkle.specs.RangeProofs.{apart, leading, not_leading, up_to, trailing, sites_of, position_of, place_in, by_position, one_for, sites_in, sites_over, same_site, look_up}
 use Rattle.storage_merkle.proofs.Agreeing.{AgreeAt}
 use Rattle.storage_merkle.proofs.Prune.{leading-all, up_to-all}
 
@@ -163,13 +163,9 @@ module _ (T : Layout) (cut : ℕ → ℕ → Bool) where
   each_given_once ks back = omega (arith, no_fold_in back (λ a k. refl) (places 0 ks))
   each_given_once ks (node b m) = once_all T cut b m 0 ks
 
-front_times : (ps : List Peak) (s : Site) → times s (front_sites ps) ≤ one_if (same_site front s)
-front_times [] s = omega arith
-front_times (p ∷ ps) s = omega arith
-
-back_times : (ps : List Peak) (s : Site) → times s (back_sites ps) ≤ one_if (same_site back s)
-back_times [] s = omega arith
-back_times (p ∷ ps) s = omega arith
+one_for_times : (t : Site) (ps : List Peak) (s : Site) → times s (one_for t ps) ≤ one_if (same_site t s)
+one_for_times t [] s = omega arith
+one_for_times t (p ∷ ps) s = omega arith
 
 module _ (T : Layout) (low high : ℕ) where
   -- the sites over some peaks are the folds and those in the peaks, but for some of the peaks
@@ -182,10 +178,10 @@ module _ (T : Layout) (low high : ℕ) where
       let os = not_leading low ys in
       let A = sites_in T (apart low high) ms in
       let B = sites_in T (apart low high) (trailing high ns) in
-      let C = back_sites (trailing high ys) in
+      let C = one_for back (trailing high ys) in
       let D = sites_in T (apart low high) (up_to high ns) in
       let E = sites_in T (apart low high) (up_to high os) in
-      let x1 = times-append s (front_sites ls) (A ++ (B ++ (C ++ by_position T (D ++ E)))) in
+      let x1 = times-append s (one_for front ls) (A ++ (B ++ (C ++ by_position T (D ++ E)))) in
       let x2 = times-append s A (B ++ (C ++ by_position T (D ++ E))) in
       let x3 = times-append s B (C ++ by_position T (D ++ E)) in
       let x4 = times-append s C (by_position T (D ++ E)) in
@@ -200,7 +196,7 @@ module _ (T : Layout) (low high : ℕ) where
       let z2 = ap (λ ps. times s (sites_in T (apart low high) ps)) (leading-all low ys) in
       let z3 = ap (λ ps. times s (sites_in T (apart low high) ps)) (up_to-all high ns) in
       let z4 = ap (λ ps. times s (sites_in T (apart low high) ps)) (up_to-all high os) in
-      omega (arith, front_times ls s, back_times (trailing high ys) s)
+      omega (arith, one_for_times front ls s, one_for_times back (trailing high ys) s)
 
   pub each_once : (xs ys : List Peak) (ks : List ℕ) → xs ++ ys ≡ places 0 ks → (s : Site)
       → times s (sites_over T low high xs ys) ≤ 1

@@ -12,7 +12,7 @@ use Rattle.storage_merkle.specs.Calc.{Site, front, back, node, given, Values, ev
 use Rattle.storage_merkle.specs.declared.merkle.bagging.Bagging.{Bagging}
 use Rattle.storage_merkle.specs.Trees.{Layout, Content, Peak, node_calc, join_calc, never, places, peaks_of, folded, unfolded, part, plain, tree_root, tree_strings}
 use Rattle.storage_merkle.specs.Chunked.{AreChunks}
-use Rattle.storage_merkle.specs.RangeProofs.{Proof, apart, leading, not_leading, up_to, trailing, front_given, check_bag, position_of, by_position, same_site, check_values, check_strings, IsAccepted}
+use Rattle.storage_merkle.specs.RangeProofs.{Proof, apart, leading, not_leading, up_to, trailing, one_for, check_bag, position_of, by_position, same_site, check_values, check_strings, IsAccepted}
 use Rattle.storage_merkle.specs.Multi.{tree_digest}
 use Rattle.storage_merkle.specs.Extracted.{nodes_under, nodes_in, overlapped, checked_sites, extracted_sites, entries, digest_at, extracted, tree_entries, ExtractedDigestsAreTrue, ExtractedPositionsAscend}
 use Rattle.storage_merkle.proofs.Prune.{prunes_node, leading-all, up_to-all}
@@ -71,7 +71,7 @@ module _ (v w : Values) (T : Layout) (low high : ℕ) where
       let xs = folded b i (peaks_of T n) in
       let ys = unfolded b i (peaks_of T n) in
       let halves = agree_bag v w _ _ a in
-      let fore = agree_append v w (front_given (leading low xs)) _ halves.0 in
+      let fore = agree_append v w (one_for (given front) (leading low xs)) _ halves.0 in
       let aft = agree_append v w (map (part T (apart low high)) (up_to high ys)) _ halves.1 in
       subst AgreeIn (sym (overlapped-is low high 0 (T.shape.peaks n))) (subst (λ ps. AgreeIn
       (up_to high (not_leading low ps))) (folded-all b i (peaks_of T n)) (overlapped_both some xs ys fore.1 aft.0))

@@ -5,7 +5,7 @@ use Rattle.std.proofs.lemmas.List.Elements.{Contains-append_left, Contains-appen
 use Rattle.storage_codec.specs.Digests.{HashFunction}
 use Rattle.storage_merkle.specs.Calc.{Site, front, back, node, Calc, given, leaf, pair, graft, be8, grafted_digest, grafted_strings, Values, eval, strings}
 use Rattle.storage_merkle.specs.Trees.{Layout, Peak, node_calc, never, whole_peak, part, fold_forward, fold_backward, bag, eval_bag, strings_bag, join_calc}
-use Rattle.storage_merkle.specs.RangeProofs.{front_given, back_given, leading, not_leading, up_to, trailing}
+use Rattle.storage_merkle.specs.RangeProofs.{one_for, leading, not_leading, up_to, trailing}
 
 pub record Prunes (h : HashFunction) (v w : Values) (t u : Calc) : Type 0 where
   pub same : eval h v t ≡ eval h w u
@@ -158,7 +158,7 @@ module _ (h : HashFunction) (v w : Values) (T : Layout) (cut : ℕ → ℕ → B
   -- the peaks behind, after an item
   prunes_back : (t u : Calc) (ps qs : List Peak) → Prunes h v w t u → ((q : Peak) (rest : List Peak) → qs ≡ q ∷ rest
       → v.digest back ≡ eval h w (fold_backward (whole_peak T q) (map (whole_peak T) rest))) → Prunes h v w
-      (fold_backward t (map (part T cut) ps ++ back_given qs)) (fold_backward u (map (whole_peak T) (ps ++ qs)))
+      (fold_backward t (map (part T cut) ps ++ one_for (given back) qs)) (fold_backward u (map (whole_peak T) (ps ++ qs)))
   prunes_back t u [] [] p e = p
   prunes_back t u [] (q ∷ qs) p e = prunes_pair h v w [] _ _ _ _ p (prunes_given h v w back _ (e q qs refl))
   prunes_back t u (x ∷ ps) qs p e =
@@ -170,7 +170,7 @@ module _ (h : HashFunction) (v w : Values) (T : Layout) (cut : ℕ → ℕ → B
   pub prunes_bag : (ls ns us ts : List Peak) → ((p : Peak) (rest : List Peak) → ls ≡ p ∷ rest
       → v.digest front ≡ eval h w (fold_forward (whole_peak T p) (map (whole_peak T) rest))) → ((q : Peak) (rest : List Peak)
       → ts ≡ q ∷ rest → v.digest back ≡ eval h w (fold_backward (whole_peak T q) (map (whole_peak T) rest)))
-      → PrunesBag h v w (bag (front_given ls ++ map (part T cut) ns) (map (part T cut) us ++ back_given ts))
+      → PrunesBag h v w (bag (one_for (given front) ls ++ map (part T cut) ns) (map (part T cut) us ++ one_for (given back) ts))
       (bag (map (whole_peak T) (ls ++ ns)) (map (whole_peak T) (us ++ ts)))
   prunes_bag (l ∷ ls) ns us ts f b = to_bag _ _ (prunes_back _ _ us ts (prunes_front l ls ns (f l ls refl)) b)
   prunes_bag [] (n ∷ ns) us ts f b =

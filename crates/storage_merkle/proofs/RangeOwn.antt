@@ -6,7 +6,7 @@ use Rattle.storage_merkle.specs.Shape.{Laws}
 use Rattle.storage_merkle.specs.Calc.{Site, front, back, node, Calc, given, leaf, pair, graft, be8, grafted_digest, Values, eval, Agree}
 use Rattle.storage_merkle.specs.declared.merkle.bagging.Bagging.{Bagging}
 use Rattle.storage_merkle.specs.Trees.{Layout, Content, Peak, peaks_of, folded, unfolded, bag, eval_bag, part, tree_root, root_head, node_calc, join_calc, fold_forward, fold_backward}
-use Rattle.storage_merkle.specs.RangeProofs.{Proof, apart, leading, not_leading, up_to, trailing, front_given, back_given, check_bag, own_proof, IsAccepted, IsOwn, check_values, look_up, same_site, sites_of, sites_over, sites_in, front_sites, back_sites, by_position}
+use Rattle.storage_merkle.specs.RangeProofs.{Proof, apart, leading, not_leading, up_to, trailing, one_for, check_bag, own_proof, IsAccepted, IsOwn, check_values, look_up, same_site, sites_of, sites_over, sites_in, by_position}
 use Rattle.storage_merkle.proofs.Prune.{up_to-all}
 use Rattle.storage_merkle.proofs.Agreeing.{AllPeaks, AgreeAll, AgreeBag, up_to-leading}
 use Rattle.storage_merkle.proofs.Distinct.{times, one_if, times-append, times-join, times-by_position, times-in, same_itself}
@@ -134,13 +134,13 @@ module _ (v w : Values) where
       parts_of ps q.1 (λ s l. f s (omega (arith, times-append s (sites_of (part T cut p)) (sites_in T cut ps)))),
     )
 
-  front_of : (ps : List Peak) → ((s : Site) → 1 ≤ times s (front_sites ps) → v.digest s ≡ w.digest s)
-      → AgreeAll v w (front_given ps)
+  front_of : (ps : List Peak) → ((s : Site) → 1 ≤ times s (one_for front ps) → v.digest s ≡ w.digest s)
+      → AgreeAll v w (one_for (given front) ps)
   front_of [] f = tt
   front_of (p ∷ ps) f = (f front (omega arith), tt)
 
-  back_of : (ps : List Peak) → ((s : Site) → 1 ≤ times s (back_sites ps) → v.digest s ≡ w.digest s)
-      → AgreeAll v w (back_given ps)
+  back_of : (ps : List Peak) → ((s : Site) → 1 ≤ times s (one_for back ps) → v.digest s ≡ w.digest s)
+      → AgreeAll v w (one_for (given back) ps)
   back_of [] f = tt
   back_of (p ∷ ps) f = (f back (omega arith), tt)
 
@@ -158,17 +158,17 @@ module _ (v w : Values) where
     pub bag_agrees : low < high → (xs ys : List Peak) → AllPeaks (λ p. Q p.first p.height) xs
         → AllPeaks (λ p. Q p.first p.height) ys
         → ((s : Site) → 1 ≤ times s (sites_over T low high xs ys) → v.digest s ≡ w.digest s)
-        → AgreeBag v w (bag (front_given (leading low xs) ++ map (part T (apart low high)) (not_leading low xs))
-        (map (part T (apart low high)) (up_to high ys) ++ back_given (trailing high ys)))
+        → AgreeBag v w (bag (one_for (given front) (leading low xs) ++ map (part T (apart low high)) (not_leading low xs))
+        (map (part T (apart low high)) (up_to high ys) ++ one_for (given back) (trailing high ys)))
     bag_agrees some xs ys qx qy f =
         let ls = leading low xs in
         let ns = not_leading low xs in
         let ms = leading low ys in
         let os = not_leading low ys in
-        let F = front_sites ls in
+        let F = one_for front ls in
         let A = sites_in T (apart low high) ms in
         let B = sites_in T (apart low high) (trailing high ns) in
-        let C = back_sites (trailing high ys) in
+        let C = one_for back (trailing high ys) in
         let D = sites_in T (apart low high) (up_to high ns) in
         let E = sites_in T (apart low high) (up_to high os) in
         let total : (s : Site) → times s (sites_over T low high xs ys)
@@ -183,7 +183,7 @@ module _ (v w : Values) where
           times-append s D E,
         ) in
         bag_of _ _
-        (append_of (front_given ls) (map (part T (apart low high)) ns)
+        (append_of (one_for (given front) ls) (map (part T (apart low high)) ns)
         (front_of ls (λ s l. f s (omega (arith, total s))))
         (over ns (all_not_leading low (λ p. Q p.first p.height) xs qx)
         (λ s l. f s (omega (
@@ -192,7 +192,7 @@ module _ (v w : Values) where
           times-in T (apart low high) s (up_to high ns) (trailing high ns),
           ap (λ ps. times s (sites_in T (apart low high) ps)) (up_to-all high ns),
         )))))
-        (append_of (map (part T (apart low high)) (up_to high ys)) (back_given (trailing high ys))
+        (append_of (map (part T (apart low high)) (up_to high ys)) (one_for (given back) (trailing high ys))
         (over (up_to high ys) (all_up_to high (λ p. Q p.first p.height) ys qy)
         (λ s l. f s (omega (
           arith,

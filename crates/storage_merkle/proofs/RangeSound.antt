@@ -6,15 +6,15 @@ use Rattle.std.proofs.lemmas.Bool.{cases_lt}
 use Rattle.storage_codec.specs.Digests.{HashFunction, Cross, IsSized}
 use Rattle.storage_merkle.specs.Shape.{Shape, Laws, leaves_under, Inside}
 use Rattle.storage_merkle.specs.Laws.Shape.{length_at_most, no_peaks}
-use Rattle.storage_merkle.specs.Calc.{Site, front, back, node, Calc, Values, Agree}
+use Rattle.storage_merkle.specs.Calc.{Site, front, back, node, Calc, Values, Agree, given}
 use Rattle.storage_merkle.specs.declared.merkle.bagging.Bagging.{Bagging}
 use Rattle.storage_merkle.specs.declared.merkle.bagging.Bagging.TheVariants.{ForwardFold, BackwardFold}
 use Rattle.storage_merkle.specs.Trees.{Layout, Content, Peak, places, peaks_of, folded, unfolded, bag, eval_bag, strings_bag, whole_peak, part, tree_bag, plain, node_calc, never, root_head, tree_string, tree_strings, tree_root, empty_root}
 use Rattle.storage_merkle.specs.Chunked.{AreChunks}
-use Rattle.storage_merkle.specs.RangeProofs.{Proof, apart, leading, not_leading, up_to, trailing, front_given, back_given, check_bag, sites, sites_over, range_sites, look_up, same_site, check_values, check_string, check_strings, CountsFit, IsEmptyProof, IsAccepted, fold_digest, own_digest, IsOwn, AreDigests}
+use Rattle.storage_merkle.specs.RangeProofs.{Proof, apart, leading, not_leading, up_to, trailing, one_for, check_bag, sites, sites_over, range_sites, look_up, same_site, check_values, check_string, check_strings, CountsFit, IsEmptyProof, IsAccepted, fold_digest, own_digest, IsOwn, AreDigests}
 use Rattle.storage_merkle.specs.Laws.Calc.{IsWide, law, eval_length, cross_wider, heads, same_head}
 use Rattle.storage_merkle.proofs.Prune.{PrunesBag, prunes_bag, leading-all, up_to-all}
-use Rattle.storage_merkle.proofs.Agreeing.{AllPeaks, AgreeAll, AgreeBag, agree_leaf, agree_chunk, AgreeAt, agree_bag, agree_append, agree_front, agree_back, agree_sites_in, agree_front_sites, agree_back_sites, agree_at_append, agree_by_position, up_to-leading, not_apart, Holds, holds_inside}
+use Rattle.storage_merkle.proofs.Agreeing.{AllPeaks, AgreeAll, AgreeBag, agree_leaf, agree_chunk, AgreeAt, agree_bag, agree_append, agree_front, agree_back, agree_sites_in, agree_one_for, agree_at_append, agree_by_position, up_to-leading, not_apart, Holds, holds_inside}
 use Rattle.storage_merkle.proofs.Distinct.{each_once, read_all}
 pub use Rattle.storage_merkle.proofs.Under.{all_take, all_drop}
 use Rattle.storage_merkle.proofs.Chunked.{ChunkedBag, check_chunked, uncut}
@@ -125,9 +125,9 @@ module _ (T : Layout) (v w : Values) (low high : ℕ) where
             (omega (arith, leaves-split i ks)) g'
       ]
 
-  pub sites_agree : (some : low < high) (xs ys : List Peak) → AgreeAll v w (front_given (leading low xs))
+  pub sites_agree : (some : low < high) (xs ys : List Peak) → AgreeAll v w (one_for (given front) (leading low xs))
       → AgreeAll v w (map (part T (apart low high)) (not_leading low xs))
-      → AgreeAll v w (map (part T (apart low high)) (up_to high ys)) → AgreeAll v w (back_given (trailing high ys))
+      → AgreeAll v w (map (part T (apart low high)) (up_to high ys)) → AgreeAll v w (one_for (given back) (trailing high ys))
       → AgreeAt v w (sites_over T low high xs ys)
   sites_agree some xs ys f n u t =
       let ns = not_leading low xs in
@@ -140,10 +140,10 @@ module _ (T : Layout) (v w : Values) (low high : ℕ) where
       (subst (AgreeAll v w) (map-append (part T (apart low high)) (leading low ys) (up_to high os)) u') in
       let inside = agree_at_append v w _ _ (agree_sites_in v w T (apart low high) (up_to high ns) n''.0)
       (agree_sites_in v w T (apart low high) (up_to high os) u''.1) in
-      agree_at_append v w _ _ (agree_front_sites v w (leading low xs) f)
+      agree_at_append v w _ _ (agree_one_for v w front (leading low xs) f)
       (agree_at_append v w _ _ (agree_sites_in v w T (apart low high) (leading low ys) u''.0)
       (agree_at_append v w _ _ (agree_sites_in v w T (apart low high) (trailing high ns) n''.1)
-      (agree_at_append v w _ _ (agree_back_sites v w (trailing high ys) t) (agree_by_position v w T _ inside))))
+      (agree_at_append v w _ _ (agree_one_for v w back (trailing high ys) t) (agree_by_position v w T _ inside))))
 
 pub peaks-le : (ks : List ℕ) → length ks ≤ leaves_under ks
 unfolding leaves_under
@@ -214,7 +214,7 @@ module _ (h : HashFunction) (T : Layout) (L : Laws T.shape) (b : Bagging) (proof
       let within = ok.within in
       let nonempty : start < high = omega arith in
       let both = agree_bag v w _ _ a in
-      let fore = agree_append v w (front_given (leading start xs)) _ both.0 in
+      let fore = agree_append v w (one_for (given front) (leading start xs)) _ both.0 in
       let aft = agree_append v w (map (part T (apart start high)) (up_to high ys)) _ both.1 in
       let at = sites_agree T v w start high nonempty xs ys fore.0 fore.1 aft.0 aft.1 in
       record {

@@ -47,14 +47,10 @@ abbrev pub sites_in : Layout → (ℕ → ℕ → Bool) → List Peak → List S
 sites_in T cut [] = []
 sites_in T cut (p ∷ ps) = sites_of (part T cut p) ++ sites_in T cut ps
 
--- one fold for some peaks, none for none
-abbrev pub front_sites : List Peak → List Site
-front_sites [] = []
-front_sites (p ∷ ps) = front ∷ []
-
-abbrev pub back_sites : List Peak → List Site
-back_sites [] = []
-back_sites (p ∷ ps) = back ∷ []
+-- one x for some peaks, none for none
+abbrev pub one_for : {A : Type 0} → A → List Peak → List A
+one_for x [] = []
+one_for x (p ∷ ps) = x ∷ []
 
 -- the position of a node; the folds have none
 abbrev pub position_of : Layout → Site → ℕ
@@ -77,8 +73,8 @@ module _ (T : Layout) (low high : ℕ) where
   -- the siblings inside the peaks that share a leaf with the range, by position
   abbrev pub sites_over : List Peak → List Peak → List Site
   sites_over xs ys =
-      front_sites (leading low xs) ++ (sites_in T (apart low high) (leading low ys)
-      ++ (sites_in T (apart low high) (trailing high (not_leading low xs)) ++ (back_sites (trailing high ys)
+      one_for front (leading low xs) ++ (sites_in T (apart low high) (leading low ys)
+      ++ (sites_in T (apart low high) (trailing high (not_leading low xs)) ++ (one_for back (trailing high ys)
       ++ by_position T (sites_in T (apart low high) (up_to high (not_leading low xs))
       ++ sites_in T (apart low high) (up_to high (not_leading low ys))))))
 
@@ -88,21 +84,13 @@ module _ (T : Layout) (low high : ℕ) where
 
 -- ---- the check
 
-abbrev pub front_given : List Peak → List Calc
-front_given [] = []
-front_given (p ∷ ps) = given front ∷ []
-
-abbrev pub back_given : List Peak → List Calc
-back_given [] = []
-back_given (p ∷ ps) = given back ∷ []
-
 -- the tree's own calculation, with the folds before and past the range and the nodes apart from it given
 abbrev pub check_bag : Layout → ℕ → ℕ → Bagging → ℕ → ℕ → Option Calc
 check_bag T low high b n i =
     let xs = folded b i (peaks_of T n) in
     let ys = unfolded b i (peaks_of T n) in
-    bag (front_given (leading low xs) ++ map (part T (apart low high)) (not_leading low xs))
-    (map (part T (apart low high)) (up_to high ys) ++ back_given (trailing high ys))
+    bag (one_for (given front) (leading low xs) ++ map (part T (apart low high)) (not_leading low xs))
+    (map (part T (apart low high)) (up_to high ys) ++ one_for (given back) (trailing high ys))
 
 abbrev pub same_site : Site → Site → Bool
 same_site front front = true

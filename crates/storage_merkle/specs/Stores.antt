@@ -9,7 +9,7 @@ use Rattle.storage_merkle.specs.Calc.{Site, front, back, node, Calc, given, Valu
 use Rattle.storage_merkle.specs.declared.merkle.bagging.Bagging.{Bagging}
 use Rattle.storage_merkle.specs.Nodes.{IsNode}
 use Rattle.storage_merkle.specs.Trees.{Layout, Content, Peak, ungrafted, peaks_of, folded, unfolded, bag, tree_node, tree_root}
-use Rattle.storage_merkle.specs.RangeProofs.{Proof, apart, leading, not_leading, up_to, trailing, front_given, back_given, position_of, by_position, sites, check_values, check_strings, fold_digest, own_digest, own_proof, StandAt, SameChunks, IsAccepted, IsOwn, AreDigests}
+use Rattle.storage_merkle.specs.RangeProofs.{Proof, apart, leading, not_leading, up_to, trailing, one_for, position_of, by_position, sites, check_values, check_strings, fold_digest, own_digest, own_proof, StandAt, SameChunks, IsAccepted, IsOwn, AreDigests}
 use Rattle.storage_merkle.specs.Plans.{refusal}
 use Rattle.storage_merkle.specs.Multi.{Claim, locations, Stand, tree_digest, needed_sites, own_multi_proof, IsMultiAccepted}
 use Rattle.storage_merkle.specs.Extracted.{nodes_in, entries, digest_at, HoldsOfEach}
@@ -64,9 +64,9 @@ module _ (h : HashFunction) (T : Layout) (store : Store) where
   -- the digest at a site of a proof of the range from low to high - 1: the folds are extended by kept peaks
   abbrev pub store_digest : ℕ → ℕ → Site → List ℕ
   store_digest low high front = fold_digest h store_values
-      (bag (front_given (leading store.start fore) ++ map peak_given (leading low (not_leading store.start fore))) [])
+      (bag (one_for (given front) (leading store.start fore) ++ map peak_given (leading low (not_leading store.start fore))) [])
   store_digest low high back = fold_digest h store_values
-      (bag [] (map peak_given (up_to store.past (trailing high aft)) ++ back_given (trailing store.past aft)))
+      (bag [] (map peak_given (up_to store.past (trailing high aft)) ++ one_for (given back) (trailing store.past aft)))
   store_digest low high (node a k) = stored_at (node a k)
 
   abbrev pub store_proof : ℕ → ℕ → Proof

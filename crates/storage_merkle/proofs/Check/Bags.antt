@@ -2,10 +2,10 @@
 use Rattle.std.proofs.Common.{◌≡◌, ℕ, zero, suc, List, [], ◌∷◌, ◌++◌, map, take, drop, true, false, if◌then◌else◌, refl, sym, ap, ap₂, ◌∙◌, arith, subst, leb, Option, Some, None}
 use Rattle.std.proofs.lemmas.List.{map-append}
 use Rattle.storage_codec.specs.Digests.{HashFunction}
-use Rattle.storage_merkle.specs.Calc.{front, back, Values, eval}
+use Rattle.storage_merkle.specs.Calc.{front, back, Values, eval, given}
 use Rattle.storage_merkle.specs.Trees.{Layout, Peak, peaks_of, part, folded, unfolded, eval_bag}
 use Rattle.storage_merkle.specs.declared.merkle.bagging.Bagging.{Bagging}
-use Rattle.storage_merkle.specs.RangeProofs.{apart, leading, not_leading, up_to, trailing, front_given, back_given, check_bag}
+use Rattle.storage_merkle.specs.RangeProofs.{apart, leading, not_leading, up_to, trailing, one_for, check_bag}
 use Rattle.storage_merkle.specs.Hashing.{folded_forward, bagged}
 use Rattle.storage_merkle.specs.Laws.Hashing.{eval-bag}
 use Rattle.storage_merkle.specs.Hashers.{or_nothing, forward_of, appended, prepended, folded_onto}
@@ -57,14 +57,14 @@ module _ (h : HashFunction) where
 
 -- what stands in front
 front_values : (h : HashFunction) (v : Values) (ps : List Peak) (a : ℕ) (items : List (List ℕ)) → IsPast 0 a ps
-    → forward_onto h (folded_before (v.digest front) a) items ≡ forward_of h (map (eval h v) (front_given ps) ++ items)
+    → forward_onto h (folded_before (v.digest front) a) items ≡ forward_of h (map (eval h v) (one_for (given front) ps) ++ items)
 front_values h v [] a items e =
     ap (λ b. forward_onto h (folded_before (v.digest front) b) items) e ∙ forward_none h items
 front_values h v (p ∷ ps) zero items l = absurd (omega arith)
 front_values h v (p ∷ ps) (suc a) items l = forward_some h (v.digest front) items
 
 back_values : (h : HashFunction) (v : Values) (item : Peak → List ℕ) (high : ℕ) (ps : List Peak)
-    → fold_for h item (v.digest back) high ps ≡ map (eval h v) (back_given ps)
+    → fold_for h item (v.digest back) high ps ≡ map (eval h v) (one_for (given back) ps)
 back_values h v item high [] = refl
 back_values h v item high (p ∷ ps) = refl
 
@@ -85,25 +85,25 @@ module _ (h : HashFunction) (T : Layout) (v : Values) (low high : ℕ) (b : Bagg
       let Q = peaks_from T.shape a r in
       let E = eval h v in
       let before = folded_before (v.digest front) a in
-      let X = front_given (leading low xs) ++ map (part T (apart low high)) (not_leading low xs) in
-      let Y = map (part T (apart low high)) (up_to high ys) ++ back_given (trailing high ys) in
+      let X = one_for (given front) (leading low xs) ++ map (part T (apart low high)) (not_leading low xs) in
+      let Y = map (part T (apart low high)) (up_to high ys) ++ one_for (given back) (trailing high ys) in
       let lefts : take g Q ≡ not_leading low xs = after.folded_are ∙ ap (not_leading low) parts.folded_are in
       let rights : drop g Q ≡ ys = after.unfolded_are ∙ parts.unfolded_are in
       let past : IsPast 0 a (leading low xs) = subst (λ ps. IsPast 0 a (leading low ps)) parts.folded_are after.past in
       let one : forward_onto h before (map item (take g Q)) ≡ forward_of h (map E X) =
       ap (λ ps. forward_onto h before (map item ps)) lefts
       ∙ front_values h v (leading low xs) a (map item (not_leading low xs)) past
-      ∙ ap (λ ds. forward_of h (map E (front_given (leading low xs)) ++ ds))
+      ∙ ap (λ ds. forward_of h (map E (one_for (given front) (leading low xs)) ++ ds))
       (parts_values h v T low high (not_leading low xs))
       ∙ ap (forward_of h)
-      (sym (map-append E (front_given (leading low xs)) (map (part T (apart low high)) (not_leading low xs)))) in
+      (sym (map-append E (one_for (given front) (leading low xs)) (map (part T (apart low high)) (not_leading low xs)))) in
       let two : right_of h item (v.digest back) high (drop g Q) ≡ folded_onto h (map E Y) None =
       ap (right_of h item (v.digest back) high) rights
       ∙ right_of-folded h item (v.digest back) high ys
       ∙ ap (λ ds. folded_onto h ds None) (
       ap₂ (λ ds es. ds ++ es) (parts_values h v T low high (up_to high ys))
       (back_values h v item high (trailing high ys))
-      ∙ sym (map-append E (map (part T (apart low high)) (up_to high ys)) (back_given (trailing high ys)))
+      ∙ sym (map-append E (map (part T (apart low high)) (up_to high ys)) (one_for (given back) (trailing high ys)))
       ) in
       ap or_nothing (bag_onto-both h item (v.digest back) high before Q g ∙ ap₂ (both_folds h) one two)
       ∙ bagged_both h (map E X) (map E Y)

@@ -8,7 +8,7 @@ use Rattle.storage_merkle.specs.Shape.{Shape}
 use Rattle.storage_merkle.specs.Calc.{Site, front, back, node, given, Values, eval}
 use Rattle.storage_merkle.specs.declared.merkle.bagging.Bagging.{Bagging}
 use Rattle.storage_merkle.specs.Trees.{Layout, Content, Peak, peaks_of, part, node_calc, join_calc, ungrafted, folded, unfolded, root_head}
-use Rattle.storage_merkle.specs.RangeProofs.{Proof, apart, leading, not_leading, up_to, trailing, front_sites, back_sites, sites_of, sites_in, position_of, place_in, by_position, sites, check_values, CountsFit, recomputed_root}
+use Rattle.storage_merkle.specs.RangeProofs.{Proof, apart, leading, not_leading, up_to, trailing, one_for, sites_of, sites_in, position_of, place_in, by_position, sites, check_values, CountsFit, recomputed_root}
 use Rattle.storage_merkle.specs.Hashers.{or_nothing}
 use Rattle.storage_merkle.specs.Rests.{peaks_from, AreFolded, AreAfterLeading}
 use Rattle.storage_merkle.specs.Siblings.{sibling_sites}
@@ -70,8 +70,8 @@ plain_sites U low high b n i =
     let ys = unfolded b i (peaks_of U n) in
     let W = ungrafted U.shape in
     let cut = apart low high in
-    let F = front_sites (leading low xs) in
-    let C = back_sites (trailing high ys) in
+    let F = one_for front (leading low xs) in
+    let C = one_for back (trailing high ys) in
     let K : List Site → List Site → List Site → List Site = λ A B P. F ++ (A ++ (B ++ (C ++ P))) in
     let D : Layout → List Site =
     λ V. sites_in V cut (up_to high (not_leading low xs)) ++ sites_in V cut (up_to high (not_leading low ys)) in

@@ -3,10 +3,10 @@ use Rattle.std.proofs.Common.{◌≡◌, ℕ, zero, suc, ◌+◌, ◌<◌, ◌�
 use Rattle.std.proofs.lemmas.Bool.{lt-leb, cases_lt}
 use Rattle.std.proofs.lemmas.List.{map-append}
 use Rattle.storage_merkle.specs.Shape.{leaves_under}
-use Rattle.storage_merkle.specs.Calc.{Site, back, node}
+use Rattle.storage_merkle.specs.Calc.{Site, back, node, front}
 use Rattle.storage_merkle.specs.Trees.{Layout, Peak, places, part}
 use Rattle.storage_merkle.specs.declared.merkle.bagging.Bagging.{Bagging}
-use Rattle.storage_merkle.specs.RangeProofs.{apart, leading, not_leading, up_to, trailing, sites_of, sites_in, front_sites, back_sites, by_position, sites_over, sites}
+use Rattle.storage_merkle.specs.RangeProofs.{apart, leading, not_leading, up_to, trailing, sites_of, sites_in, one_for, by_position, sites_over, sites}
 use Rattle.storage_merkle.specs.Rests.{peaks_from, IsPast, AreFolded, AreAfterLeading}
 use Rattle.storage_merkle.specs.Siblings.{sibling_sites}
 use Rattle.storage_merkle.specs.Extracted.{overlapped}
@@ -54,7 +54,7 @@ module _ (low high : ℕ) where
   leading-none s (k ∷ ks) l = rw (lt-leb (s + 2 ^ k) low (omega arith)) refl
 
   right_tops-after : (s : ℕ) (ks : List ℕ) → low < s
-      → right_tops low high (places s ks) ≡ back_sites (trailing high (places s ks))
+      → right_tops low high (places s ks) ≡ one_for back (trailing high (places s ks))
   right_tops-after s [] l = refl
   right_tops-after s (k ∷ ks) l =
       elim (cases_lt s high) [
@@ -65,7 +65,7 @@ module _ (low high : ℕ) where
 
   module _ (T : Layout) where
     right_tops-are : low < high → (s : ℕ) (ks : List ℕ) → right_tops low high (places s ks)
-        ≡ sites_in T (apart low high) (leading low (places s ks)) ++ back_sites (trailing high (places s ks))
+        ≡ sites_in T (apart low high) (leading low (places s ks)) ++ one_for back (trailing high (places s ks))
     right_tops-are some s [] = refl
     right_tops-are some s (k ∷ ks) =
         let positive : 0 < 2 ^ k = pow_pos k in
@@ -76,7 +76,7 @@ module _ (low high : ℕ) where
               let later = right_tops-are some (s + 2 ^ k) ks in
               rw (le-leb (s + 2 ^ k) low leads, lt-leb high s (omega arith)) (ap (λ ss. node s k ∷ ss) later
               ∙ ap (λ ss. (ss ++ sites_in T (apart low high) (leading low (places (s + 2 ^ k) ks)))
-              ++ back_sites (trailing high (places (s + 2 ^ k) ks))) (sym here))
+              ++ one_for back (trailing high (places (s + 2 ^ k) ks))) (sym here))
           | inl after ↦
               let first : leb (s + 2 ^ k) low ≡ false = lt-leb (s + 2 ^ k) low after in
               elim (cases_lt s high) [
@@ -179,7 +179,7 @@ module _ (T : Layout) (low high : ℕ) where
       ∙ ap cut (sym (overlapped-append (take f ps) (drop f ps)) ∙ ap (overlapped low high) (take-append-drop f ps)
       ∙ overlapped-is low high s ks)
 
-  pub front_before-are : (a : ℕ) (ps : List Peak) → IsPast 0 a ps → front_sites ps ≡ front_before a
+  pub front_before-are : (a : ℕ) (ps : List Peak) → IsPast 0 a ps → one_for front ps ≡ front_before a
   front_before-are a [] e = ap front_before (sym e)
   front_before-are zero (p ∷ ps) l = absurd (omega arith)
   front_before-are (suc a) (p ∷ ps) l = refl
@@ -201,7 +201,7 @@ module _ (T : Layout) (low high : ℕ) where
         let F = front_before a in
         let A = sites_in T (apart low high) (leading low ys) in
         let B = sites_in T (apart low high) (trailing high (not_leading low xs)) in
-        let C = back_sites (trailing high ys) in
+        let C = one_for back (trailing high ys) in
         let D = sites_in T (apart low high) (up_to high (not_leading low xs))
         ++ sites_in T (apart low high) (up_to high (not_leading low ys)) in
         let X = sibling_sites T n low high in
@@ -212,7 +212,7 @@ module _ (T : Layout) (low high : ℕ) where
         let right : right_tops low high (drop g Q) ≡ A ++ C =
         ap (right_tops low high) (after.unfolded_are ∙ places-drop f 0 ks)
         ∙ right_tops-are low high T some (0 + leaves_under (take f ks)) (drop f ks) ∙ ap (λ ps.
-        sites_in T (apart low high) (leading low ps) ++ back_sites (trailing high ps)) (sym (places-drop f 0 ks)) in
+        sites_in T (apart low high) (leading low ps) ++ one_for back (trailing high ps)) (sym (places-drop f 0 ks)) in
         let mid : top_sites low high Q g ≡ A ++ (B ++ C) =
         top_sites-both low high Q g ∙ ap₂ (λ us vs. us ++ vs) left right ∙ sym (swapped A B C
         (elim (apart_once f 0 ks some) [ inl e ↦ inl e | inr e ↦ inr (ap (sites_in T (apart low high)) e) ])) in

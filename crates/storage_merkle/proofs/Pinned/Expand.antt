@@ -7,7 +7,7 @@ use Rattle.storage_merkle.specs.Shape.{Shape}
 use Rattle.storage_merkle.specs.declared.merkle.bagging.Bagging.{Bagging}
 use Rattle.storage_merkle.specs.Calc.{Site, front, back, node, Calc, given, leaf, pair, be8, eval, strings}
 use Rattle.storage_merkle.specs.Trees.{Peak, listed, ungrafted, node_calc, join_calc, part, peaks_of, folded, unfolded, fold_forward, bag, strings_bag}
-use Rattle.storage_merkle.specs.RangeProofs.{Proof, apart, leading, not_leading, up_to, trailing, front_given, back_given, check_bag, fold_digest, look_up, range_sites, sites_of, sites_in, sites_over, front_sites, back_sites, by_position, same_site}
+use Rattle.storage_merkle.specs.RangeProofs.{Proof, apart, leading, not_leading, up_to, trailing, one_for, check_bag, fold_digest, look_up, range_sites, sites_of, sites_in, sites_over, by_position, same_site}
 use Rattle.storage_merkle.specs.Pinned.{pinned_sites, pinned_cut, pinned_values, leading_folded, is_earlier, recomputed, recomputed_strings, Match, match_strings}
 use Rattle.storage_merkle.proofs.Prune.{leading-all, up_to-all}
 use Rattle.storage_merkle.proofs.Agreeing.{AllPeaks, up_to-leading}
@@ -218,8 +218,8 @@ module _ (h : HashFunction) (S : Shape) (b : Bagging) (proof : Proof) (start : �
     part_alike p l = inside_alike p.height p.first l
 
     deep_front : (ls : List Peak) → leading_folded h (ungrafted S) b proof start (listed elements) pinned ≡ ls
-        → AllPeaks (λ p. p.first + 2 ^ p.height ≤ start) ls → ((s : Site) → 1 ≤ times s (front_sites ls) → Checked s)
-        → ExpandsAll h read deep_read claimed_element X (front_given ls) (front_items ls)
+        → AllPeaks (λ p. p.first + 2 ^ p.height ≤ start) ls → ((s : Site) → 1 ≤ times s (one_for front ls) → Checked s)
+        → ExpandsAll h read deep_read claimed_element X (one_for (given front) ls) (front_items ls)
     deep_front [] e al ch = tt
     deep_front (l ∷ ls) e al ch =
         let r = ch front (omega arith) refl in
@@ -240,7 +240,7 @@ module _ (h : HashFunction) (S : Shape) (b : Bagging) (proof : Proof) (start : �
           tt,
         )
 
-    deep_back : (ts : List Peak) → ExpandsAll h read deep_read claimed_element X (back_given ts) (back_given ts)
+    deep_back : (ts : List Peak) → ExpandsAll h read deep_read claimed_element X (one_for (given back) ts) (one_for (given back) ts)
     deep_back [] = tt
     deep_back (t ∷ ts) = (record { same = refl; within = λ x m. inl m }, tt)
 
@@ -255,7 +255,7 @@ module _ (h : HashFunction) (S : Shape) (b : Bagging) (proof : Proof) (start : �
     abbrev pub deep_bag : Option Calc
     deep_bag = bag (map (part (ungrafted S) deep_cut) (folded b proof.inactive (peaks_of (ungrafted S) proof.leaves)))
         (map (part (ungrafted S) deep_cut) (up_to (start + length elements)
-        (unfolded b proof.inactive (peaks_of (ungrafted S) proof.leaves))) ++ back_given
+        (unfolded b proof.inactive (peaks_of (ungrafted S) proof.leaves))) ++ one_for (given back)
         (trailing (start + length elements) (unfolded b proof.inactive (peaks_of (ungrafted S) proof.leaves))))
 
     pub deep_all : 0 < length elements
@@ -273,10 +273,10 @@ module _ (h : HashFunction) (S : Shape) (b : Bagging) (proof : Proof) (start : �
         let os = not_leading start ys in
         let us = up_to high ys in
         let ts = trailing high ys in
-        let F = front_sites ls in
+        let F = one_for front ls in
         let A = sites_in (ungrafted S) (apart start high) ms in
         let B = sites_in (ungrafted S) (apart start high) (trailing high ns) in
-        let C = back_sites ts in
+        let C = one_for back ts in
         let D = sites_in (ungrafted S) (apart start high) (up_to high ns) in
         let E = sites_in (ungrafted S) (apart start high) (up_to high os) in
         let total : (s : Site) → times s (sites_over (ungrafted S) start high xs ys)
@@ -308,12 +308,12 @@ module _ (h : HashFunction) (S : Shape) (b : Bagging) (proof : Proof) (start : �
               (λ ps. times s (sites_in (ungrafted S) (apart start high) ps)) (up_to-leading start high nonempty ys),
         ))) in
         let R = ExpandsAll h read deep_read claimed_element X in
-        let Y = map (part (ungrafted S) deep_cut) us ++ back_given ts in
+        let Y = map (part (ungrafted S) deep_cut) us ++ one_for (given back) ts in
         let r = expands_bag h read deep_read claimed_element X _ _ _ _
-        (all_append h read deep_read claimed_element X (front_given ls) (front_items ls)
+        (all_append h read deep_read claimed_element X (one_for (given front) ls) (front_items ls)
         (map (part (ungrafted S) (apart start high)) ns) (map (part (ungrafted S) deep_cut) ns) front_part inner)
         (all_append h read deep_read claimed_element X (map (part (ungrafted S) (apart start high)) us)
-        (map (part (ungrafted S) deep_cut) us) (back_given ts) (back_given ts) outer (deep_back ts)) in
+        (map (part (ungrafted S) deep_cut) us) (one_for (given back) ts) (one_for (given back) ts) outer (deep_back ts)) in
         subst (λ t. ExpandsBag h read deep_read claimed_element X
         (check_bag (ungrafted S) start high b proof.leaves proof.inactive) t)
         (front_bag ls ns Y ∙ ap (λ ps. bag (map (part (ungrafted S) deep_cut) ps) Y) (leading-all start xs)) r

@@ -5,7 +5,7 @@ use Rattle.storage_merkle.specs.Shape.{Shape}
 use Rattle.storage_merkle.specs.Calc.{Site, front}
 use Rattle.storage_merkle.specs.CheckParts.{top_sites}
 use Rattle.storage_merkle.specs.Trees.{Peak}
-use Rattle.storage_merkle.specs.RangeProofs.{apart, leading, trailing, front_sites}
+use Rattle.storage_merkle.specs.RangeProofs.{apart, leading, trailing, one_for}
 use Rattle.storage_merkle.specs.Rests.{peaks_from, AreAfterLeading}
 use Rattle.storage_merkle.specs.Hashers.{folded_onto, forward_of}
 use Rattle.storage_merkle.specs.PlanParts.{IsAmong, ArePlannedApart, ArePlannedAll, digest_or, met_digest, peaks_by, site_digest}
@@ -14,7 +14,7 @@ use Rattle.storage_merkle.proofs.Walked.{each_leading, listed, all_listed, diges
 
 pub front_listed : (h : HashFunction) (digest_of : ℕ → ℕ → List ℕ) (f : Site → List ℕ) (ls : List Peak)
     → f front ≡ digest_or (h []) (forward_of h (peaks_by digest_of ls))
-    → listed (forward_of h (peaks_by digest_of ls)) ≡ map f (front_sites ls)
+    → listed (forward_of h (peaks_by digest_of ls)) ≡ map f (one_for front ls)
 front_listed h digest_of f [] e = refl
 front_listed h digest_of f (p ∷ ps) e = ap (λ x. x ∷ []) (sym e)
 

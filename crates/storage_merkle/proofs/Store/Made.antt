@@ -4,12 +4,12 @@ use Rattle.std.proofs.lemmas.List.{map-append}
 use Rattle.storage_codec.specs.Digests.{HashFunction, Cross}
 use Rattle.storage_merkle.specs.Shape.{Laws}
 use Rattle.storage_merkle.specs.Laws.Shape.{no_peaks}
-use Rattle.storage_merkle.specs.Calc.{Site, front, back, Values}
+use Rattle.storage_merkle.specs.Calc.{Site, front, back, Values, given}
 use Rattle.storage_merkle.specs.declared.merkle.bagging.Bagging.{Bagging}
 use Rattle.storage_merkle.specs.declared.merkle.bagging.Bagging.TheVariants.{ForwardFold, BackwardFold}
 use Rattle.storage_merkle.specs.Trees.{Layout, Content, Peak, places, peaks_of, folded, unfolded, part, tree_root, tree_strings}
 use Rattle.storage_merkle.specs.Chunked.{AreChunks}
-use Rattle.storage_merkle.specs.RangeProofs.{Proof, apart, leading, not_leading, up_to, trailing, front_given, back_given, check_bag, check_values, check_strings, own_proof, IsAccepted, IsOwn}
+use Rattle.storage_merkle.specs.RangeProofs.{Proof, apart, leading, not_leading, up_to, trailing, one_for, check_bag, check_values, check_strings, own_proof, IsAccepted, IsOwn}
 use Rattle.storage_merkle.specs.Multi.{tree_digest}
 use Rattle.storage_merkle.specs.Extracted.{nodes_in, entries, digest_at}
 use Rattle.storage_merkle.specs.Stores.{kept_sites, store_of, IsStoreOf, StoresOfAcceptedProofsAreTrue}
@@ -18,15 +18,10 @@ use Rattle.storage_merkle.proofs.RangeSound.{own_values, range_agrees, range_sou
 use Rattle.storage_merkle.proofs.RangeOwn.{append_of, own_agrees}
 use Rattle.storage_merkle.proofs.Extracted.{bare, entries_agree, same_in}
 
-front_agrees : (v w : Values) (ps : List Peak) → AgreeAll v w (front_given ps) → 0 < length ps
-    → v.digest front ≡ w.digest front
-front_agrees v w [] a l = absurd (omega arith)
-front_agrees v w (p ∷ ps) a l = a.0
-
-back_agrees : (v w : Values) (ps : List Peak) → AgreeAll v w (back_given ps) → 0 < length ps
-    → v.digest back ≡ w.digest back
-back_agrees v w [] a l = absurd (omega arith)
-back_agrees v w (p ∷ ps) a l = a.0
+fold_agrees : (v w : Values) (s : Site) (ps : List Peak) → AgreeAll v w (one_for (given s) ps) → 0 < length ps
+    → v.digest s ≡ w.digest s
+fold_agrees v w s [] a l = absurd (omega arith)
+fold_agrees v w s (p ∷ ps) a l = a.0
 
 made_of : (h : HashFunction) (T : Layout) (b : Bagging) (proof : Proof) (start : ℕ) (claim content : Content)
     (inactive : ℕ) → proof.leaves ≡ length content.elements → proof.inactive ≡ inactive
@@ -46,7 +41,7 @@ made_of h T b proof start claim content inactive en ei a =
     let us = up_to high ys in
     let cut = apart start high in
     let both = agree_bag v w _ _ a in
-    let fore = agree_append v w (front_given (leading start xs)) _ both.0 in
+    let fore = agree_append v w (one_for (given front) (leading start xs)) _ both.0 in
     let aft = agree_append v w (map (part T cut) us) _ both.1 in
     let joined : AgreeAll v w (map (part T cut) (ns ++ us)) =
     subst (AgreeAll v w) (sym (map-append (part T cut) ns us)) (append_of v w _ _ fore.1 aft.0) in
@@ -54,8 +49,8 @@ made_of h T b proof start claim content inactive en ei a =
     record {
       leaves_are = en;
       inactive_are = ei;
-      front_is = λ l. front_agrees v w (leading start xs) fore.0 l;
-      back_is = λ l. back_agrees v w (trailing high ys) aft.1 l;
+      front_is = λ l. fold_agrees v w front (leading start xs) fore.0 l;
+      back_is = λ l. fold_agrees v w back (trailing high ys) aft.1 l;
       kept_are = entries_agree T (digest_at h v T cut) (tree_digest h T content) (kept_sites T b n i start high)
           (agree_by_position (bare (digest_at h v T cut)) (bare (tree_digest h T content)) T
           (nodes_in cut (ns ++ us)) each);

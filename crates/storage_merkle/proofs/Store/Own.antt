@@ -8,7 +8,7 @@ use Rattle.storage_merkle.specs.declared.merkle.error.Error.TheVariants.{Empty, 
 use Rattle.storage_merkle.specs.Shape.{Shape, Laws}
 use Rattle.storage_merkle.specs.Calc.{Site, front, back, node, Calc, given, pair, Values, eval}
 use Rattle.storage_merkle.specs.Trees.{Layout, Content, Peak, node_calc, whole_peak, part, fold_forward, fold_backward, bag, plain}
-use Rattle.storage_merkle.specs.RangeProofs.{Proof, apart, leading, not_leading, up_to, trailing, front_given, back_given, sites_of, sites_in, sites_over, sites, front_sites, back_sites, by_position, same_site, fold_digest, own_digest, own_proof}
+use Rattle.storage_merkle.specs.RangeProofs.{Proof, apart, leading, not_leading, up_to, trailing, one_for, sites_of, sites_in, sites_over, sites, by_position, same_site, fold_digest, own_digest, own_proof}
 use Rattle.storage_merkle.specs.Multi.{tree_digest}
 use Rattle.storage_merkle.specs.Extracted.{nodes_under, nodes_in}
 use Rattle.storage_merkle.specs.Stores.{Store, entry_at, or_else, kept_sites, peak_given, store_values, fore, aft, store_digest, store_proof, first_of, range_refusal, IsStoreOf}
@@ -201,11 +201,11 @@ head_under cut (suc k) a =
           (if cut a (suc k) then [] else nodes_under cut k a ++ nodes_under cut k (a + 2 ^ k)) (node a (suc k) ∷ []),
     )
 
-node_front : (a k : ℕ) (ps : List Peak) → times (node a k) (front_sites ps) ≡ 0
+node_front : (a k : ℕ) (ps : List Peak) → times (node a k) (one_for front ps) ≡ 0
 node_front a k [] = refl
 node_front a k (p ∷ ps) = refl
 
-node_back : (a k : ℕ) (ps : List Peak) → times (node a k) (back_sites ps) ≡ 0
+node_back : (a k : ℕ) (ps : List Peak) → times (node a k) (one_for back ps) ≡ 0
 node_back a k [] = refl
 node_back a k (p ∷ ps) = refl
 
@@ -247,7 +247,7 @@ module _ (h : HashFunction) (T : Layout) (L : Laws T.shape) (store : Store) (con
   front_same : (ls ms : List Peak)
       → (0 < length ls → store.front_fold ≡ fold_digest h (plain h content) (bag (map (whole_peak T) ls) []))
       → SameAll h (store_values h T store) (plain h content) (map peak_given ms) (map (whole_peak T) ms)
-      → fold_digest h (store_values h T store) (bag (front_given ls ++ map peak_given ms) [])
+      → fold_digest h (store_values h T store) (bag (one_for (given front) ls ++ map peak_given ms) [])
       ≡ fold_digest h (plain h content) (bag (map (whole_peak T) (ls ++ ms)) [])
   front_same [] [] f a = refl
   front_same [] (m ∷ ms) f a = same_forward h (store_values h T store) (plain h content) (peak_given m) (whole_peak T m)
@@ -264,7 +264,7 @@ module _ (h : HashFunction) (T : Layout) (L : Laws T.shape) (store : Store) (con
   back_after : (t u : Calc) (us ts : List Peak) → eval h (store_values h T store) t ≡ eval h (plain h content) u
       → (0 < length ts → store.back_fold ≡ fold_digest h (plain h content) (bag [] (map (whole_peak T) ts)))
       → SameAll h (store_values h T store) (plain h content) (map peak_given us) (map (whole_peak T) us)
-      → eval h (store_values h T store) (fold_backward t (map peak_given us ++ back_given ts))
+      → eval h (store_values h T store) (fold_backward t (map peak_given us ++ one_for (given back) ts))
       ≡ eval h (plain h content) (fold_backward u (map (whole_peak T) (us ++ ts)))
   back_after t u [] [] e f a = e
   back_after t u [] (q ∷ ts) e f a = ap₂ (λ m n. h (m ++ n)) e (f (omega arith))
@@ -273,7 +273,7 @@ module _ (h : HashFunction) (T : Layout) (L : Laws T.shape) (store : Store) (con
   back_same : (us ts : List Peak)
       → (0 < length ts → store.back_fold ≡ fold_digest h (plain h content) (bag [] (map (whole_peak T) ts)))
       → SameAll h (store_values h T store) (plain h content) (map peak_given us) (map (whole_peak T) us)
-      → fold_digest h (store_values h T store) (bag [] (map peak_given us ++ back_given ts))
+      → fold_digest h (store_values h T store) (bag [] (map peak_given us ++ one_for (given back) ts))
       ≡ fold_digest h (plain h content) (bag [] (map (whole_peak T) (us ++ ts)))
   back_same [] [] f a = refl
   back_same [] (q ∷ ts) f a = f (omega arith)
@@ -320,10 +320,10 @@ module _ (h : HashFunction) (T : Layout) (L : Laws T.shape) (store : Store) (con
         let ms = leading low ys in
         let os = not_leading low ys in
         let ts = trailing high ys in
-        let F = front_sites ls in
+        let F = one_for front ls in
         let A = sites_in T cut ms in
         let B = sites_in T cut (trailing high ns) in
-        let C = back_sites ts in
+        let C = one_for back ts in
         let D = sites_in T cut (up_to high ns) in
         let E = sites_in T cut (up_to high os) in
         let total : times s (sites_over T low high xs ys)

@@ -5,7 +5,7 @@ use Rattle.storage_codec.specs.Digests.{HashFunction}
 use Rattle.storage_merkle.specs.Shape.{Shape}
 use Rattle.storage_merkle.specs.Calc.{Site, front, back, node, Calc, given, Values, eval}
 use Rattle.storage_merkle.specs.Trees.{Layout, Peak, peaks_of, ungrafted, fold_backward, bag}
-use Rattle.storage_merkle.specs.RangeProofs.{Proof, apart, leading, not_leading, up_to, trailing, front_given, back_given, sites_in, position_of, same_site, sites, fold_digest}
+use Rattle.storage_merkle.specs.RangeProofs.{Proof, apart, leading, not_leading, up_to, trailing, one_for, sites_in, position_of, same_site, sites, fold_digest}
 use Rattle.storage_merkle.specs.Laws.Hashing.{eval-forward}
 use Rattle.storage_merkle.specs.Hashers.{forward_of, folded_onto, prepended}
 use Rattle.storage_merkle.specs.PlanParts.{peaks_by}
@@ -57,7 +57,7 @@ module _ (h : HashFunction) (S : Shape) (store : Store) where
 
   -- the fold in front of the leaf low
   abbrev pub front_calcs : ℕ → List Calc
-  front_calcs low = front_given (leading store.start xs) ++ map peak_given (leading low (not_leading store.start xs))
+  front_calcs low = one_for (given front) (leading store.start xs) ++ map peak_given (leading low (not_leading store.start xs))
 
   abbrev pub front_fold_of : ℕ → Option (List ℕ)
   front_fold_of low = forward_of h (map (eval h values) (front_calcs low))
@@ -67,7 +67,7 @@ module _ (h : HashFunction) (S : Shape) (store : Store) where
   peaks_given (p ∷ ps) = ap (λ ds. kept_of p.first p.height ∷ ds) (peaks_given ps)
 
   from_source : (a : ℕ) (ls : List Peak) (ds : List (List ℕ)) → IsPast 0 a ls
-      → forward_from h (folded_before store.front_fold a) ds ≡ forward_of h (map (eval h values) (front_given ls) ++ ds)
+      → forward_from h (folded_before store.front_fold a) ds ≡ forward_of h (map (eval h values) (one_for (given front) ls) ++ ds)
   from_source a [] ds e = ap (λ c. forward_from h (folded_before store.front_fold c) ds) e
   from_source zero (p ∷ ps) ds l = absurd (omega arith)
   from_source (suc a) (p ∷ ps) ds l = refl
@@ -82,9 +82,9 @@ module _ (h : HashFunction) (S : Shape) (store : Store) where
       subst (λ ps. IsPast 0 a (leading store.start ps)) parts.folded_are after.past in
       ap₂ (λ p ps. forward_from h p (peaks_by kept_of (leading low ps))) eo lefts
       ∙ from_source a (leading store.start xs) (peaks_by kept_of (leading low (not_leading store.start xs))) past
-      ∙ ap (λ ds. forward_of h (map (eval h values) (front_given (leading store.start xs)) ++ ds))
+      ∙ ap (λ ds. forward_of h (map (eval h values) (one_for (given front) (leading store.start xs)) ++ ds))
       (sym (peaks_given (leading low (not_leading store.start xs))))
-      ∙ ap (forward_of h) (sym (map-append (eval h values) (front_given (leading store.start xs))
+      ∙ ap (forward_of h) (sym (map-append (eval h values) (one_for (given front) (leading store.start xs))
       (map peak_given (leading low (not_leading store.start xs)))))
 
   -- the fold past a range, of the last peaks
@@ -96,10 +96,10 @@ module _ (h : HashFunction) (S : Shape) (store : Store) where
     last_fold ps = right_of h (λ p. kept_of p.first p.height) store.back_fold store.past ps
 
     abbrev back_calcs : List Peak → List Calc
-    back_calcs ps = map peak_given (up_to store.past ps) ++ back_given (trailing store.past ps)
+    back_calcs ps = map peak_given (up_to store.past ps) ++ one_for (given back) (trailing store.past ps)
 
     back_values : (ps : List Peak)
-        → fold_for h (λ p. kept_of p.first p.height) store.back_fold store.past ps ≡ map (eval h values) (back_given ps)
+        → fold_for h (λ p. kept_of p.first p.height) store.back_fold store.past ps ≡ map (eval h values) (one_for (given back) ps)
     back_values [] = refl
     back_values (p ∷ ps) = refl
 
@@ -108,23 +108,23 @@ module _ (h : HashFunction) (S : Shape) (store : Store) where
         right_of-folded h (λ p. kept_of p.first p.height) store.back_fold store.past ps
         ∙ ap (λ ds. folded_onto h ds None) (ap₂ (λ ds es. ds ++ es) (sym (peaks_given (up_to store.past ps)))
         (back_values (trailing store.past ps)) ∙ sym
-        (map-append (eval h values) (map peak_given (up_to store.past ps)) (back_given (trailing store.past ps))))
+        (map-append (eval h values) (map peak_given (up_to store.past ps)) (one_for (given back) (trailing store.past ps))))
 
     some_back : (p : Peak) (ps : List Peak)
         → last_fold (p ∷ ps) ≡ Some (fold_digest h values (bag [] (back_calcs (p ∷ ps))))
     some_back p ps = last_calcs (p ∷ ps) ∙ (elim (leb store.past p.first) as (λ c.
-        folded_onto h (map (eval h values) (map peak_given (if c then [] else p ∷ up_to store.past ps) ++ back_given
+        folded_onto h (map (eval h values) (map peak_given (if c then [] else p ∷ up_to store.past ps) ++ one_for (given back)
         (if c then p ∷ ps else trailing store.past ps))) None ≡ Some (fold_digest h values (bag [] (map peak_given
-        (if c then [] else p ∷ up_to store.past ps) ++ back_given (if c then p ∷ ps else trailing store.past ps))))) [
+        (if c then [] else p ∷ up_to store.past ps) ++ one_for (given back) (if c then p ∷ ps else trailing store.past ps))))) [
           | true ↦ refl
           | false ↦ onto_some h values (peak_given p)
-              (map peak_given (up_to store.past ps) ++ back_given (trailing store.past ps))
+              (map peak_given (up_to store.past ps) ++ one_for (given back) (trailing store.past ps))
         ])
 
     -- the peaks from high on are those past the range
     site_back : (ps : List Peak) → ps ≡ trailing high ys → site back ≡ fold_digest h values (bag [] (back_calcs ps))
     site_back ps e =
-        ap (λ qs. fold_digest h values (bag [] (map peak_given (up_to store.past (trailing high ys)) ++ back_given qs)))
+        ap (λ qs. fold_digest h values (bag [] (map peak_given (up_to store.past (trailing high ys)) ++ one_for (given back) qs)))
         (sym (trail_trail T store.start store.past low high from until ys))
         ∙ ap (λ qs. fold_digest h values (bag [] (back_calcs qs))) (sym e)
 
@@ -136,8 +136,8 @@ module _ (h : HashFunction) (S : Shape) (store : Store) where
 
     -- ---- the fold in front
     front_one : (ls ms : List Peak) (a : ℕ) → IsPast 0 a (ls ++ ms)
-        → site front ≡ fold_digest h values (bag (front_given ls ++ map peak_given ms) [])
-        → listed (forward_of h (map (eval h values) (front_given ls ++ map peak_given ms))) ≡ map site (front_before a)
+        → site front ≡ fold_digest h values (bag (one_for (given front) ls ++ map peak_given ms) [])
+        → listed (forward_of h (map (eval h values) (one_for (given front) ls ++ map peak_given ms))) ≡ map site (front_before a)
     front_one [] [] a e f = ap (λ c. map site (front_before c)) (sym e)
     front_one [] (m ∷ ms) zero l f = absurd (omega arith)
     front_one [] (m ∷ ms) (suc a) l f =

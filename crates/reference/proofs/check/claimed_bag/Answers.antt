@@ -1,6 +1,6 @@
 use Rattle.std.proofs.Common.{ℕ, ◌-◌, [], ◌++◌, List, map, get_or, ap, ◌∙◌}
-use Rattle.storage_merkle.specs.Calc.{Values, eval}
-use Rattle.storage_merkle.specs.RangeProofs.{apart, back_given, front_given, look_up}
+use Rattle.storage_merkle.specs.Calc.{Values, eval, front, back, given}
+use Rattle.storage_merkle.specs.RangeProofs.{apart, one_for, look_up}
 use Rattle.storage_merkle.specs.Trees.{Layout, Peak, part}
 use Rattle.reference.specs.Layouts.{laid_out, valued}
 use Rattle.reference.specs.Sites.{site_of}
@@ -24,9 +24,9 @@ returns g c =
     (map text c.deref.result.now) (map text c.deref-2.result.now) _
     (ap (map text) c.deref.ensures.value ∙ c.in_ok-push_digests.ensures
     ∙ ap (λ (ds : List (List ℕ)). ds ++ map f c.split_leading.result.1.now) (c.in_ok-push_front.ensures item chunk ∙ ap
-    (λ xs. map text xs ++ map (eval h v) (front_given c.split_leading.result.0.now)) c.new-front.ensures.items))
+    (λ xs. map text xs ++ map (eval h v) (one_for (given front) c.split_leading.result.0.now)) c.new-front.ensures.items))
     (ap (map text) c.deref-2.ensures.value ∙ c.in_ok-push_back.ensures item chunk
-    ∙ ap (λ (ds : List (List ℕ)). ds ++ map (eval h v) (back_given c.split_up_to.result.1.now))
+    ∙ ap (λ (ds : List (List ℕ)). ds ++ map (eval h v) (one_for (given back) c.split_up_to.result.1.now))
     (c.in_ok-push_digests-2.ensures
     ∙ ap (λ xs. map text xs ++ map f c.split_up_to.result.0.now) c.new-rest.ensures.items))
     c.bag.ensures

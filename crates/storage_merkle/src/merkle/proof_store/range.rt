@@ -1,12 +1,12 @@
 //! Range proofs from a store.
 
 ghost use Rattle.std.specs.Prelude.{◌≡◌, ℕ, ◌+◌, ◌-◌, ◌%◌, ◌^◌, ◌<◌, ◌≤◌, ◌⊎◌, ◌++◌, List, [], drop, map, option_map, Some, None, IfOk, IfErr, OnOk};
-ghost use Rattle.storage_merkle.specs.Calc.{back, eval, front, node};
+ghost use Rattle.storage_merkle.specs.Calc.{back, eval, front, given, node};
 ghost use Rattle.storage_merkle.specs.CheckParts.{right_of, top_sites};
 ghost use Rattle.storage_merkle.specs.Hashers.{forward_of};
 ghost use Rattle.storage_merkle.specs.Held.{proof_of};
 ghost use Rattle.storage_merkle.specs.Plans.{ArePeaks};
-ghost use Rattle.storage_merkle.specs.RangeProofs.{front_given, leading, not_leading, own_proof, trailing};
+ghost use Rattle.storage_merkle.specs.RangeProofs.{leading, not_leading, one_for, own_proof, trailing};
 ghost use Rattle.storage_merkle.specs.Rests.{AreFolded, peaks_from};
 ghost use Rattle.storage_merkle.specs.Shape.{AreAligned, max_leaves};
 ghost use Rattle.storage_merkle.specs.Stores.{IsStoreOf, aft, fore, stored_at, or_else, entry_at, peak_given, range_refusal, store_digest, store_proof, store_values};
@@ -108,7 +108,7 @@ impl<F: Family, D: Digest> ProofStore<F, D> {
     fn fold_front<H: Hasher<F, Digest = D>>(&self, hasher: &H, start: u64) -> Option<D>
         ensures { option_map D.text result ≡ forward_of H.hash_of
             (map (eval H.hash_of (store_values H.hash_of (ungrafted F.shape) self.now))
-            (front_given (leading self.now.start (fore H.hash_of (ungrafted F.shape) self.now))
+            (one_for (given front) (leading self.now.start (fore H.hash_of (ungrafted F.shape) self.now))
             ++ map peak_given (leading start
             (not_leading self.now.start (fore H.hash_of (ungrafted F.shape) self.now))))) }
     {
