@@ -12,7 +12,7 @@ use commonware_storage::qmdb::current::grafting::{
 };
 use reference::shape::Digits;
 use std::alloc::Global;
-use storage_merkle::merkle::family::{leaves_within, node_at};
+use storage_merkle::merkle::family::{leaves_within, node_at, power};
 use storage_merkle::merkle::{Countable, Graftable, Location, MAX_LEAVES, Position, mmb, mmr};
 
 /// The answer of a list whose first column is the family.
@@ -52,14 +52,6 @@ fn most_nodes<F: Graftable>() -> u64
     ensures { result ≡ size F.shape max_leaves }
 {
     F::nodes_over(MAX_LEAVES)
-}
-
-/// A power of two.
-fn power(exponent: u32) -> u64
-    requires { exponent ≤ 63 }
-    ensures { result ≡ 2 ^ exponent }
-{
-    1 << exponent
 }
 
 /// `leaves`: the number of nodes, the peaks' heights and positions, and the positions to pin.

@@ -15,7 +15,7 @@ use storage_merkle::merkle::family::leaves_within;
 use storage_merkle::merkle::hasher::Hasher;
 use storage_merkle::merkle::{Error, Graftable, Location, MAX_LEAVES, Position, Readable};
 
-/// A tree over chunks, of which the first so many are pruned: the digests of the peaks over the pruned chunks, its pins, and
+/// A tree over chunks, of which the first `pruned` are pruned: the digests of the peaks over the pruned chunks, its pins, and
 /// those of the other chunks, its leaves. It keeps no other node.
 #[derive(Drop)]
 pub struct GraftedTree<F: Graftable, D: Digest> {
@@ -135,7 +135,7 @@ impl<F: Graftable, D: Digest> GraftedTree<F, D> {
     ///
     /// # Errors
     ///
-    /// `RangeOutOfBounds(chunks)` where there are not so many chunks; `Memory`. After either the tree is as it was.
+    /// `RangeOutOfBounds(chunks)` where there are fewer than `chunks` chunks; `Memory`. After either the tree is as it was.
     pub fn prune<H: Hasher<F, Digest = D>>(
         &mut self,
         hasher: &H,
