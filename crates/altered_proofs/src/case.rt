@@ -57,6 +57,42 @@ enum Claim<D> {
     Absence(usize, Key),
 }
 
+impl<D: Digest> Claim<D> {
+    /// Reads `columns`, those between the family and the root, for the kind of bytes `kind`: the claim, and the column of the bytes.
+    fn parse<'a>(alloc: Global, kind: &str, columns: &[&'a str]) -> Result<(Self, &'a str)> {
+        match (kind, columns) {
+            ("proof", [size, location, operation, proof]) => {
+                let place = Place::parse(*size, *location)?;
+                Ok((Claim::Proof(place, hex::decode(alloc, *operation)?), *proof))
+            }
+            ("operation", [size, location, operation, proof]) => {
+                let place = Place::parse(*size, *location)?;
+                Ok((
+                    Claim::Operation(place, hex::decode(alloc, *proof)?),
+                    *operation,
+                ))
+            }
+            ("witness", [ops_root, witness]) => {
+                Ok((Claim::Witness(digest(alloc, *ops_root)?), *witness))
+            }
+            ("value", [size, key, value, proof]) => {
+                let size = size.parse::<usize>()?;
+                Ok((
+                    Claim::Value(size, key_of(*key)?, value.parse::<u64>()?),
+                    *proof,
+                ))
+            }
+            ("absence", [size, key, proof]) => {
+                Ok((
+                    Claim::Absence(size.parse::<usize>()?, key_of(*key)?),
+                    *proof,
+                ))
+            }
+            _ => bail!("not the columns of a case"),
+        }
+    }
+}
+
 /// Bytes that are said to prove something of the snapshot with a root.
 #[derive(Drop)]
 pub struct Case<D> {
@@ -69,41 +105,14 @@ pub struct Case<D> {
 impl<D: Digest> Case<D> {
     /// Reads `columns`, those of a line after the family, for the kind of bytes `kind`.
     pub fn parse(alloc: Global, kind: &str, columns: &[&str]) -> Result<Self> {
-        let (claim, bytes, root) = match (kind, columns) {
-            ("proof", [size, location, operation, proof, root]) => {
-                let operation = hex::decode(alloc, *operation)?;
-                let place = Place::parse(*size, *location)?;
-                (Claim::Proof(place, operation), *proof, *root)
-            }
-            ("operation", [size, location, operation, proof, root]) => {
-                let proof = hex::decode(alloc, *proof)?;
-                let place = Place::parse(*size, *location)?;
-                (Claim::Operation(place, proof), *operation, *root)
-            }
-            ("witness", [ops_root, witness, root]) => {
-                (Claim::Witness(digest(alloc, *ops_root)?), *witness, *root)
-            }
-            ("value", [size, key, value, proof, root]) => {
-                let value = value.parse::<u64>()?;
-                (
-                    Claim::Value(size.parse::<usize>()?, key_of(*key)?, value),
-                    *proof,
-                    *root,
-                )
-            }
-            ("absence", [size, key, proof, root]) => {
-                (
-                    Claim::Absence(size.parse::<usize>()?, key_of(*key)?),
-                    *proof,
-                    *root,
-                )
-            }
-            _ => bail!("not the columns of a case"),
+        let [columns @ .., root] = columns else {
+            bail!("not the columns of a case");
         };
+        let (claim, bytes) = Claim::parse(alloc, kind, columns)?;
         Ok(Case {
             claim,
             bytes: hex::decode(alloc, bytes)?,
-            root: digest(alloc, root)?,
+            root: digest(alloc, *root)?,
         })
     }
 

@@ -119,6 +119,17 @@ struct Answers {
     others: Tally,
 }
 
+impl Answers {
+    /// How many answers of each kind were yes.
+    fn told(self, alloc: Global) -> Result<String> {
+        let Answers { own, others } = self;
+        Ok(format!(in alloc;
+            "accepted are {} of {} at their place, {} of {} elsewhere",
+            own.accepted, own.tried, others.accepted, others.tried
+        )?)
+    }
+}
+
 /// What proofs are checked under: a hasher, the bitmap's shape and its root.
 #[derive(Clone, Copy)]
 struct Under<'a> {
@@ -160,6 +171,49 @@ impl Under<'_> {
         }
         Ok(())
     }
+
+    /// The answers for each chunk that the partial one is said to be.
+    fn answers<const N: usize>(
+        &self,
+        alloc: Global,
+        mut proof: Proof<mmr::Family, Digest>,
+        chunk: &[u8; N],
+    ) -> Result<Answers>
+        requires { IsChunkSize N }
+    {
+        let bits = MerkleizedBitMap::<Digest, N>::chunk_size_bits();
+        let mut answers = Answers {
+            own: Tally::new(),
+            others: Tally::new(),
+        };
+        for place in places(alloc, self.shape, bits)? {
+            self.add(alloc, &mut proof, chunk, place, &mut answers)?;
+        }
+        Ok(answers)
+    }
+}
+
+/// The bitmap's proof of the first bit of its partial chunk, and that chunk.
+fn proved<const N: usize>(
+    hasher: &Standard<Sha256>,
+    bitmap: &MerkleizedBitMap<Digest, N>,
+    shape: Shape,
+) -> Result<(Proof<mmr::Family, Digest>, [u8; N])>
+    requires { IsChunkSize N }
+{
+    let tail = bit_at(
+        shape.full,
+        MerkleizedBitMap::<Digest, N>::chunk_size_bits(),
+        0,
+    )?;
+    if tail < bitmap.pruned_bits() {
+        bail!("a pruned bit");
+    }
+    match bitmap.proof(hasher, tail) {
+        Ok(pair) => Ok(pair),
+        Err(Error::Memory) => Err(NoMemory.into()),
+        Err(_) => bail!("no proof"),
+    }
 }
 
 /// The answers for the proof of the first bit of the partial chunk of a bitmap of that shape.
@@ -167,34 +221,13 @@ fn over<const N: usize>(alloc: Global, hasher: &Standard<Sha256>, shape: Shape) 
     requires { IsChunkSize N }
 {
     let bitmap = shaped::<N>(alloc, hasher, shape)?;
-    let bits = MerkleizedBitMap::<Digest, N>::chunk_size_bits();
-    let tail = bit_at(shape.full, bits, 0)?;
-    if tail < bitmap.pruned_bits() {
-        bail!("a pruned bit");
-    }
-    let (mut proof, chunk) = match bitmap.proof(hasher, tail) {
-        Ok(pair) => pair,
-        Err(Error::Memory) => return Err(NoMemory.into()),
-        Err(_) => bail!("no proof"),
-    };
-    let root = bitmap.root();
+    let (proof, chunk) = proved(hasher, &bitmap, shape)?;
     let under = Under {
         hasher,
         shape,
-        root,
+        root: bitmap.root(),
     };
-    let mut answers = Answers {
-        own: Tally::new(),
-        others: Tally::new(),
-    };
-    for place in places(alloc, shape, bits)? {
-        under.add(alloc, &mut proof, &chunk, place, &mut answers)?;
-    }
-    let Answers { own, others } = answers;
-    Ok(format!(in alloc;
-        "accepted are {} of {} at their place, {} of {} elsewhere",
-        own.accepted, own.tried, others.accepted, others.tried
-    )?)
+    under.answers(alloc, proof, &chunk)?.told(alloc)
 }
 
 /// Which way the peaks are folded.

@@ -87,19 +87,30 @@ fn proof(
     }
 }
 
-/// The lines to print for `count` operations of `length` bytes.
-fn report(alloc: Global, work: &str, count: u64, length: usize) -> Result<String> {
-    let floor = count / 2;
-    let snapshot = snapshot(alloc, count, length, floor)?;
+/// The lines to print of `snapshot`, whose floor is `floor`: its root, and with `prove` its proof of the operation at `location`.
+fn told(
+    alloc: Global,
+    work: &str,
+    snapshot: &Snapshot<Family, Sha512, 32>,
+    floor: u64,
+    location: u64,
+) -> Result<String> {
     let root = hex::encode(alloc, snapshot.root().bytes)?;
     match work {
         "root" => Ok(root),
         "prove" => {
-            let proof = proof(alloc, &snapshot, floor, count.saturating_sub(1))?;
+            let proof = proof(alloc, snapshot, floor, location)?;
             Ok(format!(in alloc; "{root}\n{proof}")?)
         }
         _ => bail!("root or prove"),
     }
+}
+
+/// The lines to print for `count` operations of `length` bytes.
+fn report(alloc: Global, work: &str, count: u64, length: usize) -> Result<String> {
+    let floor = count / 2;
+    let snapshot = snapshot(alloc, count, length, floor)?;
+    told(alloc, work, &snapshot, floor, count.saturating_sub(1))
 }
 
 fn main(rt: HostRuntime) -> Result<()> {

@@ -15,7 +15,7 @@ use storage_ops::qmdb::any::operation::update::Ordered as Update;
 use storage_ops::qmdb::any::{FixedEncoding, VariableEncoding};
 use storage_ops::qmdb::operation::Key;
 
-/// A key or a value for each number, and for no other number the same one.
+/// A key or a value for each number, and for no other number below 2^32 the same one.
 trait Numbered: Sized {
     /// That of `number`.
     fn numbered(alloc: Global, number: u64) -> Result<Self, Fail>;
@@ -30,6 +30,15 @@ impl Numbered for u64 {
 impl Numbered for U64 {
     fn numbered(_alloc: Global, number: u64) -> Result<U64, Fail> {
         Ok(U64::new(number))
+    }
+}
+
+impl Numbered for FixedBytes<4> {
+    fn numbered(_alloc: Global, number: u64) -> Result<FixedBytes<4>, Fail> {
+        let [_, _, _, _, first, second, third, last] = number.to_be_bytes();
+        Ok(FixedBytes {
+            bytes: [first, second, third, last],
+        })
     }
 }
 
@@ -145,118 +154,152 @@ fn is_absence<F: Graftable, H: Hasher, K: Key, V: OperationCodec<F, Update<K, V>
     }
 }
 
-/// The database proves what the map had at the last commit at the number `key`.
-fn prove<
+/// A database whose keys and values are those of numbers.
+trait ByNumber {
+    /// Whether its chunks have a size that a chunk may have.
+    ghost is_sized: { Type 0 };
+
+    /// Gives the key of a number the value of another.
+    fn put_number(&mut self, alloc: Global, key: u64, value: u64) -> Result<(), Fail>;
+
+    /// Takes the key of a number away; whether it had a value.
+    fn delete_number(&mut self, alloc: Global, key: u64) -> Result<bool, Fail>;
+
+    /// Commits with the value of a number, or none.
+    fn commit_number(&mut self, alloc: Global, value: Option<u64>) -> Result<(), Fail>;
+
+    /// Whether the key of a number has this value now, and had that one at the last commit.
+    fn has_numbers(
+        &self,
+        alloc: Global,
+        key: u64,
+        now: Option<u64>,
+        committed: Option<u64>,
+    ) -> Result<bool, Fail>;
+
+    /// Whether it proves that the key of a number had this value at the last commit, or none.
+    fn proves_number(&self, alloc: Global, key: u64, value: Option<u64>) -> Result<bool, Fail>
+        requires { Self.is_sized };
+}
+
+impl<
     F: Graftable,
     H: Hasher,
     K: Key + Numbered,
     V: OperationCodec<F, Update<K, V>>,
     const N: usize,
->(
+> ByNumber for Ordered<F, H, K, V, N>
+where
+    V::Value: Numbered,
+{
+    ghost is_sized = { IsChunkSize N };
+
+    fn put_number(&mut self, alloc: Global, key: u64, value: u64) -> Result<(), Fail> {
+        self.put(K::numbered(alloc, key)?, V::Value::numbered(alloc, value)?)?;
+        Ok(())
+    }
+
+    fn delete_number(&mut self, alloc: Global, key: u64) -> Result<bool, Fail> {
+        Ok(self.delete(&K::numbered(alloc, key)?)?)
+    }
+
+    fn commit_number(&mut self, alloc: Global, value: Option<u64>) -> Result<(), Fail> {
+        let value = match value {
+            Some(number) => Some(V::Value::numbered(alloc, number)?),
+            None => None,
+        };
+        self.commit(value)?;
+        Ok(())
+    }
+
+    fn has_numbers(
+        &self,
+        alloc: Global,
+        key: u64,
+        now: Option<u64>,
+        committed: Option<u64>,
+    ) -> Result<bool, Fail> {
+        let key = K::numbered(alloc, key)?;
+        let is_now = is_of(alloc, self.get(&key), now)?;
+        Ok(is_now && is_of(alloc, self.get_committed(&key), committed)?)
+    }
+
+    fn proves_number(&self, alloc: Global, key: u64, value: Option<u64>) -> Result<bool, Fail> {
+        let key = K::numbered(alloc, key)?;
+        let is_shown = is_value(alloc, self, &key, value)?;
+        Ok(is_shown && is_absence(alloc, self, &key, value.is_none())?)
+    }
+}
+
+/// The database proves what the map had at the last commit at the number `key`.
+fn prove<D: ByNumber>(
     rt: &(impl Abort + AllocGlobal),
-    database: &Ordered<F, H, K, V, N>,
+    database: &D,
     plain: &Plain,
     key: u64,
 ) -> Result<(), Fail>
-where
-    V::Value: Numbered,
-    requires { IsChunkSize N }
+    requires { D.is_sized }
 {
-    let asked = K::numbered(rt.alloc(), key)?;
-    let number = at(&plain.committed, key);
-    assert!(rt; is_value(rt.alloc(), database, &asked, number)?);
-    assert!(rt; is_absence(rt.alloc(), database, &asked, number.is_none())?);
+    assert!(rt; database.proves_number(rt.alloc(), key, at(&plain.committed, key))?);
     Ok(())
 }
 
 /// The database has what the map has at the number `key`, now and at the last commit.
-fn compare<
-    F: Graftable,
-    H: Hasher,
-    K: Key + Numbered,
-    V: OperationCodec<F, Update<K, V>>,
-    const N: usize,
->(
+fn compare<D: ByNumber>(
     rt: &(impl Abort + AllocGlobal),
-    database: &Ordered<F, H, K, V, N>,
+    database: &D,
     plain: &Plain,
     key: u64,
-) -> Result<(), Fail>
-where
-    V::Value: Numbered,
-{
-    let asked = K::numbered(rt.alloc(), key)?;
+) -> Result<(), Fail> {
     let (now, committed) = (at(&plain.now, key), at(&plain.committed, key));
-    assert!(rt; is_of(rt.alloc(), database.get(&asked), now)?);
-    assert!(rt; is_of(rt.alloc(), database.get_committed(&asked), committed)?);
+    assert!(rt; database.has_numbers(rt.alloc(), key, now, committed)?);
     Ok(())
 }
 
 /// A put or a deletion at the number `key`, as `draw` says: both answer alike.
-fn change<
-    F: Graftable,
-    H: Hasher,
-    K: Key + Numbered,
-    V: OperationCodec<F, Update<K, V>>,
-    const N: usize,
->(
+fn change<D: ByNumber>(
     rt: &(impl Abort + AllocGlobal),
-    database: &mut Ordered<F, H, K, V, N>,
+    database: &mut D,
     plain: &mut Plain,
     key: u64,
     draw: u64,
-) -> Result<(), Fail>
-where
-    V::Value: Numbered,
-{
-    let asked = K::numbered(rt.alloc(), key)?;
+) -> Result<(), Fail> {
     if (draw >> 33) % 2 == 0 {
-        database.put(asked, V::Value::numbered(rt.alloc(), draw)?)?;
+        database.put_number(rt.alloc(), key, draw)?;
         plain.set(key, Some(draw));
     } else {
-        let was = database.delete(&asked)?;
+        let was = database.delete_number(rt.alloc(), key)?;
         assert_eq!(rt; was, plain.set(key, None).is_some());
     }
     Ok(())
 }
 
 /// A commit with the value of `draw`, or none.
-fn commit<F: Graftable, H: Hasher, K: Key, V: OperationCodec<F, Update<K, V>>, const N: usize>(
+fn commit<D: ByNumber>(
     alloc: Global,
-    database: &mut Ordered<F, H, K, V, N>,
+    database: &mut D,
     plain: &mut Plain,
     draw: u64,
-) -> Result<(), Fail>
-where
-    V::Value: Numbered,
-{
+) -> Result<(), Fail> {
     let value = if (draw >> 33) % 2 == 0 {
-        Some(V::Value::numbered(alloc, draw)?)
+        Some(draw)
     } else {
         None
     };
-    database.commit(value)?;
+    database.commit_number(alloc, value)?;
     plain.committed = plain.now.clone()?;
     Ok(())
 }
 
 /// The database proves what the map had at the last commit at eight numbers from `first` on, around past `last`.
-fn prove_eight<
-    F: Graftable,
-    H: Hasher,
-    K: Key + Numbered,
-    V: OperationCodec<F, Update<K, V>>,
-    const N: usize,
->(
+fn prove_eight<D: ByNumber>(
     rt: &(impl Abort + AllocGlobal),
-    database: &Ordered<F, H, K, V, N>,
+    database: &D,
     plain: &Plain,
     first: u64,
     last: u64,
 ) -> Result<(), Fail>
-where
-    V::Value: Numbered,
-    requires { IsChunkSize N }
+    requires { D.is_sized }
 {
     for step in 0..8u64 {
         prove(rt, database, plain, first.wrapping_add(step) & last)?;
@@ -265,21 +308,12 @@ where
 }
 
 /// The database has what the map has at each number up to `last`.
-fn compare_each<
-    F: Graftable,
-    H: Hasher,
-    K: Key + Numbered,
-    V: OperationCodec<F, Update<K, V>>,
-    const N: usize,
->(
+fn compare_each<D: ByNumber>(
     rt: &(impl Abort + AllocGlobal),
-    database: &Ordered<F, H, K, V, N>,
+    database: &D,
     plain: &Plain,
     last: u64,
-) -> Result<(), Fail>
-where
-    V::Value: Numbered,
-{
+) -> Result<(), Fail> {
     for key in 0..=last {
         compare(rt, database, plain, key)?;
     }
@@ -287,22 +321,14 @@ where
 }
 
 /// A commit over the keys up to `last`. Proofs are asked for before and after it.
-fn commit_and_prove<
-    F: Graftable,
-    H: Hasher,
-    K: Key + Numbered,
-    V: OperationCodec<F, Update<K, V>>,
-    const N: usize,
->(
+fn commit_and_prove<D: ByNumber>(
     rt: &(impl Abort + AllocGlobal),
-    database: &mut Ordered<F, H, K, V, N>,
+    database: &mut D,
     plain: &mut Plain,
     last: u64,
     draw: u64,
 ) -> Result<(), Fail>
-where
-    V::Value: Numbered,
-    requires { IsChunkSize N }
+    requires { D.is_sized }
 {
     prove_eight(rt, database, plain, draw >> 48, last)?;
     commit(rt.alloc(), database, plain, draw)?;
@@ -312,23 +338,15 @@ where
 
 /// The command after `count` others over the keys up to `last`, all of whose bits are set: a put or a deletion, or two in `count` times a
 /// commit. Two keys are compared after it.
-fn step<
-    F: Graftable,
-    H: Hasher,
-    K: Key + Numbered,
-    V: OperationCodec<F, Update<K, V>>,
-    const N: usize,
->(
+fn step<D: ByNumber>(
     rt: &(impl Abort + AllocGlobal),
-    database: &mut Ordered<F, H, K, V, N>,
+    database: &mut D,
     plain: &mut Plain,
     last: u64,
     count: u64,
     draw: u64,
 ) -> Result<(), Fail>
-where
-    V::Value: Numbered,
-    requires { IsChunkSize N }
+    requires { D.is_sized }
 {
     let key = (draw >> 56) & last;
     match (draw >> 33).checked_rem(count) {
@@ -340,22 +358,14 @@ where
 }
 
 /// Gives both 2,500 commands, which `seed` settles.
-fn command<
-    F: Graftable,
-    H: Hasher,
-    K: Key + Numbered,
-    V: OperationCodec<F, Update<K, V>>,
-    const N: usize,
->(
+fn command<D: ByNumber>(
     rt: &(impl Abort + AllocGlobal),
-    database: &mut Ordered<F, H, K, V, N>,
+    database: &mut D,
     plain: &mut Plain,
     seed: u64,
     last: u64,
 ) -> Result<(), Fail>
-where
-    V::Value: Numbered,
-    requires { IsChunkSize N }
+    requires { D.is_sized }
 {
     let mut draw = seed;
     for count in 1..2_501u64 {
@@ -366,24 +376,16 @@ where
 }
 
 /// A commit and 2,500 commands of a database without operations, beside a plain map.
-fn run<
-    F: Graftable,
-    H: Hasher,
-    K: Key + Numbered,
-    V: OperationCodec<F, Update<K, V>>,
-    const N: usize,
->(
+fn run<D: ByNumber>(
     rt: &(impl Abort + AllocGlobal),
-    database: &mut Ordered<F, H, K, V, N>,
+    database: &mut D,
     seed: u64,
     last: u64,
 ) -> Result<(), Fail>
-where
-    V::Value: Numbered,
-    requires { IsChunkSize N }
+    requires { D.is_sized }
 {
     let mut plain = Plain::new(rt.alloc())?;
-    database.commit(None)?;
+    database.commit_number(rt.alloc(), None)?;
     command(rt, database, &mut plain, seed, last)
 }
 
@@ -423,24 +425,22 @@ fn ten_thousand_commands(rt: HostRuntime) -> Result<(), Fail> {
     many_keys_of_one_size(&rt)
 }
 
-/// The key that ends with `byte`.
-fn key(byte: u8) -> FixedBytes<4> {
-    FixedBytes {
-        bytes: [0, 0, 0, byte],
-    }
+/// Commits with the value 1 after the keys 5 and 9 are put and committed and 9 is deleted.
+fn commit_one<D: ByNumber>(alloc: Global, database: &mut D) -> Result<(), Fail> {
+    database.commit_number(alloc, None)?;
+    database.put_number(alloc, 5, 7)?;
+    database.put_number(alloc, 9, 8)?;
+    database.commit_number(alloc, None)?;
+    database.delete_number(alloc, 9)?;
+    database.commit_number(alloc, Some(1))
 }
 
-/// The root of a commit with the value 1, after the keys 5 and 9 are put and committed and 9 is deleted.
+/// The root of that commit.
 fn commit_value(alloc: Global) -> Result<Option<FixedBytes<32>>, Fail> {
     let mut database = Ordered::<mmr::Family, Sha256, FixedBytes<4>, FixedEncoding<u64>, 1>::new(
         alloc,
     );
-    database.commit(None)?;
-    database.put(key(5), 7)?;
-    database.put(key(9), 8)?;
-    database.commit(None)?;
-    database.delete(&key(9))?;
-    database.commit(Some(1))?;
+    commit_one(alloc, &mut database)?;
     Ok(database.root())
 }
 
