@@ -12,7 +12,7 @@ from wrong_bodies import HEAD, block_of, module_of, owner_of, span_of
 ROOT = pathlib.Path(__file__).resolve().parent.parent
 LIBRARIES = ["storage_codec", "storage_merkle", "storage_ops", "storage_bitmap", "storage_current", "storage_db", "commonware_storage",
              "stateproof_cli"]
-RUNNERS = ["replay", "library_tests", "worked_rows", "stateproof"]
+RUNNERS = ["replay", "replay_columns", "replay_trees", "replay_snapshots", "library_tests", "worked_rows", "stateproof"]
 
 BLOCK = re.compile(r"(?:unsafe |pub(?:\([\w:]+\))? )*(impl|trait)\b")
 NESTED = r"<[^<>]*(?:<[^<>]*(?:<[^<>]*(?:<[^<>]*>[^<>]*)*>[^<>]*)*>[^<>]*)*>"

@@ -1,50 +1,13 @@
 //! One function for each list.
 
-mod asked;
-mod bitmaps;
-mod both_chunks;
-mod checks;
-mod chunks;
-mod codecs;
-mod combined;
-mod constant;
 mod databases;
-mod errors;
-mod extracted;
-mod faulty;
-mod fetched;
-mod grafted_trees;
 mod hashed;
-mod key_proofs;
-mod keyed;
-mod keys;
-mod mems;
-mod multi;
-mod operation_checks;
-mod operations;
-mod own;
-mod pinned;
-mod places;
-mod plain;
 mod program;
-mod proofs;
-mod recomputed;
-mod refusals;
-mod required;
-mod served;
-mod shared;
-mod snapshots;
-mod spelling;
-mod stores;
-mod sweeps;
-mod trees;
-mod unframed;
-mod values;
-mod verifiers;
-mod witnesses;
 
-use crate::columns::Fault;
 use commonware_storage::digest::{Sha256, Sha512};
+use replay_columns::columns::Fault;
+use replay_snapshots::combined::failing;
+use replay_trees::{asked, chunks, codecs, errors, operations, trees, values};
 use std::alloc::Global;
 
 /// The text of a case. Where it is worked by hand, the row's name, a colon and a blank stand before it.
@@ -86,11 +49,14 @@ fn over(alloc: Global, list: &str, columns: &[&str]) -> Result<String, Fault> {
     }
 }
 
-/// The answer of another list: with the digests of SHA-256, or about the families.
+/// The answer of another list: about the families, or with the digests of SHA-256.
 fn others(alloc: Global, list: &str, columns: &[&str]) -> Result<String, Fault> {
-    if hashed::has(list) {
-        hashed::answer::<Sha256, 32>(alloc, list, columns)
-    } else {
-        trees::answer(alloc, list, columns)
+    match list {
+        "around" | "elements" | "families" | "graftable" | "inactive" | "maps" | "nodes" => {
+            trees::answer(alloc, list, columns)
+        }
+        "places" | "plans" | "required" | "sizes" => trees::answer(alloc, list, columns),
+        "combined_reads" | "combined_marks" => failing::answer(alloc, list, columns),
+        _ => hashed::answer::<Sha256, 32>(alloc, list, columns),
     }
 }

@@ -4,10 +4,9 @@
 //! plain program of the definitions, and `differs` stands where it answers otherwise.
 #![tactic(auto)]
 
-mod columns;
 mod lists;
 
-use columns::Fault;
+use replay_columns::columns::Fault;
 use std::alloc::{AllocError, Global};
 use std::io;
 use std::io::{BufRead, BufReader, BufWriter, Write};

@@ -1,7 +1,7 @@
 //! The list on databases that the program runs.
 
-use crate::columns::{Fault, bytes, owned, spaced_three};
 use crate::lists::program::{outcome_of, owned_words};
+use replay_columns::columns::{Fault, bytes, owned, spaced_three};
 use std::alloc::Global;
 
 /// `family chunk script`: the status of a run of `db` over the bytes of the script, and what it writes to its output and as its

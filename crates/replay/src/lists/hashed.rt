@@ -2,37 +2,22 @@
 
 ghost use Rattle.std.specs.Prelude.{◌≤◌};
 
-use crate::columns::Fault;
-use crate::lists::combined::whole;
-use crate::lists::{
-    bitmaps, both_chunks, checks, codecs, combined, constant, extracted, fetched, grafted_trees,
-    key_proofs, keyed, keys, mems, multi, operation_checks, own, pinned, places, program, proofs,
-    recomputed, snapshots, stores, sweeps, verifiers, witnesses,
-};
+use crate::lists::program;
 use commonware_storage::codec::FixedBytes;
 use commonware_storage::digest::{Digest, Hasher};
 use commonware_storage::merkle::{Countable, Graftable, mmb, mmr};
 use reference::shape::Digits;
+use replay_columns::columns::Fault;
+use replay_columns::{both_chunks, plain_proofs};
+use replay_snapshots::combined::whole;
+use replay_snapshots::{
+    combined, constant, fetched, keyed, keys, operation_checks, snapshots, sweeps,
+};
+use replay_trees::{
+    bitmaps, checks, codecs, extracted, grafted_trees, key_proofs, mems, multi, own, pinned,
+    places, recomputed, stores, verifiers, witnesses,
+};
 use std::alloc::Global;
-
-/// Whether a list of that name is one of them.
-pub fn has(list: &str) -> bool {
-    match list {
-        "golden_hash" | "program_checks" | "key_values" | "exclusions" | "golden_keys" => true,
-        "bitmaps" | "bitmaps_checks" | "bitmaps_init" | "bitmaps_stages" => true,
-        "bitmaps_verified" | "bitmaps_read" | "bitmaps_served" | "bit_proofs" => true,
-        "combined" | "golden" | "ranges" | "ranges_checks" | "ranges_extracted" => true,
-        "both_chunks" | "combined_asked" | "constant_checks" | "tree_roots" | "texts" => true,
-        "active" | "keyed" | "fetched_operations" | "fetched_ranges" | "grafted_trees" => true,
-        "mem_init" | "mems" | "plain_checks" | "multi_checks" | "extracted" => true,
-        "pinned_checks" | "recomputed" | "stores" | "witnesses" => true,
-        "built" | "element_checks" | "filled" | "key_proofs" | "multi_proofs" => true,
-        "operation_checks" | "parts" | "plain_operations" | "served" => true,
-        "combined_ranges" | "combined_views" | "each_operation" | "each_range" => true,
-        "slots" | "slots_read" | "verifiers" => true,
-        _ => false,
-    }
-}
 
 /// The answer of a list of that name, with the digests of `H`, which have `D` bytes.
 pub fn answer<H: Hasher<Digest = FixedBytes<D>>, const D: usize>(
@@ -136,7 +121,7 @@ fn over<F: Graftable + Digits + Countable, H: Hasher>(
     match list {
         "mem_init" => mems::mem_init::<F, H>(alloc, columns),
         "mems" => mems::mems::<F, H>(alloc, columns),
-        "plain_checks" => proofs::plain_checks::<F, H>(alloc, columns),
+        "plain_checks" => plain_proofs::plain_checks::<F, H>(alloc, columns),
         "multi_checks" => multi::multi_checks::<F, H>(alloc, columns),
         "extracted" => extracted::extracted::<F, H>(alloc, columns),
         "ranges_extracted" => extracted::current::ranges_extracted::<F, H>(alloc, columns),

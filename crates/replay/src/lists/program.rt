@@ -1,11 +1,11 @@
 //! Lists on the program and on checks from bytes.
 
-use crate::columns::{
-    Fault, bytes, digest, number, owned, spaced, spaced_three, unblanked, verdict,
-};
-use crate::lists::shared::Given;
 use commonware_storage::digest::Hasher;
 use commonware_storage::merkle::{Graftable, Location, mmb, mmr};
+use replay_columns::columns::{
+    Fault, bytes, digest, number, owned, spaced, spaced_three, unblanked, verdict,
+};
+use replay_columns::shared::Given;
 use stateproof_cli::run;
 use std::alloc::Global;
 

@@ -1,0 +1,26 @@
+//! Lists of `replay` on encodings, bitmaps, trees and proofs of trees: for each list a function that answers the columns of a case.
+#![tactic(auto)]
+
+pub mod asked;
+pub mod bitmaps;
+pub mod checks;
+pub mod chunks;
+pub mod codecs;
+pub mod errors;
+pub mod extracted;
+pub mod grafted_trees;
+pub mod key_proofs;
+pub mod mems;
+pub mod multi;
+pub mod operations;
+pub mod own;
+pub mod pinned;
+pub mod places;
+pub mod recomputed;
+pub mod required;
+pub mod spelling;
+pub mod stores;
+pub mod trees;
+pub mod values;
+pub mod verifiers;
+pub mod witnesses;

@@ -1,0 +1,258 @@
+//! How keys, values and operations are spelled in the lists.
+
+use replay_columns::columns::{
+    Fault, array, bytes, coloned, number, owned, spaced_three, spaced_two, spelled,
+};
+use std::alloc::Global;
+use storage_codec::codec::{FixedBytes, U64};
+use storage_merkle::merkle::{Location, mmr};
+use storage_ops::qmdb::any::operation::{Operation, Update, update};
+use storage_ops::qmdb::any::value::ValueEncoding;
+use storage_ops::qmdb::operation::{Committable, Floored, Key, Operation as _};
+
+/// A value that is spelled in a list.
+pub trait Spell: Sized {
+    /// Its spelling.
+    fn spell(&self, alloc: Global) -> Result<String, Fault>;
+
+    /// The value of a spelling.
+    fn parse(alloc: Global, text: &str) -> Result<Self, Fault>;
+}
+
+/// Bytes in hexadecimal; `-` for none.
+pub fn spell_bytes(alloc: Global, bytes: &[u8]) -> Result<String, Fault> {
+    if bytes.is_empty() {
+        return Ok(String::from_str(alloc, "-")?);
+    }
+    Ok(hex::encode(alloc, bytes)?)
+}
+
+impl Spell for FixedBytes<4> {
+    fn spell(&self, alloc: Global) -> Result<String, Fault> {
+        spell_bytes(alloc, &self.bytes)
+    }
+
+    fn parse(_alloc: Global, text: &str) -> Result<FixedBytes<4>, Fault> {
+        Ok(FixedBytes {
+            bytes: array(text)?,
+        })
+    }
+}
+
+impl Spell for U64 {
+    fn spell(&self, alloc: Global) -> Result<String, Fault> {
+        spell_bytes(alloc, U64::bytes(self))
+    }
+
+    fn parse(_alloc: Global, text: &str) -> Result<U64, Fault> {
+        Ok(U64(FixedBytes {
+            bytes: array(text)?,
+        }))
+    }
+}
+
+impl Spell for u64 {
+    fn spell(&self, alloc: Global) -> Result<String, Fault> {
+        spell_bytes(alloc, &self.to_be_bytes())
+    }
+
+    fn parse(_alloc: Global, text: &str) -> Result<u64, Fault> {
+        Ok(u64::from_be_bytes(array(text)?))
+    }
+}
+
+impl Spell for Vec<u8> {
+    fn spell(&self, alloc: Global) -> Result<String, Fault> {
+        spell_bytes(alloc, self.as_slice())
+    }
+
+    fn parse(alloc: Global, text: &str) -> Result<Vec<u8>, Fault> {
+        bytes(alloc, text)
+    }
+}
+
+impl<K: Key + Spell, V: ValueEncoding> Spell for update::Ordered<K, V>
+where
+    V::Value: Spell,
+{
+    fn spell(&self, alloc: Global) -> Result<String, Fault> {
+        let key = self.key.spell(alloc)?;
+        let value = self.value.spell(alloc)?;
+        let next_key = self.next_key.spell(alloc)?;
+        coloned(alloc, &[key.as_str(), value.as_str(), next_key.as_str()])
+    }
+
+    fn parse(alloc: Global, text: &str) -> Result<update::Ordered<K, V>, Fault> {
+        let (key, rest) = text.split_once(':').ok_or(Fault::Malformed)?;
+        let (value, next_key) = rest.split_once(':').ok_or(Fault::Malformed)?;
+        Ok(update::Ordered {
+            key: K::parse(alloc, key)?,
+            value: V::Value::parse(alloc, value)?,
+            next_key: K::parse(alloc, next_key)?,
+        })
+    }
+}
+
+impl<K: Key + Spell, V: ValueEncoding> Spell for update::Unordered<K, V>
+where
+    V::Value: Spell,
+{
+    fn spell(&self, alloc: Global) -> Result<String, Fault> {
+        let key = self.0.spell(alloc)?;
+        let value = self.1.spell(alloc)?;
+        coloned(alloc, &[key.as_str(), value.as_str()])
+    }
+
+    fn parse(alloc: Global, text: &str) -> Result<update::Unordered<K, V>, Fault> {
+        let (key, value) = text.split_once(':').ok_or(Fault::Malformed)?;
+        Ok(update::Unordered(K::parse(alloc, key)?, V::Value::parse(alloc, value)?))
+    }
+}
+
+/// A kind of operation, and what it is about.
+fn spell_kind<T: Spell>(alloc: Global, kind: &str, value: &T) -> Result<String, Fault> {
+    coloned(alloc, &[kind, value.spell(alloc)?.as_str()])
+}
+
+/// A commit with its value and its floor.
+fn spell_commit<V: Spell>(alloc: Global, value: Option<&V>, floor: u64) -> Result<String, Fault> {
+    let value = match value {
+        Some(value) => value.spell(alloc)?,
+        None => owned(alloc, "none")?,
+    };
+    Ok(format!(in alloc; "commit:{value}:{floor}")?)
+}
+
+/// The value of a commit and its floor.
+fn parse_commit<V: Spell>(alloc: Global, text: &str) -> Result<(Option<V>, u64), Fault> {
+    let (value, floor) = text.split_once(':').ok_or(Fault::Malformed)?;
+    let floor = number(floor)?;
+    match value {
+        "none" => Ok((None, floor)),
+        value => Ok((Some(V::parse(alloc, value)?), floor)),
+    }
+}
+
+impl<S: Update + Spell> Spell for Operation<mmr::Family, S>
+where
+    S::Key: Spell,
+    S::Value: Spell,
+{
+    fn spell(&self, alloc: Global) -> Result<String, Fault> {
+        match self {
+            Operation::Delete(key) => spell_kind(alloc, "delete", key),
+            Operation::Update(update) => spell_kind(alloc, "update", update),
+            Operation::CommitFloor(value, floor) => {
+                spell_commit(alloc, value.as_ref(), floor.as_u64())
+            }
+        }
+    }
+
+    fn parse(alloc: Global, text: &str) -> Result<Operation<mmr::Family, S>, Fault> {
+        let (kind, rest) = text.split_once(':').ok_or(Fault::Malformed)?;
+        match kind {
+            "delete" => Ok(Operation::Delete(S::Key::parse(alloc, rest)?)),
+            "update" => Ok(Operation::Update(S::parse(alloc, rest)?)),
+            "commit" => {
+                let (value, floor) = parse_commit(alloc, rest)?;
+                Ok(Operation::CommitFloor(value, Location::new(floor)))
+            }
+            _ => Err(Fault::Malformed),
+        }
+    }
+}
+
+/// An operation that is displayed.
+pub trait Show {
+    /// Its text.
+    fn show(&self, alloc: Global) -> Result<String, Fault>;
+}
+
+impl<S: Update> Show for Operation<mmr::Family, S> {
+    fn show(&self, alloc: Global) -> Result<String, Fault> {
+        Ok(self.display(alloc).to_string(alloc)?)
+    }
+}
+
+/// An operation that is asked what it is.
+pub trait Ask: Sized {
+    /// A copy.
+    fn copied(&self) -> Result<Self, Fault>;
+
+    /// What it is, its key, its floor, and the key that it gives up; `-` for none.
+    fn asked(self, alloc: Global) -> Result<String, Fault>;
+
+    /// The value that the key of an update gets, as it is lent and as it is given up.
+    fn valued(self, alloc: Global) -> Result<String, Fault>;
+}
+
+impl<S: Update> Ask for Operation<mmr::Family, S>
+where
+    S::Key: Spell,
+    S::Value: Spell,
+{
+    fn copied(&self) -> Result<Self, Fault> {
+        Ok(self.clone()?)
+    }
+
+    fn asked(self, alloc: Global) -> Result<String, Fault> {
+        let told = told(alloc, &self)?;
+        let given = spell_key(alloc, self.into_key().as_ref())?;
+        spaced_two(alloc, &told, &given)
+    }
+
+    fn valued(self, alloc: Global) -> Result<String, Fault> {
+        match self {
+            Operation::Update(update) => value_told(alloc, update),
+            _ => Err(Fault::Malformed),
+        }
+    }
+}
+
+/// The value of an update, as it is lent and as it is given up.
+fn value_told<S: Update>(alloc: Global, update: S) -> Result<String, Fault>
+where
+    S::Value: Spell,
+{
+    let lent = update.value().spell(alloc)?;
+    let given = update.into_value().spell(alloc)?;
+    spaced_two(alloc, &lent, &given)
+}
+
+/// What an operation is, its key and its floor; `-` for none.
+fn told<S: Update>(alloc: Global, operation: &Operation<mmr::Family, S>) -> Result<String, Fault>
+where
+    S::Key: Spell,
+{
+    let kinds = [
+        operation.is_update(),
+        operation.is_delete(),
+        operation.is_commit(),
+    ];
+    let kinds = digits(alloc, kinds)?;
+    let key = spell_key(alloc, operation.key())?;
+    let floor = spell_floor(alloc, operation.has_floor())?;
+    spaced_three(alloc, &kinds, &key, &floor)
+}
+
+/// A digit for each answer.
+fn digits(alloc: Global, answers: [bool; 3]) -> Result<String, Fault> {
+    let [first, second, third] = answers.map(u8::from);
+    Ok(format!(in alloc; "{first}{second}{third}")?)
+}
+
+/// A key; `-` is none.
+fn spell_key<K: Spell>(alloc: Global, key: Option<&K>) -> Result<String, Fault> {
+    match key {
+        Some(key) => key.spell(alloc),
+        None => owned(alloc, "-"),
+    }
+}
+
+/// A floor; `-` is none.
+fn spell_floor(alloc: Global, floor: Option<Location<mmr::Family>>) -> Result<String, Fault> {
+    match floor {
+        Some(floor) => spelled(alloc, &floor),
+        None => owned(alloc, "-"),
+    }
+}
