@@ -1,4 +1,6 @@
 use Rattle.std.proofs.lemmas.Bool.{ne_eqb}
+use Rattle.std.proofs.Common.{arith}
+use Rattle.std.proofs.lemmas.Grind.{common_steps}
 use Rattle.light_c.proofs.variable.absence_of.Goals as goal
 
 pub returns-else-family-eq-MMR-clause-exact : goal.returns-else-family-eq-MMR-clause-exact
@@ -8,3 +10,6 @@ returns-else-family-eq-MMR-clause-exact g c =
 pub returns-else-family-eq-MMR-clause-meaning : goal.returns-else-family-eq-MMR-clause-meaning
 returns-else-family-eq-MMR-clause-meaning g c = λ wide.
     rw (ne_eqb c.args.family 0 c.if-family-eq-MMR.false) (c.check_absence-else-family-eq-MMR.ensures.meaning wide)
+
+pub returns-then-family-eq-MMR-clause-exact : goal.returns-then-family-eq-MMR-clause-exact
+returns-then-family-eq-MMR-clause-exact g c = grind (arith, common_steps)

@@ -1,0 +1,5 @@
+use Rattle.std.proofs.Common.{rules}
+use Rattle.light_c.proofs.fixed_absence.gawerunoa_check_fixed_absence.Goals as goal
+
+pub returns-in-Of512-clause-exact : goal.returns-in-Of512-clause-exact
+returns-in-Of512-clause-exact c = search rules

@@ -1,0 +1,8 @@
+use Rattle.std.proofs.Common.{rules}
+use Rattle.light_c.proofs.fixed_value.gawerunoa_check_fixed_value.Goals as goal
+
+pub returns-in_default-of_bytes-clause-exact : goal.returns-in_default-of_bytes-clause-exact
+returns-in_default-of_bytes-clause-exact c = search rules
+
+pub returns-in-Of256-clause-exact : goal.returns-in-Of256-clause-exact
+returns-in-Of256-clause-exact c = search rules

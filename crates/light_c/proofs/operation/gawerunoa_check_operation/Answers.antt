@@ -1,0 +1,5 @@
+use Rattle.std.proofs.Common.{rules}
+use Rattle.light_c.proofs.operation.gawerunoa_check_operation.Goals as goal
+
+pub returns-in-Ok-Of512-clause-exact : goal.returns-in-Ok-Of512-clause-exact
+returns-in-Ok-Of512-clause-exact c = search rules
