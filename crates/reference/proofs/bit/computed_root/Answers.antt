@@ -1,10 +1,11 @@
-use Rattle.std.proofs.Common.{◌≡◌, ℕ, ◌/◌, ◌∷◌, [], List, Option, Some, map, option_map, ap, sym, subst, ◌∙◌}
+use Rattle.std.proofs.Common.{◌≡◌, ℕ, ◌/◌, ◌∷◌, [], List, Option, Some, map, option_map, ap, sym, subst, ◌∙◌, arith}
 use Rattle.std.proofs.lemmas.List.{map-append}
 use Rattle.storage_merkle.specs.Checks.{IsRecomputed}
 use Rattle.storage_merkle.specs.Held.{proof_of}
 use Rattle.storage_merkle.specs.Mmr.{mmr}
 use Rattle.storage_merkle.specs.Trees.{ungrafted, listed}
 use Rattle.reference.proofs.BitParts.{aligned_from, between_from}
+use Rattle.std.proofs.lemmas.Grind.{common_steps}
 use Rattle.reference.proofs.bit.computed_root.Goals as goal
 
 pub returns-then-length-bits_in-eq0 : goal.returns-then-length-bits_in-eq0
@@ -38,3 +39,15 @@ returns-in_ok-partial_root-in-Some-2 g c =
     (record { leaves = complete; inactive = 0; digests = others }) place (listed (c.args.bytes.now ∷ [])) o)
     found c.in_ok-recomputed_chunks_root.ensures)
     c.in_ok-partial_root-in-Some-2.ensures
+
+pub returns-in_default : goal.returns-in_default
+returns-in_default g c = grind (arith, common_steps)
+
+pub returns-then-not-is_empty : goal.returns-then-not-is_empty
+returns-then-not-is_empty g c = grind (arith, common_steps)
+
+pub returns-then-place-complete : goal.returns-then-place-complete
+returns-then-place-complete g c = grind (arith, common_steps)
+
+pub returns-in-None : goal.returns-in-None
+returns-in-None g c = grind (arith, common_steps)

@@ -1,10 +1,11 @@
-use Rattle.std.proofs.Common.{◌≡◌, Some, option_map, ap, subst, rules}
+use Rattle.std.proofs.Common.{◌≡◌, Some, option_map, ap, subst, rules, arith}
 use Rattle.storage_merkle.specs.Held.{proof_of}
 use Rattle.storage_merkle.specs.Multi.{claims_of}
 use Rattle.storage_merkle.specs.MultiParts.{IsMultiRecomputed}
 use Rattle.reference.specs.Layouts.{laid_out}
 use Rattle.reference.proofs.Claims.{some_elements}
 use Rattle.reference.proofs.MultiParts.{multi_answer}
+use Rattle.std.proofs.lemmas.Grind.{common_steps}
 use Rattle.reference.proofs.multi.is_multi_accepted.Goals as goal
 
 pub returns-in-Some : goal.returns-in-Some
@@ -24,3 +25,12 @@ returns-in-Some g c =
     c.if-is_empty.ensures)
     (subst (λ o. IsMultiRecomputed h T c.args.bagging proof claims chunk o) found c.in_ok-recomputed_root.ensures)
     (search rules)
+
+pub returns-then-is_default : goal.returns-then-is_default
+returns-then-is_default g c = grind (arith, common_steps)
+
+pub returns-else-is_default : goal.returns-else-is_default
+returns-else-is_default g c = grind (arith, common_steps)
+
+pub returns-in-None : goal.returns-in-None
+returns-in-None g c = grind (arith, common_steps)
