@@ -83,3 +83,6 @@ returns g t c =
     let right : rebuilt S J K (c.args.height - 1) (c.args.first + 2 ^ (c.args.height - 1)) ≡ Some (text c.in_ok-right.right) =
     sym (rw c.power.ensures at c.rebuild-2.ensures) ∙ ap (option_map text) c.in_ok-right.was in
     ap Some c.node_digest_over.ensures ∙ sym (halves_are ∙ ap₂ (made_of (J c.args.first c.args.height)) left right)
+
+pub returns-then-is_some : goal.returns-then-is_some
+returns-then-is_some g t c = grind arith

@@ -1,7 +1,8 @@
-use Rattle.std.proofs.Common.{ℕ, List, Option, option_map, sym}
+use Rattle.std.proofs.Common.{ℕ, List, Option, option_map, sym, arith}
 use Rattle.storage_merkle.specs.Hashing.{join_digest}
 use Rattle.storage_current.specs.GraftedTrees.{rebuilt}
 use Rattle.storage_current.proofs.Rebuilt.{none_or, seen_covered, some_covered}
+use Rattle.std.proofs.lemmas.Grind.{common_steps}
 use Rattle.storage_current.proofs.qmdb.current.grafting.rebuild.node_of.Goals as goal
 
 pub returns-then-not-is_coverable : goal.returns-then-not-is_coverable
@@ -13,3 +14,6 @@ returns-then-not-is_coverable g c =
     sym (none_or (rebuilt S J K c.args.height c.args.first)
     (λ e. let yes = c.is_coverable.ensures.1 (seen_covered S text (g.R.Readable.node c.args.tree.now) c.args.height
     c.args.first (some_covered S J K c.args.height c.args.first e)) in absurd (cc)))
+
+pub returns-then-is_some : goal.returns-then-is_some
+returns-then-is_some g c = grind (arith, common_steps)

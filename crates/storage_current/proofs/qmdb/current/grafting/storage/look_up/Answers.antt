@@ -1,4 +1,4 @@
-use Rattle.std.proofs.Common.{arith, ◌≤◌, ◌-◌, ◌/◌, ◌^◌, sym, refl, ◌∙◌}
+use Rattle.std.proofs.Common.{arith, ◌≤◌, ◌-◌, ◌/◌, ◌^◌, sym, refl, ◌∙◌, rules}
 use Rattle.storage_merkle.specs.Shape.{size}
 use Rattle.storage_merkle.specs.Nodes.{CoversSame}
 use Rattle.storage_merkle.specs.Laws.Shape.{covers_down}
@@ -47,3 +47,6 @@ returns-in-Some-clause-look g c operations =
     (regrafted g.H.Hasher.digest_of g.H.Digest.Write.text S c.args.height
     (g.R.Readable.node c.args.grafted_tree.now)) operations c.args.position q (omega arith) valid covers
     ∙ sym (c.grafted_digest.ensures q (rw node.at covers)) ∙ c.in-Some.is
+
+pub returns-then-as_u64-clause-look : goal.returns-then-as_u64-clause-look
+returns-then-as_u64-clause-look g c = search rules

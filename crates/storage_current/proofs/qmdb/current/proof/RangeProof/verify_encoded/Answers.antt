@@ -19,3 +19,6 @@ returns-in-Some-clause-meaning g c = λ wide.
 
 pub returns-in-None-clause-exact : goal.returns-in-None-clause-exact
 returns-in-None-clause-exact g c = grind (arith, common_steps)
+
+pub returns-in-None-clause-at_once : goal.returns-in-None-clause-at_once
+returns-in-None-clause-at_once g c = search rules

@@ -3,6 +3,7 @@ use Rattle.std.proofs.Math.Seq.{take-suc}
 use Rattle.std.proofs.lemmas.List.{get_or-map, length-map, take_all}
 use Rattle.storage_current.specs.NodeLists.{IsTreeOver}
 use Rattle.storage_current.proofs.MemViews.{succeeded, over_tree}
+use Rattle.std.proofs.lemmas.Grind.{common_steps}
 use Rattle.storage_current.proofs.qmdb.current.snapshot.Snapshot.new.Goals as goal
 
 pub loop-operation-preserved : goal.loop-operation-preserved
@@ -39,3 +40,6 @@ returns-in-Ok-clause-stands g c =
     let t = c.into_operations.ensures in
     c.in-Ok.ensures.stands elements (over_tree g.H.Digest.Write.text h S c.into_operations.result c.loop-operation.tree
     elements t.grown.unpruned t.grown.unpinned t.leaves t.nodes whole)
+
+pub over-requires : goal.over-requires
+over-requires g c = grind (arith, common_steps)

@@ -1,4 +1,5 @@
 use Rattle.storage_current.proofs.MemViews.{over_tree}
+use Rattle.std.proofs.Common.{rules}
 use Rattle.storage_current.proofs.qmdb.current.snapshot.Snapshot.of_tree.Goals as goal
 
 pub returns-in-Ok-clause-stands : goal.returns-in-Ok-clause-stands
@@ -10,3 +11,6 @@ returns-in-Ok-clause-stands g c operations over =
 pub returns-in-Some-clause-why : goal.returns-in-Some-clause-why
 returns-in-Some-clause-why g c =
     rw (← c.into_operations-operations.ensures.leaves) (rw (c.as_u64.ensures, c.leaves.ensures) at c.in-Some.ensures.why)
+
+pub over-requires : goal.over-requires
+over-requires g c = search rules

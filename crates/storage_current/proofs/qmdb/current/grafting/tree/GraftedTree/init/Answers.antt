@@ -3,3 +3,6 @@ use Rattle.storage_current.proofs.qmdb.current.grafting.tree.GraftedTree.init.Go
 
 pub returns-in-Err-clause-why : goal.returns-in-Err-clause-why
 returns-in-Err-clause-why g c = search rules
+
+pub invariant_of-result : goal.invariant_of-result
+invariant_of-result g c = search rules

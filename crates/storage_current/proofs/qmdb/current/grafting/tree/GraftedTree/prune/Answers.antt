@@ -1,7 +1,9 @@
-use Rattle.std.proofs.Common.{arith, ◌≡◌, ◌+◌, ◌-◌, ◌≤◌, length, drop, take, ap, ◌∙◌}
+use Rattle.std.proofs.Common.{arith, ◌≡◌, ◌+◌, ◌-◌, ◌≤◌, length, drop, take, ap, ◌∙◌, rules}
 use Rattle.storage_merkle.specs.Shape.{size}
 use Rattle.storage_merkle.specs.Laws.Shape.{grows_at_most}
 use Rattle.storage_current.proofs.Pruning.{kept_pruned, rotated}
+use Rattle.storage_merkle.specs.Kept.{pins}
+use Rattle.std.proofs.lemmas.Grind.{common_steps}
 use Rattle.storage_current.proofs.qmdb.current.grafting.tree.GraftedTree.prune.Goals as goal
 
 pub peaks_over-requires-clause-whole : goal.peaks_over-requires-clause-whole
@@ -34,3 +36,9 @@ returns-clause-stands g c list keeps =
     kept_pruned g.D.Write.text g.F.Family.shape _ _ c.args.chunks _ _ list
     (omega (arith, c.if-chunks-self.false)) top keeps'
     (c.in-Ok.ensures.digests list keeps) leaves
+
+pub returns-then-chunks-as_u64-clause-why : goal.returns-then-chunks-as_u64-clause-why
+returns-then-chunks-as_u64-clause-why g c = search rules
+
+pub returns-clause-rest : goal.returns-clause-rest
+returns-clause-rest g c = grind (arith, common_steps)

@@ -12,3 +12,9 @@ returns-in-Err-read_cfg-clause-ends g c =
 
 pub returns-then-is_none-clause-gives : goal.returns-then-is_none-clause-gives
 returns-then-is_none-clause-gives g c = search rules
+
+pub returns-in-Err-clause-gives : goal.returns-in-Err-clause-gives
+returns-in-Err-clause-gives g c = search rules
+
+pub returns-in-Ok-read_cfg-clause-gives : goal.returns-in-Ok-read_cfg-clause-gives
+returns-in-Ok-read_cfg-clause-gives g c = search rules
