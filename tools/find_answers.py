@@ -1,13 +1,15 @@
 #!/usr/bin/env python3
 """Finds the tactic that closes each goal of some functions, and writes it where the check's own search finds it late.
 
-    tools/find_answers.py [--built FOLDER] [--slow SECONDS] CRATE [FUNCTION..]
+    tools/find_answers.py [--built FOLDER] [--slow SECONDS] [--every] CRATE [FUNCTION..]
 
 The check tries its tactics at a goal one after another. A goal that only a later one closes costs those before it, whenever its
 function is proved; and an edit of must-fail/ that breaks a goal costs all of them. So this tool tries them once: one tactic at all goals
 of the functions in one check, the next one at those that are left. A goal that another than the first tactic closes gets its answer in
 the function's Answers.antt. Then each edit of these functions that names no goal is put into a copy of the crate: where an answer
-breaks, the edit names that goal (a line 'goal: GOAL'), and the proof file answers it. So tools/wrong_bodies.py need not search.
+breaks, the edit names that goal (a line 'goal: GOAL'), and the proof file answers it. So tools/wrong_bodies.py need not search. With
+--every the proof files answer every goal of these functions that an edit breaks, also of edits that name one: so `rt ci`, which looks
+at all goals of an edited function, need not search either.
 
 FUNCTION is a function's name as the check prints it, below the crate. Without one, all are tried that an edit without a goal is in;
 with --slow besides those whose goals took so many seconds, by the times of the files that the last check with one job kept. The crate
@@ -156,9 +158,9 @@ class Finder:
             print(f"{tactic}: closes what is left but for {sum(len(it.left()) for it in files)} goals", flush=True)
         return files
 
-    def edits(self):
-        """The edits of bodies that name no goal."""
-        edits = [it for it in trial.edits_of(self.crate.folder) if not it.goal]
+    def edits(self, every=False):
+        """The edits of bodies that name no goal, or all of them."""
+        edits = [it for it in trial.edits_of(self.crate.folder) if every or not it.goal]
         for edit in edits:
             edit.locate(self.texts)
         return [it for it in edits if it.is_of_bodies]
@@ -166,12 +168,12 @@ class Finder:
     def functions_of(self, edit):
         return {it for place in edit.places for it in self.trial.named_at(place)}
 
-    def broken(self, files, functions):
-        """For each edit of these functions by its name, a function and an answered goal of it that the edit breaks, one with an answer of
-        its own where there is one."""
+    def broken(self, files, functions, every):
+        """The answered goals that edits of these functions break, by the edits' names: a function and a goal each. What stands first
+        has an answer of its own, where there is one. Looks at the edits that name no goal, or at every one."""
         answered = {it.file: it.text(it.found) for it in files if it.found}
         found = {}
-        for edits in trial.rounds_of([it for it in self.edits() if functions & self.functions_of(it)]):
+        for edits in trial.rounds_of([it for it in self.edits(every) if functions & self.functions_of(it)]):
             for edit in edits:
                 # of such an edit's functions only what is answered is tried
                 edit.goal = "any"
@@ -181,7 +183,7 @@ class Finder:
                 goals = [it for it in verdict.goals if it.file is None and trial.is_inside(it, edit.places)]
                 named = [(it.function, re.match(r"`([^`]+)`", it.text)[1]) for it in goals if not self.trial.may_be_of_another(edit, it)]
                 if named:
-                    found[edit.name] = min(named, key=lambda it: (is_new(*it, files), len(it[1])))
+                    found[edit.name] = sorted(named, key=lambda it: (is_new(*it, files), len(it[1])))
         return found
 
 
@@ -212,14 +214,15 @@ def write_goals(folder, broken):
         lines = []
         for line in path.read_text().split("\n"):
             name = line[len("name: ") :].strip() if line.startswith("name: ") else path.stem if line.startswith("file: ") else None
-            lines += [line] + ([f"goal: {broken[name][1]}"] if name in broken else [])
+            lines += [line] + ([f"goal: {broken[name]}"] if name in broken else [])
         path.write_text("\n".join(lines))
 
 
 def main():
-    asked = argparse.ArgumentParser(usage="find_answers.py [--built FOLDER] [--slow SECONDS] CRATE [FUNCTION..]")
+    asked = argparse.ArgumentParser(usage="find_answers.py [--built FOLDER] [--slow SECONDS] [--every] CRATE [FUNCTION..]")
     asked.add_argument("--built", type=pathlib.Path, default=trial.ROOT)
     asked.add_argument("--slow", type=float)
+    asked.add_argument("--every", action="store_true")
     asked.add_argument("crate")
     asked.add_argument("functions", nargs="*")
     asked = asked.parse_args()
@@ -234,15 +237,18 @@ def main():
         if asked.slow is not None:
             functions |= set(slow_functions(crate.name, before, asked.slow))
         files = finder.answers_of(sorted(functions & finder.places.keys()))
-        broken = finder.broken(files, functions)
+        broken = finder.broken(files, functions, asked.every)
+        unnamed = {it.name for it in finder.edits()}
+    first = {edit: goals[0] for edit, goals in broken.items() if edit in unnamed}
+    needed = {it for goals in broken.values() for it in goals} if asked.every else set(first.values())
     for it in files:
-        needed = {goal for function, goal in broken.values() if file_of(function, files) is it}
-        answers = {goal: number for goal, number in it.found.items() if number or goal in needed}
+        wanted = {goal for function, goal in needed if file_of(function, files) is it}
+        answers = {goal: number for goal, number in it.found.items() if number or goal in wanted}
         if answers:
             (crate.folder / it.file).parent.mkdir(parents=True, exist_ok=True)
             (crate.folder / it.file).write_text(it.text(answers))
-    write_goals(crate.folder, broken)
-    print(f"{len(broken)} edits name a goal now")
+    write_goals(crate.folder, {edit: goal for edit, (_, goal) in first.items()})
+    print(f"{len(first)} edits name a goal now, {len(needed)} goals that edits break are answered")
 
 
 if __name__ == "__main__":

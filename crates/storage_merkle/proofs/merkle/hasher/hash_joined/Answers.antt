@@ -4,3 +4,6 @@ use Rattle.storage_merkle.proofs.merkle.hasher.hash_joined.Goals as goal
 
 pub loop-part-preserved : goal.loop-part-preserved
 loop-part-preserved g c = grind (arith, common_steps)
+
+pub returns : goal.returns
+returns g c = grind (arith, common_steps)

@@ -3,3 +3,6 @@ use Rattle.storage_merkle.proofs.merkle.proof.Proof.verify_element_inclusion.Goa
 
 pub returns-clause-exact : goal.returns-clause-exact
 returns-clause-exact g c = search rules
+
+pub returns-clause-meaning : goal.returns-clause-meaning
+returns-clause-meaning g c = search rules

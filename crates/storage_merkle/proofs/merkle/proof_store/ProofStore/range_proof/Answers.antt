@@ -25,3 +25,9 @@ returns-clause-own g c = λ T content inactive same st.
     c.as_u64-3.ensures c.in_ok-digests.ensures T same
     ∙ stores_give_own g.row.F.Denot g.H.Hasher.hash_of T (subst Laws (sym same) g.met.F.Family.laws) c.args.self.now
     content inactive st c.args.range.start c.args.range.end here
+
+pub range_digests-requires : goal.range_digests-requires
+range_digests-requires g c = search rules
+
+pub returns-in_err-digests-clause-why : goal.returns-in_err-digests-clause-why
+returns-in_err-digests-clause-why g c = search rules

@@ -106,3 +106,9 @@ returns-in-Err-read_range-clause-log_failures g c =
 
 pub returns-then-as_u64-held-clause-why : goal.returns-then-as_u64-held-clause-why
 returns-then-as_u64-held-clause-why g c = search rules
+
+pub returns-in-Ok-read_range-clause-log_failures : goal.returns-in-Ok-read_range-clause-log_failures
+returns-in-Ok-read_range-clause-log_failures g c = search rules
+
+pub returns-in-Err-read_range-clause-store_failures : goal.returns-in-Err-read_range-clause-store_failures
+returns-in-Err-read_range-clause-store_failures g c = search rules

@@ -10,3 +10,6 @@ returns-in-Below-clause-fault g c code same =
 
 pub returns-in-Found-clause-fault : goal.returns-in-Found-clause-fault
 returns-in-Found-clause-fault g c code same = absurd (cc)
+
+pub returns-in-Found-clause-failure : goal.returns-in-Found-clause-failure
+returns-in-Found-clause-failure g c = search rules

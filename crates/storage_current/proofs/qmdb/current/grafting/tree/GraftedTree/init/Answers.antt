@@ -6,3 +6,18 @@ returns-in-Err-clause-why g c = search rules
 
 pub invariant_of-result : goal.invariant_of-result
 invariant_of-result g c = search rules
+
+pub returns-then-not-is_valid-clause-why : goal.returns-then-not-is_valid-clause-why
+returns-then-not-is_valid-clause-why g c = search rules
+
+pub needed-requires : goal.needed-requires
+needed-requires g c = search rules
+
+pub returns-in_default-clause-why : goal.returns-in_default-clause-why
+returns-in_default-clause-why g c = search rules
+
+pub returns-clause-kept : goal.returns-clause-kept
+returns-clause-kept g c = search rules
+
+pub returns-clause-fits : goal.returns-clause-fits
+returns-clause-fits g c = search rules

@@ -1,4 +1,4 @@
-use Rattle.std.proofs.Common.{arith, ap, length, ◌^◌}
+use Rattle.std.proofs.Common.{arith, ap, length, ◌^◌, rules}
 use Rattle.storage_merkle.specs.Laws.Shape.{no_peaks}
 use Rattle.storage_current.proofs.Pruning.{new_keeps, take_whole}
 use Rattle.storage_current.proofs.qmdb.current.grafting.tree.GraftedTree.new.Goals as goal
@@ -15,3 +15,6 @@ pub returns-clause-stands : goal.returns-clause-stands
 returns-clause-stands g c N few =
     rw (c.new.ensures.items, c.truncate.ensures.items, take_whole (2 ^ 62) c.args.leaves.items few)
     (new_keeps g.D.Write.text g.F.Family.shape g.met.F.Family.laws N c.args.leaves.items)
+
+pub returns-clause-kept : goal.returns-clause-kept
+returns-clause-kept g c = search rules

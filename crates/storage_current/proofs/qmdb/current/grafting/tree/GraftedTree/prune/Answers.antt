@@ -42,3 +42,6 @@ returns-then-chunks-as_u64-clause-why g c = search rules
 
 pub returns-clause-rest : goal.returns-clause-rest
 returns-clause-rest g c = grind (arith, common_steps)
+
+pub invariant_of-self : goal.invariant_of-self
+invariant_of-self g c = search rules

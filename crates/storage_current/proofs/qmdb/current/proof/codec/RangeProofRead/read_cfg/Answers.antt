@@ -1,4 +1,4 @@
-use Rattle.std.proofs.Common.{refl}
+use Rattle.std.proofs.Common.{refl, arith}
 use Rattle.storage_codec.specs.Laws.Parts.{ends_then}
 use Rattle.storage_current.proofs.Failing.{fails_then}
 use Rattle.storage_current.proofs.qmdb.current.proof.codec.RangeProofRead.read_cfg.Goals as goal
@@ -34,3 +34,9 @@ returns-in-Ok-read-clause-ends g c = ends_then c.read_cfg.ensures.ends
 pub returns-in-Err-read-clause-ends : goal.returns-in-Err-read-clause-ends
 returns-in-Err-read-clause-ends g c = ends_then c.read_cfg.ensures.ends
     (ends_then c.read_pending.ensures.ends (ends_then c.read_option.ensures.ends c.read.ensures.ends))
+
+pub returns-in-Err-read_pending-clause-ends : goal.returns-in-Err-read_pending-clause-ends
+returns-in-Err-read_pending-clause-ends g c = grind (arith, ends_then)
+
+pub returns-in-Err-read_option-clause-ends : goal.returns-in-Err-read_option-clause-ends
+returns-in-Err-read_option-clause-ends g c = grind (arith, ends_then)

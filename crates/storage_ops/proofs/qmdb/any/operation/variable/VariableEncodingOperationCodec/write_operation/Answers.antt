@@ -15,3 +15,6 @@ returns-in_ok-push-in-CommitFloor-clause-ok g c = grind (arith, common_steps)
 
 pub returns-in_ok-push-in-CommitFloor-clause-err : goal.returns-in_ok-push-in-CommitFloor-clause-err
 returns-in_ok-push-in-CommitFloor-clause-err g c = grind (arith, common_steps)
+
+pub returns-in-Delete-clause-err : goal.returns-in-Delete-clause-err
+returns-in-Delete-clause-err g c = search rules

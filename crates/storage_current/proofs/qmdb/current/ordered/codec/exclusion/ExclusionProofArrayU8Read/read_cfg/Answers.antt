@@ -16,3 +16,6 @@ returns-in-Err-read_pair-clause-ends g c = grind (arith, ends_then)
 
 pub returns-in-Ok-read_pair-clause-gives : goal.returns-in-Ok-read_pair-clause-gives
 returns-in-Ok-read_pair-clause-gives g c = search rules
+
+pub returns-in-Err-read_pair-clause-gives : goal.returns-in-Err-read_pair-clause-gives
+returns-in-Err-read_pair-clause-gives g c = search rules

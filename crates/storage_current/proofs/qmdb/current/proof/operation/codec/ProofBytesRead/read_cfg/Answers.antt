@@ -18,3 +18,9 @@ returns-in-Err-clause-gives g c = search rules
 
 pub returns-in-Ok-read_cfg-clause-gives : goal.returns-in-Ok-read_cfg-clause-gives
 returns-in-Ok-read_cfg-clause-gives g c = search rules
+
+pub returns-in-Err-cut-clause-gives : goal.returns-in-Err-cut-clause-gives
+returns-in-Err-cut-clause-gives g c = search rules
+
+pub returns-in-Err-read_cfg-clause-gives : goal.returns-in-Err-read_cfg-clause-gives
+returns-in-Err-read_cfg-clause-gives g c = search rules

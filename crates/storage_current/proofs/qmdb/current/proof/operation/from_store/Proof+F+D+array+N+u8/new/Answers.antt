@@ -1,4 +1,4 @@
-use Rattle.std.proofs.Common.{◌≡◌, ◌<◌, ◌∙◌, ◌+◌, ◌/◌, ◌^◌, length, arith, inl, inr, refl, ap, subst}
+use Rattle.std.proofs.Common.{◌≡◌, ◌<◌, ◌∙◌, ◌+◌, ◌/◌, ◌^◌, length, arith, inl, inr, refl, ap, subst, rules}
 use Rattle.storage_merkle.specs.Plans.{PlanOf}
 use Rattle.storage_current.specs.Laws.Grafting.{height_of_power}
 use Rattle.storage_current.specs.Held.{range_proof_of}
@@ -117,3 +117,6 @@ returns-in-Err-read-clause-why g c =
           (c.args.loc + 1) (g.R.Readable.retained c.args.status.now) c.in-Ok.leaves c.into.result c.in-Err-read.error
           c.in-Ok.ensures.tree plan.0 (c.into.ensures.value ∙ plan.1) c.in-Err-read.ensures.why,
     )
+
+pub returns-in-Err-read-clause-failures : goal.returns-in-Err-read-clause-failures
+returns-in-Err-read-clause-failures g c = search rules

@@ -10,3 +10,12 @@ returns-in-Err-clause-ends g c = grind (arith, ends_then)
 
 pub returns-in-Ok-clause-gives : goal.returns-in-Ok-clause-gives
 returns-in-Ok-clause-gives g c = search rules
+
+pub returns-in_err-bits-clause-gives : goal.returns-in_err-bits-clause-gives
+returns-in_err-bits-clause-gives g c = search rules
+
+pub returns-in_err-bits-clause-ends : goal.returns-in_err-bits-clause-ends
+returns-in_err-bits-clause-ends g c = search rules
+
+pub returns-in-Err-clause-gives : goal.returns-in-Err-clause-gives
+returns-in-Err-clause-gives g c = search rules

@@ -3,3 +3,6 @@ use Rattle.storage_ops.proofs.qmdb.any.operation.update.ordered.Update.clone.Goa
 
 pub returns-clause-seen : goal.returns-clause-seen
 returns-clause-seen g c = search rules
+
+pub returns-clause-text : goal.returns-clause-text
+returns-clause-text g c = search rules
