@@ -27,7 +27,7 @@ HINTS = {
     "<mem::Mem<F, D> as Storage>::get_node": ("own.rt::compare_each", "Storage::<F>::get_node(mem", ""),
     "<mem::Mem<F, D> as Storage>::get_nodes": ("own.rt::digests_at", "mem.get_nodes(alloc", ""),
     "<authenticated::BitMap<D, N, Merkleized<D>> as Storage>::get_node": ("read.rt::each_node", "Storage::<mmr::Family>::get_node(", ""),
-    "<authenticated::BitMap<D, N, Merkleized<D>> as Storage>::get_nodes": ("read.rt::bitmaps_served", "Storage::<mmr::Family>::get_nodes(", ""),
+    "<authenticated::BitMap<D, N, Merkleized<D>> as Storage>::get_nodes": ("read.rt::nodes_told", "Storage::<mmr::Family>::get_nodes(", ""),
     "<key_value::KeyValueProof<F, K, D, [u8; N]> as Read>::read_cfg": ("key_proofs.rt::by_array", "read::<Value<", " value array "),
     "<key_value::KeyValueProof<F, K, D, Bytes> as Read>::read_cfg": ("key_proofs.rt::by_size", "read::<Value<", " value \\d"),
     "<exclusion::ExclusionProof<F, K, V, D, [u8; N]> as Read>::read_cfg": ("key_proofs.rt::by_array", "read::<Absence<", " absence array "),
@@ -98,7 +98,7 @@ FAILING = {
     "fetched_ranges": ("fetched.rt::marks", "for nodes in 0..ENOUGH"),
     "fetched_operations": ("fetched.rt::marks_of_operation", "for nodes in 0..ENOUGH"),
     "combined_asked": ("combined.rt::combined_asked", "number(*left)?"),
-    "combined_reads": ("failing.rt::combined_reads", "for left in 0..MANY"),
+    "combined_reads": ("failing.rt::reads_of", "for left in 0..MANY"),
     "combined_marks": ("failing.rt::logged_marks", "for items in 0..ENOUGH"),
 }
 

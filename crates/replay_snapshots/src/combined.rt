@@ -49,6 +49,33 @@ struct Case<'a> {
     left: u64,
 }
 
+impl<'a> Case<'a> {
+    /// The case of `bits floor operations location pruned grafted absent`.
+    fn of(alloc: Global, columns: &[&'a str], left: u64) -> Result<Self, Fault> {
+        let [bits, floor, operations, location, pruned, grafted, absent] = columns else {
+            return Err(Fault::Malformed);
+        };
+        let grafted = match *grafted {
+            "empty" => None,
+            grafted => Some(number(grafted)?),
+        };
+        let absent = match *absent {
+            "none" => NONE,
+            absent => number(absent)?,
+        };
+        Ok(Case {
+            bits: *bits,
+            floor: number(*floor)?,
+            location: number(*location)?,
+            pruned: number(*pruned)?,
+            grafted,
+            absent,
+            left,
+            operations: strings(alloc, *operations)?,
+        })
+    }
+}
+
 /// An answer, and how often the tree over the operations was asked and failed.
 #[derive(Drop)]
 struct Asked {
@@ -99,38 +126,10 @@ where
     FixedBytes<D>: Digest,
     requires small { D ≤ 64 }
 {
-    let [
-        family,
-        chunk_size,
-        bits,
-        floor,
-        operations,
-        location,
-        pruned,
-        grafted,
-        absent,
-    ] = columns
-    else {
+    let [family, chunk_size, columns @ ..] = columns else {
         return Err(Fault::Malformed);
     };
-    let case = Case {
-        bits: *bits,
-        floor: number(*floor)?,
-        operations: strings(alloc, *operations)?,
-        location: number(*location)?,
-        pruned: number(*pruned)?,
-        grafted: if *grafted == "empty" {
-            None
-        } else {
-            Some(number(*grafted)?)
-        },
-        absent: if *absent == "none" {
-            NONE
-        } else {
-            number(*absent)?
-        },
-        left,
-    };
+    let case = Case::of(alloc, columns, left)?;
     match (*family, *chunk_size) {
         ("mmr", "1") => proved::<mmr::Family, H, D, 1>(alloc, &case),
         ("mmr", "2") => proved::<mmr::Family, H, D, 2>(alloc, &case),
@@ -151,27 +150,91 @@ where
     requires chunk { IsChunkSize N }
     requires small { D ≤ 64 }
 {
+    let snapshot = served::snapshot::<F, H, N>(alloc, &case.operations, case.bits, case.floor)?;
+    match case.grafted {
+        Some(pruned) => with_chunks(alloc, case, &snapshot, pruned),
+        None => without_chunks(alloc, case, &snapshot),
+    }
+}
+
+/// What is answered where the tree over chunks has no nodes.
+fn without_chunks<
+    F: Graftable + Countable,
+    H: Hasher<Digest = FixedBytes<D>>,
+    const D: usize,
+    const N: usize,
+>(alloc: Global, case: &Case<'_>, snapshot: &Snapshot<F, H, N>) -> Result<Asked, Fault>
+where
+    FixedBytes<D>: Digest,
+    requires chunk { IsChunkSize N }
+    requires small { D ≤ 64 }
+{
+    let none = Mem::new(alloc);
+    proved_over::<F, H, Mem<F, H::Digest>, D, N>(alloc, case, snapshot, &none)
+}
+
+/// What is answered where the first `pruned` chunks of the tree over chunks are pruned; where none is, one with each node answers
+/// the same.
+fn with_chunks<
+    F: Graftable + Countable,
+    H: Hasher<Digest = FixedBytes<D>>,
+    const D: usize,
+    const N: usize,
+>(alloc: Global, case: &Case<'_>, snapshot: &Snapshot<F, H, N>, pruned: u64) -> Result<Asked, Fault>
+where
+    FixedBytes<D>: Digest,
+    requires chunk { IsChunkSize N }
+    requires small { D ≤ 64 }
+{
     let height = grafting::height::<N>();
     if height > 8 {
         return Err(Fault::Malformed);
     }
-    let snapshot = served::snapshot::<F, H, N>(alloc, &case.operations, case.bits, case.floor)?;
-    let Some(pruned) = case.grafted else {
-        let none = Mem::new(alloc);
-        return proved_over::<F, H, Mem<F, H::Digest>, D, N>(alloc, case, &snapshot, &none);
-    };
-    let grafted = pruned_tree::<F, H, N>(alloc, &snapshot, height, pruned)?;
-    let asked = proved_over::<F, H, GraftedTree<F, H::Digest>, D, N>(
-        alloc, case, &snapshot, &grafted,
-    )?;
-    if pruned == 0 {
-        let whole = grafted_tree(alloc, &snapshot, height)?;
-        let other = proved_over::<F, H, Mem<F, H::Digest>, D, N>(alloc, case, &snapshot, &whole)?;
-        if !is_same(&asked, &other) {
-            return Err(Fault::Differs);
-        }
+    let asked = over_pruned(alloc, case, snapshot, height, pruned)?;
+    if pruned == 0 && !is_same(&asked, &over_whole(alloc, case, snapshot, height)?) {
+        return Err(Fault::Differs);
     }
     Ok(asked)
+}
+
+fn over_pruned<
+    F: Graftable + Countable,
+    H: Hasher<Digest = FixedBytes<D>>,
+    const D: usize,
+    const N: usize,
+>(
+    alloc: Global,
+    case: &Case<'_>,
+    snapshot: &Snapshot<F, H, N>,
+    height: u32,
+    pruned: u64,
+) -> Result<Asked, Fault>
+where
+    FixedBytes<D>: Digest,
+    requires chunk { IsChunkSize N }
+    requires small { D ≤ 64 }
+    requires low { 1 ≤ height }
+    requires high { height ≤ 8 }
+{
+    let grafted = pruned_tree::<F, H, N>(alloc, snapshot, height, pruned)?;
+    proved_over::<F, H, GraftedTree<F, H::Digest>, D, N>(alloc, case, snapshot, &grafted)
+}
+
+fn over_whole<
+    F: Graftable + Countable,
+    H: Hasher<Digest = FixedBytes<D>>,
+    const D: usize,
+    const N: usize,
+>(alloc: Global, case: &Case<'_>, snapshot: &Snapshot<F, H, N>, height: u32) -> Result<Asked, Fault>
+where
+    FixedBytes<D>: Digest,
+    requires chunk { IsChunkSize N }
+    requires small { D ≤ 64 }
+    requires low { 1 ≤ height }
+    requires high { height ≤ 8 }
+{
+    let whole = grafted_tree(alloc, snapshot, height)?;
+    proved_over::<F, H, Mem<F, H::Digest>, D, N>(alloc, case, snapshot, &whole)
 }
 
 /// Whether two stores were asked alike and answered alike.

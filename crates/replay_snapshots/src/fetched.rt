@@ -84,8 +84,8 @@ where
     if max_ops < 1 {
         return Err(Fault::Malformed);
     }
-    let snapshot = snapshot_of::<H, D>(alloc, *bits, *operations)?;
     let status = status_of::<1>(alloc, *bits, number(*pruned)?)?;
+    let snapshot = snapshot_of::<H, D>(alloc, *bits, *operations)?;
     let call = Call {
         snapshot: &snapshot,
         status: &status,
@@ -252,10 +252,23 @@ where
     };
     let location = number(*location)?;
     let snapshot = snapshot_of::<H, D>(alloc, *bits, *operations)?;
-    let own = served::operation_proof(alloc, &snapshot, 0, location)?;
+    operation_told(alloc, &snapshot, location)
+}
+
+/// The same of a snapshot.
+fn operation_told<H: Hasher<Digest = FixedBytes<D>>, const D: usize>(
+    alloc: Global,
+    snapshot: &Rows<H>,
+    location: u64,
+) -> Result<String, Fault>
+where
+    FixedBytes<D>: Digest,
+    requires small { D ≤ 64 }
+{
+    let own = served::operation_proof(alloc, snapshot, 0, location)?;
     let digests = own.range_proof.proof.digests.len();
     let size = own.encode(alloc)?.len();
-    let marks = marks_of_operation(alloc, &snapshot, location, &own)?;
+    let marks = marks_of_operation(alloc, snapshot, location, &own)?;
     spaced_three(alloc, &digests, &size, &marks)
 }
 

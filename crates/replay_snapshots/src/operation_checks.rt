@@ -8,7 +8,6 @@ use commonware_storage::merkle::{Graftable, Location};
 use commonware_storage::qmdb::current::proof::{constant, dynamic};
 use replay_columns::both_chunks::read_both;
 use replay_columns::columns::{Fault, bytes, digest, number, verdict};
-use replay_columns::refusals::codec_refusal;
 use replay_columns::unframed::Unframed;
 use std::alloc::Global;
 
@@ -75,8 +74,18 @@ impl<D: Digest> Case<'_, D> {
         if let Some(leaves) = self.leaves {
             proof.range_proof.proof.leaves = Location::new(leaves);
         }
+        self.shows::<F, H>(alloc, &proof, chunk_size)
+    }
+
+    /// Whether the proof is accepted. A copy is too, and a proof over one byte where that is a chunk's size.
+    fn shows<F: Graftable, H: Hasher<Digest = D>>(
+        &self,
+        alloc: Global,
+        proof: &Proof<F, D>,
+        chunk_size: usize,
+    ) -> Result<bool, Fault> {
         let yes = proof.verify_encoded::<H>(alloc, self.operation, &self.root)?;
-        if self.copy_shows::<F, H>(alloc, &proof)? != yes {
+        if self.copy_shows::<F, H>(alloc, proof)? != yes {
             return Err(Fault::Differs);
         }
         if chunk_size == 1 && self.over_one_byte::<F, H>(alloc)? != yes {

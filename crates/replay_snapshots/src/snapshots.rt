@@ -81,14 +81,7 @@ where
 {
     let case = Case::of(columns)?;
     let served = Served::<F, H, N>::of(alloc, &case)?;
-    match list {
-        "golden" => {
-            let roots_and_range = served.golden(alloc, &case)?;
-            let operation = served.operation_told(alloc, &case, &served.own.range)?;
-            spaced_two(alloc, &roots_and_range, &operation)
-        }
-        _ => served.ranges(alloc, &case),
-    }
+    served.told(alloc, list, &case)
 }
 
 /// The columns of a snapshot, and a range of its locations.
@@ -157,6 +150,20 @@ impl<F: Graftable, H: Hasher, const N: usize> Served<F, H, N> {
             Ok(())
         } else {
             Err(Fault::Differs)
+        }
+    }
+
+    /// The answer of a list.
+    fn told(&self, alloc: Global, list: &str, case: &Case<'_>) -> Result<String, Fault>
+        requires { IsChunkSize N }
+    {
+        match list {
+            "golden" => {
+                let roots_and_range = self.golden(alloc, case)?;
+                let operation = self.operation_told(alloc, case, &self.own.range)?;
+                spaced_two(alloc, &roots_and_range, &operation)
+            }
+            _ => self.ranges(alloc, case),
         }
     }
 

@@ -161,11 +161,24 @@ where
     };
     let chunks = chunks_of::<1>(alloc, *bits)?;
     let swept = swept_of::<F, H, D>(alloc, columns)?;
+    each_range_shown(alloc, &swept, &chunks)
+}
+
+/// The same of a snapshot.
+fn each_range_shown<F: Graftable, H: Hasher<Digest = FixedBytes<D>>, const D: usize>(
+    alloc: Global,
+    swept: &Swept<F, H>,
+    chunks: &[[u8; 1]],
+) -> Result<String, Fault>
+where
+    FixedBytes<D>: Digest,
+    requires small { D ≤ 64 }
+{
     let count = swept.operations.len() as u64;
     let mut shown: u64 = 0;
     for start in 0..count {
         for last in start..count {
-            if is_range_shown(alloc, &swept, &chunks, start, last + 1)? {
+            if is_range_shown(alloc, swept, chunks, start, last + 1)? {
                 shown = shown.saturating_add(1);
             }
         }
@@ -185,18 +198,34 @@ where
     FixedBytes<D>: Digest,
     requires small { D ≤ 64 }
 {
-    let root = swept.snapshot.root();
     let operations = places(&swept.operations, start, end)?;
     let chunks = places(chunks, start / 8, end.div_ceil(8))?;
     let proof = range_proof(alloc, &swept.snapshot, swept.floor, start, end)?;
-    compare_range_copies(alloc, &proof)?;
     let first = Location::new(start);
-    let yes = proof.verify_encoded::<H, _, [u8; 1]>(alloc, first, operations, chunks, 1, &root)?;
+    let yes = is_proof_accepted(alloc, swept, &proof, first, operations, chunks)?;
     let last = Location::new(end);
     if is_range_shown_at_once(alloc, swept, first, last, operations, chunks)? != yes {
         return Err(Fault::Differs);
     }
     Ok(yes)
+}
+
+/// Whether a proof of operations is accepted. It is also read again, and copied.
+fn is_proof_accepted<F: Graftable, H: Hasher<Digest = FixedBytes<D>>, const D: usize>(
+    alloc: Global,
+    swept: &Swept<F, H>,
+    proof: &RangeProof<F, FixedBytes<D>>,
+    start: Location<F>,
+    operations: &[Vec<u8>],
+    chunks: &[[u8; 1]],
+) -> Result<bool, Fault>
+where
+    FixedBytes<D>: Digest,
+    requires small { D ≤ 64 }
+{
+    compare_range_copies(alloc, proof)?;
+    let root = swept.snapshot.root();
+    Ok(proof.verify_encoded::<H, _, [u8; 1]>(alloc, start, operations, chunks, 1, &root)?)
 }
 
 /// What a client answers that is given the bytes of the proof.

@@ -5,7 +5,8 @@ use replay_columns::columns::{Fault, verdict};
 use std::alloc::Global;
 use storage_codec::codec::{FixedBytes, U64};
 use storage_merkle::merkle::mmr;
-use storage_ops::qmdb::any::operation::{Ordered, Unordered};
+use storage_ops::qmdb::any::operation::update::{Ordered, Unordered};
+use storage_ops::qmdb::any::operation::{Operation, Update};
 use storage_ops::qmdb::any::value::{FixedEncoding, VariableEncoding};
 
 /// `type operation` for `asked`: what it is, its key, its floor, and the key that it gives up; `-` for none. `type operation operation`
@@ -17,33 +18,43 @@ pub fn answer(alloc: Global, list: &str, columns: &[&str]) -> Result<String, Fau
     };
     match *kind {
         "ordered-variable/fixed4/vec:0:8" => {
-            over::<Ordered<mmr::Family, FixedBytes<4>, VariableEncoding<Vec<u8>>>>(
-                alloc, list, columns,
-            )
+            over::<Ordered<FixedBytes<4>, VariableEncoding<Vec<u8>>>>(alloc, list, columns)
         }
         "ordered-variable/u64/vec:0:8" => {
-            over::<Ordered<mmr::Family, U64, VariableEncoding<Vec<u8>>>>(alloc, list, columns)
+            over::<Ordered<U64, VariableEncoding<Vec<u8>>>>(alloc, list, columns)
         }
         "unordered-fixed/fixed4/u64" => {
-            over::<Unordered<mmr::Family, FixedBytes<4>, FixedEncoding<u64>>>(alloc, list, columns)
+            over::<Unordered<FixedBytes<4>, FixedEncoding<u64>>>(alloc, list, columns)
         }
         _ => Err(Fault::Malformed),
     }
 }
 
-fn over<O: Spell + Ask + PartialEq + Drop>(
+fn over<S: Update + Spell + PartialEq>(
     alloc: Global,
     list: &str,
     columns: &[&str],
-) -> Result<String, Fault> {
+) -> Result<String, Fault>
+where
+    S::Key: Spell,
+    S::Value: Spell + PartialEq,
+{
     match (list, columns) {
-        ("asked", [operation]) => O::parse(alloc, *operation)?.asked(alloc),
-        ("valued", [operation]) => O::parse(alloc, *operation)?.valued(alloc),
+        ("asked", [operation]) => parsed::<S>(alloc, *operation)?.asked(alloc),
+        ("valued", [operation]) => parsed::<S>(alloc, *operation)?.valued(alloc),
         ("equal", [first, second]) => {
-            let copy = O::parse(alloc, *first)?.copied()?;
-            let second = O::parse(alloc, *second)?;
-            verdict(alloc, copy == second)
+            let copy = parsed::<S>(alloc, *first)?.copied()?;
+            verdict(alloc, copy == parsed::<S>(alloc, *second)?)
         }
         _ => Err(Fault::Malformed),
     }
+}
+
+/// The operation of a spelling.
+fn parsed<S: Update + Spell>(alloc: Global, text: &str) -> Result<Operation<mmr::Family, S>, Fault>
+where
+    S::Key: Spell,
+    S::Value: Spell,
+{
+    Operation::parse(alloc, text)
 }

@@ -48,16 +48,38 @@ fn pruned_to<F: Graftable, H: Hasher>(
     requires low { 1 ≤ height }
     requires high { height ≤ 8 }
 {
+    let refusals = refusals::<F, H>(alloc, &mut tree, height, prunings)?;
+    left_of(alloc, &tree, refusals.as_str())
+}
+
+/// Prunes a tree; the places and names of the refusals.
+fn refusals<F: Graftable, H: Hasher>(
+    alloc: Global,
+    tree: &mut GraftedTree<F, H::Digest>,
+    height: u32,
+    prunings: &str,
+) -> Result<String, Fault>
+    requires low { 1 ≤ height }
+    requires high { height ≤ 8 }
+{
     let mut refusals = Series::new(alloc);
     if prunings != "none" {
         for (place, chunks) in prunings.split(',').enumerate() {
-            if let Some(refusal) = pruned::<F, H>(alloc, &mut tree, height, number(chunks)?)? {
+            if let Some(refusal) = pruned::<F, H>(alloc, tree, height, number(chunks)?)? {
                 refusals.push_at(place as u64, refusal.as_str())?;
             }
         }
     }
-    let refusals = refusals.finish()?;
-    let nodes = nodes(alloc, &tree)?;
+    Ok(refusals.finish()?)
+}
+
+/// What is left of a tree, after the refusals.
+fn left_of<F: Graftable, D: Digest>(
+    alloc: Global,
+    tree: &GraftedTree<F, D>,
+    refusals: &str,
+) -> Result<String, Fault> {
+    let nodes = nodes(alloc, tree)?;
     spaced_four(
         alloc,
         &refusals,

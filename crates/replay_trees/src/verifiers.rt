@@ -19,13 +19,26 @@ pub fn verifiers<F: Graftable, H: digest::Hasher>(
     let Ok(height) = u32::try_from(number(*height)?) else {
         return Err(Fault::Malformed);
     };
+    let start = number(*start)?;
+    let graftable = number(*graftable)?;
+    let position = number(*position)?;
+    let children = (digest(alloc, *left)?, digest(alloc, *right)?);
     let chunks = strings(alloc, *chunks)?;
     let chunks = lent(alloc, &chunks)?;
-    let verifier = Verifier::new(height, number(*start)?, chunks, number(*graftable)?);
-    let children = (digest(alloc, *left)?, digest(alloc, *right)?);
-    let digest = node_of::<F, H>(&verifier, number(*position)?, &children)?;
+    let verifier = Verifier::new(height, start, chunks, graftable);
+    node_told::<F, H>(alloc, &verifier, position, &children)
+}
+
+/// The digest that a hasher gives a node, and a copy of it too.
+fn node_told<F: Graftable, H: digest::Hasher>(
+    alloc: Global,
+    verifier: &Verifier<'_, F, H>,
+    position: u64,
+    children: &(H::Digest, H::Digest),
+) -> Result<String, Fault> {
+    let digest = node_of::<F, H>(verifier, position, children)?;
     let copy = verifier.clone()?;
-    if node_of::<F, H>(&copy, number(*position)?, &children)? != digest {
+    if node_of::<F, H>(&copy, position, children)? != digest {
         return Err(Fault::Differs);
     }
     Ok(hex::encode(alloc, digest.bytes())?)

@@ -96,9 +96,14 @@ pub fn combined_reads<F: Graftable>(alloc: Global, columns: &[&str]) -> Result<S
         return Err(Fault::Malformed);
     };
     let trees = Trees::<F>::of(alloc, *bits, *operations)?;
+    reads_of(alloc, &trees)
+}
+
+/// The same of two trees.
+fn reads_of<F: Graftable>(alloc: Global, trees: &Trees<F>) -> Result<String, Fault> {
     let mut reads = Series::new(alloc);
     for left in 0..MANY {
-        let (first, count) = failed_reads(alloc, &trees, left)?;
+        let (first, count) = failed_reads(alloc, trees, left)?;
         let Some(first) = first else {
             reads.push_text("-")?;
             break;
@@ -157,16 +162,29 @@ pub fn combined_marks<F: Graftable + Countable>(
     let [bits, operations, start, most] = columns else {
         return Err(Fault::Malformed);
     };
-    let trees = Trees::<F>::of(alloc, *bits, *operations)?;
     let start = number(*start)?;
     let most = number(*most)?;
     let end = start.checked_add(most).ok_or(Fault::Malformed)?;
     if most < 1 {
         return Err(Fault::Malformed);
     }
-    let operation = operation_marks(alloc, &trees, start)?;
-    let range = range_marks(alloc, &trees, start, end)?;
-    let logged = logged_marks(alloc, &trees, start, most)?;
+    let trees = Trees::<F>::of(alloc, *bits, *operations)?;
+    all_marks(alloc, &trees, start, end, most)
+}
+
+/// The marks of all three proofs.
+fn all_marks<F: Graftable + Countable>(
+    alloc: Global,
+    trees: &Trees<F>,
+    start: u64,
+    end: u64,
+    most: u64,
+) -> Result<String, Fault>
+    requires { 1 ≤ most }
+{
+    let operation = operation_marks(alloc, trees, start)?;
+    let range = range_marks(alloc, trees, start, end)?;
+    let logged = logged_marks(alloc, trees, start, most)?;
     spaced_three(alloc, &operation, &range, &logged)
 }
 

@@ -38,24 +38,53 @@ where
     };
     let operations = strings(alloc, *operations)?;
     let snapshot = served::snapshot::<F, H, 1>(alloc, &operations, *bits, 0)?;
-    let grafted = grafted_tree(alloc, &snapshot, HEIGHT)?;
-    let nodes = operations_nodes::<F, H>(alloc, &operations)?;
+    views_told(alloc, &snapshot, &operations)
+}
+
+/// The same of a snapshot.
+fn views_told<F: Graftable, H: Hasher<Digest = FixedBytes<D>>, const D: usize>(
+    alloc: Global,
+    snapshot: &Snapshot<F, H, 1>,
+    operations: &[Vec<u8>],
+) -> Result<String, Fault>
+where
+    FixedBytes<D>: Digest,
+    requires small { D ≤ 64 }
+{
+    let grafted = grafted_tree(alloc, snapshot, HEIGHT)?;
+    let nodes = operations_nodes::<F, H>(alloc, operations)?;
     let size = nodes.len() as u64;
     let mut store = Faulty::new(nodes, size, NONE, ALWAYS, STORE_FAULT);
     let mut both = Storage::<F, H, _, _>::new(&grafted, HEIGHT, &mut store);
-    let nodes = both.size().as_u64();
+    let nodes = compared(&mut both, snapshot)?;
+    spelled(alloc, &nodes)
+}
+
+/// How many nodes a store has, where each is that of the snapshot's grafted view, and there are none after them.
+fn compared<
+    F: Graftable,
+    H: Hasher<Digest = FixedBytes<D>>,
+    S: merkle::Storage<F, Digest = FixedBytes<D>>,
+    const D: usize,
+>(store: &mut S, snapshot: &Snapshot<F, H, 1>) -> Result<u64, Fault>
+where
+    FixedBytes<D>: Digest,
+    requires small { D ≤ 64 }
+{
+    let nodes = store.size().as_u64();
     for place in 0..nodes {
         let position = Position::new(place);
-        if node(&mut both, position)? != snapshot.get_node(position) {
+        let own = snapshot.get_node(position);
+        if node(store, position)? != own {
             return Err(Fault::Differs);
         }
     }
     for place in [nodes, u64::MAX] {
-        if node(&mut both, Position::new(place))?.is_some() {
+        if node(store, Position::new(place))?.is_some() {
             return Err(Fault::Differs);
         }
     }
-    spelled(alloc, &nodes)
+    Ok(nodes)
 }
 
 /// What a store has at a position.
@@ -85,15 +114,11 @@ where
     let [bits, operations, start, most] = columns else {
         return Err(Fault::Malformed);
     };
+    let start = number(*start)?;
+    let most = number(*most)?;
     let operations = strings(alloc, *operations)?;
     let snapshot = served::snapshot::<F, H, 1>(alloc, &operations, *bits, 0)?;
-    range_told(
-        alloc,
-        &snapshot,
-        &operations,
-        number(*start)?,
-        number(*most)?,
-    )
+    range_told(alloc, &snapshot, &operations, start, most)
 }
 
 /// At most `most` operations from `start` on, their chunks, and whether the proof is accepted.

@@ -41,9 +41,24 @@ where
         return Err(Fault::Malformed);
     };
     let bitmap = after::<H, D, N>(alloc, hasher, *calls)?;
-    let counts = counts_and_kept(alloc, &bitmap)?;
-    let proofs = proofs(alloc, hasher, &bitmap, *bits)?;
-    let nodes = nodes(alloc, &bitmap)?;
+    told(alloc, hasher, &bitmap, *bits)
+}
+
+/// The same of a bitmap.
+fn told<H: Hasher<Digest = FixedBytes<D>>, const D: usize, const N: usize>(
+    alloc: Global,
+    hasher: &Standard<H>,
+    bitmap: &MerkleizedBitMap<FixedBytes<D>, N>,
+    bits: &str,
+) -> Result<String, Fault>
+where
+    FixedBytes<D>: Digest,
+    requires chunk { IsChunkSize N }
+    requires small { D ≤ 64 }
+{
+    let counts = counts_and_kept(alloc, bitmap)?;
+    let proofs = proofs(alloc, hasher, bitmap, bits)?;
+    let nodes = nodes(alloc, bitmap)?;
     spaced_three(alloc, &counts, &proofs, &nodes)
 }
 

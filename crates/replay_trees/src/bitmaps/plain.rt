@@ -10,6 +10,7 @@ use replay_columns::columns::{Fault, number, spaced_two};
 use replay_columns::plain::bits_of;
 use replay_columns::refusals::merkle_refusal;
 use std::alloc::Global;
+use storage_bitmap::bitmap::authenticated::MerkleizedBitMap;
 use storage_codec::codec::FixedBytes;
 use storage_codec::digest::{self, Digest};
 use storage_merkle::merkle::hasher::{Hasher, Standard};
@@ -56,21 +57,53 @@ where
     let bit = number(*bit)?;
     let digits = *digits;
     let calls = format!(in alloc; "d,p:{digits},m")?;
-    let bitmap = after::<H, D, N>(alloc, hasher, calls.as_str())?;
     let bits = bits_of(alloc, digits)?;
+    let bitmap = after::<H, D, N>(alloc, hasher, calls.as_str())?;
+    root_and_proof(alloc, hasher, &bitmap, &bits, bit)
+}
+
+/// The root of a bitmap of these bits, and the digests of the proof of one of them, or the refusal.
+fn root_and_proof<H: digest::Hasher<Digest = FixedBytes<D>>, const D: usize, const N: usize>(
+    alloc: Global,
+    hasher: &Standard<H>,
+    bitmap: &MerkleizedBitMap<FixedBytes<D>, N>,
+    bits: &[bool],
+    bit: u64,
+) -> Result<String, Fault>
+where
+    FixedBytes<D>: digest::Digest,
+    requires chunk { IsChunkSize N }
+    requires small { D ≤ 64 }
+{
     let root = bitmap.root();
-    if root_of::<H, N>(alloc, hasher, &bits)? != root {
+    if root_of::<H, N>(alloc, hasher, bits)? != root {
         return Err(Fault::Differs);
     }
+    let digests = digests_of(alloc, hasher, bitmap, bits, bit)?;
+    let root = hex::encode(alloc, root.bytes())?;
+    spaced_two(alloc, &root, &digests)
+}
+
+/// The digests of the proof of a bit, or the refusal.
+fn digests_of<H: digest::Hasher<Digest = FixedBytes<D>>, const D: usize, const N: usize>(
+    alloc: Global,
+    hasher: &Standard<H>,
+    bitmap: &MerkleizedBitMap<FixedBytes<D>, N>,
+    bits: &[bool],
+    bit: u64,
+) -> Result<String, Fault>
+where
+    FixedBytes<D>: digest::Digest,
+    requires chunk { IsChunkSize N }
+    requires small { D ≤ 64 }
+{
     if bit < bitmap.pruned_bits() {
         return Err(Fault::Malformed);
     }
-    let digests = match bitmap.proof(hasher, bit) {
-        Ok((proof, _)) => own_digests::<H, N>(alloc, hasher, &bits, bit, &proof)?,
-        Err(error) => merkle_refusal(alloc, &error)?,
-    };
-    let root = hex::encode(alloc, root.bytes())?;
-    spaced_two(alloc, &root, &digests)
+    match bitmap.proof(hasher, bit) {
+        Ok((proof, _)) => own_digests::<H, N>(alloc, hasher, bits, bit, &proof),
+        Err(error) => merkle_refusal(alloc, &error),
+    }
 }
 
 /// The root of bits by the plain program.

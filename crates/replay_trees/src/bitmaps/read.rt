@@ -34,13 +34,25 @@ where
     };
     let bitmap = after::<H, D, N>(alloc, hasher, *calls)?;
     let size = MerkleizedBitMap::<FixedBytes<D>, N>::chunk_size_bits();
-    let bits = bits_told(alloc, &bitmap, *bits)?;
-    let chunks = by_chunk::<N, MerkleizedBitMap<FixedBytes<D>, N>>(alloc, &bitmap)?;
+    let (bits, chunks) = read_of(alloc, &bitmap, *bits)?;
     let opened = by_chunk::<N, UnmerkleizedBitMap<FixedBytes<D>, N>>(alloc, &bitmap.into_dirty())?;
     if opened.as_str() != chunks.as_str() {
         return Err(Fault::Differs);
     }
     spaced_three(alloc, &size, &bits, &chunks)
+}
+
+/// Bits of a bitmap with their values and their chunks, and what is read of it by the chunk.
+fn read_of<D: Digest, const N: usize>(
+    alloc: Global,
+    bitmap: &MerkleizedBitMap<D, N>,
+    bits: &str,
+) -> Result<(String, String), Fault>
+    requires { IsChunkSize N }
+{
+    let bits = bits_told(alloc, bitmap, bits)?;
+    let chunks = by_chunk::<N, MerkleizedBitMap<D, N>>(alloc, bitmap)?;
+    Ok((bits, chunks))
 }
 
 /// How many bits there are, how many chunks of them are pruned, and those that are left.
@@ -104,11 +116,20 @@ where
     let [calls, places] = columns else {
         return Err(Fault::Malformed);
     };
-    let mut bitmap = after::<H, D, N>(alloc, hasher, *calls)?;
     let positions = positions(alloc, *places)?;
-    let each = each_node(alloc, &mut bitmap, &positions)?;
-    let size = Storage::<mmr::Family>::size(&bitmap);
-    let all = match Storage::<mmr::Family>::get_nodes(&mut bitmap, alloc, &positions) {
+    let mut bitmap = after::<H, D, N>(alloc, hasher, *calls)?;
+    nodes_told(alloc, &mut bitmap, &positions)
+}
+
+/// How many nodes a bitmap has, and those at positions, one by one and in one call.
+fn nodes_told<D: Digest, const N: usize>(
+    alloc: Global,
+    bitmap: &mut MerkleizedBitMap<D, N>,
+    positions: &[Position<mmr::Family>],
+) -> Result<String, Fault> {
+    let each = each_node(alloc, bitmap, positions)?;
+    let size = Storage::<mmr::Family>::size(bitmap);
+    let all = match Storage::<mmr::Family>::get_nodes(bitmap, alloc, positions) {
         Ok(digests) => series(alloc, &digests)?,
         Err(error) => merkle_refusal(alloc, &error)?,
     };

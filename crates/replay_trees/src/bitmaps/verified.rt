@@ -30,9 +30,24 @@ where
         return Err(Fault::Malformed);
     };
     let bitmap = after::<H, D, N>(alloc, hasher, *calls)?;
+    each_accepted(alloc, hasher, &bitmap, *claims)
+}
+
+/// The same of a bitmap.
+fn each_accepted<H: Hasher<Digest = FixedBytes<D>>, const D: usize, const N: usize>(
+    alloc: Global,
+    hasher: &Standard<H>,
+    bitmap: &MerkleizedBitMap<FixedBytes<D>, N>,
+    claims: &str,
+) -> Result<String, Fault>
+where
+    FixedBytes<D>: Digest,
+    requires chunk { IsChunkSize N }
+    requires small { D ≤ 64 }
+{
     let mut answers = Series::new(alloc);
     for claim in claims.split(',') {
-        answers.push_text(accepted(alloc, hasher, &bitmap, claim)?.as_str())?;
+        answers.push_text(accepted(alloc, hasher, bitmap, claim)?.as_str())?;
     }
     Ok(answers.finish()?)
 }

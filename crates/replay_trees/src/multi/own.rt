@@ -21,15 +21,28 @@ pub fn multi_proofs<F: Digits, H: Hasher>(
     let [direction, inactive, elements, places] = columns else {
         return Err(Fault::Malformed);
     };
+    let inactive = number(*inactive)? as usize;
     let elements = strings(alloc, *elements)?;
     let locations = locations(alloc, *places)?;
-    let inactive = number(*inactive)? as usize;
     let tree = Grown::<F, H>::with(alloc, *direction, inactive, &elements)?;
     let proof = given(alloc, &tree, &elements, &locations)?;
-    if proof != plain_proof::<F, H>(alloc, &elements, inactive, &locations)? {
+    let own = plain_proof::<F, H>(alloc, &elements, inactive, &locations)?;
+    told(alloc, &tree, &proof, &own, &elements, &locations)
+}
+
+/// The digests of a proof, which is the plain program's own one, and whether it is accepted.
+fn told<F: Family, H: Hasher>(
+    alloc: Global,
+    tree: &Grown<F, H>,
+    proof: &Proof<F, H::Digest>,
+    own: &Proof<F, H::Digest>,
+    elements: &[Vec<u8>],
+    locations: &[Location<F>],
+) -> Result<String, Fault> {
+    if proof != own {
         return Err(Fault::Differs);
     }
-    let yes = is_shown(alloc, &tree, &proof, &elements, &locations)?;
+    let yes = is_shown(alloc, tree, proof, elements, locations)?;
     let digests = series(alloc, &proof.digests)?;
     spaced_two(alloc, &digests, &yes)
 }
