@@ -95,10 +95,7 @@ impl<F: Graftable, H: Hasher, const N: usize> Snapshot<F, H, N> {
                 return Err(Error::Memory);
             }
         }
-        match Snapshot::over(alloc, tree.into_operations(), bits, floor) {
-            Ok(snapshot) => Ok(snapshot),
-            Err(_) => Err(Error::Memory),
-        }
+        Snapshot::of_tree(alloc, tree, bits, floor)
     }
 
     /// The snapshot of the operations that `tree` is over, with a bit of `bits` for each, and the inactivity floor
@@ -144,9 +141,8 @@ impl<F: Graftable, H: Hasher, const N: usize> Snapshot<F, H, N> {
     ) -> Result<Self, AllocError>
         requires chunks { IsChunkSize N }
         requires grown { IsGrown H.Digest.text H.hash_of F.shape operations }
-        requires unpruned { bits.pruned ≡ 0 }
-        requires each { bit_count N bits ≡ operations.leaves }
-        requires floor { floor ≤ bit_count N bits }
+        requires bits { HasEachBit N operations.leaves bits }
+        requires floor { floor ≤ operations.leaves }
         ensures status { IfOk result (λ kept. kept.status ≡ bits.entry) }
         ensures stands { let g = grafting_of F.shape N in
             IfOk result (λ kept. (list : List (List ℕ))

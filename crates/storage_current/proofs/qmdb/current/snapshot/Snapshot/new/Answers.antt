@@ -1,9 +1,9 @@
-use Rattle.std.proofs.Common.{◌≡◌, ◌+◌, ◌<◌, ℕ, List, [], ◌∷◌, ◌++◌, map, take, length, get_or, ap, sym, ◌∙◌, arith, add-one}
+use Rattle.std.proofs.Common.{◌≡◌, ◌+◌, ◌<◌, ℕ, List, [], ◌∷◌, ◌++◌, map, take, length, get_or, ap, sym, ◌∙◌, arith, add-one, rules}
 use Rattle.std.proofs.Math.Seq.{take-suc}
 use Rattle.std.proofs.lemmas.List.{get_or-map, length-map, take_all}
+use Rattle.std.proofs.lemmas.Result.{IfOk-weaker}
 use Rattle.storage_current.specs.NodeLists.{IsTreeOver}
-use Rattle.storage_current.proofs.MemViews.{succeeded, over_tree}
-use Rattle.std.proofs.lemmas.Grind.{common_steps}
+use Rattle.storage_current.proofs.MemViews.{succeeded}
 use Rattle.storage_current.proofs.qmdb.current.snapshot.Snapshot.new.Goals as goal
 
 pub loop-operation-preserved : goal.loop-operation-preserved
@@ -22,10 +22,8 @@ loop-operation-preserved g c =
     rw step (succeeded c.add.result _ (sym c.if-is_err.ensures.value) c.add.ensures.grown (take i elements)
     c.loop-operation.invariant)
 
-pub returns-in-Ok-clause-stands : goal.returns-in-Ok-clause-stands
-returns-in-Ok-clause-stands g c =
-    let S = g.F.Family.shape in
-    let h = g.H.Hasher.hash_of in
+pub returns-clause-stands : goal.returns-clause-stands
+returns-clause-stands g c =
     let operations = c.args.operations.now in
     let elements : List (List ℕ) = map g.E.AsSlice.items operations in
     let i : ℕ = c.loop-operation.operation-index in
@@ -36,10 +34,19 @@ returns-in-Ok-clause-stands g c =
       c.loop-operation.auto.operation-index-end,
       length-map operations g.E.AsSlice.items,
     )) in
-    let whole : IsTreeOver h S c.loop-operation.tree elements = rw all at c.loop-operation.invariant in
-    let t = c.into_operations.ensures in
-    c.in-Ok.ensures.stands elements (over_tree g.H.Digest.Write.text h S c.into_operations.result c.loop-operation.tree
-    elements t.grown.unpruned t.grown.unpinned t.leaves t.nodes whole)
+    let whole : IsTreeOver g.H.Hasher.hash_of g.F.Family.shape c.loop-operation.tree elements =
+    rw all at c.loop-operation.invariant in
+    IfOk-weaker c.of_tree.result _ _ (λ kept stands. stands elements whole) c.of_tree.ensures.stands
 
-pub over-requires : goal.over-requires
-over-requires g c = grind (arith, common_steps)
+pub returns-clause-why : goal.returns-clause-why
+returns-clause-why g c =
+    let operations = c.args.operations.now in
+    let elements : List (List ℕ) = map g.E.AsSlice.items operations in
+    let i : ℕ = c.loop-operation.operation-index in
+    let moved = length-map operations g.E.AsSlice.items in
+    let all : take i elements ≡ elements = take_all i elements
+    (omega (arith, c.loop-operation-test.false, c.loop-operation.auto.operation-index-end, moved)) in
+    rw (c.loop-operation.invariant.leaves ∙ ap length all ∙ moved) at c.of_tree.ensures.why
+
+pub returns-then-is_err-clause-why : goal.returns-then-is_err-clause-why
+returns-then-is_err-clause-why g c = search rules

@@ -14,3 +14,6 @@ returns-in-Some-clause-why g c =
 
 pub over-requires : goal.over-requires
 over-requires g c = search rules
+
+pub returns-in-Err-clause-why : goal.returns-in-Err-clause-why
+returns-in-Err-clause-why g c = search rules

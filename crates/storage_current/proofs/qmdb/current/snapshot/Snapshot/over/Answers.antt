@@ -1,4 +1,4 @@
-use Rattle.std.proofs.Common.{◌≡◌, ℕ, ◌*◌, arith, length, map, ap, ◌∙◌, sym, refl}
+use Rattle.std.proofs.Common.{◌≡◌, ℕ, ◌*◌, arith, length, map, ap, ◌∙◌, sym, refl, rules}
 use Rattle.std.proofs.Math.Nat.{zero-mul}
 use Rattle.std.specs.Option.{option_map}
 use Rattle.storage_merkle.specs.Laws.Hashing.{length-leaf_digests}
@@ -24,7 +24,7 @@ pending-requires g c = (
   (
     c.requires.chunks,
     (
-      omega (arith, c.requires.unpruned),
+      omega (arith, c.requires.bits.unpruned),
       whole_within g.row.N c.height-height.result c.len-leaves.result c.over-counts.result.complete _
           c.height-height.ensures.power c.over-counts.ensures.complete c.len-leaves.ensures.value,
     ),
@@ -35,7 +35,7 @@ pub partial-requires : goal.partial-requires
 partial-requires g c = (
   omega (arith, c.requires.chunks.1),
   (
-    omega (arith, c.requires.unpruned),
+    omega (arith, c.requires.bits.unpruned),
     rest_within g.row.N c.height-height.result c.len-leaves.result c.over-counts.result.complete
         c.over-counts.result.next_bit _ c.height-height.ensures.power c.over-counts.ensures.complete
         c.over-counts.ensures.next_bit c.len-leaves.ensures.value,
@@ -48,7 +48,7 @@ graft_chunks-requires-clause-graftable g c =
     let r = c.height-height.result in
     let level = height_of_power S g.row.N r c.height-height.ensures.power in
     rw level (c.over-counts.ensures.graftable
-    ∙ ap (graftable_at S r) (c.len-leaves.ensures.value ∙ c.requires.each))
+    ∙ ap (graftable_at S r) (c.len-leaves.ensures.value ∙ c.requires.bits.all))
 
 pub view_root-requires-clause-had : goal.view_root-requires-clause-had
 view_root-requires-clause-had g c =
@@ -59,7 +59,7 @@ view_root-requires-clause-had g c =
     let r = c.height-height.result in
     let ds = c.in_ok-grafted.grafted.items in
     let made = new_made text S t ds r m.leaves c.len-leaves.result c.over-counts.result.complete
-    c.over-counts.result.graftable (c.len-leaves.ensures.value ∙ c.requires.each) c.requires.grown.few
+    c.over-counts.result.graftable (c.len-leaves.ensures.value ∙ c.requires.bits.all) c.requires.grown.few
     c.over-counts.ensures.complete c.over-counts.ensures.within c.over-counts.ensures.graftable
     c.in_ok-grafted.ensures.count c.new-chunks.ensures.kept c.new-chunks.ensures.stands in
     seen_some S g.met.F.Family.laws g.H.Hasher.digest_of text g.H.Hasher.hash_of r (g.met.F.Graftable.keeps_pace r) m
@@ -75,7 +75,7 @@ invariant_of-result g c =
     let level = height_of_power S g.row.N r c.height-height.ensures.power in
     let ds = c.in_ok-grafted.grafted.items in
     let made = new_made text S t ds r m.leaves c.len-leaves.result c.over-counts.result.complete
-    c.over-counts.result.graftable (c.len-leaves.ensures.value ∙ c.requires.each) c.requires.grown.few
+    c.over-counts.result.graftable (c.len-leaves.ensures.value ∙ c.requires.bits.all) c.requires.grown.few
     c.over-counts.ensures.complete c.over-counts.ensures.within c.over-counts.ensures.graftable
     c.in_ok-grafted.ensures.count c.new-chunks.ensures.kept c.new-chunks.ensures.stands in
     record {
@@ -98,14 +98,14 @@ returns-clause-stands g c elements over =
     let leaves : ℕ = c.len-leaves.result in
     let level : height G ≡ r = height_of_power S g.row.N r c.height-height.ensures.power in
     let n : m.leaves ≡ length elements = over.count ∙ length-leaf_digests h (ungrafted S) 0 elements in
-    let same : leaves ≡ m.leaves = c.len-leaves.ensures.value ∙ c.requires.each in
+    let same : leaves ≡ m.leaves = c.len-leaves.ensures.value ∙ c.requires.bits.all in
     let count : length elements ≡ leaves = sym (same ∙ n) in
-    let rest = unpruned_rest g.row.N c.args.bits c.requires.unpruned in
+    let rest = unpruned_rest g.row.N c.args.bits c.requires.bits.unpruned in
     let none : c.args.bits.pruned * (8 * g.row.N) ≡ 0 =
-    ap (λ p. p * (8 * g.row.N)) c.requires.unpruned ∙ zero-mul (8 * g.row.N) in
+    ap (λ p. p * (8 * g.row.N)) c.requires.bits.unpruned ∙ zero-mul (8 * g.row.N) in
     let snapshot : IsSnapshot s = record {
-      bit_each = omega (arith, n, c.requires.each, none);
-      floor_within = omega (arith, n, c.requires.each, c.requires.floor);
+      bit_each = omega (arith, n, c.requires.bits.all, none);
+      floor_within = omega (arith, n, c.requires.bits.all, c.requires.floor);
       few = omega (arith, n, c.requires.grown.few);
     } in
     let grafting : IsGrafting G = record { laws = g.met.F.Family.laws; size = c.requires.chunks } in
@@ -119,7 +119,7 @@ returns-clause-stands g c elements over =
     level (rw (count, ← c.as_u64-2.ensures) c.aligned_inactive-aligned.ensures) in
     let ds = c.in_ok-grafted.grafted.items in
     let made = new_made text S t ds r m.leaves c.len-leaves.result c.over-counts.result.complete
-    c.over-counts.result.graftable (c.len-leaves.ensures.value ∙ c.requires.each) c.requires.grown.few
+    c.over-counts.result.graftable (c.len-leaves.ensures.value ∙ c.requires.bits.all) c.requires.grown.few
     c.over-counts.ensures.complete c.over-counts.ensures.within c.over-counts.ensures.graftable
     c.in_ok-grafted.ensures.count c.new-chunks.ensures.kept c.new-chunks.ensures.stands in
     let had : AreHad (seen_in digest text S (height G) m t) (size S m.leaves) =
@@ -140,18 +140,21 @@ returns-clause-stands g c elements over =
     ∙ ap (tree_root h (view G (length elements)) BackwardFold (content h G s)) aligned in
     let pending : option_map text c.chunk_digest-pending.result ≡ option_map h (pending_of h G s) =
     c.chunk_digest-pending.ensures ∙ ap (option_map h) (pending_kept h G s c.args.bits rest _ _ _ counts
-    c.pending.result (omega (arith, c.requires.unpruned)) c.pending.ensures) in
+    c.pending.result (omega (arith, c.requires.bits.unpruned)) c.pending.ensures) in
     let partial : option_map text c.chunk_digest-partial.result ≡ option_map h (partial_of h G s) =
     c.chunk_digest-partial.ensures ∙ ap (option_map h) (partial_kept h G s c.args.bits rest _ _ _ counts
-    c.partial.result (omega (arith, c.requires.unpruned)) c.partial.ensures) in (
+    c.partial.result (omega (arith, c.requires.bits.unpruned)) c.partial.ensures) in (
       snapshot,
       record {
         count = length-texts text (seen_in digest text S (height G) m t) (size S m.leaves) 0 ∙ ap (size S) n;
         nodes = nodes;
-        status = ap (λ p. record { pruned = p; bits = c.args.bits.bits }) c.requires.unpruned;
+        status = ap (λ p. record { pruned = p; bits = c.args.bits.bits }) c.requires.bits.unpruned;
         ops_root = ops_root;
         root = canonical_from h G s _ _ _ _ _ _ ops_root grafted_root pending counts.next_is partial
             c.canonical_root-root.ensures;
         witness = witness_from h G s _ _ _ _ _ c.of.ensures grafted_root pending counts.next_is partial;
       },
     )
+
+pub returns-clause-status : goal.returns-clause-status
+returns-clause-status g c = search rules
