@@ -1,6 +1,8 @@
 use Rattle.storage_current.specs.Keys.{Keyed, keyed_by}
 use Rattle.storage_db.specs.Databases.{put}
 use Rattle.storage_db.proofs.Changing.{no_room, no_memory, update_count}
+use Rattle.std.proofs.Common.{arith}
+use Rattle.std.proofs.lemmas.Grind.{common_steps}
 use Rattle.storage_db.proofs.db.changes.put_active.Goals as goal
 
 pub returns-in_err-make_room-clause-why : goal.returns-in_err-make_room-clause-why
@@ -34,3 +36,6 @@ returns-in_err-set-clause-why g c =
     no_memory c.args.log.now c.args.active.now.entries (λ x. put e x c.args.key c.args.value) 1
     (update_count e c.args.log.now c.args.active.now.entries c.args.key c.args.value c.requires)
     c.from_residual-in_err-set.result c.in_ok-make_room.ensures.few c.from_residual-in_err-set.ensures.1
+
+pub returns-clause-ok : goal.returns-clause-ok
+returns-clause-ok g c = grind (arith, common_steps)

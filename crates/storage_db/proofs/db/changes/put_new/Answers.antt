@@ -1,10 +1,11 @@
-use Rattle.std.proofs.Common.{◌≡◌, Some, refl, sym, ap, ◌∙◌}
+use Rattle.std.proofs.Common.{◌≡◌, Some, refl, sym, ap, ◌∙◌, arith}
 use Rattle.storage_current.specs.Keys.{Keyed, keyed_by}
 use Rattle.storage_db.specs.Rings.{next_key, previous}
 use Rattle.storage_db.specs.Databases.{Database, active_at, updated, put}
 use Rattle.storage_db.specs.Parts.{database_of}
 use Rattle.storage_db.specs.Keyed.{IsKeyed}
 use Rattle.storage_db.proofs.Changing.{sorted_of, no_room, no_memory, put_count, same_database, updated_parts, renewed_parts, stays_put, put_is}
+use Rattle.std.proofs.lemmas.Grind.{common_steps}
 use Rattle.storage_db.proofs.db.changes.put_new.Goals as goal
 
 pub returns-clause-ok : goal.returns-clause-ok
@@ -88,3 +89,12 @@ returns-in_err-set-in-Some-clause-why g c =
     (put_count e c.args.log.now c.args.active.now.entries c.args.key _ c.previous-before.result c.previous-before.ensures.value
     c.appended.result c.appended.ensures c.args.value c.requires)
     c.from_residual-in_err-set-in-Some.result c.in_ok-make_room.ensures.few c.from_residual-in_err-set-in-Some.ensures.1
+
+pub returns-in-None-clause-ok : goal.returns-in-None-clause-ok
+returns-in-None-clause-ok g c = grind (arith, common_steps)
+
+pub renew-requires-clause-room : goal.renew-requires-clause-room
+renew-requires-clause-room g c = grind (arith, common_steps)
+
+pub renew-requires-clause-few : goal.renew-requires-clause-few
+renew-requires-clause-few g c = grind (arith, common_steps)

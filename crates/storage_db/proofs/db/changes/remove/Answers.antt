@@ -1,10 +1,11 @@
-use Rattle.std.proofs.Common.{◌≡◌, Some, sym, ap, ◌∙◌}
+use Rattle.std.proofs.Common.{◌≡◌, Some, sym, ap, ◌∙◌, arith}
 use Rattle.storage_current.specs.Keys.{Keyed, keyed_by}
 use Rattle.storage_db.specs.Rings.{next_key, previous}
 use Rattle.storage_db.specs.Databases.{Database, active_at, updated, removed, delete}
 use Rattle.storage_db.specs.Parts.{database_of}
 use Rattle.storage_db.specs.Keyed.{IsKeyed}
 use Rattle.storage_db.proofs.Changing.{sorted_of, no_room, no_memory, delete_count, same_database, removed_parts, renewed_parts, stays_removed, delete_is}
+use Rattle.std.proofs.lemmas.Grind.{common_steps}
 use Rattle.storage_db.proofs.db.changes.remove.Goals as goal
 
 pub returns-clause-ok : goal.returns-clause-ok
@@ -71,3 +72,12 @@ returns-in_err-relinked-clause-why g c =
     (delete_count e c.args.log.now c.args.active.now.entries c.args.key.now _ c.previous-before.result c.previous-before.ensures.value
     c.appended.result c.appended.ensures c.requires)
     c.from_residual-in_err-relinked.result c.in_ok-make_room.ensures.few c.from_residual-in_err-relinked.ensures.1
+
+pub returns-in-None-clause-ok : goal.returns-in-None-clause-ok
+returns-in-None-clause-ok g c = grind (arith, common_steps)
+
+pub renew-requires-clause-room : goal.renew-requires-clause-room
+renew-requires-clause-room g c = grind (arith, common_steps)
+
+pub renew-requires-clause-few : goal.renew-requires-clause-few
+renew-requires-clause-few g c = grind (arith, common_steps)

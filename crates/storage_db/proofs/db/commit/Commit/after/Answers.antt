@@ -1,4 +1,4 @@
-use Rattle.std.proofs.Common.{Bool, List, [], ◌∷◌, ◌++◌, ap, subst}
+use Rattle.std.proofs.Common.{Bool, List, [], ◌∷◌, ◌++◌, ap, subst, rules, arith}
 use Rattle.storage_bitmap.specs.Chunks.{Retained}
 use Rattle.storage_current.specs.Keys.{keyed_by}
 use Rattle.storage_current.specs.KeptSnapshots.{StandsForSnapshot}
@@ -26,3 +26,21 @@ returns-clause-snapshot g c =
     × StandsForSnapshot g.H.Hasher.hash_of (grafting_of g.F.Family.shape g.row.N) c.in-Ok.snapshot (made bits) in
     subst P (ap (λ (r : Retained). r.bits) c.in_ok-status.ensures)
     (c.in-Ok.ensures.stands (texts log ++ c.args.bytes.now ∷ []) c.in_ok-tree.ensures)
+
+pub returns-clause-count : goal.returns-clause-count
+returns-clause-count g c = search rules
+
+pub returns-in_err-tree-clause-metadata : goal.returns-in_err-tree-clause-metadata
+returns-in_err-tree-clause-metadata g c = grind arith
+
+pub returns-in_err-tree-clause-floor : goal.returns-in_err-tree-clause-floor
+returns-in_err-tree-clause-floor g c = grind arith
+
+pub returns-in_err-tree-clause-count : goal.returns-in_err-tree-clause-count
+returns-in_err-tree-clause-count g c = grind arith
+
+pub returns-in_err-tree-clause-entries : goal.returns-in_err-tree-clause-entries
+returns-in_err-tree-clause-entries g c = grind arith
+
+pub returns-in_err-tree-clause-snapshot : goal.returns-in_err-tree-clause-snapshot
+returns-in_err-tree-clause-snapshot g c = grind arith

@@ -1,4 +1,4 @@
-use Rattle.std.proofs.Common.{sym, ◌∙◌}
+use Rattle.std.proofs.Common.{sym, ◌∙◌, rules}
 use Rattle.storage_current.specs.Keys.{Keyed, keyed_by}
 use Rattle.storage_current.specs.Snapshots.{grafting_of}
 use Rattle.storage_db.specs.Databases.{delete}
@@ -41,3 +41,6 @@ returns-in_err-remove-clause-why g c =
     (grafting_of g.F.Family.shape g.row.N) (λ x. delete e x c.args.key.now) c.self.inside.log c.remove.new.log
     c.self.inside.active.entries c.remove.new.active.entries c.self.inside.last c.args.self.now c.self.view_is error
     (λ last. same ∙ why last)) c.from_residual.ensures.1
+
+pub returns-then-not-contains_key-clause-answer : goal.returns-then-not-contains_key-clause-answer
+returns-then-not-contains_key-clause-answer g c = search rules
