@@ -144,7 +144,7 @@ fn key_of(column: &str) -> Result<Key> {
 /// A digest in hexadecimal.
 fn digest<D: Digest>(alloc: Global, column: &str) -> Result<D> {
     let bytes = hex::decode(alloc, column)?;
-    Ok(D::decode_cfg(alloc, bytes.as_slice(), &())?)
+    Ok(D::decode(alloc, bytes.as_slice())?)
 }
 
 /// Whether `bytes` are a witness that the snapshot with the root `root` has that operations root.

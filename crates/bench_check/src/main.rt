@@ -6,7 +6,6 @@
 
 use anyhow::{Result, bail};
 use bytes::Bytes;
-use commonware_storage::codec::Decode;
 use commonware_storage::digest::{Digest, Hasher, Sha256, Sha512};
 use commonware_storage::light::{check_operation, check_operation_shared};
 use commonware_storage::merkle::{Graftable, Location, mmb, mmr};
@@ -58,7 +57,7 @@ impl<D: Digest> Case<D> {
             location: location.parse::<u64>()?,
             operation: hex::decode(alloc, *operation)?,
             proof: hex::decode(alloc, *proof)?,
-            root: D::decode_cfg(alloc, root.as_slice(), &())?,
+            root: D::decode(alloc, root.as_slice())?,
         })
     }
 

@@ -9,7 +9,7 @@ use std::test::Fail;
 use storage_codec::codec::{
     Buf, Encode, Error, FixedBytes, FixedSize, Read, U64, UInt, small_size,
 };
-use storage_codec::digest::{Digest, DigestOf, Hasher, Sha256};
+use storage_codec::digest::{Digest, DigestOf, Hasher, Sha256, Sha512};
 use storage_merkle::merkle::{Proof, mmr};
 use storage_ops::qmdb::any::operation::{Update, update};
 use storage_ops::qmdb::any::value::VariableEncoding;
@@ -41,6 +41,16 @@ fn digests_read(rt: HostRuntime) -> Result<(), Fail> {
     assert_eq!(rt; number, 300);
     assert_eq!(rt; left, [0xff].as_slice());
     Ok(())
+}
+
+#[test]
+fn whole_digest_read(rt: HostRuntime) {
+    let read = DigestOf::<Sha256>::decode(rt.alloc(), [1; 32].as_slice());
+    assert_eq!(rt; read, Ok(Sha256::fill(1)));
+    let read = DigestOf::<Sha512>::decode(rt.alloc(), [1; 64].as_slice());
+    assert_eq!(rt; read, Ok(Sha512::fill(1)));
+    let read = DigestOf::<Sha256>::decode(rt.alloc(), [1; 33].as_slice());
+    assert_eq!(rt; read.err(), Some(Error::ExtraData(1)));
 }
 
 #[test]

@@ -3,9 +3,8 @@
 use hex::{FromHex, FromHexError};
 use std::alloc::{AllocError, AllocFailed, Global};
 use std::fmt::Display;
-use storage_codec::NoMemory;
-use storage_codec::codec::{self, Decode};
 use storage_codec::digest::Digest;
+use storage_codec::{NoMemory, codec};
 use thiserror::Error;
 
 /// Why a line has no answer.
@@ -66,7 +65,7 @@ pub fn array<const N: usize>(column: &str) -> Result<[u8; N], Fault> {
 /// A digest in hexadecimal.
 pub fn digest<D: Digest>(alloc: Global, column: &str) -> Result<D, Fault> {
     let bytes = bytes(alloc, column)?;
-    match D::decode_cfg(alloc, bytes.as_slice(), &()) {
+    match D::decode(alloc, bytes.as_slice()) {
         Ok(digest) => Ok(digest),
         Err(codec::Error::Memory) => Err(Fault::Memory),
         Err(_) => Err(Fault::Malformed),

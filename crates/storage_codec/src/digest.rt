@@ -1,16 +1,15 @@
 //! Digests, and the digest functions that make them.
 
-ghost use Rattle.std.specs.Prelude.{◌*◌, ◌<◌, ◌^◌, ◌≡◌, ℕ, List, length, ◌↔◌, replicate, flat_map, option_map, true, Ok, refl};
+ghost use Rattle.std.specs.Prelude.{◌*◌, ◌<◌, ◌≤◌, ◌^◌, ◌≡◌, ℕ, List, [], length, ◌↔◌, replicate, flat_map, option_map, true, Ok};
 ghost use Rattle.std.specs.Mem.{type_size};
 ghost use Rattle.std.proofs.Common.{lit<};
 ghost use Rattle.std.proofs.lemmas.Slice.Eq.{bytes_eq-Decides};
-ghost use Rattle.storage_codec.specs.Codec.{Gives, front_at, option_at};
-ghost use Rattle.storage_codec.specs.Digests.{HashFunction, IsPlain, IsSized};
-ghost use Rattle.storage_codec.specs.Laws.Digests.{fixed_plain};
+ghost use Rattle.storage_codec.specs.Codec.{Gives, front_at, option_at, whole};
+ghost use Rattle.storage_codec.specs.Digests.{HashFunction, IsSized};
 ghost use Rattle.storage_codec.specs.Laws.DigestValues.{one_digest};
 ghost use Rattle.storage_codec.specs.Parts.{IsEnding};
 
-use crate::codec::{Buf, Canonical, EncodeSize, Error, FixedBytes, Read, Small};
+use crate::codec::{Buf, Error, FixedBytes, FixedSize, Read};
 use std::alloc::Global;
 
 mod sha256;
@@ -20,27 +19,38 @@ pub use sha256::Sha256;
 pub use sha512::Sha512;
 
 /// A digest: a byte string of one length, the same for each digest of the type. It is written as
-/// its bytes and nothing else.
-pub trait Digest: Copy + Eq + Canonical + EncodeSize + Small + Read<Cfg = ()> {
+/// its bytes and nothing else, and any as many bytes are read as one.
+pub trait Digest: Copy + Eq + FixedSize {
     /// The bytes of the digest, as many as the type's fixed size. Takes no memory.
     fn bytes(&self) -> &[u8]
         ensures { result.now ≡ Self.text self.now };
 
-    /// How many bytes a digest has: 32 or 64 for the digests that there are.
+    /// Reads the next digest from the front of `buf`, seen by its bytes. Refuses `EndOfBuffer` where fewer bytes are
+    /// left than a digest has; then `buf` is at an ending of what it held.
+    fn read<B: Buf>(alloc: Global, buf: &mut B) -> Result<Self, Error>
+        ensures gives { Gives Self.text result (B.unread buf.new)
+            (front_at Self.size (B.unread buf.old)) }
+        ensures ends { IsEnding (B.unread buf.old) (B.unread buf.new) };
+
+    /// How many bytes a digest has: 32 or 64 for the digests that there are. Takes no memory.
     final fn size() -> usize
-        ensures { result ≡ Self.size }
+        ensures value { result ≡ Self.size }
+        ensures small { Self.size ≤ 2 ^ 32 }
     {
         Self::fixed_size()
     }
 
-    /// Reads the next digest from the front of `buf`, seen by its bytes. Refuses `EndOfBuffer` where fewer bytes are
-    /// left than a digest has; then `buf` is at an ending of what it held.
-    final fn read<B: Buf>(alloc: Global, buf: &mut B) -> Result<Self, Error>
-        ensures gives { Gives Self.text result (B.unread buf.new)
-            (front_at Self.size (B.unread buf.old)) }
-        ensures ends { IsEnding (B.unread buf.old) (B.unread buf.new) }
+    /// Reads a digest that is all of `buf`, seen by its bytes. Refuses as `read` does, and then with `ExtraData` and
+    /// their number where bytes are left over.
+    final fn decode<B: Buf>(alloc: Global, mut buf: B) -> Result<Self, Error>
+        ensures { Gives Self.text result [] (whole (front_at Self.size (B.unread buf))) }
     {
-        Self::read_cfg(alloc, buf, &())
+        let digest = Self::read(alloc, &mut buf)?;
+        let left = buf.remaining();
+        if left > 0 {
+            return Err(Error::ExtraData(left as u64));
+        }
+        Ok(digest)
     }
 
     /// Reads an option of a digest from the front of `buf`: a truth value, then the digest where it is true. Refuses
@@ -64,8 +74,8 @@ pub trait Digest: Copy + Eq + Canonical + EncodeSize + Small + Read<Cfg = ()> {
     /// A digest is nothing but its bytes.
     ghost one: { (x y : Self) → Self.text x ≡ Self.text y → x ≡ y };
 
-    /// Reading takes the bytes of one digest from the front, whatever they are.
-    ghost plain: { IsPlain Self.text Self.view (Self.parse tt) Self.size };
+    /// A digest has at most `2^32` bytes, so that a sum of a few sizes is no overflow.
+    ghost short: { Self.size ≤ 2 ^ 32 };
 
     /// As many digests as a tree has peaks fit in memory.
     ghost few: { 64 * type_size Self.row < 2 ^ 63 };
@@ -102,11 +112,15 @@ impl Digest for FixedBytes<32> {
         &self.bytes
     }
 
+    fn read<B: Buf>(alloc: Global, buf: &mut B) -> Result<FixedBytes<32>, Error> {
+        Self::read_cfg(alloc, buf, &())
+    }
+
     ghost same = { λ x y. bytes_eq-Decides x.bytes y.bytes };
 
     ghost one = { one_digest 32 };
 
-    ghost plain = { fixed_plain 32 (λ x. x.bytes) refl };
+    ghost short = { lit< tt };
 
     ghost few = { lit< tt };
 }
@@ -116,11 +130,15 @@ impl Digest for FixedBytes<64> {
         self.bytes.as_slice()
     }
 
+    fn read<B: Buf>(alloc: Global, buf: &mut B) -> Result<FixedBytes<64>, Error> {
+        Self::read_cfg(alloc, buf, &())
+    }
+
     ghost same = { λ x y. bytes_eq-Decides x.bytes y.bytes };
 
     ghost one = { one_digest 64 };
 
-    ghost plain = { fixed_plain 64 (λ x. x.bytes) refl };
+    ghost short = { lit< tt };
 
     ghost few = { lit< tt };
 }

@@ -12,7 +12,7 @@ use crate::merkle::countable::most_leaves_within;
 use crate::merkle::{Countable, Location, NodesToPin, Peaks, Position};
 use std::alloc::Global;
 use storage_codec::NoMemory;
-use storage_codec::codec::{self, Buf, Read, Write, small_size};
+use storage_codec::codec::{self, Buf, Read, Write};
 use storage_codec::digest::Digest;
 
 /// A family of append-only trees: where the nodes stand that cover given leaves. A tree over `n` leaves is cut into
@@ -217,7 +217,7 @@ pub trait Graftable: Countable {
         }
         match slot {
             None => 1,
-            Some(_) => 1 + small_size::<D>() as u64,
+            Some(_) => 1 + D::size() as u64,
         }
     }
 

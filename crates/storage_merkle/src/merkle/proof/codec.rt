@@ -11,9 +11,7 @@ ghost use Rattle.storage_merkle.specs.Laws.ProofWire.{all_digests, proof_again, 
 use crate::merkle::{Location, Proof};
 use std::alloc::Global;
 use storage_codec::NoMemory;
-use storage_codec::codec::{
-    Buf, Canonical, Codec, EncodeSize, Error, Read, UInt, Write, small_size, sum,
-};
+use storage_codec::codec::{Buf, Canonical, Codec, EncodeSize, Error, Read, UInt, Write, sum};
 use storage_codec::digest::Digest;
 
 impl<F, D: Digest> Write for Proof<F, D> {
@@ -57,7 +55,7 @@ impl<F, D: Digest> EncodeSize for Proof<F, D> {
 fn digests_size<D: Digest>(count: u64) -> Option<u64>
     ensures { result ≡ size_of (count * D.size) }
 {
-    count.checked_mul(small_size::<D>() as u64)
+    count.checked_mul(D::size() as u64)
 }
 
 impl<F, D: Digest> Read for Proof<F, D> {

@@ -1,6 +1,8 @@
 //! Range proofs as bytes: the proof over the grafted view, the slots of the pending and of the partial chunk's
 //! digest, the operations root.
 
+ghost use Rattle.std.specs.Prelude.{◌≡◌, length};
+ghost use Rattle.storage_codec.specs.Parts.{option_text, size_of};
 ghost use Rattle.storage_current.specs.Held.{range_proof_of};
 ghost use Rattle.storage_current.specs.Snapshots.{RangeProof as RangeProofOf};
 ghost use Rattle.storage_current.specs.CurrentWire.{range_proof_text, range_proof_at, IsAdmittedRangeProof};
@@ -9,9 +11,7 @@ ghost use Rattle.storage_current.specs.Laws.CurrentWire.{current_again, current_
 use crate::qmdb::current::proof::RangeProof;
 use std::alloc::Global;
 use storage_codec::NoMemory;
-use storage_codec::codec::{
-    Buf, Canonical, Codec, EncodeSize, Error, Read, Write, small_size, sum,
-};
+use storage_codec::codec::{Buf, Canonical, Codec, EncodeSize, Error, Read, Write, sum};
 use storage_codec::digest::Digest;
 use storage_merkle::merkle::{Graftable, Proof};
 
@@ -28,10 +28,20 @@ impl<F: Graftable, D: Digest> Write for RangeProof<F, D> {
 
 impl<F: Graftable, D: Digest> EncodeSize for RangeProof<F, D> {
     fn encode_size(&self) -> Option<u64> {
-        let partial = self.partial_chunk_digest.encode_size();
-        let ends = sum(partial, Some(small_size::<D>() as u64));
+        let partial = option_size(&self.partial_chunk_digest);
+        let ends = sum(partial, Some(D::size() as u64));
         let pending = Some(F::pending_size(&self.pending_chunk_digest));
         sum(self.proof.encode_size(), sum(pending, ends))
+    }
+}
+
+/// How many bytes `digest` is written as, a truth value before it where there is one.
+fn option_size<D: Digest>(digest: &Option<D>) -> Option<u64>
+    ensures { result ≡ size_of (length (option_text D.text digest.now)) }
+{
+    match digest {
+        None => Some(1),
+        Some(_) => Some(D::size() as u64 + 1),
     }
 }
 

@@ -10,9 +10,7 @@ use crate::qmdb::current::proof::OpsRootWitness;
 use std::alloc::Global;
 use std::marker::PhantomData;
 use storage_codec::NoMemory;
-use storage_codec::codec::{
-    Buf, Canonical, Codec, EncodeSize, Error, Read, UInt, Write, small_size, sum,
-};
+use storage_codec::codec::{Buf, Canonical, Codec, EncodeSize, Error, Read, UInt, Write, sum};
 use storage_codec::digest::Digest;
 use storage_merkle::merkle::Graftable;
 
@@ -34,10 +32,7 @@ impl<D: Digest> Write for Counted<D> {
 
 impl<D: Digest> EncodeSize for Counted<D> {
     fn encode_size(&self) -> Option<u64> {
-        sum(
-            UInt(self.bits).encode_size(),
-            Some(small_size::<D>() as u64),
-        )
+        sum(UInt(self.bits).encode_size(), Some(D::size() as u64))
     }
 }
 
@@ -76,7 +71,7 @@ impl<F: Graftable, D: Digest> EncodeSize for OpsRootWitness<F, D> {
     fn encode_size(&self) -> Option<u64> {
         let pending = Some(F::pending_size(&self.pending_chunk_digest));
         let partial = with_count(&self.partial_chunk).encode_size();
-        sum(Some(small_size::<D>() as u64), sum(pending, partial))
+        sum(Some(D::size() as u64), sum(pending, partial))
     }
 }
 

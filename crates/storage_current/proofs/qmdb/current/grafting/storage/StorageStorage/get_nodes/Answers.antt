@@ -1,4 +1,4 @@
-use Rattle.std.proofs.Common.{arith, ◌≡◌, length, ap, refl, inl, inr, rules}
+use Rattle.std.proofs.Common.{arith, ◌≡◌, length, ap, refl, inl, inr}
 use Rattle.storage_current.specs.Combined.{joined}
 use Rattle.storage_current.specs.GraftedTrees.{regrafted}
 use Rattle.storage_current.specs.Splits.{gaps}
@@ -64,4 +64,4 @@ pub returns-clause-same : goal.returns-clause-same
 returns-clause-same g c = grind (arith, common_steps)
 
 pub returns-in-Err-clause-same : goal.returns-in-Err-clause-same
-returns-in-Err-clause-same g c = search rules
+returns-in-Err-clause-same g c = grind (arith, common_steps)
