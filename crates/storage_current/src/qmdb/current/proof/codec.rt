@@ -35,7 +35,7 @@ impl<F: Graftable, D: Digest> EncodeSize for RangeProof<F, D> {
     }
 }
 
-/// How many bytes `digest` is written as, a truth value before it where there is one.
+/// How many bytes `digest` is written as: a truth value, then the digest where there is one. Takes no memory.
 fn option_size<D: Digest>(digest: &Option<D>) -> Option<u64>
     ensures { result ≡ size_of (length (option_text D.text digest.now)) }
 {
