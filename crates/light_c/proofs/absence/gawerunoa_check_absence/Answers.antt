@@ -6,3 +6,9 @@ returns-in-Of256-clause-exact c = search rules
 
 pub returns-in-Of512-clause-exact : goal.returns-in-Of512-clause-exact
 returns-in-Of512-clause-exact c = search rules
+
+pub returns-in-Of256-clause-meaning : goal.returns-in-Of256-clause-meaning
+returns-in-Of256-clause-meaning c = search rules
+
+pub returns-in-Of512-clause-meaning : goal.returns-in-Of512-clause-meaning
+returns-in-Of512-clause-meaning c = search rules

@@ -1,4 +1,4 @@
-use Rattle.std.proofs.Common.{arith}
+use Rattle.std.proofs.Common.{arith, rules}
 use Rattle.std.proofs.lemmas.Grind.{common_steps}
 use Rattle.light_c.proofs.byte_strings.adds_up.Goals as goal
 
@@ -10,3 +10,6 @@ loop-length-preserved c = grind (arith, common_steps)
 
 pub returns : goal.returns
 returns c = grind (arith, common_steps)
+
+pub overflow_sub-rest : goal.overflow_sub-rest
+overflow_sub-rest c = search rules

@@ -1,4 +1,5 @@
 use Rattle.std.proofs.lemmas.Bool.{ne_eqb}
+use Rattle.std.proofs.Common.{rules}
 use Rattle.light_c.proofs.fixed.value_of.Goals as goal
 
 pub returns-then-family-eq-MMR-clause-meaning : goal.returns-then-family-eq-MMR-clause-meaning
@@ -8,3 +9,6 @@ returns-then-family-eq-MMR-clause-meaning g c = λ wide.
 pub returns-else-family-eq-MMR-clause-meaning : goal.returns-else-family-eq-MMR-clause-meaning
 returns-else-family-eq-MMR-clause-meaning g c = λ wide.
     rw (ne_eqb c.args.family 0 c.if-family-eq-MMR.false) (c.check_value-else-family-eq-MMR.ensures.meaning wide)
+
+pub returns-then-family-eq-MMR-clause-exact : goal.returns-then-family-eq-MMR-clause-exact
+returns-then-family-eq-MMR-clause-exact g c = search rules

@@ -1,5 +1,6 @@
 use Rattle.std.proofs.lemmas.Bool.{ne_eqb}
 use Rattle.light_c.proofs.Told.{means_again}
+use Rattle.std.proofs.Common.{rules}
 use Rattle.light_c.proofs.operation.of_family.Goals as goal
 
 pub returns-then-family-eq-MMR-clause-meaning : goal.returns-then-family-eq-MMR-clause-meaning
@@ -12,3 +13,6 @@ returns-else-family-eq-MMR-clause-meaning g c = λ wide.
     rw (ne_eqb c.args.family 0 c.if-family-eq-MMR.false)
     (means_again c.checked-else-family-eq-MMR.result _ _ c.checked-else-family-eq-MMR.ensures.exact
     (c.checked-else-family-eq-MMR.ensures.meaning wide))
+
+pub returns-then-family-eq-MMR-clause-exact : goal.returns-then-family-eq-MMR-clause-exact
+returns-then-family-eq-MMR-clause-exact g c = search rules

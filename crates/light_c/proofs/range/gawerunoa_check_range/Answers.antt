@@ -6,3 +6,15 @@ invariant_of-claim c = search rules
 
 pub returns-in-Of256-clause-exact : goal.returns-in-Of256-clause-exact
 returns-in-Of256-clause-exact c = search rules
+
+pub invariant_of-claim-2 : goal.invariant_of-claim-2
+invariant_of-claim-2 c = search rules
+
+pub returns-in-Of256-clause-meaning : goal.returns-in-Of256-clause-meaning
+returns-in-Of256-clause-meaning c = search rules
+
+pub returns-in-Of512-clause-exact : goal.returns-in-Of512-clause-exact
+returns-in-Of512-clause-exact c = search rules
+
+pub returns-in-Of512-clause-meaning : goal.returns-in-Of512-clause-meaning
+returns-in-Of512-clause-meaning c = search rules

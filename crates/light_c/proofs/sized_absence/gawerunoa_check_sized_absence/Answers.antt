@@ -3,3 +3,6 @@ use Rattle.light_c.proofs.sized_absence.gawerunoa_check_sized_absence.Goals as g
 
 pub returns-in-Of512-clause-exact : goal.returns-in-Of512-clause-exact
 returns-in-Of512-clause-exact c = search rules
+
+pub returns-in-Of512-clause-meaning : goal.returns-in-Of512-clause-meaning
+returns-in-Of512-clause-meaning c = search rules

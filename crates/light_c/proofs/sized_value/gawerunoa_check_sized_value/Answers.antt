@@ -6,3 +6,6 @@ returns-in_default-of_bytes-clause-exact c = search rules
 
 pub returns-in-Of256-clause-exact : goal.returns-in-Of256-clause-exact
 returns-in-Of256-clause-exact c = search rules
+
+pub returns-in-Of256-clause-meaning : goal.returns-in-Of256-clause-meaning
+returns-in-Of256-clause-meaning c = search rules

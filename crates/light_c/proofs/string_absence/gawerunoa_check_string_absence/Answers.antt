@@ -1,4 +1,4 @@
-use Rattle.std.proofs.Common.{inl, inr, refl}
+use Rattle.std.proofs.Common.{inl, inr, refl, rules}
 use Rattle.storage_current.specs.Snapshots.{grafting_of}
 use Rattle.light_c.specs.Agreed.{function_of, has_pending_of, shape_of, digest_size_of}
 use Rattle.light_c.specs.StringKeys.{IsTrueStringAbsenceOf}
@@ -21,3 +21,9 @@ returns-in-Of512-clause-meaning c = λ none is.
     c.args.min_value_length c.args.max_value_length x root) c.args.hash c.args.root.now c.in-Ok.root c.in-Of512.root
     c.in-Ok.ensures.1 c.in-Of512.is c.args.key.now c.args.key.now refl (means_again c.of_key-in-Of512.result _ _
     c.of_key-in-Of512.ensures.exact (c.of_key-in-Of512.ensures.meaning (inr refl)) is)
+
+pub returns-in-Of256-clause-exact : goal.returns-in-Of256-clause-exact
+returns-in-Of256-clause-exact c = search rules
+
+pub returns-in-Of512-clause-exact : goal.returns-in-Of512-clause-exact
+returns-in-Of512-clause-exact c = search rules

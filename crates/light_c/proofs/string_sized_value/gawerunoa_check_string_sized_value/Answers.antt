@@ -23,3 +23,9 @@ returns-in-Of512-clause-meaning c = λ none is.
 
 pub returns-in_default-clause-exact : goal.returns-in_default-clause-exact
 returns-in_default-clause-exact c = search rules
+
+pub returns-in-Of256-clause-exact : goal.returns-in-Of256-clause-exact
+returns-in-Of256-clause-exact c = search rules
+
+pub returns-in-Of512-clause-exact : goal.returns-in-Of512-clause-exact
+returns-in-Of512-clause-exact c = search rules

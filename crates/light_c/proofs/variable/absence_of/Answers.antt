@@ -1,5 +1,5 @@
 use Rattle.std.proofs.lemmas.Bool.{ne_eqb}
-use Rattle.std.proofs.Common.{arith}
+use Rattle.std.proofs.Common.{arith, rules}
 use Rattle.std.proofs.lemmas.Grind.{common_steps}
 use Rattle.light_c.proofs.variable.absence_of.Goals as goal
 
@@ -13,3 +13,6 @@ returns-else-family-eq-MMR-clause-meaning g c = λ wide.
 
 pub returns-then-family-eq-MMR-clause-exact : goal.returns-then-family-eq-MMR-clause-exact
 returns-then-family-eq-MMR-clause-exact g c = grind (arith, common_steps)
+
+pub returns-then-family-eq-MMR-clause-meaning : goal.returns-then-family-eq-MMR-clause-meaning
+returns-then-family-eq-MMR-clause-meaning g c = search rules

@@ -8,3 +8,6 @@ returns-else-family-eq-MMR-clause-meaning g c = λ wide.
 
 pub returns-then-family-eq-MMR-clause-exact : goal.returns-then-family-eq-MMR-clause-exact
 returns-then-family-eq-MMR-clause-exact g c = search rules
+
+pub returns-then-family-eq-MMR-clause-meaning : goal.returns-then-family-eq-MMR-clause-meaning
+returns-then-family-eq-MMR-clause-meaning g c = search rules

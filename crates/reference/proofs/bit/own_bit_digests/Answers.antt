@@ -1,4 +1,4 @@
-use Rattle.std.proofs.Common.{◌∷◌, [], map, ap, ◌∙◌}
+use Rattle.std.proofs.Common.{◌∷◌, [], map, ap, ◌∙◌, rules}
 use Rattle.std.proofs.lemmas.List.{map-append}
 use Rattle.reference.proofs.BitParts.{own_aligned, own_unaligned}
 use Rattle.reference.proofs.bit.own_bit_digests.Goals as goal
@@ -23,3 +23,6 @@ returns g c =
     (text c.in_ok-partial_digest.field-0) c.in_ok-partial_digest.ensures
     (ap (map text) c.in_ok-push-2.ensures.items
     ∙ map-append text c.in_ok-proof.proof.digests.items (c.in_ok-partial_digest.field-0 ∷ []))
+
+pub returns-then-place-length : goal.returns-then-place-length
+returns-then-place-length g c = search rules

@@ -41,3 +41,18 @@ returns-clause-meaning g c = λ same yes.
 
 pub returns-then-bit-as_u64-clause-past_the_end : goal.returns-then-bit-as_u64-clause-past_the_end
 returns-then-bit-as_u64-clause-past_the_end g c = search rules
+
+pub returns-then-bit-as_u64-clause-inactive : goal.returns-then-bit-as_u64-clause-inactive
+returns-then-bit-as_u64-clause-inactive g c = search rules
+
+pub returns-then-bit-as_u64-clause-no_digest : goal.returns-then-bit-as_u64-clause-no_digest
+returns-then-bit-as_u64-clause-no_digest g c = search rules
+
+pub returns-in_err-computed-clause-inactive : goal.returns-in_err-computed-clause-inactive
+returns-in_err-computed-clause-inactive g c = search rules
+
+pub returns-clause-inactive : goal.returns-clause-inactive
+returns-clause-inactive g c = search rules
+
+pub returns-clause-no_digest : goal.returns-clause-no_digest
+returns-clause-no_digest g c = search rules

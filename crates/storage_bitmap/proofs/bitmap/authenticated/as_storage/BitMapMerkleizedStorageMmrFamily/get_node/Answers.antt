@@ -6,3 +6,9 @@ returns-clause-answer g c = search rules
 
 pub returns-clause-fault : goal.returns-clause-fault
 returns-clause-fault g c code same = absurd (cc)
+
+pub returns-clause-failure : goal.returns-clause-failure
+returns-clause-failure g c = search rules
+
+pub returns-clause-exact : goal.returns-clause-exact
+returns-clause-exact g c = search rules

@@ -1,4 +1,4 @@
-use Rattle.std.proofs.Common.{◌*◌, ◌<◌, map, sym, arith, subst}
+use Rattle.std.proofs.Common.{◌*◌, ◌<◌, map, sym, arith, subst, rules}
 use Rattle.std.proofs.lemmas.Nat.{le-div}
 use Rattle.storage_bitmap.specs.BitProofs.{IsBitAccepted}
 use Rattle.storage_bitmap.proofs.Bits.{chunk_positive}
@@ -38,3 +38,12 @@ returns-clause-accepted g c plain bits s =
     (record { leaves = c.new.result; inactive = 0; digests = map g.D.Write.text c.in_ok-digests.digests.items })
     c.get_chunk.result c.args.bit bits
     (omega (arith, c.self.invariant.few, count_of g.row.N c.self.inside.bits bits t.stands.rest)) own)
+
+pub bit_digests-requires : goal.bit_digests-requires
+bit_digests-requires g c = search rules
+
+pub returns-in_err-digests-clause-why : goal.returns-in_err-digests-clause-why
+returns-in_err-digests-clause-why g c = search rules
+
+pub get_chunk-requires : goal.get_chunk-requires
+get_chunk-requires g c = search rules

@@ -1,5 +1,5 @@
 use Rattle.storage_bitmap.proofs.Standing.{pushed}
-use Rattle.std.proofs.Common.{arith}
+use Rattle.std.proofs.Common.{arith, rules}
 use Rattle.std.proofs.lemmas.Grind.{common_steps}
 use Rattle.storage_bitmap.proofs.bitmap.authenticated.unmerkleized.BitMap+D+N+Unmerkleized.push.Goals as goal
 
@@ -12,3 +12,6 @@ returns-clause-stands g c h bits s =
 
 pub invariant_of-self-2 : goal.invariant_of-self-2
 invariant_of-self-2 g c = grind (arith, common_steps)
+
+pub returns-clause-value : goal.returns-clause-value
+returns-clause-value g c = search rules
