@@ -1,0 +1,7 @@
+use Rattle.storage_codec.proofs.digest.FixedBytes64Digest.read.Goals as goal
+
+pub returns-clause-gives : goal.returns-clause-gives
+returns-clause-gives g c = c.read_cfg.ensures.gives
+
+pub returns-clause-ends : goal.returns-clause-ends
+returns-clause-ends g c = c.read_cfg.ensures.ends
