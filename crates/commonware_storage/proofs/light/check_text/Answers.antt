@@ -12,3 +12,12 @@ returns-clause-meaning g c = λ wide accepted. record {
 
 pub returns-in_err-operation-clause-why : goal.returns-in_err-operation-clause-why
 returns-in_err-operation-clause-why g c = search rules
+
+pub returns-clause-refused : goal.returns-clause-refused
+returns-clause-refused g c = search rules
+
+pub returns-clause-exact : goal.returns-clause-exact
+returns-clause-exact g c = search rules
+
+pub returns-clause-whole : goal.returns-clause-whole
+returns-clause-whole g c = search rules

@@ -28,3 +28,12 @@ returns-in-Ok-2-clause-exact g c = grind (arith, common_steps)
 
 pub returns-then-is_none-clause-refused : goal.returns-then-is_none-clause-refused
 returns-then-is_none-clause-refused g c = search rules
+
+pub returns-in-Ok-clause-whole : goal.returns-in-Ok-clause-whole
+returns-in-Ok-clause-whole g c = search rules
+
+pub returns-in-Ok-2-clause-meaning : goal.returns-in-Ok-2-clause-meaning
+returns-in-Ok-2-clause-meaning g c = search rules
+
+pub returns-in-Ok-2-clause-whole : goal.returns-in-Ok-2-clause-whole
+returns-in-Ok-2-clause-whole g c = search rules

@@ -30,3 +30,18 @@ returns-in-Ok-clause-whole g c =
 
 pub returns-in-Err-Memory-clause-refused : goal.returns-in-Err-Memory-clause-refused
 returns-in-Err-Memory-clause-refused g c = search rules
+
+pub returns-then-is_none-clause-refused : goal.returns-then-is_none-clause-refused
+returns-then-is_none-clause-refused g c = search rules
+
+pub returns-then-is_none-clause-exact : goal.returns-then-is_none-clause-exact
+returns-then-is_none-clause-exact g c = search rules
+
+pub returns-then-is_none-clause-meaning : goal.returns-then-is_none-clause-meaning
+returns-then-is_none-clause-meaning g c = search rules
+
+pub returns-then-is_none-clause-whole : goal.returns-then-is_none-clause-whole
+returns-then-is_none-clause-whole g c = search rules
+
+pub returns-in-Err : goal.returns-in-Err
+returns-in-Err g c = search rules
