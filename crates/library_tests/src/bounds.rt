@@ -6,6 +6,7 @@ ghost use Rattle.storage_codec.specs.Faults.{◌>>=◌ as ◌and_then◌};
 
 use std::alloc::Global;
 use std::test::Fail;
+use storage_codec::codec::util::{byte, ensure_zeros, put_zeros};
 use storage_codec::codec::{
     Buf, Encode, Error, FixedBytes, FixedSize, Read, U64, UInt, small_size,
 };
@@ -51,6 +52,24 @@ fn whole_digest_read(rt: HostRuntime) {
     assert_eq!(rt; read, Ok(Sha512::fill(1)));
     let read = DigestOf::<Sha256>::decode(rt.alloc(), [1; 33].as_slice());
     assert_eq!(rt; read.err(), Some(Error::ExtraData(1)));
+}
+
+#[test]
+fn zeros_read_where_written(rt: HostRuntime) -> Result<(), Fail> {
+    let mut filled = vec![in rt.alloc(); 7u8]?;
+    put_zeros(&mut filled, 3)?;
+    assert_eq!(rt; filled.as_slice(), [7, 0, 0, 0].as_slice());
+
+    let mut left = filled.as_slice();
+    assert_eq!(rt; byte(&mut left), Ok(7));
+    assert_eq!(rt; ensure_zeros(&mut left, 2), Ok(()));
+    assert_eq!(rt; left, [0].as_slice());
+    let refused = ensure_zeros(&mut filled.as_slice(), 1);
+    assert_eq!(rt;
+        refused.err(),
+        Some(Error::Invalid("fixed operation", "nonzero padding"))
+    );
+    Ok(())
 }
 
 #[test]

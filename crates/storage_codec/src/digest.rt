@@ -1,15 +1,16 @@
 //! Digests, and the digest functions that make them.
 
-ghost use Rattle.std.specs.Prelude.{◌*◌, ◌<◌, ◌≤◌, ◌^◌, ◌≡◌, ℕ, List, [], length, ◌↔◌, replicate, flat_map, option_map, true, Ok};
+ghost use Rattle.std.specs.Prelude.{◌*◌, ◌<◌, ◌≤◌, ◌^◌, ◌≡◌, ◌≢◌, ◌++◌, ℕ, List, [], length, ◌↔◌, replicate, flat_map, option_map, true, Ok, Err, OnErr, OnOk};
 ghost use Rattle.std.specs.Mem.{type_size};
 ghost use Rattle.std.proofs.Common.{lit<};
 ghost use Rattle.std.proofs.lemmas.Slice.Eq.{bytes_eq-Decides};
 ghost use Rattle.storage_codec.specs.Codec.{Gives, front_at, option_at, whole};
 ghost use Rattle.storage_codec.specs.Digests.{HashFunction, IsSized};
 ghost use Rattle.storage_codec.specs.Laws.DigestValues.{one_digest};
-ghost use Rattle.storage_codec.specs.Parts.{IsEnding};
+ghost use Rattle.storage_codec.specs.Parts.{AppendsStart, IsEnding, option_text};
 
-use crate::codec::{Buf, Error, FixedBytes, FixedSize, Read};
+use crate::NoMemory;
+use crate::codec::{Buf, Error, FixedBytes, Read};
 use std::alloc::Global;
 
 mod sha256;
@@ -20,30 +21,35 @@ pub use sha512::Sha512;
 
 /// A digest: a byte string of one length, the same for each digest of the type. It is written as
 /// its bytes and nothing else, and any as many bytes are read as one.
-pub trait Digest: Copy + Eq + FixedSize {
-    /// The bytes of the digest, as many as the type's fixed size. Takes no memory.
+pub trait Digest: Copy + Eq {
+    /// The bytes of a digest.
+    ghost text: { Self → List ℕ };
+
+    /// How many bytes each digest has.
+    ghost size: { ℕ };
+
+    /// The bytes of the digest. Takes no memory.
     fn bytes(&self) -> &[u8]
-        ensures { result.now ≡ Self.text self.now };
+        ensures { result.now ≡ text self.now };
+
+    /// How many bytes a digest has: 32 or 64 for the digests that there are. Takes no memory.
+    fn size() -> usize
+        ensures value { result ≡ size }
+        ensures small { size ≤ 2 ^ 32 };
 
     /// Reads the next digest from the front of `buf`, seen by its bytes. Refuses `EndOfBuffer` where fewer bytes are
     /// left than a digest has; then `buf` is at an ending of what it held.
     fn read<B: Buf>(alloc: Global, buf: &mut B) -> Result<Self, Error>
         ensures gives { Gives Self.text result (B.unread buf.new)
             (front_at Self.size (B.unread buf.old)) }
-        ensures ends { IsEnding (B.unread buf.old) (B.unread buf.new) };
-
-    /// How many bytes a digest has: 32 or 64 for the digests that there are. Takes no memory.
-    final fn size() -> usize
-        ensures value { result ≡ Self.size }
-        ensures small { Self.size ≤ 2 ^ 32 }
-    {
-        Self::fixed_size()
-    }
+        ensures ends { IsEnding (B.unread buf.old) (B.unread buf.new) }
+        ensures no_memory { result ≢ Err Error.Memory };
 
     /// Reads a digest that is all of `buf`, seen by its bytes. Refuses as `read` does, and then with `ExtraData` and
     /// their number where bytes are left over.
     final fn decode<B: Buf>(alloc: Global, mut buf: B) -> Result<Self, Error>
-        ensures { Gives Self.text result [] (whole (front_at Self.size (B.unread buf))) }
+        ensures gives { Gives Self.text result [] (whole (front_at Self.size (B.unread buf))) }
+        ensures no_memory { result ≢ Err Error.Memory }
     {
         let digest = Self::read(alloc, &mut buf)?;
         let left = buf.remaining();
@@ -60,6 +66,7 @@ pub trait Digest: Copy + Eq + FixedSize {
         ensures gives { Gives (option_map Self.text) result (B.unread buf.new)
             (option_at (front_at Self.size) (B.unread buf.old)) }
         ensures ends { IsEnding (B.unread buf.old) (B.unread buf.new) }
+        ensures no_memory { result ≢ Err Error.Memory }
     {
         if bool::read_cfg(alloc, buf, &())? {
             Ok(Some(Self::read(alloc, buf)?))
@@ -67,6 +74,26 @@ pub trait Digest: Copy + Eq + FixedSize {
             Ok(None)
         }
     }
+
+    /// Appends to `out` what an option of a digest is written as: a truth value, then the digest's bytes where there is
+    /// one. `NoMemory` comes only where `out` was refused a growth; then it holds its old bytes and a beginning of these.
+    #[tactic(auto, using(crate::specs::Laws::Parts::starts_cons))]
+    final fn write_option(digest: &Option<Self>, out: &mut Vec<u8>) -> Result<(), NoMemory>
+        ensures ok { OnOk result (out.new.items ≡ out.old.items ++ option_text Self.text digest.now) }
+        ensures err { OnErr result (AppendsStart out.old.items out.new.items (option_text Self.text digest.now)) }
+    {
+        match digest {
+            None => out.push(0)?,
+            Some(digest) => {
+                out.push(1)?;
+                out.extend_from_slice(digest.bytes())?;
+            }
+        }
+        Ok(())
+    }
+
+    /// Each digest has as many bytes.
+    ghost sized: { (x : Self) → length (Self.text x) ≡ Self.size };
 
     /// Digests are equal exactly where their bytes are.
     ghost same: { (x y : Self) → Self.PartialEq.eq x y ≡ true ↔ Self.text x ≡ Self.text y };
@@ -108,13 +135,23 @@ pub trait Hasher {
 }
 
 impl Digest for FixedBytes<32> {
+    ghost text = { λ x. x.bytes };
+
+    ghost size = { 32 };
+
     fn bytes(&self) -> &[u8] {
         &self.bytes
+    }
+
+    fn size() -> usize {
+        32
     }
 
     fn read<B: Buf>(alloc: Global, buf: &mut B) -> Result<FixedBytes<32>, Error> {
         Self::read_cfg(alloc, buf, &())
     }
+
+    ghost sized = { λ x. x.full };
 
     ghost same = { λ x y. bytes_eq-Decides x.bytes y.bytes };
 
@@ -126,13 +163,23 @@ impl Digest for FixedBytes<32> {
 }
 
 impl Digest for FixedBytes<64> {
+    ghost text = { λ x. x.bytes };
+
+    ghost size = { 64 };
+
     fn bytes(&self) -> &[u8] {
         self.bytes.as_slice()
+    }
+
+    fn size() -> usize {
+        64
     }
 
     fn read<B: Buf>(alloc: Global, buf: &mut B) -> Result<FixedBytes<64>, Error> {
         Self::read_cfg(alloc, buf, &())
     }
+
+    ghost sized = { λ x. x.full };
 
     ghost same = { λ x y. bytes_eq-Decides x.bytes y.bytes };
 

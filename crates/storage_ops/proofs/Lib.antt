@@ -1,7 +1,6 @@
 pub mod Failing
 pub mod ReadingCommits
 pub mod Starts
-pub mod Zeros
 pub mod Padded
 mod OwnStores
 mod Verify

@@ -3,7 +3,7 @@ use Rattle.std.proofs.Common.{◌≡◌, ℕ, List, Ok, refl}
 use Rattle.storage_codec.specs.declared.codec.error.Error.{Error}
 use Rattle.storage_codec.specs.Codec.{Answer, MayFail, mapped}
 use Rattle.storage_ops.specs.Fixed.{padded}
-use Rattle.storage_ops.specs.Padding.{zeros_at}
+use Rattle.storage_codec.specs.Padding.{zeros_at}
 use Rattle.storage_ops.proofs.Failing.{fails_mapped}
 
 module _ {V W : Type 0} (f : V → W) (n : ℕ) (payload : Answer V) (x : V) (mid : List ℕ) where

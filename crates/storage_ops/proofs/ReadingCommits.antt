@@ -3,7 +3,7 @@ use Rattle.std.proofs.Common.{◌≡◌, ℕ, List, Bool, true, false, Option, S
 use Rattle.storage_codec.specs.declared.codec.error.Error.{Error}
 use Rattle.storage_codec.specs.Codec.{Answer, MayFail, bool_at}
 use Rattle.storage_ops.specs.Fixed.{presence_at}
-use Rattle.storage_ops.specs.Padding.{zeros_at}
+use Rattle.storage_codec.specs.Padding.{zeros_at}
 use Rattle.storage_ops.proofs.Failing.{fails_mapped}
 
 -- a value behind its presence byte, or zeros in its place

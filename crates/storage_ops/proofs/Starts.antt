@@ -1,11 +1,5 @@
 -- Beginnings of what is appended.
-use Rattle.std.proofs.Common.{◌≡◌, ℕ, List, [], ◌++◌, Result, Ok, Err, OnErr, refl, sym, ap, ◌∙◌, append_assoc}
-use Rattle.std.proofs.lemmas.List.{append-nil}
-use Rattle.storage_codec.specs.Parts.{AppendsStart}
-
--- Nothing appended is a beginning of any text.
-pub starts_none : {old new : List ℕ} (text : List ℕ) → new ≡ old → AppendsStart old new text
-starts_none {old} {new} text e = record { done = []; left = text; text_is = refl; new_is = e ∙ sym (append-nil old) }
+use Rattle.std.proofs.Common.{◌≡◌, ℕ, List, ◌++◌, Result, Ok, Err, OnErr, ap, ◌∙◌, append_assoc}
 
 -- two parts, one after the other
 pub appended : (old first second : List ℕ) {mid new : List ℕ} → mid ≡ old ++ first → new ≡ mid ++ second

@@ -5,7 +5,7 @@ use Rattle.storage_codec.specs.Faults.{◌>>=◌, EndOfBuffer, InvalidEnum, Inva
 use Rattle.storage_codec.specs.Codec.{Answer, mapped, byte_at, bool_at, u64_at}
 use Rattle.storage_merkle.specs.Shape.{max_leaves}
 use Rattle.storage_ops.specs.Operations.{OperationView, Delete, Update, CommitFloor}
-use Rattle.storage_ops.specs.Padding.{zeros_at}
+use Rattle.storage_codec.specs.Padding.{zeros_at}
 
 -- the greatest size of an update, a commit with a value, and a deletion, each with its tag
 abbrev pub fixed_size : ℕ → ℕ → ℕ → ℕ

@@ -2,7 +2,6 @@ pub mod PrefixFree
 pub mod Operations
 pub mod Reading
 pub mod Updates
-pub mod Padding
 pub mod Fixed
 pub mod Variable
 pub mod Shown

@@ -1,6 +1,6 @@
 -- Endings and beginnings that follow one another.
 use Rattle.std.proofs.Common.{◌≡◌, ℕ, List, [], ◌∷◌, ◌++◌, take, drop, refl, sym, ap, ◌∙◌, append_assoc}
-use Rattle.std.proofs.lemmas.List.{take-append-drop}
+use Rattle.std.proofs.lemmas.List.{append-nil, take-append-drop}
 use Rattle.storage_codec.specs.Parts.{IsEnding, AppendsStart}
 
 pub ends_same : (a : List ℕ) → IsEnding a a
@@ -35,6 +35,10 @@ starts_first {old} {new} {first} second s = record {
   text_is = ap (λ (t : List ℕ). t ++ second) s.text_is ∙ append_assoc s.done s.left second;
   new_is = s.new_is;
 }
+
+-- Nothing appended is a beginning of any text.
+pub starts_none : {old new : List ℕ} (text : List ℕ) → new ≡ old → AppendsStart old new text
+starts_none {old} text e = record { done = []; left = text; text_is = refl; new_is = e ∙ sym (append-nil old) }
 
 -- a beginning of what follows the first byte
 pub starts_cons : {old mid new : List ℕ} (x : ℕ) (text : List ℕ) → mid ≡ old ++ x ∷ [] → AppendsStart mid new text

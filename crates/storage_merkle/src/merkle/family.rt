@@ -12,7 +12,7 @@ use crate::merkle::countable::most_leaves_within;
 use crate::merkle::{Countable, Location, NodesToPin, Peaks, Position};
 use std::alloc::Global;
 use storage_codec::NoMemory;
-use storage_codec::codec::{self, Buf, Read, Write};
+use storage_codec::codec::{self, Buf, Read};
 use storage_codec::digest::Digest;
 
 /// A family of append-only trees: where the nodes stand that cover given leaves. A tree over `n` leaves is cut into
@@ -176,7 +176,7 @@ pub trait Graftable: Countable {
             (slot_text Self.has_pending D.text slot.now)) }
     {
         if Self::has_pending() {
-            slot.write(out)?;
+            D::write_option(slot, out)?;
         }
         Ok(())
     }

@@ -8,7 +8,7 @@ use Rattle.storage_codec.specs.Faults.{◌>>=◌, Invalid}
 use Rattle.storage_codec.specs.Codec.{Answer, mapped, byte_at, u64_at}
 use Rattle.storage_codec.specs.Laws.Reading.{answer_of, u64_again}
 use Rattle.storage_ops.specs.Operations.{OperationView, Delete, Update, CommitFloor, operation_map, is_admitted}
-use Rattle.storage_ops.specs.Padding.{zeros_at}
+use Rattle.storage_codec.specs.Padding.{zeros_at}
 use Rattle.storage_ops.specs.Fixed.{fixed_size, presence_text, fixed_operation_text, presence_at, floor_at, commit_payload_at, padded, fixed_payload_at, fixed_operation_at}
 use Rattle.storage_ops.specs.OperationCases.{delete_of, update_of, commit_of}
 use Rattle.storage_ops.specs.Reading.{IsRead}

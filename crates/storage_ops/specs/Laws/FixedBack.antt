@@ -10,7 +10,7 @@ use Rattle.storage_codec.specs.Laws.Codec.{one_answer}
 use Rattle.storage_ops.specs.Operations.{OperationView, Delete, Update, CommitFloor, operation_map, is_admitted}
 use Rattle.storage_ops.specs.OperationCases.{delete_of, update_of}
 use Rattle.storage_ops.specs.Laws.Operations.{delete_is, update_is, commit_is}
-use Rattle.storage_ops.specs.Padding.{zeros_at}
+use Rattle.storage_codec.specs.Padding.{zeros_at}
 use Rattle.storage_ops.specs.Fixed.{fixed_size, presence_text, fixed_operation_text, presence_at, floor_at, commit_payload_at, padded, fixed_payload_at, fixed_operation_at}
 use Rattle.storage_ops.specs.Reading.{IsRead, IsSpelled}
 use Rattle.storage_ops.specs.Laws.Reading.{read_same, first_part, second_part, tag_is, failed, no_fault, tail_bytes, along}

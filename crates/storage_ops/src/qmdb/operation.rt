@@ -9,7 +9,6 @@ ghost use Rattle.std.proofs.lemmas.Slice.Eq.{bytes_eq-Decides};
 ghost use Rattle.storage_codec.specs.Laws.Spelling.{vector_same};
 
 pub(crate) mod commit;
-pub(crate) mod padding;
 
 use std::fmt::Debug;
 use std::hash::Hash;

@@ -12,18 +12,18 @@ build-requires g c = (omega (arith, c.requires.size.1), c.requires.callable)
 pub returns-in-Err-clause-handed : goal.returns-in-Err-clause-handed
 returns-in-Err-clause-handed g c = λ kept s snapshot handed active.
     let G : Grafting = record { shape = g.F.Family.shape; bytes = g.row.N } in
-    refused_for_memory g.H.Digest.Write.text _ g.H.Hasher.hash_of G g.met.F.Family.laws
+    refused_for_memory g.H.Digest.Digest.text _ g.H.Hasher.hash_of G g.met.F.Family.laws
     c.greatest_nodes_are_planned.ensures c.args.plan kept s snapshot handed.stands handed.count handed.nodes_are
     c.in-Err.error (g.R.Readable.retained c.args.status.now) handed.status_is c.in-Err.ensures.why
 
 pub returns-clause-asked : goal.returns-clause-asked
 returns-clause-asked g c = λ s parts.
     let h = g.H.Hasher.hash_of in
-    let text = g.H.Digest.Write.text in
+    let text = g.H.Digest.Digest.text in
     let G : Grafting = record { shape = g.F.Family.shape; bytes = g.row.N } in
     let written = c.deref.ensures.value ∙ c.in_ok-write.ensures.ok ∙ ap (λ (xs : List ℕ). xs ++ operation_text
     g.F.Graftable.has_pending (operation_proof_of text (λ (b : List ℕ). b) c.in-Ok.proof)) c.new-bytes.ensures.items in
-    own_asked g.H.Digest.FixedSize.size h G g.F.Graftable.has_pending s _ c.args.plan.start c.args.operation.now _
+    own_asked g.H.Digest.Digest.size h G g.F.Graftable.has_pending s _ c.args.plan.start c.args.operation.now _
     (text c.args.root.now)
     (operation_proof_of text (λ (b : List ℕ). b) c.in-Ok.proof) c.location-loc.ensures.value written
     (c.in-Ok.ensures.own s parts) c.in_ok-yes.yes c.in_ok-yes.ensures.exact
@@ -31,12 +31,12 @@ returns-clause-asked g c = λ s parts.
 pub returns-clause-accepted : goal.returns-clause-accepted
 returns-clause-accepted g c = λ s snapshot parts root active.
     let h = g.H.Hasher.hash_of in
-    let text = g.H.Digest.Write.text in
+    let text = g.H.Digest.Digest.text in
     let G : Grafting = record { shape = g.F.Family.shape; bytes = g.row.N } in
     let grafting : IsGrafting G = record { laws = g.met.F.Family.laws; size = c.requires.size } in
     let written = c.deref.ensures.value ∙ c.in_ok-write.ensures.ok ∙ ap (λ (xs : List ℕ). xs ++ operation_text
     g.F.Graftable.has_pending (operation_proof_of text (λ (b : List ℕ). b) c.in-Ok.proof)) c.new-bytes.ensures.items in
-    own_yes c.own_proofs_are_accepted.ensures g.H.Digest.FixedSize.size h g.met.H.Hasher.sized G grafting
+    own_yes c.own_proofs_are_accepted.ensures g.H.Digest.Digest.size h g.met.H.Hasher.sized G grafting
     g.F.Graftable.has_pending g.met.F.Graftable.prompt s snapshot _ c.args.plan.start c.args.operation.now _
     (text c.args.root.now)
     (operation_proof_of text (λ (b : List ℕ). b) c.in-Ok.proof) c.location-loc.ensures.value active written
@@ -44,7 +44,7 @@ returns-clause-accepted g c = λ s snapshot parts root active.
 
 pub returns-clause-handed : goal.returns-clause-handed
 returns-clause-handed g c = λ kept s snapshot handed active.
-    let text = g.H.Digest.Write.text in
+    let text = g.H.Digest.Digest.text in
     let G : Grafting = record { shape = g.F.Family.shape; bytes = g.row.N } in
     let parts =
     own_parts text _ g.H.Hasher.hash_of G g.met.F.Family.laws c.greatest_nodes_are_planned.ensures c.args.plan kept

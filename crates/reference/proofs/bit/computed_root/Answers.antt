@@ -10,7 +10,7 @@ use Rattle.reference.proofs.bit.computed_root.Goals as goal
 
 pub returns-then-length-bits_in-eq0 : goal.returns-then-length-bits_in-eq0
 returns-then-length-bits_in-eq0 g c =
-    let text = g.H.Digest.Write.text in
+    let text = g.H.Digest.Digest.text in
     aligned_from g.H.Hasher.hash_of c.args.bagging c.args.size (proof_of text c.args.proof.now) c.args.bytes.now
     c.args.bit text c.recomputed_chunks_root.result c.as_u64-length.result c.bits_in-3.result
     (c.as_u64-length.result / c.bits_in.result) (c.args.bit / c.bits_in-2.result) (map text c.deref.result.now)
@@ -21,7 +21,7 @@ returns-then-length-bits_in-eq0 g c =
 
 pub returns-in_ok-partial_root-in-Some-2 : goal.returns-in_ok-partial_root-in-Some-2
 returns-in_ok-partial_root-in-Some-2 g c =
-    let text = g.H.Digest.Write.text in
+    let text = g.H.Digest.Digest.text in
     let place = c.args.bit / c.bits_in-2.result in
     let complete = c.as_u64-length.result / c.bits_in.result in
     let others = map text c.in-Some.others.now in

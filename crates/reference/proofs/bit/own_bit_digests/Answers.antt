@@ -5,7 +5,7 @@ use Rattle.reference.proofs.bit.own_bit_digests.Goals as goal
 
 pub returns-then-length-bits_in-eq0 : goal.returns-then-length-bits_in-eq0
 returns-then-length-bits_in-eq0 g c =
-    let text = g.H.Digest.Write.text in
+    let text = g.H.Digest.Digest.text in
     own_aligned g.H.Hasher.hash_of c.args.bagging c.args.size c.args.bits.now c.bits_in.result c.bits_in-2.result
     c.args.place (map (λ bytes. bytes.items) c.deref.result.now) (map text c.in_ok-proof.proof.digests.items)
     c.bits_in.ensures.value c.bits_in-2.ensures.value c.if-place-length.false c.if-length-bits_in-eq0.true
@@ -14,7 +14,7 @@ returns-then-length-bits_in-eq0 g c =
 
 pub returns : goal.returns
 returns g c =
-    let text = g.H.Digest.Write.text in
+    let text = g.H.Digest.Digest.text in
     own_unaligned g.H.Hasher.hash_of c.args.bagging c.args.size c.args.bits.now c.bits_in.result c.bits_in-2.result
     c.args.place (map (λ bytes. bytes.items) c.deref.result.now) (map text c.in_ok-proof.proof.digests.items)
     c.bits_in.ensures.value c.bits_in-2.ensures.value c.if-place-length.false c.if-length-bits_in-eq0.false

@@ -10,7 +10,7 @@ use Rattle.reference.proofs.check.claimed_bag.Goals as goal
 pub returns : goal.returns
 returns g c =
     let h = g.H.Hasher.hash_of in
-    let text = g.H.Digest.Write.text in
+    let text = g.H.Digest.Digest.text in
     let claim = c.args.claim.now in
     let T : Layout = laid_out g.F.Family.shape (g.G.Grafts.grafted c.args.grafts.now) in
     let item : ℕ → List ℕ = λ j. get_or (map g.E.AsSlice.items claim.elements.now) (j - claim.low) [] in

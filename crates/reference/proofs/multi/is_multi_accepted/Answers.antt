@@ -11,7 +11,7 @@ use Rattle.reference.proofs.multi.is_multi_accepted.Goals as goal
 pub returns-in-Some : goal.returns-in-Some
 returns-in-Some g c =
     let h = g.H.Hasher.hash_of in
-    let text = g.H.Digest.Write.text in
+    let text = g.H.Digest.Digest.text in
     let T = laid_out g.F.Family.shape (g.G.Grafts.grafted c.args.grafts.now) in
     let proof = proof_of text c.args.proof.now in
     let claims = claims_of g.E.AsSlice.items c.args.claims.now in

@@ -8,7 +8,7 @@ use Rattle.reference.proofs.multi.part_bag.Goals as goal
 pub returns : goal.returns
 returns g c =
     let h = g.H.Hasher.hash_of in
-    let text = g.H.Digest.Write.text in
+    let text = g.H.Digest.Digest.text in
     let T = laid_out g.F.Family.shape (g.G.Grafts.grafted c.args.grafts.now) in
     let cut = g.S.Source.cut c.args.source.now in
     let v = valued (g.S.Source.digest c.args.source.now) (g.S.Source.item c.args.source.now)

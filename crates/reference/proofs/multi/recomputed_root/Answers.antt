@@ -19,7 +19,7 @@ returns-then-proof-len g c = λ fits.
 pub returns : goal.returns
 returns g c =
     let h = g.H.Hasher.hash_of in
-    let text = g.H.Digest.Write.text in
+    let text = g.H.Digest.Digest.text in
     let T : Layout = laid_out g.F.Family.shape (g.G.Grafts.grafted c.args.grafts.now) in
     let b = c.args.bagging in
     let n = c.as_u64-leaves.result in

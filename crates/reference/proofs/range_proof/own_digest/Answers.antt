@@ -16,7 +16,7 @@ split_folded-requires g c =
 
 pub returns-in-Front : goal.returns-in-Front
 returns-in-Front g c =
-    let D = g.H.Digest.Write.text in
+    let D = g.H.Digest.Digest.text in
     let peaks = c.deref.ensures.value ∙ c.in_ok-peaks.ensures in
     let f : Peak → List ℕ = λ p. eval g.H.Hasher.hash_of (valued (λ s. g.H.Hasher.hash_of []) (λ j.
     get_or (map g.E.AsSlice.items c.args.tree.now.elements.now) j []) (g.G.Grafts.chunk c.args.tree.now.grafts.now))
@@ -37,7 +37,7 @@ returns-in-Front g c =
 
 pub returns-in-Back : goal.returns-in-Back
 returns-in-Back g c =
-    let D = g.H.Digest.Write.text in
+    let D = g.H.Digest.Digest.text in
     let peaks = c.deref.ensures.value ∙ c.in_ok-peaks.ensures in
     let f : Peak → List ℕ = λ p. eval g.H.Hasher.hash_of (valued (λ s. g.H.Hasher.hash_of []) (λ j.
     get_or (map g.E.AsSlice.items c.args.tree.now.elements.now) j []) (g.G.Grafts.chunk c.args.tree.now.grafts.now))

@@ -10,7 +10,7 @@ use Rattle.reference.proofs.range_proof.own_proof.Goals as goal
 
 pub returns : goal.returns
 returns g c =
-    let D = g.H.Digest.Write.text in
+    let D = g.H.Digest.Digest.text in
     let T = laid_out g.F.Family.shape (g.G.Grafts.grafted c.args.tree.now.grafts.now) in
     let content : Content = record {
       elements = map g.E.AsSlice.items c.args.tree.now.elements.now;

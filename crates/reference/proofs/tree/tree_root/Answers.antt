@@ -8,7 +8,7 @@ use Rattle.reference.proofs.tree.tree_root.Goals as goal
 
 pub bag_peaks-bag-requires : goal.bag_peaks-bag-requires
 bag_peaks-bag-requires g c =
-    let T = g.H.Digest.Write.text in
+    let T = g.H.Digest.Digest.text in
     let f : Peak → List ℕ = λ p. eval g.H.Hasher.hash_of (valued (λ s. g.H.Hasher.hash_of [])
     (λ j. get_or (map g.E.AsSlice.items c.args.elements.now) j []) (g.G.Grafts.chunk c.args.grafts.now))
     (part (laid_out g.F.Family.shape (g.G.Grafts.grafted c.args.grafts.now)) never p) in
@@ -23,7 +23,7 @@ bag_peaks-bag-requires g c =
 
 pub returns : goal.returns
 returns g c =
-    let T = g.H.Digest.Write.text in
+    let T = g.H.Digest.Digest.text in
     let f : Peak → List ℕ = λ p. eval g.H.Hasher.hash_of (valued (λ s. g.H.Hasher.hash_of [])
     (λ j. get_or (map g.E.AsSlice.items c.args.elements.now) j []) (g.G.Grafts.chunk c.args.grafts.now))
     (part (laid_out g.F.Family.shape (g.G.Grafts.grafted c.args.grafts.now)) never p) in

@@ -13,4 +13,4 @@ pub returns-clause-read_again : goal.returns-clause-read_again
 returns-clause-read_again g c = λ hasher get_node plan inactive proof claim content own is most rest all fits.
     let T = g.H.Hasher.layout hasher in
     built_again _ _ g.H.Hasher.hash_of T (subst Laws (sym (g.met.H.Hasher.over hasher)) g.met.F.Family.laws) (g.H.Hasher.bagging hasher) plan
-    inactive proof claim content own is g.H.Digest.FixedSize.size g.met.H.Hasher.sized most rest all fits
+    inactive proof claim content own is g.H.Digest.Digest.size g.met.H.Hasher.sized most rest all fits

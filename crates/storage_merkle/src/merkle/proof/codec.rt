@@ -35,7 +35,7 @@ fn write_digests<D: Digest>(digests: &[D], out: &mut Vec<u8>) -> Result<(), NoMe
 {
     let mut left = digests;
     while let Some((digest, rest)) = left.split_first() {
-        digest.write(out)?;
+        out.extend_from_slice(digest.bytes())?;
         left = rest;
     }
     Ok(())

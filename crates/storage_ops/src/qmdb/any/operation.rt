@@ -108,7 +108,7 @@ pub trait OperationCodec<F: Family, S: Update>: ValueEncoding {
 }
 
 /// Appends to `out` the byte `tag`, and then what `value` is written as.
-#[tactic(auto, using(storage_codec::specs::Laws::Parts::starts_cons, crate::proofs::Starts::starts_none))]
+#[tactic(auto, using(storage_codec::specs::Laws::Parts::starts_cons, storage_codec::specs::Laws::Parts::starts_none))]
 fn write_tagged<T: Write>(tag: u8, value: &T, out: &mut Vec<u8>) -> Result<(), NoMemory>
     ensures ok { OnOk result (out.new.items ≡ out.old.items ++ tag ∷ T.text value.now) }
     ensures err { OnErr result (AppendsStart out.old.items out.new.items

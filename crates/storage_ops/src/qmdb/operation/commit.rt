@@ -8,9 +8,9 @@ ghost use Rattle.storage_ops.specs.Fixed.{presence_text, presence_at, floor_at};
 ghost use Rattle.storage_ops.specs.Variable.{metadata_text};
 
 use crate::qmdb::any::operation::update::sum_of_sizes;
-use crate::qmdb::operation::padding::{ensure_zeros, put_zeros};
 use std::alloc::Global;
 use storage_codec::NoMemory;
+use storage_codec::codec::util::{ensure_zeros, put_zeros};
 use storage_codec::codec::{Buf, EncodeSize, Error, FixedSize, Read, Write};
 use storage_merkle::merkle::{Family, Location, MAX_LEAVES};
 

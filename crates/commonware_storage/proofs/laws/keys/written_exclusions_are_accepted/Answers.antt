@@ -10,7 +10,7 @@ use Rattle.commonware_storage.proofs.laws.keys.written_exclusions_are_accepted.G
 
 pub returns-clause-asked : goal.returns-clause-asked
 returns-clause-asked g c =
-    let text = g.H.Digest.Write.text in
+    let text = g.H.Digest.Digest.text in
     let G : Grafting = record { shape = g.F.Family.shape; bytes = g.row.N } in
     let x = exclusion_of text (λ (b : List ℕ). b) c.args.proof.now in
     let key_cfg = g.V.UpdateCodec.key_cfg c.args.cfgs.now.0 in
@@ -26,12 +26,12 @@ returns-clause-asked g c =
     })
     g.K.Read.view g.V.Value.Read.view (ordered_at (g.K.Read.parse key_cfg) (g.V.Value.Read.parse value_cfg))
     (g.V.Value.Read.parse c.args.cfgs.now.1)
-    g.H.Hasher.hash_of G g.F.Graftable.has_pending g.H.Digest.FixedSize.size b c.args.key.now (text c.args.root.now))
+    g.H.Hasher.hash_of G g.F.Graftable.has_pending g.H.Digest.Digest.size b c.args.key.now (text c.args.root.now))
     written c.in_ok-yes.ensures.exact
 
 pub returns-clause-accepted : goal.returns-clause-accepted
 returns-clause-accepted g c = λ s snapshot own active allowed admitted root.
-    let text = g.H.Digest.Write.text in
+    let text = g.H.Digest.Digest.text in
     let G : Grafting = record { shape = g.F.Family.shape; bytes = g.row.N } in
     let grafting : IsGrafting G = record { laws = g.met.F.Family.laws; size = c.requires.size } in
     let x = exclusion_of text (λ (b : List ℕ). b) c.args.proof.now in
@@ -51,6 +51,6 @@ returns-clause-accepted g c = λ s snapshot own active allowed admitted root.
     (λ u. g.K.Read.admits key_cfg u.0 × g.V.Value.Read.admits value_cfg u.1 × g.K.Read.admits key_cfg u.2)
     (g.V.Value.Read.admits c.args.cfgs.now.1)
     (c.own_exclusions_are_accepted.ensures c.args.cfgs.now.0 c.args.cfgs.now.1)
-    g.H.Digest.FixedSize.size g.H.Hasher.hash_of g.met.H.Hasher.sized G grafting g.F.Graftable.has_pending
+    g.H.Digest.Digest.size g.H.Hasher.hash_of g.met.H.Hasher.sized G grafting g.F.Graftable.has_pending
     g.met.F.Graftable.prompt s snapshot x c.args.key.now _ (text c.args.root.now)
     own active allowed admitted written root c.in_ok-yes.yes c.in_ok-yes.ensures.exact

@@ -9,7 +9,7 @@ use Rattle.commonware_storage.proofs.laws.keys.written_values_are_accepted.Goals
 
 pub returns-clause-asked : goal.returns-clause-asked
 returns-clause-asked g c =
-    let text = g.H.Digest.Write.text in
+    let text = g.H.Digest.Digest.text in
     let G : Grafting = record { shape = g.F.Family.shape; bytes = g.row.N } in
     let proof = operation_proof_of text (λ (b : List ℕ). b) c.args.proof.now.proof in
     let next = c.args.proof.now.next_key in
@@ -22,12 +22,12 @@ returns-clause-asked g c =
       cmp = g.K.Ord.cmp;
     })
     g.K.Read.view (g.K.Read.parse c.args.cfg.now) g.H.Hasher.hash_of G g.F.Graftable.has_pending
-    g.H.Digest.FixedSize.size b c.args.key c.args.value (text c.args.root.now))
+    g.H.Digest.Digest.size b c.args.key c.args.value (text c.args.root.now))
     written c.in_ok-yes.ensures.exact
 
 pub returns-clause-accepted : goal.returns-clause-accepted
 returns-clause-accepted g c = λ s snapshot location own active admitted root.
-    let text = g.H.Digest.Write.text in
+    let text = g.H.Digest.Digest.text in
     let G : Grafting = record { shape = g.F.Family.shape; bytes = g.row.N } in
     let grafting : IsGrafting G = record { laws = g.met.F.Family.laws; size = c.requires.size } in
     let proof = operation_proof_of text (λ (b : List ℕ). b) c.args.proof.now.proof in
@@ -42,6 +42,6 @@ returns-clause-accepted g c = λ s snapshot location own active admitted root.
     })
     g.K.Read.view (g.K.Read.parse c.args.cfg.now) (g.K.Read.admits c.args.cfg.now)
     (c.own_values_are_accepted.ensures c.args.cfg.now)
-    g.H.Digest.FixedSize.size g.H.Hasher.hash_of g.met.H.Hasher.sized G grafting g.F.Graftable.has_pending
+    g.H.Digest.Digest.size g.H.Hasher.hash_of g.met.H.Hasher.sized G grafting g.F.Graftable.has_pending
     g.met.F.Graftable.prompt s snapshot location c.args.key c.args.value next _ (text c.args.root.now)
     proof active admitted written own root c.in_ok-yes.yes c.in_ok-yes.ensures.exact

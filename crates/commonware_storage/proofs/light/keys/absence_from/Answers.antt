@@ -20,9 +20,9 @@ returns-in-Ok-clause-exact g c =
     })
     (ordered_at (g.K.Read.parse (g.V.UpdateCodec.key_cfg c.args.cfgs.now.0))
     (g.V.Value.Read.parse (g.V.UpdateCodec.value_cfg c.args.cfgs.now.0))) (g.V.Value.Read.parse c.args.cfgs.now.1)
-    g.H.Hasher.hash_of g.F.Family.shape c.args.chunk_size g.F.Graftable.has_pending g.H.Digest.FixedSize.size
-    (g.B.Buf.unread c.args.buf) c.args.key.now (g.H.Digest.Write.text c.args.root.now)
-    (exclusion_of g.H.Digest.Write.text (λ (b : List ℕ). b) c.in-Ok.proof) c.in-Ok.ensures c.verify.result
+    g.H.Hasher.hash_of g.F.Family.shape c.args.chunk_size g.F.Graftable.has_pending g.H.Digest.Digest.size
+    (g.B.Buf.unread c.args.buf) c.args.key.now (g.H.Digest.Digest.text c.args.root.now)
+    (exclusion_of g.H.Digest.Digest.text (λ (b : List ℕ). b) c.in-Ok.proof) c.in-Ok.ensures c.verify.result
     c.verify.ensures.exact
 
 pub returns-in-Ok-clause-meaning : goal.returns-in-Ok-clause-meaning
@@ -41,7 +41,7 @@ returns-in-Ok-clause-meaning g c = λ wide.
     })
     (ordered_at (g.K.Read.parse (g.V.UpdateCodec.key_cfg c.args.cfgs.now.0))
     (g.V.Value.Read.parse (g.V.UpdateCodec.value_cfg c.args.cfgs.now.0))) (g.V.Value.Read.parse c.args.cfgs.now.1)
-    g.H.Hasher.hash_of g.F.Family.shape c.args.chunk_size g.F.Graftable.has_pending g.H.Digest.FixedSize.size
-    (g.B.Buf.unread c.args.buf) c.args.key.now (g.H.Digest.Write.text c.args.root.now)
-    (exclusion_of g.H.Digest.Write.text (λ (b : List ℕ). b) c.in-Ok.proof) c.in-Ok.ensures c.verify.result
+    g.H.Hasher.hash_of g.F.Family.shape c.args.chunk_size g.F.Graftable.has_pending g.H.Digest.Digest.size
+    (g.B.Buf.unread c.args.buf) c.args.key.now (g.H.Digest.Digest.text c.args.root.now)
+    (exclusion_of g.H.Digest.Digest.text (λ (b : List ℕ). b) c.in-Ok.proof) c.in-Ok.ensures c.verify.result
     (c.verify.ensures.meaning wide)

@@ -12,9 +12,9 @@ returns-in-Ok-clause-exact g c =
       cmp = g.K.Ord.cmp;
     }) g.K.Read.view
     (g.K.Read.parse c.args.cfg.now) g.met.K.Key.prefix_free.seen
-    g.H.Hasher.hash_of g.F.Family.shape c.args.chunk_size g.F.Graftable.has_pending g.H.Digest.FixedSize.size
-    (g.B.Buf.unread c.args.buf) c.args.key c.args.value (g.H.Digest.Write.text c.args.root.now)
-    (operation_proof_of g.H.Digest.Write.text (λ (b : List ℕ). b) c.in-Ok.proof.proof) c.in-Ok.proof.next_key c.in-Ok.ensures
+    g.H.Hasher.hash_of g.F.Family.shape c.args.chunk_size g.F.Graftable.has_pending g.H.Digest.Digest.size
+    (g.B.Buf.unread c.args.buf) c.args.key c.args.value (g.H.Digest.Digest.text c.args.root.now)
+    (operation_proof_of g.H.Digest.Digest.text (λ (b : List ℕ). b) c.in-Ok.proof.proof) c.in-Ok.proof.next_key c.in-Ok.ensures
     c.verify.result c.verify.ensures.exact
 
 pub returns-in-Ok-clause-meaning : goal.returns-in-Ok-clause-meaning
@@ -26,7 +26,7 @@ returns-in-Ok-clause-meaning g c = λ wide.
       cmp = g.K.Ord.cmp;
     }) g.K.Read.view
     (g.K.Read.parse c.args.cfg.now) g.met.K.Key.prefix_free.seen
-    g.H.Hasher.hash_of g.F.Family.shape c.args.chunk_size g.F.Graftable.has_pending g.H.Digest.FixedSize.size
-    (g.B.Buf.unread c.args.buf) c.args.key c.args.value (g.H.Digest.Write.text c.args.root.now)
-    (operation_proof_of g.H.Digest.Write.text (λ (b : List ℕ). b) c.in-Ok.proof.proof) c.in-Ok.proof.next_key c.in-Ok.ensures
+    g.H.Hasher.hash_of g.F.Family.shape c.args.chunk_size g.F.Graftable.has_pending g.H.Digest.Digest.size
+    (g.B.Buf.unread c.args.buf) c.args.key c.args.value (g.H.Digest.Digest.text c.args.root.now)
+    (operation_proof_of g.H.Digest.Digest.text (λ (b : List ℕ). b) c.in-Ok.proof.proof) c.in-Ok.proof.next_key c.in-Ok.ensures
     c.verify.result (c.verify.ensures.meaning wide)

@@ -4,7 +4,7 @@ use Rattle.storage_current.proofs.laws.combined.joined_trees_are_the_view.Goals 
 
 pub returns : goal.returns
 returns g c grafting s snapshot leaves grafted chunks operations over below =
-    let text = g.H.Digest.Write.text in
+    let text = g.H.Digest.Digest.text in
     let hash = g.H.Hasher.hash_of in
     let G : Grafting = record { shape = g.F.Family.shape; bytes = g.row.N } in
     let pace = g.met.F.Graftable.keeps_pace (height G) in

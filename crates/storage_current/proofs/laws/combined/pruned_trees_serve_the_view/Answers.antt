@@ -8,7 +8,7 @@ use Rattle.storage_current.proofs.laws.combined.pruned_trees_serve_the_view.Goal
 
 pub returns : goal.returns
 returns g c grafting s snapshot leaves grafted t keeps operations below =
-    let text = g.H.Digest.Write.text in
+    let text = g.H.Digest.Digest.text in
     let hash = g.H.Hasher.hash_of in
     let digest = g.H.Hasher.digest_of in
     let G : Grafting = record { shape = g.F.Family.shape; bytes = g.row.N } in

@@ -7,6 +7,6 @@ returns-clause-parts g c = search rules
 
 pub returns-clause-seen : goal.returns-clause-seen
 returns-clause-seen g c chunks keys values =
-    exclusions_seen g.D.Write.text g.C.Chunk.text g.K.Read.view g.V.Value.Read.view
+    exclusions_seen g.D.Digest.text g.C.Chunk.text g.K.Read.view g.V.Value.Read.view
     (c.equal_operation_proofs.ensures.seen chunks) (c.equal_ordered_updates.ensures.seen keys values) values _
     (returns-clause-parts g c)

@@ -10,6 +10,6 @@ returns-clause-agree g c = agreeing _ _ (exclusion_text g.F.Graftable.has_pendin
 
 pub returns-clause-read : goal.returns-clause-read
 returns-clause-read g c = λ most update value is.
-    exclusions_alike g.F.Graftable.has_pending g.H.Digest.FixedSize.size g.row.N most is
+    exclusions_alike g.F.Graftable.has_pending g.H.Digest.Digest.size g.row.N most is
     (ordered_at (g.K.Read.parse (g.V.UpdateCodec.key_cfg update))
     (g.V.Value.Read.parse (g.V.UpdateCodec.value_cfg update))) (g.V.Value.Read.parse value)

@@ -8,4 +8,4 @@ returns-clause-agree g c = agreeing _ _ (λ x. operation_text g.F.Graftable.has_
 
 pub returns-clause-read : goal.returns-clause-read
 returns-clause-read g c = λ most cfg is.
-    pairs_alike g.F.Graftable.has_pending g.H.Digest.FixedSize.size g.row.N most is (g.K.Read.parse cfg)
+    pairs_alike g.F.Graftable.has_pending g.H.Digest.Digest.size g.row.N most is (g.K.Read.parse cfg)

@@ -6,4 +6,4 @@ pub returns-clause-agree : goal.returns-clause-agree
 returns-clause-agree g c = agreeing _ _ (operation_text g.F.Graftable.has_pending) _
 
 pub returns-clause-read : goal.returns-clause-read
-returns-clause-read g c = λ most is. operations_alike g.F.Graftable.has_pending g.H.Digest.FixedSize.size g.row.N most is
+returns-clause-read g c = λ most is. operations_alike g.F.Graftable.has_pending g.H.Digest.Digest.size g.row.N most is

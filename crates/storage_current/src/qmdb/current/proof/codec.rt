@@ -21,8 +21,9 @@ impl<F: Graftable, D: Digest> Write for RangeProof<F, D> {
     fn write(&self, out: &mut Vec<u8>) -> Result<(), NoMemory> {
         self.proof.write(out)?;
         F::write_pending(&self.pending_chunk_digest, out)?;
-        self.partial_chunk_digest.write(out)?;
-        self.ops_root.write(out)
+        D::write_option(&self.partial_chunk_digest, out)?;
+        out.extend_from_slice(self.ops_root.bytes())?;
+        Ok(())
     }
 }
 

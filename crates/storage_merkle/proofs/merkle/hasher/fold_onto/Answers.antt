@@ -6,7 +6,7 @@ use Rattle.storage_merkle.proofs.merkle.hasher.fold_onto.Goals as goal
 
 pub loop-item-preserved : goal.loop-item-preserved
 loop-item-preserved g c =
-    let T = g.H.Digest.Write.text in
+    let T = g.H.Digest.Digest.text in
     let h = g.H.Hasher.hash_of in
     let onto = option_map T c.loop-item.folded in
     let front = map T c.in-Some.front.now in

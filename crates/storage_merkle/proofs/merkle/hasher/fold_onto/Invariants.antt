@@ -4,8 +4,8 @@ use Rattle.storage_merkle.proofs.merkle.hasher.fold_onto.Given as goal
 
 abbrev pub invariant-loop-item : goal.invariant-loop-item
 invariant-loop-item g l =
-    folded_onto g.H.Hasher.hash_of (map g.H.Digest.Write.text l.left) (option_map g.H.Digest.Write.text l.folded)
-    ≡ folded_onto g.H.Hasher.hash_of (map g.H.Digest.Write.text l.fn.items) (option_map g.H.Digest.Write.text l.fn.onto)
+    folded_onto g.H.Hasher.hash_of (map g.H.Digest.Digest.text l.left) (option_map g.H.Digest.Digest.text l.folded)
+    ≡ folded_onto g.H.Hasher.hash_of (map g.H.Digest.Digest.text l.fn.items) (option_map g.H.Digest.Digest.text l.fn.onto)
 
 abbrev pub decreases-loop-item : goal.decreases-loop-item
 decreases-loop-item g l = length l.left

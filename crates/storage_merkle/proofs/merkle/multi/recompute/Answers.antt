@@ -18,12 +18,12 @@ returns-then-leaves-gt-MAX_LEAVES g c =
           too_many_leaves g.F.Family.shape g.met.F.Family.laws g.H.Hasher.hash_of
           (g.H.Hasher.layout c.args.hasher.now) same (g.H.Hasher.bagging c.args.hasher.now) c.args.proof.now.leaves
           c.args.proof.now.inactive_peaks g.E.AsSlice.items c.args.claims.now (g.H.Hasher.chunk c.args.hasher.now)
-          g.H.Digest.Write.text c.args.proof.now.digests.items (omega (arith, c.as_u64-leaves.ensures))
+          g.H.Digest.Digest.text c.args.proof.now.digests.items (omega (arith, c.as_u64-leaves.ensures))
       | then-leaves-gt-MAX_LEAVES-via-else-leaves-gt-MAX_LEAVES+then-not-ascend w ↦
           not_ascending g.F.Family.shape g.met.F.Family.laws g.H.Hasher.hash_of
           (g.H.Hasher.layout c.args.hasher.now) same (g.H.Hasher.bagging c.args.hasher.now) c.args.proof.now.leaves
           c.args.proof.now.inactive_peaks g.E.AsSlice.items c.args.claims.now
-          (g.H.Hasher.chunk c.args.hasher.now) g.H.Digest.Write.text c.args.proof.now.digests.items
+          (g.H.Hasher.chunk c.args.hasher.now) g.H.Digest.Digest.text c.args.proof.now.digests.items
           (λ up. let t : w.ascend.result ≡ true = w.ascend.ensures.1
           (subst (λ n. Ascend 0 n (map (λ c. c.1) c.args.claims.now)) (sym c.as_u64-leaves.ensures) up) in
           not_both w.ascend.result t w.if-not-ascend.true)
@@ -38,7 +38,7 @@ returns-then-len g c =
     let found = c.in_ok-positions.ensures ∙ ap (λ n. positions U (needed_sites U ls n)) c.as_u64-leaves.ensures in
     other_count S g.met.F.Family.laws g.H.Hasher.hash_of (g.H.Hasher.layout c.args.hasher.now) same
     (g.H.Hasher.bagging c.args.hasher.now) c.args.proof.now.leaves c.args.proof.now.inactive_peaks g.E.AsSlice.items
-    c.args.claims.now (g.H.Hasher.chunk c.args.hasher.now) g.H.Digest.Write.text c.args.proof.now.digests.items
+    c.args.claims.now (g.H.Hasher.chunk c.args.hasher.now) g.H.Digest.Digest.text c.args.proof.now.digests.items
     c.in_ok-positions.positions.items found
     (λ e. c.if-len.true (omega (arith, c.len.ensures, c.len-2.ensures)))
 
@@ -71,7 +71,7 @@ returns g c =
     let same = g.met.H.Hasher.over c.args.hasher.now in
     let S = g.F.Family.shape in
     let U = ungrafted S in
-    let text = g.H.Digest.Write.text in
+    let text = g.H.Digest.Digest.text in
     let ls = map (λ c. c.1) c.args.claims.now in
     let digests = c.args.proof.now.digests.items in
     let values = multi_values g.H.Hasher.hash_of (g.H.Hasher.layout c.args.hasher.now)
@@ -86,7 +86,7 @@ returns g c =
     (let same_count : c.len.result ≡ c.len-2.result = c.if-len.false in omega (arith, c.len.ensures, c.len-2.ensures)) in
     let serves = served S g.met.F.Family.laws g.H.Hasher.hash_of (g.H.Hasher.layout c.args.hasher.now) same
     (g.H.Hasher.bagging c.args.hasher.now) c.args.proof.now.leaves c.args.proof.now.inactive_peaks g.E.AsSlice.items
-    c.args.claims.now (g.H.Hasher.chunk c.args.hasher.now) g.H.Digest.Write.text c.args.proof.now.digests.items
+    c.args.claims.now (g.H.Hasher.chunk c.args.hasher.now) g.H.Digest.Digest.text c.args.proof.now.digests.items
     c.in_ok-positions.positions.items found as_many in
     let serves' : Serves S values.digest c.deref.result.now (map text c.deref-2.result.now) =
     rw (c.deref.ensures.value, c.deref-2.ensures.value) serves in
@@ -104,11 +104,11 @@ returns g c =
     omega (arith, c.peak_count.ensures, ap (λ n. length (S.peaks n)) c.as_u64-leaves.ensures)) in (
       fit S g.met.F.Family.laws g.H.Hasher.hash_of (g.H.Hasher.layout c.args.hasher.now) same
           (g.H.Hasher.bagging c.args.hasher.now) c.args.proof.now.leaves c.args.proof.now.inactive_peaks
-          g.E.AsSlice.items c.args.claims.now (g.H.Hasher.chunk c.args.hasher.now) g.H.Digest.Write.text
+          g.E.AsSlice.items c.args.claims.now (g.H.Hasher.chunk c.args.hasher.now) g.H.Digest.Digest.text
           c.args.proof.now.digests.items c.in_ok-positions.positions.items found as_many few up inactive,
       root_is S g.met.F.Family.laws g.H.Hasher.hash_of (g.H.Hasher.layout c.args.hasher.now) same
           (g.H.Hasher.bagging c.args.hasher.now) c.args.proof.now.leaves c.args.proof.now.inactive_peaks
-          g.E.AsSlice.items c.args.claims.now (g.H.Hasher.chunk c.args.hasher.now) g.H.Digest.Write.text
+          g.E.AsSlice.items c.args.claims.now (g.H.Hasher.chunk c.args.hasher.now) g.H.Digest.Digest.text
           c.args.proof.now.digests.items c.in_ok-positions.positions.items found as_many (text c.root.result)
           (map text c.deref-3.result.now) peaks c.root.ensures,
     )

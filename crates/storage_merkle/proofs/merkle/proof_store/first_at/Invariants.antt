@@ -4,5 +4,5 @@ use Rattle.storage_merkle.specs.Stores.{entry_at}
 use Rattle.storage_merkle.proofs.merkle.proof_store.first_at.Given as goal
 
 abbrev pub invariant-loop-at : goal.invariant-loop-at
-invariant-loop-at g l = entry_at l.position (by_bytes g.D.Write.text l.entries)
-    ≡ entry_at l.position (by_bytes g.D.Write.text (drop l.at-index l.entries))
+invariant-loop-at g l = entry_at l.position (by_bytes g.D.Digest.text l.entries)
+    ≡ entry_at l.position (by_bytes g.D.Digest.text (drop l.at-index l.entries))

@@ -12,7 +12,7 @@ returns-clause-exact g c = rw (c.deref.ensures.value, c.in_ok-elements.ensures.a
 
 pub returns-clause-meaning : goal.returns-clause-meaning
 returns-clause-meaning g c =
-    let text = g.H.Digest.Write.text in
+    let text = g.H.Digest.Digest.text in
     let proof : Proof = record {
       leaves = c.args.proof.now.leaves;
       inactive = c.args.proof.now.inactive_peaks;

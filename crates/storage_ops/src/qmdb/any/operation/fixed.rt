@@ -21,9 +21,9 @@ use crate::qmdb::any::operation::{
 use crate::qmdb::any::value::{FixedEncoding, FixedValue};
 use crate::qmdb::operation::Key;
 use crate::qmdb::operation::commit::{read_floor, read_presence, write_commit_fixed};
-use crate::qmdb::operation::padding::{byte, ensure_zeros, put_zeros};
 use std::alloc::Global;
 use storage_codec::NoMemory;
+use storage_codec::codec::util::{byte, ensure_zeros, put_zeros};
 use storage_codec::codec::{
     Buf, Canonical, EncodeSize, Error, FixedSize, Read, Small, Write, small_size,
 };
@@ -160,7 +160,7 @@ where
     ghost operation_parse = { λ _.
         fixed_operation_at (S.Key.parse tt) (S.parse tt) (V.parse tt) S.Key.size S.size V.size };
 
-    #[tactic(auto, using(storage_codec::specs::Laws::Parts::starts_cons, crate::proofs::Starts::starts_none))]
+    #[tactic(auto, using(storage_codec::specs::Laws::Parts::starts_cons, storage_codec::specs::Laws::Parts::starts_none))]
     fn write_operation(operation: &Operation<F, S>, out: &mut Vec<u8>) -> Result<(), NoMemory> {
         let key = small_size::<S::Key>();
         let update = update_size::<S>();

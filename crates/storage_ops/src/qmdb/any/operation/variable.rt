@@ -19,9 +19,9 @@ use crate::qmdb::any::operation::{
 use crate::qmdb::any::value::{VariableEncoding, VariableValue};
 use crate::qmdb::operation::Key;
 use crate::qmdb::operation::commit::{commit_variable_size, write_commit_variable};
-use crate::qmdb::operation::padding::byte;
 use std::alloc::Global;
 use storage_codec::NoMemory;
+use storage_codec::codec::util::byte;
 use storage_codec::codec::{Buf, Canonical, EncodeSize, Error, Read, Write};
 use storage_merkle::merkle::{Family, Location};
 
@@ -81,7 +81,7 @@ impl<
     ghost operation_parse = { λ cfg.
         variable_operation_at (S.Key.parse cfg.0) (S.parse cfg) (V.parse cfg.1) };
 
-    #[tactic(auto, using(storage_codec::specs::Laws::Parts::starts_cons, crate::proofs::Starts::starts_none))]
+    #[tactic(auto, using(storage_codec::specs::Laws::Parts::starts_cons, storage_codec::specs::Laws::Parts::starts_none))]
     fn write_operation(operation: &Operation<F, S>, out: &mut Vec<u8>) -> Result<(), NoMemory> {
         match operation {
             Operation::Delete(key) => write_tagged(DELETE_CONTEXT, key, out),

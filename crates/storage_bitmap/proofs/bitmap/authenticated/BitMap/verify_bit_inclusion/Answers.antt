@@ -6,37 +6,37 @@ use Rattle.storage_bitmap.proofs.bitmap.authenticated.BitMap.verify_bit_inclusio
 
 pub returns-clause-exact : goal.returns-clause-exact
 returns-clause-exact g c = λ same.
-    chained (same_option g.D.PartialEq.eq g.D.Write.text g.met.D.Digest.same c.in_ok-computed.computed c.args.root.now
+    chained (same_option g.D.PartialEq.eq g.D.Digest.text g.met.D.Digest.same c.in_ok-computed.computed c.args.root.now
     c.eq.result c.eq.ensures)
     (accepted_computed g.H.Hasher.hash_of (g.H.Hasher.bagging c.args.hasher.now) g.row.N
     (record {
       leaves = c.args.proof.now.leaves;
       inactive = c.args.proof.now.inactive_peaks;
-      digests = map g.D.Write.text c.args.proof.now.digests.items;
+      digests = map g.D.Digest.text c.args.proof.now.digests.items;
     }) c.args.chunk.now c.args.bit (omega arith)
-    (omega arith) (g.D.Write.text c.args.root.now) (option_map g.D.Write.text c.in_ok-computed.computed)
+    (omega arith) (g.D.Digest.text c.args.root.now) (option_map g.D.Digest.text c.in_ok-computed.computed)
     (c.in_ok-computed.ensures.root same))
 
 pub returns-clause-meaning : goal.returns-clause-meaning
 returns-clause-meaning g c = λ same yes.
-    c.bit_proofs_are_sound.ensures g.D.FixedSize.size g.H.Hasher.hash_of g.met.H.Hasher.sized
+    c.bit_proofs_are_sound.ensures g.D.Digest.size g.H.Hasher.hash_of g.met.H.Hasher.sized
     (g.H.Hasher.bagging c.args.hasher.now) g.row.N (chunk_positive g.row.N c.requires.size)
     (record {
       leaves = c.args.proof.now.leaves;
       inactive = c.args.proof.now.inactive_peaks;
-      digests = map g.D.Write.text c.args.proof.now.digests.items;
+      digests = map g.D.Digest.text c.args.proof.now.digests.items;
     }) c.args.chunk.now c.args.bit
-    (g.D.Write.text c.args.root.now) (all_digests g.D.Write.text g.D.FixedSize.size g.met.D.FixedSize.sized
+    (g.D.Digest.text c.args.root.now) (all_digests g.D.Digest.text g.D.Digest.size g.met.D.Digest.sized
     c.args.proof.now.digests.items) (omega arith)
-    ((chained (same_option g.D.PartialEq.eq g.D.Write.text g.met.D.Digest.same c.in_ok-computed.computed c.args.root.now
+    ((chained (same_option g.D.PartialEq.eq g.D.Digest.text g.met.D.Digest.same c.in_ok-computed.computed c.args.root.now
     c.eq.result c.eq.ensures)
     (accepted_computed g.H.Hasher.hash_of (g.H.Hasher.bagging c.args.hasher.now) g.row.N
     (record {
       leaves = c.args.proof.now.leaves;
       inactive = c.args.proof.now.inactive_peaks;
-      digests = map g.D.Write.text c.args.proof.now.digests.items;
+      digests = map g.D.Digest.text c.args.proof.now.digests.items;
     }) c.args.chunk.now c.args.bit (omega arith)
-    (omega arith) (g.D.Write.text c.args.root.now) (option_map g.D.Write.text c.in_ok-computed.computed)
+    (omega arith) (g.D.Digest.text c.args.root.now) (option_map g.D.Digest.text c.in_ok-computed.computed)
     (c.in_ok-computed.ensures.root same))).0 yes)
 
 pub returns-then-bit-as_u64-clause-past_the_end : goal.returns-then-bit-as_u64-clause-past_the_end

@@ -6,11 +6,11 @@ use Rattle.storage_bitmap.proofs.bitmap.authenticated.inclusion.chunks_root.Goal
 
 pub returns : goal.returns
 returns g c = λ same.
-    answered_at g.H.Digest.Write.text c.recompute_root.result g.H.Hasher.hash_of (ungrafted mmr)
-    (g.H.Hasher.bagging c.args.hasher.now) (map g.H.Digest.Write.text c.args.digests.now)
+    answered_at g.H.Digest.Digest.text c.recompute_root.result g.H.Hasher.hash_of (ungrafted mmr)
+    (g.H.Hasher.bagging c.args.hasher.now) (map g.H.Digest.Digest.text c.args.digests.now)
     (c.args.chunk.now ∷ []) c.new.result c.args.complete c.new-2.result c.args.place c.new.ensures c.new-2.ensures
     (answered_plain g.H.Hasher.hash_of mmr (g.H.Hasher.bagging c.args.hasher.now)
-    (record { leaves = c.new.result; inactive = 0; digests = map g.H.Digest.Write.text c.args.digests.now })
+    (record { leaves = c.new.result; inactive = 0; digests = map g.H.Digest.Digest.text c.args.digests.now })
     c.new-2.result (c.args.chunk.now ∷ []) (g.H.Hasher.chunk c.args.hasher.now)
-    g.H.Digest.Write.text c.recompute_root.result (g.H.Hasher.layout c.args.hasher.now) same
+    g.H.Digest.Digest.text c.recompute_root.result (g.H.Hasher.layout c.args.hasher.now) same
     c.recompute_root.ensures)

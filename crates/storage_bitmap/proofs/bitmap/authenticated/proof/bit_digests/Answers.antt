@@ -9,19 +9,19 @@ pub returns-then-place-complete : goal.returns-then-place-complete
 returns-then-place-complete g c plain list rest s =
     partial_own g.H.Hasher.hash_of (g.H.Hasher.bagging c.args.hasher.now) g.row.N c.args.place c.len-length.result
     c.args.bits.now list rest c.len-length.ensures.value
-    g.D.Write.text c.unwrap-root.result c.push.new.self.items c.if-place-complete.true (c.in_ok-push.ensures.items
+    g.D.Digest.text c.unwrap-root.result c.push.new.self.items c.if-place-complete.true (c.in_ok-push.ensures.items
     ∙ ap (λ xs. xs ++ c.unwrap-root.result ∷ []) c.new-digests.ensures.items)
-    (tree_rooted g.D.Write.text g.H.Hasher.hash_of (g.H.Hasher.layout c.args.hasher.now)
+    (tree_rooted g.D.Digest.text g.H.Hasher.hash_of (g.H.Hasher.layout c.args.hasher.now)
     (g.H.Hasher.chunk c.args.hasher.now)
     (g.H.Hasher.bagging c.args.hasher.now) g.row.N c.args.bits.now c.args.tree.now
-    (g.D.Write.text c.unwrap-root.result) plain
+    (g.D.Digest.text c.unwrap-root.result) plain
     (rw c.unwrap-root.ensures at c.root.ensures.root) c.requires.whole list rest s)
 
 pub returns-then-is_multiple_of : goal.returns-then-is_multiple_of
 returns-then-is_multiple_of g c plain list rest s =
     aligned_own g.H.Hasher.hash_of (g.H.Hasher.bagging c.args.hasher.now) g.row.N c.args.place c.len-length.result
     c.args.bits.now list rest c.len-length.ensures.value
-    g.D.Write.text c.args.tree.now c.requires.whole s c.new.result c.new-2.result c.in-Ok.proof.leaves
+    g.D.Digest.text c.args.tree.now c.requires.whole s c.new.result c.new-2.result c.in-Ok.proof.leaves
     c.in-Ok.proof.inactive_peaks c.new.ensures c.new-2.ensures c.in-Ok.proof.digests.items c.in-Ok.ensures.own
     c.if-place-complete.false (c.is_multiple_of.ensures.0 c.if-is_multiple_of.true)
 
@@ -29,7 +29,7 @@ pub returns : goal.returns
 returns g c plain list rest s =
     broken_own g.H.Hasher.hash_of (g.H.Hasher.bagging c.args.hasher.now) g.row.N c.args.place c.len-length.result
     c.args.bits.now list rest c.len-length.ensures.value
-    g.D.Write.text c.args.tree.now c.requires.whole s c.new.result c.new-2.result c.in-Ok.proof.leaves
+    g.D.Digest.text c.args.tree.now c.requires.whole s c.new.result c.new-2.result c.in-Ok.proof.leaves
     c.in-Ok.proof.inactive_peaks c.new.ensures c.new-2.ensures c.in-Ok.proof.digests.items c.in-Ok.ensures.own
     c.if-place-complete.false
     c.digest.result c.push-2.new.self.items c.get_chunk-last.result c.in_ok-push-2.ensures.items c.digest.ensures

@@ -45,9 +45,9 @@ loop-index-preserved g c =
       within = omega (arith, more, e);
       boundary = m.place.1 ∙ i.boundary;
       stands = λ plain list rest s.
-          added g.D.Write.text g.H.Hasher.hash_of (g.H.Hasher.layout c.args.hasher.now)
+          added g.D.Digest.text g.H.Hasher.hash_of (g.H.Hasher.layout c.args.hasher.now)
           (g.H.Hasher.chunk c.args.hasher.now) g.row.N c.args.bits.now c.loop-index.tree c.add.new.self plain
-          (λ xs dirty t. subst (λ x. StandsBut g.D.Write.text mmr (node_over g.H.Hasher.hash_of
+          (λ xs dirty t. subst (λ x. StandsBut g.D.Digest.text mmr (node_over g.H.Hasher.hash_of
           (g.H.Hasher.layout c.args.hasher.now) (g.H.Hasher.chunk c.args.hasher.now)) dirty c.add.new.self (xs
           ++ g.H.Hasher.hash_of (be8 (size mmr c.loop-index.tree.leaves) ++ x) ∷ [])) bytes (m.grown xs dirty t))
           (omega (arith, i.order, i.place)) m.place.0 list rest (i.stands plain list rest s);

@@ -13,7 +13,7 @@ invariant-loop-index g l = record {
   within : l.index ≤ bit_count g.row.N l.bits / (8 * g.row.N);
   boundary : l.tree.boundary ≡ l.fn.tree.boundary;
   stands : g.H.Hasher.layout l.hasher ≡ ungrafted mmr → (list : List Bool) → IsRest g.row.N l.bits list
-      → StandsFor g.D.Write.text mmr (chunk_nodes g.H.Hasher.hash_of) l.fn.tree
-      (chunk_digests g.H.Hasher.hash_of g.row.N list l.fn.tree.leaves) → StandsFor g.D.Write.text mmr
+      → StandsFor g.D.Digest.text mmr (chunk_nodes g.H.Hasher.hash_of) l.fn.tree
+      (chunk_digests g.H.Hasher.hash_of g.row.N list l.fn.tree.leaves) → StandsFor g.D.Digest.text mmr
       (chunk_nodes g.H.Hasher.hash_of) l.tree (chunk_digests g.H.Hasher.hash_of g.row.N list l.tree.leaves);
 }

@@ -17,7 +17,7 @@ update_leaves-requires g c p l =
 
 pub returns-clause-stands : goal.returns-clause-stands
 returns-clause-stands g c plain list rest s =
-    rewritten g.D.Write.text g.H.Hasher.hash_of (g.H.Hasher.layout c.args.hasher.now)
+    rewritten g.D.Digest.text g.H.Hasher.hash_of (g.H.Hasher.layout c.args.hasher.now)
     (g.H.Hasher.chunk c.args.hasher.now) g.row.N c.args.bits.now c.args.tree.now c.update_leaves.new.self
     c.args.dirty.now.keys c.deref.result.now plain c.in_default.ensures.written
     (rw c.deref.ensures.value c.in_ok-leaves.ensures) c.requires.there list rest s
@@ -27,7 +27,7 @@ returns-in-Err-clause-why g c =
     let w = c.in-Err.ensures.why in
     let digest : ℕ → List ℕ = λ k. g.H.Hasher.hash_of (be8 (size mmr k)
     ++ chunk g.row.N c.args.bits.now.bits (k - c.args.bits.now.pruned)) in
-    absurd (none_away g.D.Write.text digest c.args.dirty.now.keys c.deref.result.now c.args.tree.now.leaves
+    absurd (none_away g.D.Digest.text digest c.args.dirty.now.keys c.deref.result.now c.args.tree.now.leaves
     c.args.tree.now.boundary c.args.bits.now.pruned w.0
     (rw c.deref.ensures.value c.in_ok-leaves.ensures) c.requires.there c.requires.boundary w.1
     (elim w.2 [

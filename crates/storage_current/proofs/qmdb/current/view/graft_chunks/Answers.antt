@@ -42,7 +42,7 @@ unwrap-inner-requires g c =
     let level = height_of_power S g.row.N _ c.height-height.ensures.power in
     let s = chunk_site G g.met.F.Family.laws m.leaves i c.args.count r level c.requires.graftable c.loop-index-test.true in
     rw (c.get_node.ensures, c.new-position.ensures, c.position.ensures, c.power-bits.ensures)
-    (kept_some g.H.Digest.Write.text g.H.Hasher.hash_of S g.met.F.Family.laws m
+    (kept_some g.H.Digest.Digest.text g.H.Hasher.hash_of S g.met.F.Family.laws m
     c.trees_keep_the_nodes_of_their_list.ensures c.requires.grown (S.position (i * 2 ^ r) r) (i * 2 ^ r) r
     (record { aligned = s.aligned; at = refl }) s.before)
 
@@ -64,7 +64,7 @@ loop-index-preserved g c =
     let S = g.F.Family.shape in
     let L = g.met.F.Family.laws in
     let h = g.H.Hasher.hash_of in
-    let text = g.H.Digest.Write.text in
+    let text = g.H.Digest.Digest.text in
     let G : Grafting = record { shape = S; bytes = g.row.N } in
     let m = c.args.operations.now in
     let r = c.height-height.result in
@@ -95,7 +95,7 @@ pub returns-clause-grafted : goal.returns-clause-grafted
 returns-clause-grafted g c s bits over =
     let S = g.F.Family.shape in
     let h = g.H.Hasher.hash_of in
-    let text = g.H.Digest.Write.text in
+    let text = g.H.Digest.Digest.text in
     let G : Grafting = record { shape = S; bytes = g.row.N } in
     let m = c.args.operations.now in
     let items = c.loop-index.digests.items in

@@ -6,7 +6,7 @@ use Rattle.storage_current.proofs.qmdb.current.view.graft_chunks.Given as goal
 abbrev pub invariant-loop-index : goal.invariant-loop-index
 invariant-loop-index g l =
     let S = g.F.Family.shape in
-    let text = g.H.Digest.Write.text in
+    let text = g.H.Digest.Digest.text in
     let h = g.H.Hasher.hash_of in
     let G : Grafting = record { shape = S; bytes = g.row.N } in
     record {

@@ -9,7 +9,7 @@ peaks-position-items-requires g c = (c.args.operations.now.leaves, c.requires.fe
 
 pub loop-position-init : goal.loop-position-init
 loop-position-init g c =
-    none_read g.H.Digest.Write.text g.F.Family.shape g.met.F.Family.laws c.args.operations.now.leaves _ _ _
+    none_read g.H.Digest.Digest.text g.F.Family.shape g.met.F.Family.laws c.args.operations.now.leaves _ _ _
     c.new-peaks.ensures.items
     (c.into_iter-position-iterator.ensures.into_iter_gives
     ∙ c.peaks-position-items.ensures c.args.operations.now.leaves (sym c.size.ensures))
@@ -21,7 +21,7 @@ unwrap-requires g c =
 
 pub loop-position-preserved : goal.loop-position-preserved
 loop-position-preserved g c =
-    let text = g.H.Digest.Write.text in
+    let text = g.H.Digest.Digest.text in
     let S = g.F.Family.shape in
     let m = c.args.operations.now in
     let seen = seen_in g.H.Hasher.digest_of text S c.args.height m c.args.chunks.now in
@@ -37,7 +37,7 @@ returns-clause-count g c = let n = rw c.in-None.ensures.steps.0 at c.loop-positi
 
 pub returns-clause-digests : goal.returns-clause-digests
 returns-clause-digests g c digest_of all =
-    let text = g.H.Digest.Write.text in
+    let text = g.H.Digest.Digest.text in
     let S = g.F.Family.shape in
     let m = c.args.operations.now in
     let seen = seen_in g.H.Hasher.digest_of text S c.args.height m c.args.chunks.now in

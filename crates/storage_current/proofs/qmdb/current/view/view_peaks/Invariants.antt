@@ -4,6 +4,6 @@ use Rattle.storage_current.proofs.qmdb.current.view.view_peaks.Given as goal
 
 abbrev pub invariant-loop-position : goal.invariant-loop-position
 invariant-loop-position g l =
-    AreRead g.H.Digest.Write.text g.F.Family.shape l.operations.leaves
-    (seen_list g.H.Hasher.digest_of g.H.Digest.Write.text g.F.Family.shape l.height l.operations l.chunks) l.peaks.items
+    AreRead g.H.Digest.Digest.text g.F.Family.shape l.operations.leaves
+    (seen_list g.H.Hasher.digest_of g.H.Digest.Digest.text g.F.Family.shape l.height l.operations l.chunks) l.peaks.items
     l.position-iterator

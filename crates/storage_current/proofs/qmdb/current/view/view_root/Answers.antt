@@ -9,5 +9,5 @@ returns g c grafted content count all =
     let T : Layout = record { shape = g.F.Family.shape; position = g.F.Family.shape.position; grafted = grafted } in
     let peaks = c.in_ok-peaks.ensures.digests (tree_node h T content) all in
     root_from h T.shape grafted content c.args.operations.now.leaves c.args.inactive c.hasher.result.bagging _ _
-    c.hasher.ensures count (ap (map g.H.Digest.Write.text) c.deref.ensures.value ∙ peaks)
+    c.hasher.ensures count (ap (map g.H.Digest.Digest.text) c.deref.ensures.value ∙ peaks)
     (rw c.leaves.ensures at c.root.ensures)

@@ -26,7 +26,8 @@ impl<D: Digest> Write for Counted<D> {
 
     fn write(&self, out: &mut Vec<u8>) -> Result<(), NoMemory> {
         UInt(self.bits).write(out)?;
-        self.digest.write(out)
+        out.extend_from_slice(self.digest.bytes())?;
+        Ok(())
     }
 }
 
@@ -61,7 +62,7 @@ impl<F: Graftable, D: Digest> Write for OpsRootWitness<F, D> {
     ghost text = { λ w. witness_text F.has_pending (witness_of D.text w) };
 
     fn write(&self, out: &mut Vec<u8>) -> Result<(), NoMemory> {
-        self.grafted_root.write(out)?;
+        out.extend_from_slice(self.grafted_root.bytes())?;
         F::write_pending(&self.pending_chunk_digest, out)?;
         with_count(&self.partial_chunk).write(out)
     }

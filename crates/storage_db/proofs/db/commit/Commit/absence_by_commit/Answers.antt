@@ -11,5 +11,5 @@ returns g c = λ commit keeps.
     let gr = grafting_of g.F.Family.shape g.row.N in
     shown_by_commit (keyed_by g.K.Write.text g.V.Value.Write.text g.V.OperationCodec.operation_text g.K.Ord.cmp) h gr _ _
     c.self.view_is commit keeps c.in_ok-metadata.metadata
-    (operation_proof_of g.H.Digest.Write.text (λ bytes. bytes) c.in_ok-proof.proof) c.in_ok-metadata.ensures
+    (operation_proof_of g.H.Digest.Digest.text (λ bytes. bytes) c.in_ok-proof.proof) c.in_ok-metadata.ensures
     (c.in_ok-proof.ensures commit keeps ∙ ap (λ (l : ℕ). own_operation_proof h gr commit.snapshot l) c.location.ensures)

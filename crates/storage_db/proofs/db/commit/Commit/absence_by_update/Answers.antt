@@ -9,7 +9,7 @@ returns g c = λ commit keeps entry copy.
     shown_by_update (keyed_by g.K.Write.text g.V.Value.Write.text g.V.OperationCodec.operation_text g.K.Ord.cmp)
     c.operations_settle_keys.ensures g.H.Hasher.hash_of (grafting_of g.F.Family.shape g.row.N) _ _ c.self.view_is commit keeps
     c.args.start.now c.args.entry.now entry copy c.in_ok-clone.field-0 c.in_ok-clone-2.field-0 c.in_ok-next_or_own.field-0
-    (operation_proof_of g.H.Digest.Write.text (λ bytes. bytes) c.in_ok-proof.proof)
+    (operation_proof_of g.H.Digest.Digest.text (λ bytes. bytes) c.in_ok-proof.proof)
     (g.met.K.Key.clones c.args.start.now c.in_ok-clone.field-0 c.in_ok-clone.ensures.cases).1
     (g.met.V.ValueEncoding.clones c.args.entry.now.value c.in_ok-clone-2.field-0 c.in_ok-clone-2.ensures.cases).1
     c.in_ok-next_or_own.ensures (c.in_ok-proof.ensures commit keeps)

@@ -33,7 +33,7 @@ returns-in_ok-absence_by_update-in-Some-clause-own g c = λ commit keeps.
     absence_by_update (keyed_by g.K.Write.text g.V.Value.Write.text g.V.OperationCodec.operation_text g.K.Ord.cmp)
     c.operations_settle_keys.ensures g.H.Hasher.hash_of (grafting_of g.F.Family.shape g.row.N) _ _ c.self.view_is commit keeps
     c.args.key.now (sym c.contains_key.ensures ∙ c.if-contains_key.false) (c.in-Some.start.now, c.in-Some.entry.now)
-    (sym c.in-Some.ensures.value) (exclusion_of g.H.Digest.Write.text (λ bytes. bytes) c.in_ok-absence_by_update-in-Some.field-0)
+    (sym c.in-Some.ensures.value) (exclusion_of g.H.Digest.Digest.text (λ bytes. bytes) c.in_ok-absence_by_update-in-Some.field-0)
     (c.in_ok-absence_by_update-in-Some.ensures commit keeps)
 
 pub returns-in_ok-absence_by_commit-in-None-clause-own : goal.returns-in_ok-absence_by_commit-in-None-clause-own
@@ -41,5 +41,5 @@ returns-in_ok-absence_by_commit-in-None-clause-own g c = λ commit keeps.
     absence_by_commit (keyed_by g.K.Write.text g.V.Value.Write.text g.V.OperationCodec.operation_text g.K.Ord.cmp)
     c.operations_settle_keys.ensures g.H.Hasher.hash_of (grafting_of g.F.Family.shape g.row.N) _ _ c.self.view_is commit keeps
     c.args.key.now (sym c.contains_key.ensures ∙ c.if-contains_key.false) (sym c.in-None.ensures.value)
-    (exclusion_of g.H.Digest.Write.text (λ bytes. bytes) c.in_ok-absence_by_commit-in-None.field-0)
+    (exclusion_of g.H.Digest.Digest.text (λ bytes. bytes) c.in_ok-absence_by_commit-in-None.field-0)
     (c.in_ok-absence_by_commit-in-None.ensures commit keeps)

@@ -36,6 +36,6 @@ returns-clause-own g c = λ commit keeps.
     value_proof (keyed_by g.K.Write.text g.V.Value.Write.text g.V.OperationCodec.operation_text g.K.Ord.cmp)
     c.operations_settle_keys.ensures g.H.Hasher.hash_of (grafting_of g.F.Family.shape g.row.N) _ _ c.self.view_is commit keeps
     c.args.key.now c.in-Some.entry.now (sym c.in-Some.ensures.value) c.in_ok-value.value c.in_ok-next_key.next_key
-    (operation_proof_of g.H.Digest.Write.text (λ bytes. bytes) c.in_ok-proof.proof)
+    (operation_proof_of g.H.Digest.Digest.text (λ bytes. bytes) c.in_ok-proof.proof)
     (g.met.V.ValueEncoding.clones c.in-Some.entry.now.value c.in_ok-value.value c.in_ok-value.ensures.cases).1
     c.in_ok-next_key.ensures (c.in_ok-proof.ensures commit keeps)

@@ -14,7 +14,7 @@ succeeded (Err x) Q e h = absurd (cc)
 pub returns-clause-grown : goal.returns-clause-grown
 returns-clause-grown g c list dirty s =
     let S = g.F.Family.shape in
-    let f = g.D.Write.text in
+    let f = g.D.Digest.text in
     let N = node_over g.H.Hasher.hash_of (g.H.Hasher.layout c.args.hasher.now) (g.H.Hasher.chunk c.args.hasher.now) in
     let s' = rw (← c.self.view_is) at s in
     let grown = succeeded c.grow.result _ (sym (c.if-is_err.ensures.value)) c.grow.ensures.grown in

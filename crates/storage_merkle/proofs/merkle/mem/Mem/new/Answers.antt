@@ -17,7 +17,7 @@ pub returns-clause-stands : goal.returns-clause-stands
 returns-clause-stands g c N = record {
   count = refl;
   holds = record {
-    peaks = ap (map g.D.Write.text) c.new.ensures.items
+    peaks = ap (map g.D.Digest.text) c.new.ensures.items
         ∙ sym (ap (at_peaks (N []) 0) (no_peaks g.F.Family.shape g.met.F.Family.laws));
     from = λ a k al lo hi clean. absurd (omega arith);
   };

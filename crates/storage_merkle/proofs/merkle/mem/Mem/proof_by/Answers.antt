@@ -29,7 +29,7 @@ returns-clause-own g c =
     plan_is (refusal g.row.F.Denot c.new.result c.args.range.start c.args.range.end) c.in-Ok.plan _ c.in-Ok.ensures
     ∙ ap (λ n. (record { leaves = n; start = c.args.range.start; end = c.args.range.end })) leaves in
     IfOk-weaker c.build.result _ _ (λ proof x T content shape stands. range_own g.F.Family.shape g.met.F.Family.laws
-    g.D.Write.text c.args.self.now whole (goal.G-post g c.args.get_node) (λ p d fits a.
+    g.D.Digest.text c.args.self.now whole (goal.G-post g c.args.get_node) (λ p d fits a.
     c.requires.kept p (Some d) fits a) g.H.Hasher.hash_of (g.H.Hasher.bagging c.args.hasher.now) c.in-Ok.plan
     c.args.inactive c.args.range.start c.args.range.end _ plan x T content shape stands) c.build.ensures.own
 
@@ -48,7 +48,7 @@ returns-clause-why g c =
     ≡ record { leaves = c.args.self.now.leaves; start = c.args.range.start; end = c.args.range.end } =
     plan_is (refusal g.row.F.Denot c.new.result c.args.range.start c.args.range.end) c.in-Ok.plan _ c.in-Ok.ensures
     ∙ ap (λ n. (record { leaves = n; start = c.args.range.start; end = c.args.range.end })) leaves in
-    let built = IfErr-weaker c.build.result _ _ (λ e x. why_refused g.F.Family.shape g.met.F.Family.laws g.D.Write.text
+    let built = IfErr-weaker c.build.result _ _ (λ e x. why_refused g.F.Family.shape g.met.F.Family.laws g.D.Digest.text
     c.args.self.now whole (goal.G-post g c.args.get_node) c.requires.kept c.in-Ok.plan c.args.inactive
     c.args.range.start c.args.range.end plan e x) c.build.ensures.why in
     planned_then (refusal g.row.F.Denot c.args.self.now.leaves c.args.range.start c.args.range.end) c.in-Ok.plan _ _ _
@@ -69,6 +69,6 @@ returns-clause-kept g c = λ from.
     ≡ record { leaves = c.args.self.now.leaves; start = c.args.range.start; end = c.args.range.end } =
     plan_is (refusal g.row.F.Denot c.new.result c.args.range.start c.args.range.end) c.in-Ok.plan _ c.in-Ok.ensures
     ∙ ap (λ n. (record { leaves = n; start = c.args.range.start; end = c.args.range.end })) leaves in
-    IfErr-weaker c.build.result _ _ (λ e x. not_pruned g.F.Family.shape g.met.F.Family.laws g.D.Write.text
+    IfErr-weaker c.build.result _ _ (λ e x. not_pruned g.F.Family.shape g.met.F.Family.laws g.D.Digest.text
     c.args.self.now whole (goal.G-post g c.args.get_node) c.requires.kept c.in-Ok.plan c.args.inactive
     c.args.range.start c.args.range.end plan e from x) c.build.ensures.why

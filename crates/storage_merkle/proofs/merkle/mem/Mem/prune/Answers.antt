@@ -71,7 +71,7 @@ pub returns-clause-stands : goal.returns-clause-stands
 returns-clause-stands g c N list s =
     let S = g.F.Family.shape in
     let L = g.met.F.Family.laws in
-    let f = g.D.Write.text in
+    let f = g.D.Digest.text in
     let node = N list in
     let up : size S c.as_u64-to.result ≤ size S c.self.inside.leaves =
     grows_at_most (size S) L.grows _ _ c.if-to-self.false in

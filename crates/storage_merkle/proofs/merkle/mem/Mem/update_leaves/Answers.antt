@@ -19,7 +19,7 @@ returns-clause-written g c list dirty s =
     (drop (length c.write_leaves.new.nodes) c.self.inside.nodes.items)
     (omega (arith, c.write_leaves.auto.nodes, c.deref_mut.ensures.len, ap length c.deref_mut.ensures.value)) in
     record {
-      count = s'.count ∙ sym (length_updated list (map (λ u. (u.0, g.D.Write.text u.1)) c.args.updates.now));
+      count = s'.count ∙ sym (length_updated list (map (λ u. (u.0, g.D.Digest.text u.1)) c.args.updates.now));
       holds = rw back (rw c.deref.ensures.value at r);
     }
 

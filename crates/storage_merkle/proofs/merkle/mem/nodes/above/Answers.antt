@@ -30,8 +30,8 @@ position-requires-clause-fits g c = let r = room g.F.Family.shape g.met.F.Family
 pub unwrap-left-requires : goal.unwrap-left-requires
 unwrap-left-requires g c =
     let S = g.F.Family.shape in
-    let P = map g.H.Digest.Write.text c.args.pinned.now in
-    let Q = map g.H.Digest.Write.text c.args.nodes.now in
+    let P = map g.H.Digest.Digest.text c.args.pinned.now in
+    let Q = map g.H.Digest.Digest.text c.args.nodes.now in
     let f : c.args.place / c.power.result * c.power-2.result ≡ over c.args.place c.args.height =
     ap₂ (λ x y. c.args.place / x * y) c.power.ensures c.power-2.ensures in
     let i = children_over_at S g.met.F.Family.laws c.args.boundary c.args.leaves c.args.place c.args.height
@@ -39,8 +39,8 @@ unwrap-left-requires g c =
     let d = kept_some_at S g.met.F.Family.laws c.args.boundary (size S c.args.leaves) (over c.args.place c.args.height)
     (c.args.height - 1) c.position.result P Q (c.position.ensures ∙ ap (λ m. S.position m (c.args.height - 1)) f)
     i.0 (rw length-map c.requires.count) (rw length-map c.requires.pins) in
-    lent_some (λ x. x.now) c.find.result (found g.H.Digest.Write.text (option_map (λ x. x.now) c.find.result) (kept_at S c.args.boundary P Q c.position.result) d.0
-    (seen g.H.Digest.Write.text g.F.Family.shape c.args.boundary c.args.pinned.now c.args.nodes.now _ _
+    lent_some (λ x. x.now) c.find.result (found g.H.Digest.Digest.text (option_map (λ x. x.now) c.find.result) (kept_at S c.args.boundary P Q c.position.result) d.0
+    (seen g.H.Digest.Digest.text g.F.Family.shape c.args.boundary c.args.pinned.now c.args.nodes.now _ _
     c.find.ensures) d.1)
 
 pub position-requires-2-clause-aligned : goal.position-requires-2-clause-aligned
@@ -56,8 +56,8 @@ position-requires-2-clause-fits g c = let r = room g.F.Family.shape g.met.F.Fami
 pub unwrap-right-requires : goal.unwrap-right-requires
 unwrap-right-requires g c =
     let S = g.F.Family.shape in
-    let P = map g.H.Digest.Write.text c.args.pinned.now in
-    let Q = map g.H.Digest.Write.text c.args.nodes.now in
+    let P = map g.H.Digest.Digest.text c.args.pinned.now in
+    let Q = map g.H.Digest.Digest.text c.args.nodes.now in
     let f : c.args.place / c.power.result * c.power-2.result ≡ over c.args.place c.args.height =
     ap₂ (λ x y. c.args.place / x * y) c.power.ensures c.power-2.ensures in
     let i = children_over_at S g.met.F.Family.laws c.args.boundary c.args.leaves c.args.place c.args.height
@@ -66,15 +66,15 @@ unwrap-right-requires g c =
     (over c.args.place c.args.height + 2 ^ (c.args.height - 1)) (c.args.height - 1) c.position-2.result P Q
     (c.position-2.ensures ∙ ap₂ (λ m n. S.position (m + n) (c.args.height - 1)) f c.power-half.ensures) i.1
     (rw length-map c.requires.count) (rw length-map c.requires.pins) in
-    lent_some (λ x. x.now) c.find-2.result (found g.H.Digest.Write.text (option_map (λ x. x.now) c.find-2.result) (kept_at S c.args.boundary P Q c.position-2.result) d.0
-    (seen g.H.Digest.Write.text g.F.Family.shape c.args.boundary c.args.pinned.now c.args.nodes.now _ _
+    lent_some (λ x. x.now) c.find-2.result (found g.H.Digest.Digest.text (option_map (λ x. x.now) c.find-2.result) (kept_at S c.args.boundary P Q c.position-2.result) d.0
+    (seen g.H.Digest.Digest.text g.F.Family.shape c.args.boundary c.args.pinned.now c.args.nodes.now _ _
     c.find-2.ensures) d.1)
 
 pub returns : goal.returns
 returns g c list rest w clean =
     let S = g.F.Family.shape in
     let L = g.met.F.Family.laws in
-    let b = g.H.Digest.Write.text in
+    let b = g.H.Digest.Digest.text in
     let T = g.H.Hasher.layout c.args.hasher.now in
     let chunk = g.H.Hasher.chunk c.args.hasher.now in
     let node = node_over g.H.Hasher.hash_of T chunk list in
@@ -96,11 +96,11 @@ returns g c list rest w clean =
     above_is S L g.H.Hasher.hash_of T chunk list a h (b c.unwrap-left.result.now) (b c.unwrap-right.result.now)
     (b c.node_digest.result) c.requires.inner
     (value_of b (option_map (λ x. x.now) c.find.result) (kept_at S c.args.boundary P Q c.position.result) _ c.unwrap-left.result.now
-    (seen g.H.Digest.Write.text g.F.Family.shape c.args.boundary c.args.pinned.now c.args.nodes.now _ _
+    (seen g.H.Digest.Digest.text g.F.Family.shape c.args.boundary c.args.pinned.now c.args.nodes.now _ _
     c.find.ensures) (ap (option_map (λ x. x.now)) c.unwrap-left.ensures)
     (ap (kept_at S c.args.boundary P Q) (c.position.ensures ∙ ap (λ m. S.position m (h - 1)) f) ∙ x))
     (value_of b (option_map (λ x. x.now) c.find-2.result) (kept_at S c.args.boundary P Q c.position-2.result) _ c.unwrap-right.result.now
-    (seen g.H.Digest.Write.text g.F.Family.shape c.args.boundary c.args.pinned.now c.args.nodes.now _ _
+    (seen g.H.Digest.Digest.text g.F.Family.shape c.args.boundary c.args.pinned.now c.args.nodes.now _ _
     c.find-2.ensures) (ap (option_map (λ x. x.now)) c.unwrap-right.ensures) (ap (kept_at S c.args.boundary P Q) (c.position-2.ensures
     ∙ ap₂ (λ m n. S.position (m + n) (h - 1)) f c.power-half.ensures) ∙ y))
     (c.node_digest.ensures a h (record { aligned = o.aligned; at = sym at }))

@@ -25,9 +25,9 @@ unwrap-left-requires g c =
     let i = children_kept S g.met.F.Family.laws c.args.boundary c.args.leaves c.args.offset _ _ c.requires.order
     c.if-height-eq0.false c.node_after-first.ensures in
     let d = kept_some_at S g.met.F.Family.laws c.args.boundary _ _ _ c.position.result
-    (map g.H.Digest.Write.text c.args.pinned.now) (map g.H.Digest.Write.text c.args.nodes.now) c.position.ensures
+    (map g.H.Digest.Digest.text c.args.pinned.now) (map g.H.Digest.Digest.text c.args.nodes.now) c.position.ensures
     i.0 (rw length-map c.requires.count) (rw length-map c.requires.pins) in
-    lent_some (λ x. x.now) c.find.result (found g.H.Digest.Write.text (option_map (λ x. x.now) c.find.result) _ d.0 (seen g.H.Digest.Write.text g.F.Family.shape c.args.boundary
+    lent_some (λ x. x.now) c.find.result (found g.H.Digest.Digest.text (option_map (λ x. x.now) c.find.result) _ d.0 (seen g.H.Digest.Digest.text g.F.Family.shape c.args.boundary
     c.args.pinned.now c.args.nodes.now _ _ c.find.ensures) d.1)
 
 pub overflow_add-first : goal.overflow_add-first
@@ -54,10 +54,10 @@ unwrap-right-requires g c =
     let i = children_kept S g.met.F.Family.laws c.args.boundary c.args.leaves c.args.offset _ _ c.requires.order
     c.if-height-eq0.false c.node_after-first.ensures in
     let d = kept_some_at S g.met.F.Family.laws c.args.boundary _ _ _ c.position-2.result
-    (map g.H.Digest.Write.text c.args.pinned.now) (map g.H.Digest.Write.text c.args.nodes.now) (c.position-2.ensures
+    (map g.H.Digest.Digest.text c.args.pinned.now) (map g.H.Digest.Digest.text c.args.nodes.now) (c.position-2.ensures
     ∙ ap (λ m. S.position (c.node_after-first.result.0 + m) (c.node_after-first.result.1 - 1)) c.power-half.ensures)
     i.1 (rw length-map c.requires.count) (rw length-map c.requires.pins) in
-    lent_some (λ x. x.now) c.find-2.result (found g.H.Digest.Write.text (option_map (λ x. x.now) c.find-2.result) _ d.0 (seen g.H.Digest.Write.text g.F.Family.shape c.args.boundary
+    lent_some (λ x. x.now) c.find-2.result (found g.H.Digest.Digest.text (option_map (λ x. x.now) c.find-2.result) _ d.0 (seen g.H.Digest.Digest.text g.F.Family.shape c.args.boundary
     c.args.pinned.now c.args.nodes.now _ _ c.find-2.ensures) d.1)
 
 pub returns-then-height-eq0 : goal.returns-then-height-eq0
@@ -82,7 +82,7 @@ pub returns : goal.returns
 returns g c list dirty len holds a k j clean =
     let S = g.F.Family.shape in
     let L = g.met.F.Family.laws in
-    let f = g.H.Digest.Write.text in
+    let f = g.H.Digest.Digest.text in
     let T = g.H.Hasher.layout c.args.hasher.now in
     let chunk = g.H.Hasher.chunk c.args.hasher.now in
     let p = size S c.args.leaves + c.args.offset in
@@ -100,9 +100,9 @@ returns g c list dirty len holds a k j clean =
     (rw length-map c.requires.count) holds down.1 in
     inner_born S L g.H.Hasher.hash_of T chunk grown p n.0 n.1 (f c.unwrap-left.result.now)
     (f c.unwrap-right.result.now) _ c.if-height-eq0.false c.node_after-first.ensures
-    (value_of f (option_map (λ x. x.now) c.find.result) _ _ _ (seen g.H.Digest.Write.text g.F.Family.shape c.args.boundary c.args.pinned.now
+    (value_of f (option_map (λ x. x.now) c.find.result) _ _ _ (seen g.H.Digest.Digest.text g.F.Family.shape c.args.boundary c.args.pinned.now
     c.args.nodes.now _ _ c.find.ensures) (ap (option_map (λ x. x.now)) c.unwrap-left.ensures) (rw c.position.ensures x))
-    (value_of f (option_map (λ x. x.now) c.find-2.result) _ _ _ (seen g.H.Digest.Write.text g.F.Family.shape c.args.boundary c.args.pinned.now
+    (value_of f (option_map (λ x. x.now) c.find-2.result) _ _ _ (seen g.H.Digest.Digest.text g.F.Family.shape c.args.boundary c.args.pinned.now
     c.args.nodes.now _ _ c.find-2.ensures) (ap (option_map (λ x. x.now)) c.unwrap-right.ensures)
     (rw (c.position-2.ensures, c.power-half.ensures) y))
     (c.node_digest.ensures n.0 n.1 (rw at c.node_after-first.ensures))

@@ -24,7 +24,7 @@ pub loop-offset-preserved : goal.loop-offset-preserved
 loop-offset-preserved g c =
     let S = g.F.Family.shape in
     let L = g.met.F.Family.laws in
-    let f = g.H.Digest.Write.text in
+    let f = g.H.Digest.Digest.text in
     let N = node_over g.H.Hasher.hash_of (g.H.Hasher.layout c.args.hasher.now) (g.H.Hasher.chunk c.args.hasher.now) in
     let leaf = g.H.Hasher.hash_of (be8 (size S c.args.leaves) ++ c.args.element.now) in
     let n = c.args.leaves in

@@ -8,7 +8,7 @@ use Rattle.storage_merkle.proofs.merkle.mem.nodes.grow.Given as goal
 abbrev pub invariant-loop-offset : goal.invariant-loop-offset
 invariant-loop-offset g l =
     let S = g.F.Family.shape in
-    let f = g.H.Digest.Write.text in
+    let f = g.H.Digest.Digest.text in
     let N = node_over g.H.Hasher.hash_of (g.H.Hasher.layout l.hasher) (g.H.Hasher.chunk l.hasher) in
     let leaf = g.H.Hasher.hash_of (be8 (size S l.leaves) ++ l.element) in
     record {

@@ -19,9 +19,9 @@ unwrap-digests-requires g c =
     c.args.leaves c.first_peak.result c.requires.order c.requires.there
     (walk_start S L c.args.leaves) c.first_peak.ensures.first in
     let d = kept_some_at S L c.args.boundary (length c.args.nodes.now + size S c.args.boundary) 0 c.first_peak.result
-    c.position-highest.result (map g.D.Write.text c.args.pinned.now) (map g.D.Write.text c.args.nodes.now)
+    c.position-highest.result (map g.D.Digest.text c.args.pinned.now) (map g.D.Digest.text c.args.nodes.now)
     c.position-highest.ensures i (rw length-map refl) (rw length-map c.requires.pins) in
-    found g.D.Write.text c.look_up.result _ d.0 (seen g.D.Write.text g.F.Family.shape c.args.boundary c.args.pinned.now
+    found g.D.Digest.text c.look_up.result _ d.0 (seen g.D.Digest.text g.F.Family.shape c.args.boundary c.args.pinned.now
     c.args.nodes.now _ _ c.look_up.ensures) d.1
 
 pub position-requires-clause-aligned : goal.position-requires-clause-aligned
@@ -42,17 +42,17 @@ unwrap-requires g c =
     (length c.args.nodes.now + size S c.args.boundary) c.loop-left.first c.loop-left.left c.first_peak-height.result
     c.requires.order c.requires.there c.loop-left.invariant.walk c.first_peak-height.ensures.first in
     let d = kept_some_at S L c.args.boundary (length c.args.nodes.now + size S c.args.boundary) c.loop-left.first
-    c.first_peak-height.result c.position.result (map g.D.Write.text c.args.pinned.now)
-    (map g.D.Write.text c.args.nodes.now) c.position.ensures i (rw length-map refl)
+    c.first_peak-height.result c.position.result (map g.D.Digest.text c.args.pinned.now)
+    (map g.D.Digest.text c.args.nodes.now) c.position.ensures i (rw length-map refl)
     (rw length-map c.requires.pins) in
-    found g.D.Write.text c.look_up-in-loop-left.result _ d.0 (seen g.D.Write.text g.F.Family.shape c.args.boundary
+    found g.D.Digest.text c.look_up-in-loop-left.result _ d.0 (seen g.D.Digest.text g.F.Family.shape c.args.boundary
     c.args.pinned.now c.args.nodes.now _ _ c.look_up-in-loop-left.ensures) d.1
 
 pub loop-left-preserved : goal.loop-left-preserved
 loop-left-preserved g c =
     let S = g.F.Family.shape in
     let L = g.met.F.Family.laws in
-    let f = g.D.Write.text in
+    let f = g.D.Digest.text in
     let h = c.first_peak-height.result in
     let i = walk_kept S L c.args.boundary c.args.leaves
     (length c.args.nodes.now + size S c.args.boundary) c.loop-left.first c.loop-left.left h c.requires.order
@@ -68,7 +68,7 @@ loop-left-preserved g c =
           walk_more S L node f c.loop-left.digests c.loop-left.count c.loop-left.first c.loop-left.left h
           c.unwrap.result _ (c.loop-left.invariant.digests node held) c.first_peak-height.ensures.first
           (omega (arith, c.loop-left.invariant.count))
-          (value_of f c.look_up-in-loop-left.result _ _ _ (seen g.D.Write.text g.F.Family.shape c.args.boundary
+          (value_of f c.look_up-in-loop-left.result _ _ _ (seen g.D.Digest.text g.F.Family.shape c.args.boundary
           c.args.pinned.now c.args.nodes.now _ _ c.look_up-in-loop-left.ensures) c.unwrap.ensures (rw
           c.position.ensures (kept_is S L node [] c.args.boundary (length c.args.nodes.now + size S c.args.boundary)
           _ _ (map f c.args.pinned.now) (map f c.args.nodes.now) i (rw length-map refl) held (clean_none _ _))));

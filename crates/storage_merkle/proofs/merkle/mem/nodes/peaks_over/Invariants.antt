@@ -10,8 +10,8 @@ invariant-loop-left g l = record {
   room : length l.digests ≡ 64;
   count : l.count + length (g.F.Family.shape.peaks l.left) ≡ length (g.F.Family.shape.peaks l.leaves);
   digests : (node : ℕ → ℕ → List ℕ) → HoldsDigests g.F.Family.shape node [] l.boundary
-      (length l.nodes + size g.F.Family.shape l.boundary) (map g.D.Write.text l.pinned) (map g.D.Write.text l.nodes)
-      → map g.D.Write.text (take l.count l.digests) ++ at_peaks node l.first (g.F.Family.shape.peaks l.left)
+      (length l.nodes + size g.F.Family.shape l.boundary) (map g.D.Digest.text l.pinned) (map g.D.Digest.text l.nodes)
+      → map g.D.Digest.text (take l.count l.digests) ++ at_peaks node l.first (g.F.Family.shape.peaks l.left)
       ≡ at_peaks node 0 (g.F.Family.shape.peaks l.leaves);
 }
 

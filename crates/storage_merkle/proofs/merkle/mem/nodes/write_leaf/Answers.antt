@@ -146,7 +146,7 @@ loop-height-preserved g c list rest h e =
     let L = g.met.F.Family.laws in
     let node =
     node_over g.H.Hasher.hash_of (g.H.Hasher.layout c.args.hasher.now) (g.H.Hasher.chunk c.args.hasher.now) list in
-    let b = g.H.Digest.Write.text in
+    let b = g.H.Digest.Digest.text in
     let k = c.loop-height.height in
     let f : c.args.place / c.power.result * c.power-in-loop-height.result ≡ over c.args.place k =
     ap₂ (λ x y. c.args.place / x * y) c.power.ensures c.power-in-loop-height.ensures in

@@ -9,7 +9,7 @@ abbrev pub invariant-loop-height : goal.invariant-loop-height
 invariant-loop-height g l =
     let N = node_over g.H.Hasher.hash_of (g.H.Hasher.layout l.hasher) (g.H.Hasher.chunk l.hasher) in
     (list : List (List ℕ)) (rest : List ℕ) → HoldsDigests g.F.Family.shape (N list) (l.place ∷ rest) l.boundary
-    (size g.F.Family.shape l.leaves) (map g.H.Digest.Write.text l.pinned) (map g.H.Digest.Write.text l.fn.nodes)
-    → get_or list l.place [] ≡ g.H.Digest.Write.text l.fn.digest
+    (size g.F.Family.shape l.leaves) (map g.H.Digest.Digest.text l.pinned) (map g.H.Digest.Digest.text l.fn.nodes)
+    → get_or list l.place [] ≡ g.H.Digest.Digest.text l.fn.digest
     → WrittenBelow g.F.Family.shape (N list) rest l.place l.height l.boundary (size g.F.Family.shape l.leaves)
-    (map g.H.Digest.Write.text l.pinned) (map g.H.Digest.Write.text l.nodes)
+    (map g.H.Digest.Digest.text l.pinned) (map g.H.Digest.Digest.text l.nodes)

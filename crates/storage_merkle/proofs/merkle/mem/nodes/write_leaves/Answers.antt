@@ -25,7 +25,7 @@ loop-update-smaller g c = omega (arith, c.in-Some.ensures.cases.1)
 
 pub loop-update-preserved : goal.loop-update-preserved
 loop-update-preserved g c =
-    let f = g.H.Digest.Write.text in
+    let f = g.H.Digest.Digest.text in
     let P = map f c.args.pinned.now in
     let h = all_head (λ u. (c.args.boundary ≤ u.0) × (u.0 < c.args.leaves)) c.loop-update.left.now c.in-Some.rest.now
     c.in-Some.update.now c.in-Some.ensures.cases.0 c.loop-update.invariant.there in
@@ -43,7 +43,7 @@ loop-update-preserved g c =
 
 pub returns : goal.returns
 returns g c list dirty len h =
-    let f = g.H.Digest.Write.text in
+    let f = g.H.Digest.Digest.text in
     halfway_end g.F.Family.shape g.met.F.Family.laws g.H.Hasher.hash_of (g.H.Hasher.layout c.args.hasher.now)
     (g.H.Hasher.chunk c.args.hasher.now) f list c.args.updates.now c.loop-update.left.now dirty c.args.boundary
     c.args.leaves (map f c.args.pinned.now) (map f c.loop-update.nodes) c.in_default.ensures.cases

@@ -8,7 +8,7 @@ use Rattle.storage_merkle.proofs.merkle.mem.nodes.write_leaves.Given as goal
 abbrev pub invariant-loop-update : goal.invariant-loop-update
 invariant-loop-update g l =
     let S = g.F.Family.shape in
-    let f = g.H.Digest.Write.text in
+    let f = g.H.Digest.Digest.text in
     let T = g.H.Hasher.layout l.hasher in
     let chunk = g.H.Hasher.chunk l.hasher in
     record {

@@ -56,7 +56,7 @@ returns-clause-exact g t c =
     on_ok c.add_peaks.result
     (λ f digest serves.
     peaks_more g.E.AsSlice.items g.H.Hasher.hash_of (g.H.Hasher.layout c.args.hasher.now) digest
-    (g.H.Hasher.chunk c.args.hasher.now) g.F.Family.shape g.D.Write.text c.args.claims.now c.split.result.0.now
+    (g.H.Hasher.chunk c.args.hasher.now) g.F.Family.shape g.D.Digest.text c.args.claims.now c.split.result.0.now
     c.split.result.1.now c.args.first c.args.left c.first_peak-height.result (c.args.first + c.power.result)
     c.power-2.result c.node.result _ _ _ c.first_peak-height.ensures.first c.first_peak-height.ensures.within
     c.power-2.ensures (ap (λ n. c.args.first + n) c.power.ensures) c.split.ensures.whole c.split.ensures.parts

@@ -26,10 +26,10 @@ returns-clause-own g c = λ T content shapes many are.
     subst (λ (ps : List ℕ). AllZip (λ q d. A q (Some d)) ps c.deref-2.result.now) same
     (subst (λ (ds : List g.row.H-Digest.Denot). AllZip (λ q d. A q (Some d)) c.deref.result.now ds)
     (sym c.deref-2.ensures.value) c.in-Ok.ensures.served) in
-    let of = are_of g.H.Digest.Write.text A h S T content shapes
+    let of = are_of g.H.Digest.Digest.text A h S T content shapes
     (planned S p.leaves p.start p.end) c.deref-2.result.now served are in
     is_own h S T shapes (g.H.Hasher.bagging c.args.hasher.now) content p.leaves c.args.inactive p.start p.end
-    c.self.inside.leaves c.args.inactive (map g.H.Digest.Write.text c.in_ok-digests.field-0.items) many
+    c.self.inside.leaves c.args.inactive (map g.H.Digest.Digest.text c.in_ok-digests.field-0.items) many
     (ap (λ (q : PlanOf). q.leaves) c.self.view_is) refl (c.in_ok-digests.ensures (tree_node h T content) of)
 
 pub returns-clause-gathered : goal.returns-clause-gathered
@@ -43,10 +43,10 @@ returns-clause-gathered g c = λ digest_of are.
     subst (λ (ps : List ℕ). AllZip (λ q d. A q (Some d)) ps c.deref-2.result.now) same
     (subst (λ (ds : List g.row.H-Digest.Denot). AllZip (λ q d. A q (Some d)) c.deref.result.now ds)
     (sym c.deref-2.ensures.value) c.in-Ok.ensures.served) in
-    let of = are_of_any g.H.Digest.Write.text A S digest_of
+    let of = are_of_any g.H.Digest.Digest.text A S digest_of
     (planned S p.leaves p.start p.end) c.deref-2.result.now served are in
     is_gathered g.H.Hasher.hash_of S (g.H.Hasher.bagging c.args.hasher.now) digest_of p c.args.inactive
-    c.self.inside.leaves c.args.inactive (map g.H.Digest.Write.text c.in_ok-digests.field-0.items)
+    c.self.inside.leaves c.args.inactive (map g.H.Digest.Digest.text c.in_ok-digests.field-0.items)
     (ap (λ (q : PlanOf). q.leaves) c.self.view_is) refl (c.in_ok-digests.ensures digest_of of)
 
 pub returns-clause-answered : goal.returns-clause-answered

@@ -13,7 +13,7 @@ use Rattle.storage_merkle.proofs.merkle.proof.Proof.agrees_with.Goals.{After-aft
 
 -- the walk past the peaks that lead, for some elements
 abbrev walk : (g : Over) (c : After-after_leading-rest g) (elements : List (List ℕ)) → length elements ≡ c.args.count
-    → Walk g.F.Family.shape g.D.Write.text
+    → Walk g.F.Family.shape g.D.Digest.text
 walk g c elements as_many =
     let all = c.all-peaks.result in
     let rest = c.after_leading-rest.result in
@@ -56,9 +56,9 @@ beside g c = omega (
       (position_of (ungrafted g.F.Family.shape)),
 )
 
-front : (g : Over) (c : After-split_at g) → map g.D.Write.text c.split_at.result.0.now
-    ≡ map g.D.Write.text (take c.in-Some-checked_sub.apart c.args.self.now.digests.items)
-front g c = ap (map g.D.Write.text)
+front : (g : Over) (c : After-split_at g) → map g.D.Digest.text c.split_at.result.0.now
+    ≡ map g.D.Digest.text (take c.in-Some-checked_sub.apart c.args.self.now.digests.items)
+front g c = ap (map g.D.Digest.text)
     (c.split_at.ensures.front ∙ ap (take c.in-Some-checked_sub.apart) c.deref.ensures.value)
 
 pub returns-then-end-leaves : goal.returns-then-end-leaves
@@ -76,15 +76,15 @@ returns-then-end-leaves g c = λ elements as_many fit.
             (g.H.Hasher.bagging c.args.hasher.now) (record {
               leaves = c.args.self.now.leaves;
               inactive = c.args.self.now.inactive_peaks;
-              digests = map g.D.Write.text c.args.self.now.digests.items;
+              digests = map g.D.Digest.text c.args.self.now.digests.items;
             })
             c.args.start (record { elements = elements; chunk = g.H.Hasher.chunk c.args.hasher.now })
-            (map g.D.Write.text c.args.pinned.now) in
+            (map g.D.Digest.text c.args.pinned.now) in
             w.if-pinned-peak_count.true (omega (
               arith,
               count,
               peaks,
-              length-map c.args.pinned.now g.D.Write.text,
+              length-map c.args.pinned.now g.D.Digest.text,
               w.peak_count.ensures,
               ap (λ s. length (g.F.Family.shape.peaks s)) c.as_u64-start.ensures,
             )))
@@ -95,7 +95,7 @@ pub returns-in_default-checked_sub : goal.returns-in_default-checked_sub
 returns-in_default-checked_sub g c = λ elements as_many.
     let k = (goal.at.returns-in_default-checked_sub g c).After-after_leading-rest in
     let w = walk g k elements as_many in
-    let pinned = map g.D.Write.text c.args.pinned.now in
+    let pinned = map g.D.Digest.text c.args.pinned.now in
     at_args g k (λ m start. Fits w m start → IsTrue false ↔ Agrees w pinned m start) (λ fit. (
       λ no. cc,
       λ ok. absurd (c.in_default-checked_sub.ensures
@@ -112,7 +112,7 @@ returns-in_default-after_fold g c = λ elements as_many.
     let at = goal.at.returns-in_default-after_fold g c in
     let k = at.After-after_leading-rest in
     let w = walk g k elements as_many in
-    let pinned = map g.D.Write.text c.args.pinned.now in
+    let pinned = map g.D.Digest.text c.args.pinned.now in
     let folds = c.fold_leading-fold.ensures
     ∙ ap₂ (λ s r. fold_of w pinned (take w.f (peaks_from g.F.Family.shape s r)))
     c.all-peaks.ensures.first c.all-peaks.ensures.left in
@@ -120,7 +120,7 @@ returns-in_default-after_fold g c = λ elements as_many.
       λ no. cc,
       λ ok. absurd (fold_refused w pinned fit c.in-Some-checked_sub.apart c.len-2.result (beside g at.After-len-2)
           (omega (arith, c.in-Some-checked_sub.ensures, c.len.ensures))
-          (option_map g.D.Write.text c.fold_leading-fold.result) folds
+          (option_map g.D.Digest.text c.fold_leading-fold.result) folds
           (λ ds e. c.in_default-after_fold.ensures ds (front g at.After-split_at ∙ e)) ok),
     ))
 
@@ -132,7 +132,7 @@ give_siblings-requires-clause-within g c =
 pub returns : goal.returns
 returns g c = λ elements as_many.
     let S = g.F.Family.shape in
-    let text = g.D.Write.text in
+    let text = g.D.Digest.text in
     let at = goal.at.returns g c in
     let k = at.After-after_leading-rest in
     let w = walk g k elements as_many in

@@ -12,21 +12,21 @@ returns-then-is_empty-clause-exact g c =
     (accepted_nothing _ _ _ _ _ _ _ none)
 
 pub returns-then-is_empty-clause-meaning : goal.returns-then-is_empty-clause-meaning
-returns-then-is_empty-clause-meaning g c = λ accepted. accepted_proved _ _ _ _ _ _ _ g.D.FixedSize.size
+returns-then-is_empty-clause-meaning g c = λ accepted. accepted_proved _ _ _ _ _ _ _ g.D.Digest.size
     g.met.H.Hasher.sized (subst Laws (sym (g.met.H.Hasher.over c.args.hasher.now)) g.met.F.Family.laws)
-    (all_digests g.D.Write.text g.D.FixedSize.size g.met.D.FixedSize.sized c.args.self.now.digests.items)
+    (all_digests g.D.Digest.text g.D.Digest.size g.met.D.Digest.sized c.args.self.now.digests.items)
     ((returns-then-is_empty-clause-exact g c).0 accepted)
 
 pub returns-clause-exact : goal.returns-clause-exact
-returns-clause-exact g c = chained (same_option g.D.PartialEq.eq g.D.Write.text g.met.D.Digest.same
+returns-clause-exact g c = chained (same_option g.D.PartialEq.eq g.D.Digest.text g.met.D.Digest.same
     c.in_ok-computed.computed c.args.root.now c.eq.result c.eq.ensures) (accepted_some _ _ _ _ _ _ _
     (some_elements g.E.AsSlice.items c.args.elements.now c.if-is_empty.ensures)
-    (option_map g.D.Write.text c.in_ok-computed.computed) c.in_ok-computed.ensures)
+    (option_map g.D.Digest.text c.in_ok-computed.computed) c.in_ok-computed.ensures)
 
 pub returns-clause-meaning : goal.returns-clause-meaning
-returns-clause-meaning g c = λ accepted. accepted_proved _ _ _ _ _ _ _ g.D.FixedSize.size g.met.H.Hasher.sized
+returns-clause-meaning g c = λ accepted. accepted_proved _ _ _ _ _ _ _ g.D.Digest.size g.met.H.Hasher.sized
     (subst Laws (sym (g.met.H.Hasher.over c.args.hasher.now)) g.met.F.Family.laws)
-    (all_digests g.D.Write.text g.D.FixedSize.size g.met.D.FixedSize.sized c.args.self.now.digests.items)
+    (all_digests g.D.Digest.text g.D.Digest.size g.met.D.Digest.sized c.args.self.now.digests.items)
     ((returns-clause-exact g c).0 accepted)
 
 pub returns-then-is_empty-clause-none : goal.returns-then-is_empty-clause-none

@@ -16,7 +16,7 @@ use Rattle.storage_merkle.proofs.merkle.proof.check.recompute.Goals as goal
 
 module _ (g : Over) (c : After-count_apart g) where
   -- the walk past the peaks that lead
-  abbrev walk : Walk g.F.Family.shape g.H.Digest.Write.text
+  abbrev walk : Walk g.F.Family.shape g.H.Digest.Digest.text
   walk =
       let all = c.all-all.result in
       let rest = c.after_leading-rest.result in
@@ -112,7 +112,7 @@ bag-requires-clause-present g c =
 
 pub returns-clause-root : goal.returns-clause-root
 returns-clause-root g c =
-    let text = g.H.Digest.Write.text in
+    let text = g.H.Digest.Digest.text in
     let k = (goal.at.returns-clause-root g c).After-count_apart in
     let s = (goal.at.returns-clause-root g c).After-split_at in
     let w = walk g k in
@@ -136,7 +136,7 @@ returns-clause-root g c =
 
 pub returns-clause-found : goal.returns-clause-found
 returns-clause-found g c =
-    let text = g.H.Digest.Write.text in
+    let text = g.H.Digest.Digest.text in
     let k = (goal.at.returns-clause-found g c).After-count_apart in
     let s = (goal.at.returns-clause-found g c).After-split_at in
     let w = walk g k in
@@ -161,7 +161,7 @@ pub returns-clause-fits : goal.returns-clause-fits
 returns-clause-fits g c =
     let k = (goal.at.returns-clause-fits g c).After-count_apart in
     let s = (goal.at.returns-clause-fits g c).After-split_at in
-    let w : Walk g.F.Family.shape g.H.Digest.Write.text =
+    let w : Walk g.F.Family.shape g.H.Digest.Digest.text =
     record (walk g k) { T = ungrafted g.F.Family.shape; same = refl } in
     at_args g k (Fits w) (fit w (c.from.result + c.count_apart.result) c.len.result (counted g k) (siblings g s)
     (enough g s) (as_many g s) c.if-start-end.false c.if-leaves-gt-MAX_LEAVES.false

@@ -5,8 +5,8 @@ use Rattle.storage_merkle.proofs.Written.{reading_next, reading_stops}
 use Rattle.storage_merkle.proofs.merkle.proof.codec.read_digests.Goals as goal
 
 pub returns-in-Err-clause-gives : goal.returns-in-Err-clause-gives
-returns-in-Err-clause-gives g c = reading_stops c.in-Err.error g.D.FixedSize.size c.args.count c.loop-index.index _
-    (map g.D.Write.text c.loop-index.digests.items) _ (omega arith) c.loop-index.invariant.read c.in-Err.ensures.gives
+returns-in-Err-clause-gives g c = reading_stops c.in-Err.error g.D.Digest.size c.args.count c.loop-index.index _
+    (map g.D.Digest.text c.loop-index.digests.items) _ (omega arith) c.loop-index.invariant.read c.in-Err.ensures.gives
 
 pub returns-in-Err-clause-ends : goal.returns-in-Err-clause-ends
 returns-in-Err-clause-ends g c = ends_then c.loop-index.invariant.ends c.read.ensures.ends
@@ -17,9 +17,9 @@ returns-in_err-push-clause-ends g c = ends_then c.loop-index.invariant.ends c.re
 pub loop-index-preserved : goal.loop-index-preserved
 loop-index-preserved g c = record {
   read =
-      reading_next g.D.FixedSize.size c.args.count c.loop-index.index _ (map g.D.Write.text c.loop-index.digests.items)
-      (map g.D.Write.text c.push.new.self.items) (g.D.Write.text c.in-Ok.digest) _ _ (omega arith)
-      c.loop-index.invariant.read c.in-Ok.ensures.gives (ap (map g.D.Write.text) c.in_ok-push.ensures.items
-      ∙ map-append g.D.Write.text c.loop-index.digests.items (c.in-Ok.digest ∷ []));
+      reading_next g.D.Digest.size c.args.count c.loop-index.index _ (map g.D.Digest.text c.loop-index.digests.items)
+      (map g.D.Digest.text c.push.new.self.items) (g.D.Digest.text c.in-Ok.digest) _ _ (omega arith)
+      c.loop-index.invariant.read c.in-Ok.ensures.gives (ap (map g.D.Digest.text) c.in_ok-push.ensures.items
+      ∙ map-append g.D.Digest.text c.loop-index.digests.items (c.in-Ok.digest ∷ []));
   ends = ends_then c.loop-index.invariant.ends c.read.ensures.ends;
 }

@@ -9,6 +9,6 @@ use Rattle.storage_merkle.proofs.merkle.proof_store.ProofStore.add_peaks.Given a
 abbrev pub invariant-loop-top : goal.invariant-loop-top
 invariant-loop-top g l =
     let digest = kept_met g.H.Hasher.hash_of (ungrafted g.F.Family.shape) l.self in
-    map g.D.Write.text l.digests.items ++ all_listed (map digest l.top-iterator)
-    ≡ map g.D.Write.text l.fn.digests.items ++ all_listed (map digest (walked l.fn.start l.fn.end
+    map g.D.Digest.text l.digests.items ++ all_listed (map digest l.top-iterator)
+    ≡ map g.D.Digest.text l.fn.digests.items ++ all_listed (map digest (walked l.fn.start l.fn.end
     (peaks_from g.F.Family.shape l.fn.rest.first l.fn.rest.left) l.fn.rest.folded))

@@ -6,10 +6,10 @@ use Rattle.storage_merkle.proofs.merkle.proof_store.ProofStore.digests_at.Given 
 
 abbrev pub invariant-loop-position : goal.invariant-loop-position
 invariant-loop-position g l = record {
-  refusal : needed_refusal g.row.F.Denot l.self (by_bytes g.D.Write.text l.peaks)
+  refusal : needed_refusal g.row.F.Denot l.self (by_bytes g.D.Digest.text l.peaks)
       (suffix_positions g.F.Family.shape l.self) l.positions ≡ needed_refusal g.row.F.Denot l.self
-      (by_bytes g.D.Write.text l.peaks) (suffix_positions g.F.Family.shape l.self) (drop l.position-index l.positions);
-  found : map g.D.Write.text l.digests.items ++ map (digest_of g.row.F.Denot l.self (by_bytes g.D.Write.text l.peaks)
+      (by_bytes g.D.Digest.text l.peaks) (suffix_positions g.F.Family.shape l.self) (drop l.position-index l.positions);
+  found : map g.D.Digest.text l.digests.items ++ map (digest_of g.row.F.Denot l.self (by_bytes g.D.Digest.text l.peaks)
       (suffix_positions g.F.Family.shape l.self)) (drop l.position-index l.positions) ≡ map (digest_of g.row.F.Denot
-      l.self (by_bytes g.D.Write.text l.peaks) (suffix_positions g.F.Family.shape l.self)) l.positions;
+      l.self (by_bytes g.D.Digest.text l.peaks) (suffix_positions g.F.Family.shape l.self)) l.positions;
 }

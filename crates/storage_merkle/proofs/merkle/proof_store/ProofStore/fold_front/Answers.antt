@@ -21,7 +21,7 @@ pub loop-first-init : goal.loop-first-init
 loop-first-init g c =
     let S = g.F.Family.shape in
     let h = g.H.Hasher.hash_of in
-    let text = g.D.Write.text in
+    let text = g.D.Digest.text in
     let store = c.args.self.now in
     let all = c.peaks.result in
     let r = c.after_leading-rest.result in

@@ -9,7 +9,7 @@ use Rattle.storage_merkle.proofs.merkle.proof_store.ProofStore.kept_at.Goals.{th
 
 pub returns-then-index-len : goal.returns-then-index-len
 returns-then-index-len g c =
-    let text = g.D.Write.text in
+    let text = g.D.Digest.text in
     let es = c.self.inside.kept.items in
     let p = c.args.position in
     let i = c.partition_point-index.result in
@@ -26,7 +26,7 @@ returns-then-index-len g c =
 
 pub returns : goal.returns
 returns g c =
-    let text = g.D.Write.text in
+    let text = g.D.Digest.text in
     let es = c.self.inside.kept.items in
     let p = c.args.position in
     let i = c.partition_point-index.result in

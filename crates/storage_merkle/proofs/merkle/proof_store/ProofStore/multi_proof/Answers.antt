@@ -17,7 +17,7 @@ returns-in-Ok-clause-given g c =
     let F = g.row.F.Denot in
     let S = g.F.Family.shape in
     let store = c.args.self.now in
-    let peaks = by_bytes g.D.Write.text c.args.peaks.now in
+    let peaks = by_bytes g.D.Digest.text c.args.peaks.now in
     let ls = c.args.locations.now in
     let n = c.as_u64-2.result in
     let leaves : n ≡ store.leaves = c.as_u64-2.ensures ∙ ap (λ (v : Store). v.leaves) c.self.view_is in
@@ -26,15 +26,15 @@ returns-in-Ok-clause-given g c =
     subst (λ m. location_refusal F 0 m ls ≡ None) e c.in_default.ensures in
     let found = c.deref.ensures.value ∙ c.in_ok-positions.ensures in
     let ds = multi_digests F S store peaks ls c.deref.result.now c.if-is_empty.ensures n leaves located found
-    g.D.Write.text c.in-Ok.digests.items c.in-Ok.ensures.all.1 in (
+    g.D.Digest.text c.in-Ok.digests.items c.in-Ok.ensures.all.1 in (
       multi_is F S store peaks ls c.deref.result.now c.if-is_empty.ensures n leaves located found
           ∙ c.in-Ok.ensures.all.0,
       ap (λ x. record {
         leaves = x;
         inactive = c.self.inside.inactive_peaks;
-        digests = map g.D.Write.text c.in-Ok.digests.items;
+        digests = map g.D.Digest.text c.in-Ok.digests.items;
       }) (ap (λ (v : Store). v.leaves) c.self.view_is)
-          ∙ ap (λ x. record { leaves = store.leaves; inactive = x; digests = map g.D.Write.text c.in-Ok.digests.items })
+          ∙ ap (λ x. record { leaves = store.leaves; inactive = x; digests = map g.D.Digest.text c.in-Ok.digests.items })
           (ap (λ (v : Store). v.inactive) c.self.view_is)
           ∙ ap (λ x. record { leaves = store.leaves; inactive = store.inactive; digests = x }) ds,
     )
@@ -44,7 +44,7 @@ returns-clause-why g c =
     let F = g.row.F.Denot in
     let S = g.F.Family.shape in
     let store = c.args.self.now in
-    let peaks = by_bytes g.D.Write.text c.args.peaks.now in
+    let peaks = by_bytes g.D.Digest.text c.args.peaks.now in
     let ls = c.args.locations.now in
     let n = c.as_u64-2.result in
     let leaves : n ≡ store.leaves = c.as_u64-2.ensures ∙ ap (λ (v : Store). v.leaves) c.self.view_is in

@@ -12,16 +12,16 @@ use Rattle.std.proofs.lemmas.Grind.{common_steps}
 use Rattle.storage_merkle.proofs.merkle.proof_store.ProofStore.new.Goals as goal
 
 pub returns-in-Ok-clause-made : goal.returns-in-Ok-clause-made
-returns-in-Ok-clause-made g c = made_nothing _ _ _ _ _ _ (g.D.Write.text c.args.root.now) g.D.FixedSize.size
+returns-in-Ok-clause-made g c = made_nothing _ _ _ _ _ _ (g.D.Digest.text c.args.root.now) g.D.Digest.size
     g.met.H.Hasher.sized (subst Laws (sym (g.met.H.Hasher.over c.args.hasher.now)) g.met.F.Family.laws)
-    (all_digests g.D.Write.text g.D.FixedSize.size g.met.D.FixedSize.sized c.args.proof.now.digests.items)
+    (all_digests g.D.Digest.text g.D.Digest.size g.met.D.Digest.sized c.args.proof.now.digests.items)
     c.of_nothing.result (c.in-Ok.ensures
     (record { elements = map g.E.AsSlice.items c.args.elements.now; chunk = g.H.Hasher.chunk c.args.hasher.now })
     (no_elements g.E.AsSlice.items c.args.elements.now c.if-is_empty.ensures)) c.of_nothing.ensures
 
 pub returns-in-Err-clause-why : goal.returns-in-Err-clause-why
 returns-in-Err-clause-why g c =
-    let root = g.D.Write.text c.args.root.now in
+    let root = g.D.Digest.text c.args.root.now in
     let none = no_elements g.E.AsSlice.items c.args.elements.now c.if-is_empty.ensures in
     elim (c.in-Err.ensures (record {
       elements = map g.E.AsSlice.items c.args.elements.now;
@@ -34,9 +34,9 @@ returns-in-Err-clause-why g c =
 pub returns-in_default-clause-why : goal.returns-in_default-clause-why
 returns-in_default-clause-why g c = inr (inl (
   refl,
-  misfit _ _ _ _ _ _ (g.D.Write.text c.args.root.now)
+  misfit _ _ _ _ _ _ (g.D.Digest.text c.args.root.now)
       (some_elements g.E.AsSlice.items c.args.elements.now c.if-is_empty.ensures) (elim c.in_default.branch [
-        | in_default-via-in-Some+in_default w ↦ absurd (not_lost (λ v. by_bytes g.D.Write.text v.items) c.new.result
+        | in_default-via-in-Some+in_default w ↦ absurd (not_lost (λ v. by_bytes g.D.Digest.text v.items) c.new.result
             c.recompute.new.found c.in_ok-computed.computed w.in_default.field-0-0 _ w.in_default.is-0 w.in_default.is-1
             c.in_ok-computed.ensures.found)
         | in_default-via-in_default w ↦
@@ -49,24 +49,24 @@ pub returns-then-ne-clause-why : goal.returns-then-ne-clause-why
 returns-then-ne-clause-why g c = inr (inr (
   refl,
   other_root _ _ _ _ _ _ _ (some_elements g.E.AsSlice.items c.args.elements.now c.if-is_empty.ensures)
-      (g.D.Write.text c.in-Some-Some.computed)
+      (g.D.Digest.text c.in-Some-Some.computed)
       (rw (c.in-Some-Some.is-0, c.lent.ensures.leaves, c.lent.ensures.inactive, c.lent.ensures.digests) at
-      c.in_ok-computed.ensures.root) (differ g.D.PartialEq.eq g.D.Write.text g.met.D.Digest.same
+      c.in_ok-computed.ensures.root) (differ g.D.PartialEq.eq g.D.Digest.text g.met.D.Digest.same
       c.in-Some-Some.computed c.args.root.now c.if-ne.ensures),
 ))
 
 pub returns-clause-made : goal.returns-clause-made
 returns-clause-made g c =
     let same = g.met.H.Hasher.over c.args.hasher.now in
-    let text = g.D.Write.text in
+    let text = g.D.Digest.text in
     let r = rw (c.in-Some-Some.is-0, c.lent.ensures.leaves, c.lent.ensures.inactive, c.lent.ensures.digests) at
     c.in_ok-computed.ensures.root in
     let found = rw (c.lent.ensures.leaves, c.lent.ensures.inactive, c.lent.ensures.digests) at
     (taken (λ v. by_bytes text v.items) c.new.result c.in-Some-Some.kept c.recompute.new.found
     c.in_ok-computed.computed c.in-Some-Some.computed _ c.in-Some-Some.is-0 c.in-Some-Some.is-1
     (ap (by_bytes text) c.new.ensures.items) c.in_ok-computed.ensures.found) in
-    made_some _ _ _ _ _ _ (text c.args.root.now) g.D.FixedSize.size g.met.H.Hasher.sized
-    (subst Laws (sym same) g.met.F.Family.laws) (all_digests text g.D.FixedSize.size g.met.D.FixedSize.sized
+    made_some _ _ _ _ _ _ (text c.args.root.now) g.D.Digest.size g.met.H.Hasher.sized
+    (subst Laws (sym same) g.met.F.Family.laws) (all_digests text g.D.Digest.size g.met.D.Digest.sized
     c.args.proof.now.digests.items) c.in_ok-of_checked.field-0 (text c.in-Some-Some.computed) r
     (alike g.D.PartialEq.eq text g.met.D.Digest.same c.in-Some-Some.computed c.args.root.now c.if-ne.ensures)
     (c.in_ok-of_checked.ensures (g.H.Hasher.layout c.args.hasher.now)

@@ -18,7 +18,7 @@ use Rattle.storage_merkle.proofs.merkle.proof_store.ProofStore.of_checked.Goals 
 
 -- the walk past the peaks that lead, for a claim over a range
 abbrev walk : (g : Over) (c : After-after_leading-rest g) (T : Layout) → T.shape ≡ g.F.Family.shape → (claim : Content)
-    (high : ℕ) → high ≡ c.args.start + length claim.elements → Walk g.F.Family.shape g.D.Write.text
+    (high : ℕ) → high ≡ c.args.start + length claim.elements → Walk g.F.Family.shape g.D.Digest.text
 walk g c T same claim high range =
     let n = c.args.proof.now.leaves in
     let i = c.args.proof.now.inactive_peaks in
@@ -81,7 +81,7 @@ pub returns : goal.returns
 returns g c = λ T claim same range found.
     let S = g.F.Family.shape in
     let h = g.H.Hasher.hash_of in
-    let text = g.D.Write.text in
+    let text = g.D.Digest.text in
     let r = c.after_leading-rest.result in
     let start = c.args.start in
     let high = start + length claim.elements in

@@ -14,7 +14,7 @@ loop-position-init g c = refl
 
 pub loop-position-preserved : goal.loop-position-preserved
 loop-position-preserved g c = adds_sibling g.H.Hasher.hash_of g.F.Family.shape c.args.self.now c.args.start c.args.end
-    c.requires.range.0 c.requires.range.2 g.D.Write.text _ c.loop-position.position-index c.position-item.result
+    c.requires.range.0 c.requires.range.2 g.D.Digest.text _ c.loop-position.position-index c.position-item.result
     c.loop-position.digests.items _ c.at.result _ c.loop-position-test.true c.position-item.is c.at.ensures
     c.in_ok-push.ensures.items c.loop-position.invariant
 
@@ -22,7 +22,7 @@ pub returns : goal.returns
 returns g c =
     let S = g.F.Family.shape in
     let h = g.H.Hasher.hash_of in
-    let text = g.D.Write.text in
+    let text = g.D.Digest.text in
     let store = c.args.self.now in
     let low = c.args.start in
     let high = c.args.end in

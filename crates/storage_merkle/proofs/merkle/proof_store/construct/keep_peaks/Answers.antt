@@ -12,7 +12,7 @@ use Rattle.storage_merkle.proofs.merkle.proof_store.construct.keep_peaks.Goals a
 pub loop-top-init : goal.loop-top-init
 loop-top-init g c =
     let S = g.F.Family.shape in
-    let text = g.D.Write.text in
+    let text = g.D.Digest.text in
     let r = c.args.rest in
     let tops = top_sites c.args.start c.args.end (peaks_from S r.first r.left) r.folded in
     let at = c.into_iter-top-iterator.ensures.into_iter_gives ∙ c.apart-top-items.ensures in
@@ -47,7 +47,7 @@ pub returns-in-Past : goal.returns-in-Past
 returns-in-Past g c = λ digest later e.
     let steps = rw c.in-Past.is at c.in-Some.ensures.steps.0 in
     let last = subst PastIsLast steps c.loop-top.invariant.last in
-    reads_fold g.F.Family.shape digest later g.D.Write.text c.loop-top.digests.now c.loop-top.kept.items _ _ _
+    reads_fold g.F.Family.shape digest later g.D.Digest.text c.loop-top.digests.now c.loop-top.kept.items _ _ _
     (c.loop-top.invariant.reads digest later e) _ (ap (map met_site) steps ∙ ap (λ ms. back ∷ map met_site ms) last)
     c.index-digests-0-in-Past.is
 
@@ -66,11 +66,11 @@ loop-top-preserved g c =
         length-drop 1 c.loop-top.digests.now,
         c.loop-top.invariant.enough,
       );
-      reads = λ digest later e. reads_peak S digest later g.D.Write.text c.loop-top.digests.now c.loop-top.kept.items _
+      reads = λ digest later e. reads_peak S digest later g.D.Digest.text c.loop-top.digests.now c.loop-top.kept.items _
           _ _ (c.loop-top.invariant.reads digest later e) _ _ c.node_position.result _ _ _ c.index-digests-0.result
           (ap (map met_site) steps) c.node_position.ensures left c.index-digests-0.is c.in_ok-push-in-One.ensures.items;
     }
 
 pub returns : goal.returns
-returns g c = λ digest later e. reads_end g.F.Family.shape digest later g.D.Write.text _ c.loop-top.kept.items _ _ _
+returns g c = λ digest later e. reads_end g.F.Family.shape digest later g.D.Digest.text _ c.loop-top.kept.items _ _ _
     (c.loop-top.invariant.reads digest later e) (ap (map met_site) c.in-None.ensures.steps.0)

@@ -16,8 +16,8 @@ invariant-loop-top g l =
       last : PastIsLast l.top-iterator;
       enough : length l.top-iterator ≤ length l.digests;
       reads : (digest : Site → List ℕ) (later : List (List ℕ))
-          → map g.D.Write.text l.initial.digests ≡ map digest tops ++ later →
-          Reads S digest later (map g.D.Write.text l.digests) (by_bytes g.D.Write.text l.kept.items)
-          (by_bytes g.D.Write.text l.fn.kept.items ++ peak_entries S digest later tops)
+          → map g.D.Digest.text l.initial.digests ≡ map digest tops ++ later →
+          Reads S digest later (map g.D.Digest.text l.digests) (by_bytes g.D.Digest.text l.kept.items)
+          (by_bytes g.D.Digest.text l.fn.kept.items ++ peak_entries S digest later tops)
           (map met_site l.top-iterator) (back_among digest tops);
     }

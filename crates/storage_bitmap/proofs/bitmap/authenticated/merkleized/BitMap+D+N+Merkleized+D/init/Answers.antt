@@ -20,7 +20,7 @@ returns-clause-kept g c = (c.pruned-bits.ensures, rw (c.new.ensures, c.deref.ens
 
 pub returns-clause-stands : goal.returns-clause-stands
 returns-clause-stands g c plain bits s =
-    rw c.pruned-bits.ensures (restored g.D.Write.text g.H.Hasher.hash_of
+    rw c.pruned-bits.ensures (restored g.D.Digest.text g.H.Hasher.hash_of
     (g.H.Hasher.bagging c.args.hasher.now) g.row.N c.args.state.pruned_chunks c.new.result c.args.state.pinned.items
     c.deref.result.now c.in-Ok.tree _ c.root_of_bits-root.result bits
     (chunk_positive g.row.N c.requires) c.new.ensures c.deref.ensures.value (ap (λ m. m.leaves) c.in-Ok.ensures.kept)

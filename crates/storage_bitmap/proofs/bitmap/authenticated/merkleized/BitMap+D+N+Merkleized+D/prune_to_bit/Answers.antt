@@ -22,7 +22,7 @@ returns-clause-stands g c h bagging bits s =
     let m = c.in_default.ensures in
     let most : c.args.bit / (8 * g.row.N) * (8 * g.row.N) ≤ bit_count g.row.N c.self.inside.bits =
     omega (arith, within, div-mul-le_self c.args.bit (8 * g.row.N)) in
-    rw c.prune_to_bit.ensures (pruned_stands g.D.Write.text h bagging g.row.N c.self.inside.bits c.self.inside.tree
+    rw c.prune_to_bit.ensures (pruned_stands g.D.Digest.text h bagging g.row.N c.self.inside.bits c.self.inside.tree
     c.prune.new.self c.self.inside.state c.self.inside.state.root
     (c.args.bit / (8 * g.row.N)) bits most m.stands m.place.1 (rw (← c.self.view_is) at s))
 

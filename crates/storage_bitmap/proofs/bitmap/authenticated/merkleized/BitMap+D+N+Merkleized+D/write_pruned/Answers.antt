@@ -12,7 +12,7 @@ returns-clause-kept g c = (
 pub returns-clause-stands : goal.returns-clause-stands
 returns-clause-stands g c h bits s =
     let i = c.self.invariant in
-    handed_out g.D.Write.text h g.row.N c.args.self.now bits c.pruned_chunks.result c.extend_from_slice.new.self.items
+    handed_out g.D.Digest.text h g.row.N c.args.self.now bits c.pruned_chunks.result c.extend_from_slice.new.self.items
     (rw (← c.self.view_is) i.boundary) (rw (← c.self.view_is) i.order)
     (rw (← c.self.view_is) c.pruned_chunks.ensures.value)
     (rw (← c.self.view_is) (c.in_ok-extend_from_slice.ensures.items

@@ -16,7 +16,7 @@ returns-clause-own g c plain bits s =
     let t = rw (← c.self.view_is) at s in
     let low = rw (← c.self.view_is) at c.requires in
     own_bit g.H.Hasher.hash_of (g.H.Hasher.bagging c.args.hasher.now) g.row.N c.args.bit c.new.result
-    c.len-length.result c.self.inside.bits bits (map g.D.Write.text c.in_ok-digests.digests.items) c.get_chunk.result
+    c.len-length.result c.self.inside.bits bits (map g.D.Digest.text c.in_ok-digests.digests.items) c.get_chunk.result
     t.stands.rest c.new.ensures c.len-length.ensures.value (omega (arith, c.if-bit-length.false))
     (le-div c.self.inside.bits.pruned c.args.bit (8 * g.row.N) (omega arith) low)
     (c.in_ok-digests.ensures plain bits t.stands.rest t.stands.digests) c.get_chunk.ensures
@@ -27,15 +27,15 @@ returns-clause-accepted g c plain bits s =
     let t = rw (← c.self.view_is) at s in
     let low = rw (← c.self.view_is) at c.requires in
     let own = own_bit g.H.Hasher.hash_of (g.H.Hasher.bagging c.args.hasher.now) g.row.N c.args.bit c.new.result
-    c.len-length.result c.self.inside.bits bits (map g.D.Write.text c.in_ok-digests.digests.items) c.get_chunk.result
+    c.len-length.result c.self.inside.bits bits (map g.D.Digest.text c.in_ok-digests.digests.items) c.get_chunk.result
     t.stands.rest c.new.ensures c.len-length.ensures.value (omega (arith, c.if-bit-length.false))
     (le-div c.self.inside.bits.pruned c.args.bit (8 * g.row.N) (omega arith) low)
     (c.in_ok-digests.ensures plain bits t.stands.rest t.stands.digests) c.get_chunk.ensures in
     subst (IsBitAccepted g.H.Hasher.hash_of (g.H.Hasher.bagging c.args.hasher.now) g.row.N
-    (record { leaves = c.new.result; inactive = 0; digests = map g.D.Write.text c.in_ok-digests.digests.items })
+    (record { leaves = c.new.result; inactive = 0; digests = map g.D.Digest.text c.in_ok-digests.digests.items })
     c.get_chunk.result c.args.bit) (sym s.root_is)
     (c.own_bit_proofs_are_accepted.ensures g.H.Hasher.hash_of (g.H.Hasher.bagging c.args.hasher.now) g.row.N some
-    (record { leaves = c.new.result; inactive = 0; digests = map g.D.Write.text c.in_ok-digests.digests.items })
+    (record { leaves = c.new.result; inactive = 0; digests = map g.D.Digest.text c.in_ok-digests.digests.items })
     c.get_chunk.result c.args.bit bits
     (omega (arith, c.self.invariant.few, count_of g.row.N c.self.inside.bits bits t.stands.rest)) own)
 

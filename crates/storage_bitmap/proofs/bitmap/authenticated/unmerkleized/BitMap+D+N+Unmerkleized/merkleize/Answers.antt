@@ -5,7 +5,7 @@ use Rattle.storage_bitmap.proofs.bitmap.authenticated.unmerkleized.BitMap+D+N+Un
 
 pub returns-clause-stands : goal.returns-clause-stands
 returns-clause-stands g c plain bits s =
-    merkleized g.D.Write.text g.H.Hasher.hash_of
+    merkleized g.D.Digest.text g.H.Hasher.hash_of
     (g.H.Hasher.bagging c.args.hasher.now) g.row.N c.self.inside.bits c.self.inside.tree c.rehash.new.tree
     c.add_chunks.new.tree c.self.inside.state _ c.root_of_bits-root.result c.self.inside.state.dirty.keys bits
     (c.in_default.ensures.stands plain bits) c.in_default.ensures.place.0

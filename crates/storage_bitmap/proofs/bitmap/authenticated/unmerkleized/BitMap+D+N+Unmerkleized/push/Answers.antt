@@ -6,7 +6,7 @@ use Rattle.storage_bitmap.proofs.bitmap.authenticated.unmerkleized.BitMap+D+N+Un
 pub returns-clause-stands : goal.returns-clause-stands
 returns-clause-stands g c h bits s =
     let i = c.self.invariant in
-    rw c.in_ok-push.ensures.ok (pushed g.D.Write.text h g.row.N c.self.inside.tree c.self.inside.bits i.order i.leaves
+    rw c.in_ok-push.ensures.ok (pushed g.D.Digest.text h g.row.N c.self.inside.tree c.self.inside.bits i.order i.leaves
     i.boundary c.self.inside.state c.self.inside.state.dirty.keys bits c.args.bit c.self.inside.state
     (rw (← c.self.view_is) at s))
 

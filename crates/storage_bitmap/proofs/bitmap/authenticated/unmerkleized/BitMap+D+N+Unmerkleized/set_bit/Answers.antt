@@ -38,7 +38,7 @@ returns-clause-stands g c h bits s =
     (c.args.bit / (8 * g.row.N)) c.self.inside.tree.leaves
     (λ l. m.marked (omega (arith, l, c.as_u64-leaves.ensures, c.leaves.ensures)))
     (λ l. ap (λ d. d.keys) (m.others (omega (arith, l, c.as_u64-leaves.ensures, c.leaves.ensures)))) in
-    rw c.set_bit.ensures (written g.D.Write.text h g.row.N c.self.inside.tree c.self.inside.bits i.order i.leaves
+    rw c.set_bit.ensures (written g.D.Digest.text h g.row.N c.self.inside.tree c.self.inside.bits i.order i.leaves
     i.boundary c.self.inside.state c.self.inside.state.dirty.keys bits
     c.mark.new.dirty.keys c.args.bit c.args.value _ (chunk_positive g.row.N i.size) low d.0 d.1
     (rw (← c.self.view_is) at s))

@@ -19,7 +19,7 @@ rebuild-requires g t c κs within =
 pub returns-in_err-left : goal.returns-in_err-left
 returns-in_err-left g t c =
     let S = g.F.Family.shape in
-    let text = g.R.Digest.Write.text in
+    let text = g.R.Digest.Digest.text in
     let K : ℕ → Option (List ℕ) = λ p. option_map text (g.R.Readable.node c.args.tree.now p) in
     let J = join_digest g.H.Hasher.hash_of (g.H.Hasher.layout c.args.hasher.now) (g.H.Hasher.chunk c.args.hasher.now) in
     let none : is_some (g.R.Readable.node c.args.tree.now (S.position c.args.first c.args.height)) ≡ false =
@@ -54,7 +54,7 @@ rebuild-requires-2 g t c κs within =
 pub returns-in_err-right : goal.returns-in_err-right
 returns-in_err-right g t c =
     let S = g.F.Family.shape in
-    let text = g.R.Digest.Write.text in
+    let text = g.R.Digest.Digest.text in
     let K : ℕ → Option (List ℕ) = λ p. option_map text (g.R.Readable.node c.args.tree.now p) in
     let J = join_digest g.H.Hasher.hash_of (g.H.Hasher.layout c.args.hasher.now) (g.H.Hasher.chunk c.args.hasher.now) in
     let none : is_some (g.R.Readable.node c.args.tree.now (S.position c.args.first c.args.height)) ≡ false =
@@ -71,7 +71,7 @@ returns-in_err-right g t c =
 pub returns : goal.returns
 returns g t c =
     let S = g.F.Family.shape in
-    let text = g.R.Digest.Write.text in
+    let text = g.R.Digest.Digest.text in
     let K : ℕ → Option (List ℕ) = λ p. option_map text (g.R.Readable.node c.args.tree.now p) in
     let J = join_digest g.H.Hasher.hash_of (g.H.Hasher.layout c.args.hasher.now) (g.H.Hasher.chunk c.args.hasher.now) in
     let none : is_some (g.R.Readable.node c.args.tree.now (S.position c.args.first c.args.height)) ≡ false =

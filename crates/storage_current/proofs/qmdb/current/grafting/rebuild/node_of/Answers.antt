@@ -8,7 +8,7 @@ use Rattle.storage_current.proofs.qmdb.current.grafting.rebuild.node_of.Goals as
 pub returns-then-not-is_coverable : goal.returns-then-not-is_coverable
 returns-then-not-is_coverable g c =
     let S = g.F.Family.shape in
-    let text = g.R.Digest.Write.text in
+    let text = g.R.Digest.Digest.text in
     let K : ℕ → Option (List ℕ) = λ p. option_map text (g.R.Readable.node c.args.tree.now p) in
     let J = join_digest g.H.Hasher.hash_of (g.H.Hasher.layout c.args.hasher.now) (g.H.Hasher.chunk c.args.hasher.now) in
     sym (none_or (rebuilt S J K c.args.height c.args.first)

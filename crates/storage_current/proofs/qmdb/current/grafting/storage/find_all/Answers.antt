@@ -14,7 +14,7 @@ pub loop-position-preserved-in_ok-push-in-Below-2 : goal.loop-position-preserved
 loop-position-preserved-in_ok-push-in-Below-2 g c = record {
   split = λ operations.
       let node =
-      joined g.F.Family.shape c.args.height c.args.size (regrafted g.H.Hasher.digest_of g.H.Digest.Write.text g.F.Family.shape
+      joined g.F.Family.shape c.args.height c.args.size (regrafted g.H.Hasher.digest_of g.H.Digest.Digest.text g.F.Family.shape
       c.args.height (g.R.Readable.node c.args.grafted_tree.now)) operations in
       let here = rw c.in-Some.ensures.cases.0 at (c.loop-position.invariant.split operations) in
       rw (c.in_ok-push-in-Below-2.ensures.items, c.in_ok-push-in-Below.ensures.items)
@@ -30,7 +30,7 @@ pub loop-position-preserved : goal.loop-position-preserved
 loop-position-preserved g c = record {
   split = λ operations.
       let node =
-      joined g.F.Family.shape c.args.height c.args.size (regrafted g.H.Hasher.digest_of g.H.Digest.Write.text g.F.Family.shape
+      joined g.F.Family.shape c.args.height c.args.size (regrafted g.H.Hasher.digest_of g.H.Digest.Digest.text g.F.Family.shape
       c.args.height (g.R.Readable.node c.args.grafted_tree.now)) operations in
       let here = rw c.in-Some.ensures.cases.0 at (c.loop-position.invariant.split operations) in
       rw c.in_ok-push-in-Found.ensures.items (more_found node operations c.in-Some.position.now c.in-Found.digest
@@ -43,7 +43,7 @@ loop-position-preserved g c = record {
 pub returns-clause-found : goal.returns-clause-found
 returns-clause-found g c operations =
     let node =
-    joined g.F.Family.shape c.args.height c.args.size (regrafted g.H.Hasher.digest_of g.H.Digest.Write.text g.F.Family.shape
+    joined g.F.Family.shape c.args.height c.args.size (regrafted g.H.Hasher.digest_of g.H.Digest.Digest.text g.F.Family.shape
     c.args.height (g.R.Readable.node c.args.grafted_tree.now)) operations in
     let here = c.loop-position.invariant.split operations in
     elim c.match-split_first.branch [

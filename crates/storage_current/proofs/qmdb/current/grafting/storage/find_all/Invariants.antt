@@ -8,7 +8,7 @@ use Rattle.storage_current.proofs.qmdb.current.grafting.storage.find_all.Given a
 abbrev pub invariant-loop-position : goal.invariant-loop-position
 invariant-loop-position g l = record {
   split : (operations : ℕ → Option g.row.H-Digest.Denot) → IsSplit (joined g.F.Family.shape l.height l.size
-      (regrafted g.H.Hasher.digest_of g.H.Digest.Write.text g.F.Family.shape l.height (g.R.Readable.node l.grafted_tree))
+      (regrafted g.H.Hasher.digest_of g.H.Digest.Digest.text g.F.Family.shape l.height (g.R.Readable.node l.grafted_tree))
       operations) operations l.left l.nodes.items l.positions l.below.items;
   none : l.missing ≡ None;
   below : All (IsOfOperations g.F.Family.shape l.height l.size) l.below.items;

@@ -32,7 +32,7 @@ node_of-requires-clause-takes g c a k under =
 
 pub returns : goal.returns
 returns g c q covers =
-    had_at g.F.Family.shape g.met.F.Family.laws g.H.Hasher.digest_of g.H.Digest.Write.text g.H.Hasher.hash_of
+    had_at g.F.Family.shape g.met.F.Family.laws g.H.Hasher.digest_of g.H.Digest.Digest.text g.H.Hasher.hash_of
     g.met.H.Hasher.told g.met.H.Digest.Digest.one c.args.height c.args.first c.args.own
     (g.R.Readable.node c.args.grafted_tree.now) c.node_of.result c.requires.above c.requires.aligned
     (rw c.new-hasher.ensures.height at c.node_of.ensures) q covers

@@ -10,7 +10,7 @@ pub returns-then-own-height-clause-look : goal.returns-then-own-height-clause-lo
 returns-then-own-height-clause-look g c operations =
     let valid : c.args.position ≤ size g.F.Family.shape (2 ^ 62) = c.if-not-is_valid.ensures.0 refl in
     joined_below g.F.Family.shape g.met.F.Family.laws c.args.height c.args.nodes
-    (regrafted g.H.Hasher.digest_of g.H.Digest.Write.text g.F.Family.shape c.args.height
+    (regrafted g.H.Hasher.digest_of g.H.Digest.Digest.text g.F.Family.shape c.args.height
     (g.R.Readable.node c.args.grafted_tree.now)) operations c.args.position c.node_at-first.result.0
     c.node_at-first.result.1 (omega arith) valid (rw c.as_u64-3.ensures at c.node_at-first.ensures.node) c.if-own-height.true
 
@@ -31,7 +31,7 @@ returns-in-None-clause-look g c operations =
     let covers : CoversSame S c.args.height q c.args.position =
     covers_down S g.met.F.Family.laws _ _ c.args.height c.args.position q node c.if-own-height.false refl in
     joined_above S g.met.F.Family.laws c.args.height c.args.nodes
-    (regrafted g.H.Hasher.digest_of g.H.Digest.Write.text S c.args.height
+    (regrafted g.H.Hasher.digest_of g.H.Digest.Digest.text S c.args.height
     (g.R.Readable.node c.args.grafted_tree.now)) operations c.args.position q (omega arith) valid covers
     ∙ sym (c.grafted_digest.ensures q (rw node.at covers)) ∙ c.in-None.is
 
@@ -44,7 +44,7 @@ returns-in-Some-clause-look g c operations =
     let covers : CoversSame S c.args.height q c.args.position =
     covers_down S g.met.F.Family.laws _ _ c.args.height c.args.position q node c.if-own-height.false refl in
     joined_above S g.met.F.Family.laws c.args.height c.args.nodes
-    (regrafted g.H.Hasher.digest_of g.H.Digest.Write.text S c.args.height
+    (regrafted g.H.Hasher.digest_of g.H.Digest.Digest.text S c.args.height
     (g.R.Readable.node c.args.grafted_tree.now)) operations c.args.position q (omega arith) valid covers
     ∙ sym (c.grafted_digest.ensures q (rw node.at covers)) ∙ c.in-Some.is
 

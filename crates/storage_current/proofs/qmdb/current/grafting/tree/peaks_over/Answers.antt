@@ -24,7 +24,7 @@ node_of-requires-clause-takes g c a k under =
 
 pub unwrap-requires : goal.unwrap-requires
 unwrap-requires g c =
-    peak_had g.D.Write.text g.F.Family.shape g.met.F.Family.laws
+    peak_had g.D.Digest.text g.F.Family.shape g.met.F.Family.laws
     (join_digest g.H.Hasher.hash_of (g.H.Hasher.layout c.args.hasher.now) (g.H.Hasher.chunk c.args.hasher.now))
     c.args.tree.now c.args.chunks c.loop-left.first c.loop-left.left c.first_peak-height.result c.node_of.result
     c.requires.whole.pins c.requires.from c.requires.to c.loop-left.invariant.walk c.first_peak-height.ensures.first
@@ -34,7 +34,7 @@ pub loop-left-preserved : goal.loop-left-preserved
 loop-left-preserved g c =
     let S = g.F.Family.shape in
     let L = g.met.F.Family.laws in
-    let text = g.D.Write.text in
+    let text = g.D.Digest.text in
     let h = c.first_peak-height.result in
     let T = g.H.Hasher.layout c.args.hasher.now in
     let chunk = g.H.Hasher.chunk c.args.hasher.now in

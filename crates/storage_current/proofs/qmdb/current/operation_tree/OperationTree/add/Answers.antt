@@ -31,7 +31,7 @@ pub returns-clause-grown : goal.returns-clause-grown
 returns-clause-grown g c operations over =
     let S = g.F.Family.shape in
     let h = g.H.Hasher.hash_of in
-    let text = g.H.Digest.Write.text in
+    let text = g.H.Digest.Digest.text in
     let before = c.self.invariant in
     let m = c.self.inside.operations in
     let is_ok = sym (c.if-is_err.ensures.value) in

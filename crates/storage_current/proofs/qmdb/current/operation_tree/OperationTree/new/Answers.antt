@@ -7,7 +7,7 @@ pub returns : goal.returns
 returns g c =
     let S = g.F.Family.shape in
     let h = g.H.Hasher.hash_of in
-    let text = g.H.Digest.Write.text in
+    let text = g.H.Digest.Digest.text in
     let m = c.new-operations.result in
     let kept = c.new-operations.ensures.kept in
     tree_over text h S m (record { leaves = m.leaves; nodes = map text m.nodes }) [] (ap (λ x. x.boundary) kept)

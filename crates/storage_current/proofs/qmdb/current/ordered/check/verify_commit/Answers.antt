@@ -6,9 +6,9 @@ use Rattle.storage_current.proofs.qmdb.current.ordered.check.verify_commit.Goals
 
 pub returns-clause-meaning : goal.returns-clause-meaning
 returns-clause-meaning g c = λ wide.
-    let p = operation_proof_of g.D.Write.text g.C.Chunk.text c.args.proof.now in
+    let p = operation_proof_of g.D.Digest.text g.C.Chunk.text c.args.proof.now in
     means_absent g.H.Hasher.hash_of (record { shape = g.F.Family.shape; bytes = length p.chunk })
-    (g.D.Write.text c.args.root.now) c.verify.result
+    (g.D.Digest.text c.args.root.now) c.verify.result
     (record {
       key = g.K.Write.text;
       value = g.V.Value.Write.text;

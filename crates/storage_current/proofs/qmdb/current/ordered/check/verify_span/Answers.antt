@@ -10,11 +10,11 @@ update_bytes key value u = key u.key ++ value u.value ++ key u.next_key
 
 pub returns-clause-meaning : goal.returns-clause-meaning
 returns-clause-meaning g c = λ wide.
-    let p = operation_proof_of g.D.Write.text g.C.Chunk.text c.args.proof.now in
+    let p = operation_proof_of g.D.Digest.text g.C.Chunk.text c.args.proof.now in
     let u = c.args.update.now in
     let text = update_bytes g.K.Write.text g.V.Value.Write.text in
     means_absent g.H.Hasher.hash_of (record { shape = g.F.Family.shape; bytes = length p.chunk })
-    (g.D.Write.text c.args.root.now) c.verify.result
+    (g.D.Digest.text c.args.root.now) c.verify.result
     (record {
       key = g.K.Write.text;
       value = g.V.Value.Write.text;

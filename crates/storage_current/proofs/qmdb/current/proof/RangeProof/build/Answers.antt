@@ -32,7 +32,7 @@ pub returns-clause-own : goal.returns-clause-own
 returns-clause-own g c = λ s parts.
     let S = g.F.Family.shape in
     let h = g.H.Hasher.hash_of in
-    let text = g.D.Write.text in
+    let text = g.D.Digest.text in
     let G : Grafting = record { shape = S; bytes = g.row.N } in
     let level : height G ≡ c.height-height.result =
     height_of_power S g.row.N c.height-height.result c.height-height.ensures.power in

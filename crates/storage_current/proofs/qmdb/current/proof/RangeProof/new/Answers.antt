@@ -11,7 +11,7 @@ returns-clause-own g c =
     let plan = planned_ok _ c.in-Ok-new.plan _ c.in-Ok-new.ensures in
     IfOk-weaker c.read.result _ _ (λ proof own. served_own (g.S.Storage.nodes c.args.storage.now)
     (g.S.Storage.node c.args.storage.now) G c.args.range.start c.args.range.end _ g.met.F.Family.laws c.in-Ok.leaves
-    c.in-Ok-new.plan g.D.Write.text g.H.Hasher.hash_of c.args.floor _ _ c.in-Ok.ensures.tree plan.1 own)
+    c.in-Ok-new.plan g.D.Digest.text g.H.Hasher.hash_of c.args.floor _ _ c.in-Ok.ensures.tree plan.1 own)
     c.read.ensures.own
 
 pub returns-clause-made : goal.returns-clause-made

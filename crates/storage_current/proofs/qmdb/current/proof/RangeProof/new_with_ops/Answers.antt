@@ -49,7 +49,7 @@ touched_chunks-requires g c =
 pub returns-in-Ok-read_range-clause-own : goal.returns-in-Ok-read_range-clause-own
 returns-in-Ok-read_range-clause-own g c = λ s served.
     let G : Grafting = record { shape = g.F.Family.shape; bytes = g.row.N } in
-    let text = g.D.Write.text in
+    let text = g.D.Digest.text in
     let hash = g.H.Hasher.hash_of in
     let nodes = g.S.Storage.nodes c.args.storage.now in
     let node = g.S.Storage.node c.args.storage.now in

@@ -22,7 +22,7 @@ returns-clause-own g c =
     own s (parts_told _ node G c.args.plan _ c.in-Ok.fetched.positions.items c.in-Ok.fetched.digests.items f.positions
     f.digests (λ p a has ans.
     (let e : (n : ℕ → Option g.row.D.Denot) → IsStrictlyIncreasing c.in-Ok.fetched.positions.items → map Some c.in-Ok.fetched.digests.items ≡ map n c.in-Ok.fetched.positions.items → Contains c.in-Ok.fetched.positions.items p → a ≡ n p = search rules in e node f.rising f.digests has))
-    g.D.Write.text g.H.Hasher.hash_of c.args.floor _ s parts)) c.build.ensures.own
+    g.D.Digest.text g.H.Hasher.hash_of c.args.floor _ s parts)) c.build.ensures.own
 
 pub returns-clause-answered : goal.returns-clause-answered
 returns-clause-answered g c =
@@ -38,8 +38,8 @@ returns-clause-why g c =
     let G : Grafting = record { shape = g.F.Family.shape; bytes = g.row.N } in
     let node = g.S.Storage.node c.args.storage.now in
     let f = c.in-Ok.ensures in
-    why_from _ c.build.result g.D.Write.text g.H.Hasher.hash_of G c.args.plan
-    (g.R.Readable.retained c.args.status.now) c.args.floor (g.D.Write.text c.args.ops_root)
-    (range_proof_of g.D.Write.text) c.build.ensures.own c.build.ensures.why node c.in-Ok.fetched.positions.items
+    why_from _ c.build.result g.D.Digest.text g.H.Hasher.hash_of G c.args.plan
+    (g.R.Readable.retained c.args.status.now) c.args.floor (g.D.Digest.text c.args.ops_root)
+    (range_proof_of g.D.Digest.text) c.build.ensures.own c.build.ensures.why node c.in-Ok.fetched.positions.items
     c.in-Ok.fetched.digests.items f.positions f.digests (λ p a has ans.
     (let e : (n : ℕ → Option g.row.D.Denot) → IsStrictlyIncreasing c.in-Ok.fetched.positions.items → map Some c.in-Ok.fetched.digests.items ≡ map n c.in-Ok.fetched.positions.items → Contains c.in-Ok.fetched.positions.items p → a ≡ n p = search rules in e node f.rising f.digests has))

@@ -7,7 +7,7 @@ use Rattle.storage_current.proofs.qmdb.current.proof.RangeProof.verify_in.Goals 
 
 pub returns-then-not-match_chunks : goal.returns-then-not-match_chunks
 returns-then-not-match_chunks g c = λ n of sized.
-    let P = range_proof_of g.D.Write.text c.args.self.now in
+    let P = range_proof_of g.D.Digest.text c.args.self.now in
     let S : Grafting = record { shape = g.F.Family.shape; bytes = n } in
     let seen = seen_lengths g.E.AsSlice.items g.C.Chunk.text c.args.operations.now c.args.chunks.now S
     c.args.self.now.proof.leaves c.args.start c.args.window.now of in (
@@ -24,7 +24,7 @@ recompute_root-requires g c = λ p few below.
 
 pub returns-in_default : goal.returns-in_default
 returns-in_default g c = λ n of sized.
-    let P = range_proof_of g.D.Write.text c.args.self.now in
+    let P = range_proof_of g.D.Digest.text c.args.self.now in
     let S : Grafting = record { shape = g.F.Family.shape; bytes = n } in
     let v = c.new-verifier.result in
     let e = c.new-verifier.ensures in
@@ -40,7 +40,7 @@ returns-in_default g c = λ n of sized.
 
 pub returns : goal.returns
 returns g c = λ n of sized.
-    let P = range_proof_of g.D.Write.text c.args.self.now in
+    let P = range_proof_of g.D.Digest.text c.args.self.now in
     let S : Grafting = record { shape = g.F.Family.shape; bytes = n } in
     let v = c.new-verifier.result in
     let e = c.new-verifier.ensures in
@@ -50,7 +50,7 @@ returns g c = λ n of sized.
     (map g.C.Chunk.text c.args.chunks.now) c.args.window.now seen
     v.height v.start_chunk_index v.graftable_chunks (map (λ b. b.now) v.chunks.items) e.height e.start e.graftable
     (e.chunks ∙ c.in_ok-lent.ensures)
-    (g.D.Write.text c.in-Some.grafted_root) (rw c.in-Some.is at c.in_ok-computed.ensures) sized
+    (g.D.Digest.text c.in-Some.grafted_root) (rw c.in-Some.is at c.in_ok-computed.ensures) sized
     (c.match_chunks.ensures.0 c.if-not-match_chunks.false)
-    (g.D.Write.text c.canonical.result) (g.D.Write.text c.args.root.now) c.canonical.ensures c.eq.result
+    (g.D.Digest.text c.canonical.result) (g.D.Digest.text c.args.root.now) c.canonical.ensures c.eq.result
     (rw c.eq.ensures (g.met.D.Digest.same c.canonical.result c.args.root.now))

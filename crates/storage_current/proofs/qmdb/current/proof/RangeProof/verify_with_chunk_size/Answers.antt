@@ -13,9 +13,9 @@ returns-clause-exact g c = grind (arith, common_steps)
 
 pub returns-clause-meaning : goal.returns-clause-meaning
 returns-clause-meaning g c = λ wide.
-    current_means c.current_proofs_are_sound.ensures g.D.FixedSize.size g.H.Hasher.hash_of wide g.met.H.Hasher.sized
+    current_means c.current_proofs_are_sound.ensures g.D.Digest.size g.H.Hasher.hash_of wide g.met.H.Hasher.sized
     (record { shape = g.F.Family.shape; bytes = c.args.chunk_size }) g.met.F.Family.laws
-    (range_proof_of g.D.Write.text c.args.self.now) c.args.start (map g.O.Write.text c.args.operations.now)
+    (range_proof_of g.D.Digest.text c.args.self.now) c.args.start (map g.O.Write.text c.args.operations.now)
     (map g.C.Chunk.text c.args.chunks.now)
-    (held_digests g.D.Write.text g.D.FixedSize.size g.met.D.FixedSize.sized c.args.self.now)
-    (g.D.Write.text c.args.root.now) c.verify_in.result (returns-clause-exact g c)
+    (held_digests g.D.Digest.text g.D.Digest.size g.met.D.Digest.sized c.args.self.now)
+    (g.D.Digest.text c.args.root.now) c.verify_in.result (returns-clause-exact g c)

@@ -10,7 +10,7 @@ use Rattle.storage_current.proofs.qmdb.current.proof.extract.extract_in.Goals as
 
 pub returns-then-not-match_chunks : goal.returns-then-not-match_chunks
 returns-then-not-match_chunks g c = λ n of sized.
-    let P = range_proof_of g.H.Digest.Write.text c.args.proof.now in
+    let P = range_proof_of g.H.Digest.Digest.text c.args.proof.now in
     let S : Grafting = record { shape = g.F.Family.shape; bytes = n } in
     let seen = seen_lengths g.E.AsSlice.items g.C.Chunk.text c.args.operations.now c.args.chunks.now S
     c.args.proof.now.proof.leaves c.args.start c.args.window.now of in
@@ -28,7 +28,7 @@ recompute_digests-requires g c = λ p few below.
 
 pub returns-in_default : goal.returns-in_default
 returns-in_default g c = λ n of sized.
-    let P = range_proof_of g.H.Digest.Write.text c.args.proof.now in
+    let P = range_proof_of g.H.Digest.Digest.text c.args.proof.now in
     let S : Grafting = record { shape = g.F.Family.shape; bytes = n } in
     let v = c.new-verifier.result in
     let e = c.new-verifier.ensures in
@@ -45,7 +45,7 @@ returns-in_default g c = λ n of sized.
 
 pub returns-then-ne : goal.returns-then-ne
 returns-then-ne g c = λ n of sized.
-    let text = g.H.Digest.Write.text in
+    let text = g.H.Digest.Digest.text in
     let P = range_proof_of text c.args.proof.now in
     let S : Grafting = record { shape = g.F.Family.shape; bytes = n } in
     let v = c.new-verifier.result in
@@ -71,7 +71,7 @@ returns-then-ne g c = λ n of sized.
 
 pub returns : goal.returns
 returns g c = λ n of sized.
-    let text = g.H.Digest.Write.text in
+    let text = g.H.Digest.Digest.text in
     let P = range_proof_of text c.args.proof.now in
     let S : Grafting = record { shape = g.F.Family.shape; bytes = n } in
     let v = c.new-verifier.result in

@@ -11,7 +11,7 @@ use Rattle.storage_current.proofs.qmdb.current.proof.extract.verify_proof_and_ex
 pub returns-clause-handed : goal.returns-clause-handed
 returns-clause-handed g c =
     let G : Grafting = record { shape = g.F.Family.shape; bytes = g.row.N } in
-    let text = g.H.Digest.Write.text in
+    let text = g.H.Digest.Digest.text in
     let all = c.in_ok-elements.ensures in
     handed g.H.Hasher.hash_of G g.met.F.Family.laws (range_proof_of text c.args.proof.now) c.args.start
     (map g.Op.Write.text c.args.operations.now) c.args.chunks.now (text c.args.root.now)
@@ -24,12 +24,12 @@ returns-clause-handed g c =
 pub returns-clause-meaning : goal.returns-clause-meaning
 returns-clause-meaning g c = λ wide.
     let G : Grafting = record { shape = g.F.Family.shape; bytes = g.row.N } in
-    let text = g.H.Digest.Write.text in
+    let text = g.H.Digest.Digest.text in
     let all = c.in_ok-elements.ensures in
-    means c.extracted_current_digests_are_true.ensures g.H.Digest.FixedSize.size g.H.Hasher.hash_of wide
+    means c.extracted_current_digests_are_true.ensures g.H.Digest.Digest.size g.H.Hasher.hash_of wide
     g.met.H.Hasher.sized G g.met.F.Family.laws (range_proof_of text c.args.proof.now) c.args.start
     (map g.Op.Write.text c.args.operations.now) c.args.chunks.now
-    (held_digests text g.H.Digest.FixedSize.size g.met.H.Digest.FixedSize.sized c.args.proof.now) (text c.args.root.now)
+    (held_digests text g.H.Digest.Digest.size g.met.H.Digest.Digest.sized c.args.proof.now) (text c.args.root.now)
     (λ v. by_bytes text v.items) c.extract_in.result
     (told g.H.Hasher.hash_of G (range_proof_of text c.args.proof.now) c.args.start (text c.args.root.now)
     (λ v. by_bytes text v.items) c.extract_in.result (ap (map (λ e. e.items)) c.deref.ensures.value

@@ -14,7 +14,7 @@ height-height-requires g c = c.self.invariant.sized
 pub returns-clause-value : goal.returns-clause-value
 returns-clause-value g c =
     let S = g.F.Family.shape in
-    let text = g.H.Digest.Write.text in
+    let text = g.H.Digest.Digest.text in
     let G : Grafting = record { shape = S; bytes = g.row.N } in
     let level : height G ≡ c.height-height.result = height_of_power S g.row.N _ c.height-height.ensures.power in
     rw (← c.self.view_is) (ap (option_map text) (rw (← level) at c.view_digest.ensures)
@@ -23,7 +23,7 @@ returns-clause-value g c =
 
 pub returns-clause-there : goal.returns-clause-there
 returns-clause-there g c s stands below =
-    let value : option_map g.H.Digest.Write.text c.view_digest.result ≡ slice_get c.args.self.now.nodes c.args.position =
+    let value : option_map g.H.Digest.Digest.text c.view_digest.result ≡ slice_get c.args.self.now.nodes c.args.position =
     returns-clause-value g c in
     let G : Grafting = record { shape = g.F.Family.shape; bytes = g.row.N } in
     looked_up G.shape (view_node g.H.Hasher.hash_of G s) c.args.self.now.nodes _ c.args.position _ stands.nodes
@@ -31,8 +31,8 @@ returns-clause-there g c s stands below =
 
 pub returns-clause-past : goal.returns-clause-past
 returns-clause-past g c s stands past =
-    let value : option_map g.H.Digest.Write.text c.view_digest.result ≡ slice_get c.args.self.now.nodes c.args.position =
+    let value : option_map g.H.Digest.Digest.text c.view_digest.result ≡ slice_get c.args.self.now.nodes c.args.position =
     returns-clause-value g c in
     let beyond : length c.args.self.now.nodes ≤ c.args.position = omega (arith, stands.count, past) in
-    none_there g.H.Digest.Write.text c.view_digest.result (value
+    none_there g.H.Digest.Digest.text c.view_digest.result (value
     ∙ slice_get_past c.args.self.now.nodes c.args.position beyond)

@@ -5,7 +5,7 @@ use Rattle.storage_current.proofs.qmdb.current.snapshot.Snapshot.of_tree.Goals a
 pub returns-in-Ok-clause-stands : goal.returns-in-Ok-clause-stands
 returns-in-Ok-clause-stands g c operations over =
     let t = c.into_operations-operations.ensures in
-    c.in-Ok.ensures.stands operations (over_tree g.H.Digest.Write.text g.H.Hasher.hash_of g.F.Family.shape
+    c.in-Ok.ensures.stands operations (over_tree g.H.Digest.Digest.text g.H.Hasher.hash_of g.F.Family.shape
     c.into_operations-operations.result c.args.tree operations t.grown.unpruned t.grown.unpinned t.leaves t.nodes over)
 
 pub returns-in-Some-clause-why : goal.returns-in-Some-clause-why

@@ -53,7 +53,7 @@ graft_chunks-requires-clause-graftable g c =
 pub view_root-requires-clause-had : goal.view_root-requires-clause-had
 view_root-requires-clause-had g c =
     let S = g.F.Family.shape in
-    let text = g.H.Digest.Write.text in
+    let text = g.H.Digest.Digest.text in
     let m = c.args.operations in
     let t = c.new-chunks.result in
     let r = c.height-height.result in
@@ -68,7 +68,7 @@ view_root-requires-clause-had g c =
 pub invariant_of-result : goal.invariant_of-result
 invariant_of-result g c =
     let S = g.F.Family.shape in
-    let text = g.H.Digest.Write.text in
+    let text = g.H.Digest.Digest.text in
     let m = c.args.operations in
     let t = c.new-chunks.result in
     let r = c.height-height.result in
@@ -88,7 +88,7 @@ pub returns-clause-stands : goal.returns-clause-stands
 returns-clause-stands g c elements over =
     let S = g.F.Family.shape in
     let h = g.H.Hasher.hash_of in
-    let text = g.H.Digest.Write.text in
+    let text = g.H.Digest.Digest.text in
     let digest = g.H.Hasher.digest_of in
     let G : Grafting = record { shape = S; bytes = g.row.N } in
     let s : Snapshot = record { operations = elements; bits = c.args.bits.bits; floor = c.args.floor } in

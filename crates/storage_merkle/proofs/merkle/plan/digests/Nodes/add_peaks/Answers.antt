@@ -13,7 +13,7 @@ loop-top-init g c =
       planned = subst (EachMet (IsPlannedMet S c.args.self.now.positions.now)) (sym at)
           (planned_met S c.args.start c.args.end c.args.self.now.positions.now c.args.rest.folded c.args.rest.first
           (S.peaks c.args.rest.left) c.requires.planned);
-      adds = λ digest_of are. ap (λ ms. map g.D.Write.text c.args.digests.now.items
+      adds = λ digest_of are. ap (λ ms. map g.D.Digest.text c.args.digests.now.items
           ++ all_listed (map (met_digest g.H.Hasher.hash_of digest_of) ms)) at;
     }
 
@@ -28,7 +28,7 @@ pub loop-top-preserved : goal.loop-top-preserved
 loop-top-preserved g c = record {
   planned = (subst (EachMet (IsPlannedMet g.F.Family.shape c.args.self.now.positions.now)) c.in-Some.ensures.steps.0
       c.loop-top.invariant.planned).1;
-  adds = λ digest_of are. adds_met g.D.Write.text (met_digest g.H.Hasher.hash_of digest_of) c.top.result _ _ _ _ _ _
+  adds = λ digest_of are. adds_met g.D.Digest.text (met_digest g.H.Hasher.hash_of digest_of) c.top.result _ _ _ _ _ _
       c.in-Some.ensures.steps.0 (c.top.ensures digest_of are) c.in_ok-push_some.ensures
       (c.loop-top.invariant.adds digest_of are);
 }
@@ -38,5 +38,5 @@ returns g c = λ digest_of xs ys are late.
     let r = c.args.rest in
     let S = g.F.Family.shape in
     adds_none (met_digest g.H.Hasher.hash_of digest_of) _ _ _ c.in-None.ensures.steps.0
-    (c.loop-top.invariant.adds digest_of are) ∙ ap (λ ds. map g.D.Write.text c.args.digests.now.items ++ ds)
+    (c.loop-top.invariant.adds digest_of are) ∙ ap (λ ds. map g.D.Digest.text c.args.digests.now.items ++ ds)
     (met_are c.args.start c.args.end xs ys g.H.Hasher.hash_of digest_of (peaks_from S r.first r.left) r.folded late)

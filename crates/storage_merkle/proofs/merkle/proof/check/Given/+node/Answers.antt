@@ -35,7 +35,7 @@ returns-then-is_apart g t c = λ digest serves.
     node_sibling g.H.Hasher.hash_of (g.H.Hasher.layout c.args.hasher.now) c.args.self.now.start c.args.self.now.end
     v c.args.height c.args.first _ c.if-is_apart.ensures (c.sibling.ensures digest c.args.first c.args.height serves
     (record { aligned = c.requires.within.aligned; at = sym c.node_position-position.ensures })) in
-    keeps_last g.D.Write.text _ c.keep.result c.sibling.result _ c.node_position-position.result c.args.found.now
+    keeps_last g.D.Digest.text _ c.keep.result c.sibling.result _ c.node_position-position.result c.args.found.now
     c.args.found.now c.keep.new.found [] _ is
     (found_itself g.H.Hasher.hash_of
     (g.H.Hasher.layout c.args.hasher.now) c.args.self.now.start c.args.self.now.end v g.F.Family.shape c.args.height
@@ -53,7 +53,7 @@ returns-then-height-eq0 g t c = λ digest serves.
     (c.as_slice.ensures ∙ element_at g.E.AsSlice.items c.args.self.now.elements.now c.args.self.now.start
     c.args.self.now.end c.args.first c.args.height c.index-self-first.result c.if-is_apart.ensures
     c.if-height-eq0.true c.requires.given.range) in
-    keeps_last g.D.Write.text _ c.keep-then-height-eq0.result c.leaf_digest-digest.result _
+    keeps_last g.D.Digest.text _ c.keep-then-height-eq0.result c.leaf_digest-digest.result _
     c.node_position-position.result c.args.found.now c.args.found.now c.keep-then-height-eq0.new.found [] _ is
     (found_leaf g.H.Hasher.hash_of
     (g.H.Hasher.layout c.args.hasher.now) c.args.self.now.start c.args.self.now.end v g.F.Family.shape c.args.height
@@ -112,7 +112,7 @@ returns g t c = λ digest serves.
     node_halves g.H.Hasher.hash_of (g.H.Hasher.layout c.args.hasher.now) c.args.self.now.start c.args.self.now.end v
     c.args.height c.args.first _ _ _ c.if-is_apart.ensures c.if-height-eq0.false left.0 right.0
     c.node_digest_over-digest.ensures in
-    keeps_last g.D.Write.text _ c.keep-2.result c.node_digest_over-digest.result _ c.node_position-position.result c.args.found.now
+    keeps_last g.D.Digest.text _ c.keep-2.result c.node_digest_over-digest.result _ c.node_position-position.result c.args.found.now
     c.node-2.new.found c.keep-2.new.found _ _ is
     (found_halves g.H.Hasher.hash_of (g.H.Hasher.layout c.args.hasher.now) c.args.self.now.start c.args.self.now.end v
     g.F.Family.shape c.args.height c.args.first c.node_position-position.result same c.if-is_apart.ensures

@@ -41,7 +41,7 @@ returns-then-self-rest g t c = λ digest serves is.
     let fold = tops_fold g.F.Family.shape self.start self.end L r.first r.left 0 (omega arith) (omega arith)
     c.if-self-rest.true in (
       right_fold g.F.Family.shape L g.H.Hasher.hash_of _ (digest back) self.end r.first r.left (omega arith)
-          c.if-self-rest.true _ (first_of g.D.Write.text c.args.tops.now c.index-tops-0.result (digest back) _
+          c.if-self-rest.true _ (first_of g.D.Digest.text c.args.tops.now c.index-tops-0.result (digest back) _
           c.index-tops-0.is (is ∙ ap (map digest) fold)),
       adds_nothing _ c.args.found.now _ (found_past g.H.Hasher.hash_of (g.H.Hasher.layout c.args.hasher.now) self.start
           self.end v g.F.Family.shape r.first r.left c.if-self-rest.true),
@@ -95,9 +95,9 @@ returns g t c = λ digest serves is.
     (g.H.Hasher.chunk c.args.hasher.now) in
     let begins : (0 < 0) ⊎ ((0 ≤ 0) × (r.first < self.end)) = inr (omega arith, c.if-self-rest.false) in
     let item = c.in_ok-item.ensures.exact digest _ serves (top_here S self.start self.end r.first r.left 0 k _ _ 0 first
-    n.first n.left refl begins g.D.Write.text digest c.args.tops.now is) in
+    n.first n.left refl begins g.D.Digest.text digest c.args.tops.now is) in
     let onto = c.in_ok-onto.ensures digest serves (tops_after S self.start self.end r.first r.left 0 k _ _ 0 first
-    n.first n.left refl begins g.D.Write.text digest c.args.tops.now c.in_ok-item.tops.now is
+    n.first n.left refl begins g.D.Digest.text digest c.args.tops.now c.in_ok-item.tops.now is
     c.in_ok-item.ensures.left) in
     let opened = first_and_others S self.start self.end r.first r.left 0 k _ _ 0 first n.first n.left refl in (
       ap (λ x. Some x) c.join.ensures ∙ right_step S self.start self.end r.first r.left 0 k _ _ 0 first n.first n.left

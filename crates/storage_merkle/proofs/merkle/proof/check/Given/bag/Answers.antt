@@ -50,12 +50,12 @@ loop-rest-preserved g c =
       exact = λ digest serves is.
           let invariant = c.loop-rest.invariant.exact digest serves is in
           let item = c.in_ok-item.ensures.exact digest _ serves (top_here S self.start self.end r.first r.left r.folded
-          _ _ _ _ first n.first n.left n.folded some g.D.Write.text digest c.loop-rest.tops.now invariant.0) in (
+          _ _ _ _ first n.first n.left n.folded some g.D.Digest.text digest c.loop-rest.tops.now invariant.0) in (
             tops_after S self.start self.end r.first r.left r.folded _ _ _ _ first n.first n.left n.folded some
-                g.D.Write.text digest c.loop-rest.tops.now c.in_ok-item.after.now invariant.0 c.in_ok-item.ensures.left,
+                g.D.Digest.text digest c.loop-rest.tops.now c.in_ok-item.after.now invariant.0 c.in_ok-item.ensures.left,
             bag_step S h (λ p. eval h (values digest) (part T (apart self.start self.end) p)) (digest back) self.end r.first
                 r.left r.folded _ _ _ _ first n.first n.left n.folded c.if-rest-gt0-2.true
-                (option_map g.D.Write.text c.loop-rest.folded) _ _ item.0 c.append.ensures ∙ invariant.1,
+                (option_map g.D.Digest.text c.loop-rest.folded) _ _ item.0 c.append.ensures ∙ invariant.1,
             keeps_on _ c.loop-rest.found c.item.new.found _ _ _ _ (found_first h T self.start self.end (values digest) _
                 r.first _ _
                 (first_and_others S self.start self.end r.first r.left r.folded _ _ _ _ first n.first n.left n.folded))
@@ -84,7 +84,7 @@ returns-in-None g c = λ digest serves is.
     let onto = c.in_ok-onto.ensures digest serves
     (invariant.0 ∙ ap (map digest) (tops_unfolded g.F.Family.shape g.met.F.Family.laws
     c.args.self.now.start c.args.self.now.end r.first r.left r.folded over)) in (
-      bag_none g.F.Family.shape g.met.F.Family.laws g.H.Hasher.hash_of _ (digest back) c.args.self.now.end r.first r.left r.folded over g.D.Write.text c.loop-rest.folded _ _ onto.0 invariant.1
+      bag_none g.F.Family.shape g.met.F.Family.laws g.H.Hasher.hash_of _ (digest back) c.args.self.now.end r.first r.left r.folded over g.D.Digest.text c.loop-rest.folded _ _ onto.0 invariant.1
           c.in-None.is,
       onto.1 ∙ invariant.2,
     )
@@ -100,7 +100,7 @@ returns-in-Some g c = λ digest serves is.
     let onto = c.in_ok-onto.ensures digest serves
     (invariant.0 ∙ ap (map digest) (tops_unfolded g.F.Family.shape g.met.F.Family.laws
     c.args.self.now.start c.args.self.now.end r.first r.left r.folded over)) in (
-      bag_some g.F.Family.shape g.met.F.Family.laws g.H.Hasher.hash_of _ (digest back) c.args.self.now.end r.first r.left r.folded over g.D.Write.text c.loop-rest.folded _ _ onto.0 invariant.1
+      bag_some g.F.Family.shape g.met.F.Family.laws g.H.Hasher.hash_of _ (digest back) c.args.self.now.end r.first r.left r.folded over g.D.Digest.text c.loop-rest.folded _ _ onto.0 invariant.1
           c.in-Some.folded _ c.in-Some.is c.join.ensures,
       onto.1 ∙ invariant.2,
     )

@@ -17,23 +17,23 @@ invariant-loop-rest g l = record {
       (peaks_from g.F.Family.shape l.rest.first l.rest.left);
   count : length l.tops ≡ length (tops g.F.Family.shape l.self.start l.self.end l.rest.first l.rest.left l.rest.folded);
   exact : (digest : Site → List ℕ)
-      → Serves g.F.Family.shape digest l.self.siblings.now (map g.D.Write.text l.self.digests.now)
-      → map g.D.Write.text l.fn.tops ≡ map digest (front_before l.fn.rest.first ++ top_sites l.self.start l.self.end
+      → Serves g.F.Family.shape digest l.self.siblings.now (map g.D.Digest.text l.self.digests.now)
+      → map g.D.Digest.text l.fn.tops ≡ map digest (front_before l.fn.rest.first ++ top_sites l.self.start l.self.end
       (peaks_from g.F.Family.shape l.fn.rest.first l.fn.rest.left) l.fn.rest.folded)
-      → (map g.D.Write.text l.tops
+      → (map g.D.Digest.text l.tops
       ≡ map digest (tops g.F.Family.shape l.self.start l.self.end l.rest.first l.rest.left l.rest.folded))
       × (bag_onto g.H.Hasher.hash_of (λ p. eval g.H.Hasher.hash_of
       (given_values digest l.self.start (map g.E.AsSlice.items l.self.elements.now) (g.H.Hasher.chunk l.hasher))
       (part (g.H.Hasher.layout l.hasher) (apart l.self.start l.self.end) p)) (digest back) l.self.end
-      (option_map g.D.Write.text l.folded) (peaks_from g.F.Family.shape l.rest.first l.rest.left) l.rest.folded
+      (option_map g.D.Digest.text l.folded) (peaks_from g.F.Family.shape l.rest.first l.rest.left) l.rest.folded
       ≡ bag_onto g.H.Hasher.hash_of (λ p. eval g.H.Hasher.hash_of
       (given_values digest l.self.start (map g.E.AsSlice.items l.self.elements.now) (g.H.Hasher.chunk l.hasher))
       (part (g.H.Hasher.layout l.hasher) (apart l.self.start l.self.end) p)) (digest back) l.self.end (folded_before
       (digest front) l.fn.rest.first) (peaks_from g.F.Family.shape l.fn.rest.first l.fn.rest.left) l.fn.rest.folded)
-      × (option_map (λ v. by_bytes g.D.Write.text v.items ++ found_peaks g.H.Hasher.hash_of (g.H.Hasher.layout l.hasher)
+      × (option_map (λ v. by_bytes g.D.Digest.text v.items ++ found_peaks g.H.Hasher.hash_of (g.H.Hasher.layout l.hasher)
       l.self.start l.self.end (given_values digest l.self.start (map g.E.AsSlice.items l.self.elements.now)
       (g.H.Hasher.chunk l.hasher)) (peaks_from g.F.Family.shape l.rest.first l.rest.left)) l.found
-      ≡ option_map (λ v. by_bytes g.D.Write.text v.items ++ found_peaks g.H.Hasher.hash_of (g.H.Hasher.layout l.hasher)
+      ≡ option_map (λ v. by_bytes g.D.Digest.text v.items ++ found_peaks g.H.Hasher.hash_of (g.H.Hasher.layout l.hasher)
       l.self.start l.self.end (given_values digest l.self.start (map g.E.AsSlice.items l.self.elements.now)
       (g.H.Hasher.chunk l.hasher)) (peaks_from g.F.Family.shape l.fn.rest.first l.fn.rest.left)) l.fn.found);
 }

@@ -21,7 +21,7 @@ returns-then-is_apart-clause-exact g c = λ digest later serves tops. (
       (given_values digest c.args.self.now.start (map g.E.AsSlice.items c.args.self.now.elements.now)
       (g.H.Hasher.chunk c.args.hasher.now))
       c.args.height c.args.first _ c.if-is_apart.ensures
-      (first_of g.D.Write.text c.args.tops.now c.index-tops-0.result (digest (node c.args.first c.args.height))
+      (first_of g.D.Digest.text c.args.tops.now c.index-tops-0.result (digest (node c.args.first c.args.height))
       (map digest later) c.index-tops-0.is (tops (sym c.if-is_apart.ensures))),
   adds_nothing _ c.args.found.now _
       (found_apart g.H.Hasher.hash_of (g.H.Hasher.layout c.args.hasher.now) c.args.self.now.start c.args.self.now.end

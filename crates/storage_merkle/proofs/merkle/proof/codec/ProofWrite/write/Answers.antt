@@ -10,9 +10,9 @@ use Rattle.storage_merkle.proofs.merkle.proof.codec.ProofWrite.write.Goals as go
 pub returns-in_err-write-3-clause-err : goal.returns-in_err-write-3-clause-err
 returns-in_err-write-3-clause-err g c =
     let p = c.args.self.now in
-    let ds = map g.D.Write.text p.digests.items in
+    let ds = map g.D.Digest.text p.digests.items in
     let n : c.len.result ≡ length ds =
-    omega (arith, c.len.ensures, length-map c.args.self.now.digests.items g.D.Write.text) in
+    omega (arith, c.len.ensures, length-map c.args.self.now.digests.items g.D.Digest.text) in
     let count = varint_text (length ds) in
     let inactive = varint_text p.inactive_peaks in
     on_err c.from_residual-in_err-write-3.result _
@@ -24,10 +24,10 @@ returns-in_err-write-3-clause-err g c =
 pub returns-clause-err : goal.returns-clause-err
 returns-clause-err g c =
     let p = c.args.self.now in
-    let T = g.D.Write.text in
+    let T = g.D.Digest.text in
     let ds = map T p.digests.items in
     let n : c.len.result ≡ length ds =
-    omega (arith, c.len.ensures, length-map c.args.self.now.digests.items g.D.Write.text) in
+    omega (arith, c.len.ensures, length-map c.args.self.now.digests.items g.D.Digest.text) in
     let count = varint_text (length ds) in
     let inactive = varint_text p.inactive_peaks in
     on_err_to c.write_digests.result _ _
@@ -36,7 +36,7 @@ returns-clause-err g c =
     (starts_then count (joined_text ds) (c.in_ok-write-3.ensures.ok
     ∙ ap (λ k. c.write-2.new.out.items ++ varint_text k) n)
     (subst (λ xs. AppendsStart c.write-3.new.out.items c.write_digests.new.out.items
-    (joined_text (map g.D.Write.text xs))) c.deref.ensures.value a))))
+    (joined_text (map g.D.Digest.text xs))) c.deref.ensures.value a))))
     c.write_digests.ensures.err
 
 pub returns-in_err-write-clause-err : goal.returns-in_err-write-clause-err

@@ -24,7 +24,7 @@ returns-in_default g t c = λ end digest recomputed some nodes texts.
     omega (arith, c.power.ensures, c.if-rest-power.false) in
     absurd (none_missing c.args.self.now.start end digest recomputed g.F.Family.shape c.args.rest.first c.args.rest.left
     c.first_peak-height.result c.first_peak-height.ensures.first c.args.rest.folded some ends _ _ _ refl refl refl
-    g.D.Write.text c.args.digests.now c.in_default.ensures.cases texts)
+    g.D.Digest.text c.args.digests.now c.in_default.ensures.cases texts)
 
 pub node-requires-clause-within : goal.node-requires-clause-within
 node-requires-clause-within g t c =
@@ -45,11 +45,11 @@ returns-then-eq g t c = λ end digest recomputed some nodes texts.
     later_text c.args.self.now.start end digest recomputed g.F.Family.shape c.args.rest.first c.args.rest.left
     c.first_peak-height.result c.first_peak-height.ensures.first c.args.rest.folded some ends c.next.result.first
     c.next.result.left c.next.result.folded c.next.ensures.first c.next.ensures.left c.next.ensures.folded
-    g.D.Write.text c.in-Some.digest.now c.args.digests.now c.in-Some.later.now c.in-Some.ensures.cases.0 texts in
+    g.D.Digest.text c.in-Some.digest.now c.args.digests.now c.in-Some.later.now c.in-Some.ensures.cases.0 texts in
     match_goes_on c.args.self.now.start end digest recomputed g.F.Family.shape c.args.rest.first c.args.rest.left
     c.first_peak-height.result c.first_peak-height.ensures.first c.args.rest.folded some ends c.next.result.first
     c.next.result.left c.next.result.folded c.next.ensures.first c.next.ensures.left c.next.ensures.folded
-    g.D.Write.text c.in-Some.digest.now c.args.digests.now c.in-Some.later.now c.in-Some.ensures.cases.0 texts
-    (g.D.Write.text c.node.result) (nodes c.args.rest.first c.first_peak-height.result
+    g.D.Digest.text c.in-Some.digest.now c.args.digests.now c.in-Some.later.now c.in-Some.ensures.cases.0 texts
+    (g.D.Digest.text c.node.result) (nodes c.args.rest.first c.first_peak-height.result
     ∙ sym c.node.ensures) ((g.met.D.Digest.same _ _).0 (sym c.if-eq.ensures)) c.give_peaks.result
     (c.give_peaks.ensures end digest recomputed some nodes left)

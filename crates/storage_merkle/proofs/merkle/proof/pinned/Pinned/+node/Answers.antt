@@ -7,14 +7,14 @@ pub returns-in-Some : goal.returns-in-Some
 returns-in-Some g t c =
     let same = g.met.H.Hasher.over c.args.hasher.now in
     node_pinned g.H.Hasher.hash_of (g.H.Hasher.layout c.args.hasher.now) g.F.Family.shape same c.args.self.now.start
-    (map g.D.Write.text c.args.self.now.digests.now) (g.H.Hasher.chunk c.args.hasher.now) c.args.height c.args.first
+    (map g.D.Digest.text c.args.self.now.digests.now) (g.H.Hasher.chunk c.args.hasher.now) c.args.height c.args.first
     _ c.in-Some.ensures.0 (c.in-Some.ensures.1 (g.H.Hasher.hash_of []))
 
 pub returns-then-height-eq0 : goal.returns-then-height-eq0
 returns-then-height-eq0 g t c =
     let same = g.met.H.Hasher.over c.args.hasher.now in
     node_empty g.H.Hasher.hash_of (g.H.Hasher.layout c.args.hasher.now) g.F.Family.shape same c.args.self.now.start
-    (map g.D.Write.text c.args.self.now.digests.now) (g.H.Hasher.chunk c.args.hasher.now) c.args.height c.args.first
+    (map g.D.Digest.text c.args.self.now.digests.now) (g.H.Hasher.chunk c.args.hasher.now) c.args.height c.args.first
     _ c.in_default.ensures c.if-height-eq0.true c.digest.ensures
 
 pub node-left-requires : goal.node-left-requires
@@ -53,7 +53,7 @@ pub returns : goal.returns
 returns g t c =
     let same = g.met.H.Hasher.over c.args.hasher.now in
     node_joined g.H.Hasher.hash_of (g.H.Hasher.layout c.args.hasher.now) g.F.Family.shape same c.args.self.now.start
-    (map g.D.Write.text c.args.self.now.digests.now)
+    (map g.D.Digest.text c.args.self.now.digests.now)
     (g.H.Hasher.chunk c.args.hasher.now) c.args.height c.args.first _ _ _ c.in_default.ensures c.if-height-eq0.false
     c.node-left.ensures (rw c.power.ensures at c.node-right.ensures)
     (c.node_digest.ensures c.args.first c.args.height

@@ -21,7 +21,7 @@ loop-first-init g c =
           (peaks_from S peaks.first peaks.left)
           (peaks_in_tree S g.met.F.Family.laws self.leaves peaks.first peaks.left c.requires.peaks));
       folds = ap (λ ps. forward_of g.H.Hasher.hash_of (peaks_by (digest_before g.H.Hasher.hash_of
-          (g.H.Hasher.layout c.args.hasher.now) self.start (map g.D.Write.text self.digests.now)
+          (g.H.Hasher.layout c.args.hasher.now) self.start (map g.D.Digest.text self.digests.now)
           (g.H.Hasher.chunk c.args.hasher.now)) ps)) at;
     }
 
@@ -43,11 +43,11 @@ loop-first-preserved g c = record {
   within = (subst (EachPeak (InTree g.F.Family.shape c.args.self.now.leaves)) c.in-Some.ensures.steps.0
       c.loop-first.invariant.within).1;
   folds = leads_on g.H.Hasher.hash_of (digest_before g.H.Hasher.hash_of (g.H.Hasher.layout c.args.hasher.now)
-      c.args.self.now.start (map g.D.Write.text c.args.self.now.digests.now) (g.H.Hasher.chunk c.args.hasher.now)) _ _ _
+      c.args.self.now.start (map g.D.Digest.text c.args.self.now.digests.now) (g.H.Hasher.chunk c.args.hasher.now)) _ _ _
       _ _ _ _ c.in-Some.ensures.steps.0 c.node.ensures c.append.ensures c.loop-first.invariant.folds;
 }
 
 pub returns : goal.returns
 returns g c = forward_ends g.H.Hasher.hash_of (digest_before g.H.Hasher.hash_of (g.H.Hasher.layout c.args.hasher.now)
-    c.args.self.now.start (map g.D.Write.text c.args.self.now.digests.now) (g.H.Hasher.chunk c.args.hasher.now)) _ _ _
+    c.args.self.now.start (map g.D.Digest.text c.args.self.now.digests.now) (g.H.Hasher.chunk c.args.hasher.now)) _ _ _
     c.in-None.ensures.steps.0 c.loop-first.invariant.folds

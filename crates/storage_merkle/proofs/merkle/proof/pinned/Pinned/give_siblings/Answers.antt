@@ -38,10 +38,10 @@ returns-then-ne g c = λ ss digest recomputed are nodes texts.
     let ends : c.node_at-first.result.0 + 2 ^ c.node_at-first.result.1 ≤ c.args.self.now.start =
     omega (arith, c.power.ensures, c.if-first-power.true) in (
       λ no. cc,
-      λ m. absurd (fails S g.met.F.Family.laws c.args.self.now.leaves c.args.self.now.start g.D.Write.text digest
+      λ m. absurd (fails S g.met.F.Family.laws c.args.self.now.leaves c.args.self.now.start g.D.Digest.text digest
           recomputed ss c.in-Some.position.now c.node_at-first.result.0 c.node_at-first.result.1
           c.next.new.self.a.rest.now c.in-Some.digest.now c.next.new.self.b.rest.now at ends
-          (λ e. differs g.D.PartialEq.eq g.D.Write.text g.met.D.Digest.same _ _ c.if-ne.ensures
+          (λ e. differs g.D.PartialEq.eq g.D.Digest.text g.met.D.Digest.same _ _ c.if-ne.ensures
           (c.node.ensures ∙ sym (nodes _ _) ∙ e)) here m),
     )
 
@@ -57,12 +57,12 @@ loop-position-preserved g c =
           let left = c.loop-position.invariant.so_far ss digest recomputed are nodes texts in
           let here = rw (c.in-Some.ensures.steps.0, c.in-Some.ensures.steps.1) at left in
           let at = rw c.as_u64.ensures at c.node_at-first.ensures.node in
-          passes S g.met.F.Family.laws c.args.self.now.leaves c.args.self.now.start g.D.Write.text digest recomputed ss
+          passes S g.met.F.Family.laws c.args.self.now.leaves c.args.self.now.start g.D.Digest.text digest recomputed ss
           c.in-Some.position.now c.node_at-first.result.0 c.node_at-first.result.1 c.next.new.self.a.rest.now
           c.in-Some.digest.now c.next.new.self.b.rest.now at
           (elim c.else-first-power.branch [
             | else-first-power-via-then-first-power+else-ne w ↦
-                inr (sym (agrees g.D.PartialEq.eq g.D.Write.text g.met.D.Digest.same _ _ w.if-ne.ensures)
+                inr (sym (agrees g.D.PartialEq.eq g.D.Digest.text g.met.D.Digest.same _ _ w.if-ne.ensures)
                 ∙ w.node.ensures ∙ sym (nodes _ _))
             | else-first-power-via-else-first-power w ↦ inl (omega (arith, c.power.ensures, w.if-first-power.false))
           ]) here;
@@ -70,7 +70,7 @@ loop-position-preserved g c =
 
 pub returns : goal.returns
 returns g c = λ ss digest recomputed are nodes texts. (
-  λ yes. none_left g.F.Family.shape g.met.F.Family.laws c.args.self.now.leaves c.args.self.now.start g.D.Write.text
+  λ yes. none_left g.F.Family.shape g.met.F.Family.laws c.args.self.now.leaves c.args.self.now.start g.D.Digest.text
       digest recomputed ss c.loop-position.position-iterator.a.rest.now c.loop-position.position-iterator.b.rest.now
       (elim c.in-None.ensures.steps [ inl w ↦ inl w.1.0 | inr w ↦ inr w.1.0 ])
       (c.loop-position.invariant.so_far ss digest recomputed are nodes texts),

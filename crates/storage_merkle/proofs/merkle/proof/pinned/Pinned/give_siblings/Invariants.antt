@@ -13,7 +13,7 @@ invariant-loop-position g l = record {
   so_far : (ss : List Site) (digest recomputed : Site → List ℕ)
       → AreNodesAt g.F.Family.shape l.self.leaves l.positions ss
       → ((a k : ℕ) → recomputed (node a k) ≡ digest_before g.H.Hasher.hash_of (g.H.Hasher.layout l.hasher) l.self.start
-      (map g.D.Write.text l.self.digests.now) (g.H.Hasher.chunk l.hasher) a k)
-      → map g.D.Write.text l.digests ≡ map digest ss → Left g.F.Family.shape g.met.F.Family.laws l.self.leaves
-      l.self.start g.D.Write.text digest recomputed ss l.position-iterator.a.rest.now l.position-iterator.b.rest.now;
+      (map g.D.Digest.text l.self.digests.now) (g.H.Hasher.chunk l.hasher) a k)
+      → map g.D.Digest.text l.digests ≡ map digest ss → Left g.F.Family.shape g.met.F.Family.laws l.self.leaves
+      l.self.start g.D.Digest.text digest recomputed ss l.position-iterator.a.rest.now l.position-iterator.b.rest.now;
 }

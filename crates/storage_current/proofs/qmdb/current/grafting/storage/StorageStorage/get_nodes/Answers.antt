@@ -40,7 +40,7 @@ fill-requires g c =
     let none : gaps c.deref-2.result.now ≡ length c.deref.result.now = gaps_are _ later s.0 _ _ _ s.1 in
     let read : length c.in-Ok.read.items ≡ length c.deref.result.now =
     served_length (joined g.F.Family.shape c.args.self.now.height (g.S.Storage.nodes c.args.self.now.ops_tree.now)
-    (regrafted g.H.Hasher.digest_of g.H.Digest.Write.text g.F.Family.shape c.args.self.now.height
+    (regrafted g.H.Hasher.digest_of g.H.Digest.Digest.text g.F.Family.shape c.args.self.now.height
     (g.R.Readable.node c.args.self.now.grafted_tree.now)) later) later _ _ c.in-Ok.ensures.answers in
     omega (arith, none, read, ap length c.deref-3.ensures.value)
 

@@ -14,7 +14,7 @@ invariant_of-result g c =
 pub returns-clause-stands : goal.returns-clause-stands
 returns-clause-stands g c N few =
     rw (c.new.ensures.items, c.truncate.ensures.items, take_whole (2 ^ 62) c.args.leaves.items few)
-    (new_keeps g.D.Write.text g.F.Family.shape g.met.F.Family.laws N c.args.leaves.items)
+    (new_keeps g.D.Digest.text g.F.Family.shape g.met.F.Family.laws N c.args.leaves.items)
 
 pub returns-clause-kept : goal.returns-clause-kept
 returns-clause-kept g c = search rules

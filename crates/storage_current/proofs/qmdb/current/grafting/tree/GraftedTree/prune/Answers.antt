@@ -33,7 +33,7 @@ returns-clause-stands g c list keeps =
     ∙ rotated c.self.inside.leaves.items gone (c.len.result - gone)
     (omega (arith, c.len.ensures, c.self.inside.leaves.ok, top, c.if-chunks-self.false)) in
     let keeps' = rw (← c.self.view_is) at keeps in
-    kept_pruned g.D.Write.text g.F.Family.shape _ _ c.args.chunks _ _ list
+    kept_pruned g.D.Digest.text g.F.Family.shape _ _ c.args.chunks _ _ list
     (omega (arith, c.if-chunks-self.false)) top keeps'
     (c.in-Ok.ensures.digests list keeps) leaves
 

@@ -11,8 +11,8 @@ returns-in-KeyValue-clause-exact g c =
       operation = g.V.OperationCodec.operation_text;
       cmp = g.K.Ord.cmp;
     })
-    c.args.key.now (g.D.Write.text c.args.root.now) c.verify_span.result _ _
-    (ap (λ x. exclusion_of g.D.Write.text g.C.Chunk.text x) (sym c.in-KeyValue.is)) c.verify_span.ensures.exact
+    c.args.key.now (g.D.Digest.text c.args.root.now) c.verify_span.result _ _
+    (ap (λ x. exclusion_of g.D.Digest.text g.C.Chunk.text x) (sym c.in-KeyValue.is)) c.verify_span.ensures.exact
 
 pub returns-in-KeyValue-clause-meaning : goal.returns-in-KeyValue-clause-meaning
 returns-in-KeyValue-clause-meaning g c = λ wide.
@@ -22,8 +22,8 @@ returns-in-KeyValue-clause-meaning g c = λ wide.
       operation = g.V.OperationCodec.operation_text;
       cmp = g.K.Ord.cmp;
     })
-    c.args.key.now (g.D.Write.text c.args.root.now) c.verify_span.result _ _ (ap
-    (λ x. exclusion_of g.D.Write.text g.C.Chunk.text x) (sym c.in-KeyValue.is)) (c.verify_span.ensures.meaning wide)
+    c.args.key.now (g.D.Digest.text c.args.root.now) c.verify_span.result _ _ (ap
+    (λ x. exclusion_of g.D.Digest.text g.C.Chunk.text x) (sym c.in-KeyValue.is)) (c.verify_span.ensures.meaning wide)
 
 pub returns-in-Commit-clause-meaning : goal.returns-in-Commit-clause-meaning
 returns-in-Commit-clause-meaning g c = λ wide.
@@ -33,5 +33,5 @@ returns-in-Commit-clause-meaning g c = λ wide.
       operation = g.V.OperationCodec.operation_text;
       cmp = g.K.Ord.cmp;
     })
-    c.args.key.now (g.D.Write.text c.args.root.now) c.verify_commit.result _ _ (ap
-    (λ x. exclusion_of g.D.Write.text g.C.Chunk.text x) (sym c.in-Commit.is)) (c.verify_commit.ensures.meaning wide)
+    c.args.key.now (g.D.Digest.text c.args.root.now) c.verify_commit.result _ _ (ap
+    (λ x. exclusion_of g.D.Digest.text g.C.Chunk.text x) (sym c.in-Commit.is)) (c.verify_commit.ensures.meaning wide)

@@ -31,7 +31,7 @@ returns-then-chunk-pruned-clause-why g c =
 pub returns-in-Ok-clause-own : goal.returns-in-Ok-clause-own
 returns-in-Ok-clause-own g c = λ s parts.
     let h = g.H.Hasher.hash_of in
-    let text = g.D.Write.text in
+    let text = g.D.Digest.text in
     let G : Grafting = record { shape = g.F.Family.shape; bytes = g.row.N } in
     let level : height G ≡ c.height.result = height_of_power G.shape g.row.N c.height.result c.height.ensures.power in
     let index : c.as_u64.result / 2 ^ c.height.result ≡ first_chunk G c.args.plan.start =

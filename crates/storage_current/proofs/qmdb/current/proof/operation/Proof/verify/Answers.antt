@@ -9,7 +9,7 @@ pub returns-clause-meaning : goal.returns-clause-meaning
 returns-clause-meaning g c = λ wide.
     subst (λ (operation : List ℕ). IfOk c.verify_encoded.result (λ yes. IsTrue yes → MeansActive g.H.Hasher.hash_of
     (record { shape = g.F.Family.shape; bytes = length (g.C.Chunk.text c.args.self.now.chunk) })
-    (operation_proof_of g.D.Write.text g.C.Chunk.text c.args.self.now) operation (g.D.Write.text c.args.root.now)))
+    (operation_proof_of g.D.Digest.text g.C.Chunk.text c.args.self.now) operation (g.D.Digest.text c.args.root.now)))
     (c.deref.ensures.value ∙ (c.in_ok-write.ensures.ok ∙ ap (λ (t : List ℕ). t
     ++ g.O.Write.text c.args.operation) c.new-bytes.ensures.items)) (c.verify_encoded.ensures.meaning wide)
 

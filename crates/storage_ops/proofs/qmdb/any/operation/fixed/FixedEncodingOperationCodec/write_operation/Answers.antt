@@ -1,7 +1,6 @@
 use Rattle.std.proofs.Common.{rules, arith}
 use Rattle.std.proofs.lemmas.Grind.{common_steps}
-use Rattle.storage_codec.specs.Laws.Parts.{starts_cons}
-use Rattle.storage_ops.proofs.Starts.{starts_none}
+use Rattle.storage_codec.specs.Laws.Parts.{starts_cons, starts_none}
 use Rattle.storage_ops.proofs.qmdb.any.operation.fixed.FixedEncodingOperationCodec.write_operation.Goals as goal
 
 pub returns-in-Delete-clause-ok : goal.returns-in-Delete-clause-ok

@@ -12,5 +12,5 @@ returns g c =
     ∙ ap size_of (operation_length g.F.Graftable.has_pending (record {
       location = c.args.self.now.loc;
       chunk = g.C.Chunk.text c.args.self.now.chunk;
-      range = range_proof_of g.D.Write.text c.args.self.now.range_proof;
+      range = range_proof_of g.D.Digest.text c.args.self.now.range_proof;
     }))

@@ -9,13 +9,13 @@ use Rattle.storage_current.proofs.qmdb.current.proof.operation.codec.ProofWrite.
 
 pub returns-in_err-write-clause-err : goal.returns-in_err-write-clause-err
 returns-in_err-write-clause-err g c =
-    let range = range_proof_text g.F.Graftable.has_pending (range_proof_of g.D.Write.text c.args.self.now.range_proof) in
+    let range = range_proof_text g.F.Graftable.has_pending (range_proof_of g.D.Digest.text c.args.self.now.range_proof) in
     on_err c.from_residual.result _
     (starts_first (g.C.Chunk.text c.args.self.now.chunk ++ range) c.in_err-write.ensures.err)
 
 pub returns-clause-err : goal.returns-clause-err
 returns-clause-err g c =
-    let range = range_proof_text g.F.Graftable.has_pending (range_proof_of g.D.Write.text c.args.self.now.range_proof) in
+    let range = range_proof_text g.F.Graftable.has_pending (range_proof_of g.D.Digest.text c.args.self.now.range_proof) in
     let chunk = g.C.Chunk.text c.args.self.now.chunk in
     on_err_to c.write-2.result _ _
     (λ a. starts_then (varint_text c.args.self.now.loc) (chunk ++ range) c.in_ok-write.ensures.ok

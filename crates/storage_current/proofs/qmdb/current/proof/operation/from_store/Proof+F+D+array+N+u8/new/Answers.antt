@@ -71,7 +71,7 @@ get_chunk-requires g c =
 pub returns-in-Ok-read-clause-own : goal.returns-in-Ok-read-clause-own
 returns-in-Ok-read-clause-own g c = λ s served.
     let h = g.H.Hasher.hash_of in
-    let text = g.D.Write.text in
+    let text = g.D.Digest.text in
     let node = g.S.Storage.node c.args.storage.now in
     let status = g.R.Readable.retained c.args.status.now in
     let G : Grafting = record { shape = g.F.Family.shape; bytes = g.row.N } in

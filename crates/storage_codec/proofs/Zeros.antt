@@ -4,7 +4,7 @@ use Rattle.std.specs.Prelude.{codes}
 use Rattle.storage_codec.specs.Parts.{AppendsStart}
 use Rattle.storage_codec.specs.Faults.{◌>>=◌, Invalid}
 use Rattle.storage_codec.specs.Codec.{byte_at}
-use Rattle.storage_ops.specs.Padding.{zeros_at}
+use Rattle.storage_codec.specs.Padding.{zeros_at}
 
 abbrev zero_bytes : ℕ → List ℕ
 zero_bytes n = replicate n 0

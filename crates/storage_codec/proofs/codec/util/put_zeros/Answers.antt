@@ -1,7 +1,7 @@
 use Rattle.std.proofs.Common.{arith}
 use Rattle.std.proofs.lemmas.Grind.{common_steps}
-use Rattle.storage_ops.proofs.Zeros.{zeros_start, zeros_push}
-use Rattle.storage_ops.proofs.qmdb.operation.padding.put_zeros.Goals as goal
+use Rattle.storage_codec.proofs.Zeros.{zeros_start, zeros_push}
+use Rattle.storage_codec.proofs.codec.util.put_zeros.Goals as goal
 
 pub returns-in_err-push-clause-err : goal.returns-in_err-push-clause-err
 returns-in_err-push-clause-err c = grind (arith, zeros_start, zeros_push)

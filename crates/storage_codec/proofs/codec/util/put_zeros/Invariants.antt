@@ -1,5 +1,5 @@
 use Rattle.std.proofs.Common.{◌≡◌, ◌++◌, replicate}
-use Rattle.storage_ops.proofs.qmdb.operation.padding.put_zeros.Given as goal
+use Rattle.storage_codec.proofs.codec.util.put_zeros.Given as goal
 
 abbrev pub invariant-loop : goal.invariant-loop
 invariant-loop l = l.out.items ≡ l.fn.out.items ++ replicate l.counter 0

@@ -1,7 +1,7 @@
 use Rattle.std.proofs.Common.{arith}
-use Rattle.storage_ops.proofs.Zeros.{zeros_done, zeros_step}
+use Rattle.storage_codec.proofs.Zeros.{zeros_done, zeros_step}
 use Rattle.storage_codec.specs.Laws.Parts.{ends_same, ends_then}
-use Rattle.storage_ops.proofs.qmdb.operation.padding.ensure_zeros.Goals as goal
+use Rattle.storage_codec.proofs.codec.util.ensure_zeros.Goals as goal
 
 pub returns-in_err-byte-clause-gives : goal.returns-in_err-byte-clause-gives
 returns-in_err-byte-clause-gives g c = grind (arith, zeros_step, zeros_done, ends_same, ends_then)

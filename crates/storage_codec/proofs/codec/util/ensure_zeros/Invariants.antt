@@ -1,7 +1,7 @@
 use Rattle.std.proofs.Common.{◌≡◌, ◌-◌}
 use Rattle.storage_codec.specs.Parts.{IsEnding}
-use Rattle.storage_ops.specs.Padding.{zeros_at}
-use Rattle.storage_ops.proofs.qmdb.operation.padding.ensure_zeros.Given as goal
+use Rattle.storage_codec.specs.Padding.{zeros_at}
+use Rattle.storage_codec.proofs.codec.util.ensure_zeros.Given as goal
 
 abbrev pub invariant-loop : goal.invariant-loop
 invariant-loop g l = record {
