@@ -2,6 +2,7 @@ use Rattle.storage_current.specs.Keys.{keyed_by}
 use Rattle.storage_current.specs.Snapshots.{grafting_of}
 use Rattle.storage_db.specs.Databases.{put}
 use Rattle.storage_db.proofs.Keeping.{done_ok, refused_err, kept_err}
+use Rattle.std.proofs.Common.{rules}
 use Rattle.storage_db.proofs.db.ordered.Ordered.put.Goals as goal
 
 pub returns-then-contains_key-clause-ok : goal.returns-then-contains_key-clause-ok
@@ -39,3 +40,6 @@ returns-else-contains_key-clause-why g c = refused_err (keyed_by g.K.Write.text 
     g.H.Hasher.hash_of (grafting_of g.F.Family.shape g.row.N) (λ x. put (keyed_by g.K.Write.text g.V.Value.Write.text g.V.OperationCodec.operation_text g.K.Ord.cmp) x c.args.key c.args.value)
     c.self.inside.log c.put_new.new.log c.self.inside.active.entries c.put_new.new.active.entries c.self.inside.last
     c.args.self.now c.self.view_is c.put_new.result c.put_new.ensures.why
+
+pub put_new-requires : goal.put_new-requires
+put_new-requires g c = search rules

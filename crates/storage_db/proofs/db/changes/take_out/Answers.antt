@@ -1,0 +1,5 @@
+use Rattle.std.proofs.Common.{rules}
+use Rattle.storage_db.proofs.db.changes.take_out.Goals as goal
+
+pub returns-clause-bits : goal.returns-clause-bits
+returns-clause-bits g c = search rules
