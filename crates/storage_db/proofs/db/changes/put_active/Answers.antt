@@ -1,6 +1,7 @@
 use Rattle.storage_current.specs.Keys.{Keyed, keyed_by}
 use Rattle.storage_db.specs.Databases.{put}
-use Rattle.storage_db.proofs.Changing.{no_room, no_memory, update_count}
+use Rattle.storage_db.proofs.Changing.{no_room, no_memory, update_count, same_database}
+use Rattle.storage_db.proofs.Keeping.{on_err}
 use Rattle.std.proofs.Common.{arith}
 use Rattle.std.proofs.lemmas.Grind.{common_steps}
 use Rattle.storage_db.proofs.db.changes.put_active.Goals as goal
@@ -39,3 +40,15 @@ returns-in_err-set-clause-why g c =
 
 pub returns-clause-ok : goal.returns-clause-ok
 returns-clause-ok g c = grind (arith, common_steps)
+
+pub returns-in_err-make_room-clause-err : goal.returns-in_err-make_room-clause-err
+returns-in_err-make_room-clause-err g c = on_err c.from_residual.result
+    (same_database c.args.log.now c.make_room.new.self c.in_err-make_room.ensures.operations c.in_err-make_room.ensures.bits c.args.active.now.entries)
+
+pub returns-in_err-next_key-clause-err : goal.returns-in_err-next_key-clause-err
+returns-in_err-next_key-clause-err g c = on_err c.from_residual-in_err-next_key.result
+    (same_database c.args.log.now c.make_room.new.self c.in_ok-make_room.ensures.operations c.in_ok-make_room.ensures.bits c.args.active.now.entries)
+
+pub returns-in_err-bytes-clause-err : goal.returns-in_err-bytes-clause-err
+returns-in_err-bytes-clause-err g c = on_err c.from_residual-in_err-bytes.result
+    (same_database c.args.log.now c.make_room.new.self c.in_ok-make_room.ensures.operations c.in_ok-make_room.ensures.bits c.args.active.now.entries)

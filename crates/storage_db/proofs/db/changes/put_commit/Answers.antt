@@ -1,10 +1,10 @@
-use Rattle.std.proofs.Common.{◌≡◌, length, refl, ap, ◌∙◌}
+use Rattle.std.proofs.Common.{◌≡◌, length, refl, ap, ◌∙◌, arith}
 use Rattle.storage_current.specs.Keys.{Keyed, keyed_by}
 use Rattle.storage_current.specs.Snapshots.{grafting_of}
 use Rattle.storage_db.specs.Databases.{commit, least_location}
-use Rattle.storage_db.proofs.Keeping.{kept_of}
+use Rattle.storage_db.proofs.Keeping.{kept_of, on_err}
 use Rattle.storage_db.proofs.Commits.{committed_with, commit_count}
-use Rattle.storage_db.proofs.Changing.{no_room, no_memory}
+use Rattle.storage_db.proofs.Changing.{same_database, no_room, no_memory}
 use Rattle.storage_db.proofs.db.changes.put_commit.Goals as goal
 
 pub returns-clause-ok : goal.returns-clause-ok
@@ -45,3 +45,22 @@ returns-in_err-commit-clause-why g c =
     no_memory c.args.log.now c.args.active.now.entries (λ x. commit e x c.args.metadata) 1
     (λ last. commit_count e c.args.log.now c.args.active.now.entries last c.args.metadata)
     c.from_residual-in_err-commit.result c.in_ok-make_room.ensures.few c.from_residual-in_err-commit.ensures.1
+
+pub returns-in_err-make_room-clause-err : goal.returns-in_err-make_room-clause-err
+returns-in_err-make_room-clause-err g c = on_err c.from_residual.result
+    (same_database c.args.log.now c.make_room.new.self c.in_err-make_room.ensures.operations c.in_err-make_room.ensures.bits c.args.active.now.entries)
+
+pub returns-in_err-bytes-clause-err : goal.returns-in_err-bytes-clause-err
+returns-in_err-bytes-clause-err g c = on_err c.from_residual-in_err-bytes.result
+    (same_database c.args.log.now c.make_room.new.self c.in_ok-make_room.ensures.operations c.in_ok-make_room.ensures.bits c.args.active.now.entries)
+
+pub returns-in_err-commit-clause-err : goal.returns-in_err-commit-clause-err
+returns-in_err-commit-clause-err g c = on_err c.from_residual-in_err-commit.result
+    (same_database c.args.log.now c.make_room.new.self c.in_ok-make_room.ensures.operations c.in_ok-make_room.ensures.bits c.args.active.now.entries)
+
+pub append_commit-requires-clause-room : goal.append_commit-requires-clause-room
+append_commit-requires-clause-room g c = c.in_ok-make_room.ensures.room
+
+pub append_commit-requires-clause-few : goal.append_commit-requires-clause-few
+append_commit-requires-clause-few g c =
+    omega (arith, c.in_ok-make_room.ensures.few, ap length c.in_ok-make_room.ensures.operations)

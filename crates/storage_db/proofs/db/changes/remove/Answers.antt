@@ -5,6 +5,7 @@ use Rattle.storage_db.specs.Databases.{Database, active_at, updated, removed, de
 use Rattle.storage_db.specs.Parts.{database_of}
 use Rattle.storage_db.specs.Keyed.{IsKeyed}
 use Rattle.storage_db.proofs.Changing.{sorted_of, no_room, no_memory, delete_count, same_database, removed_parts, renewed_parts, stays_removed, delete_is}
+use Rattle.storage_db.proofs.Keeping.{on_err}
 use Rattle.std.proofs.lemmas.Grind.{common_steps}
 use Rattle.storage_db.proofs.db.changes.remove.Goals as goal
 
@@ -81,3 +82,19 @@ renew-requires-clause-room g c = grind (arith, common_steps)
 
 pub renew-requires-clause-few : goal.renew-requires-clause-few
 renew-requires-clause-few g c = grind (arith, common_steps)
+
+pub returns-in_err-make_room-clause-err : goal.returns-in_err-make_room-clause-err
+returns-in_err-make_room-clause-err g c = on_err c.from_residual.result
+    (same_database c.args.log.now c.make_room.new.self c.in_err-make_room.ensures.operations c.in_err-make_room.ensures.bits c.args.active.now.entries)
+
+pub returns-in_err-next_key-clause-err : goal.returns-in_err-next_key-clause-err
+returns-in_err-next_key-clause-err g c = on_err c.from_residual-in_err-next_key.result
+    (same_database c.args.log.now c.make_room.new.self c.in_ok-make_room.ensures.operations c.in_ok-make_room.ensures.bits c.args.active.now.entries)
+
+pub returns-in_err-bytes-clause-err : goal.returns-in_err-bytes-clause-err
+returns-in_err-bytes-clause-err g c = on_err c.from_residual-in_err-bytes.result
+    (same_database c.args.log.now c.make_room.new.self c.in_ok-make_room.ensures.operations c.in_ok-make_room.ensures.bits c.args.active.now.entries)
+
+pub returns-in_err-relinked-clause-err : goal.returns-in_err-relinked-clause-err
+returns-in_err-relinked-clause-err g c = on_err c.from_residual-in_err-relinked.result
+    (same_database c.args.log.now c.make_room.new.self c.in_ok-make_room.ensures.operations c.in_ok-make_room.ensures.bits c.args.active.now.entries)

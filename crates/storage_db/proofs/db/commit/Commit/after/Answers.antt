@@ -1,4 +1,5 @@
-use Rattle.std.proofs.Common.{Bool, List, [], ◌∷◌, ◌++◌, ap, subst, rules, arith}
+use Rattle.std.proofs.Common.{Bool, List, [], ◌∷◌, ◌++◌, ap, subst, rules}
+use Rattle.std.proofs.lemmas.Result.{err_from_is_err_and}
 use Rattle.storage_bitmap.specs.Chunks.{Retained}
 use Rattle.storage_current.specs.Keys.{keyed_by}
 use Rattle.storage_current.specs.KeptSnapshots.{StandsForSnapshot}
@@ -31,16 +32,61 @@ pub returns-clause-count : goal.returns-clause-count
 returns-clause-count g c = search rules
 
 pub returns-in_err-tree-clause-metadata : goal.returns-in_err-tree-clause-metadata
-returns-in_err-tree-clause-metadata g c = grind arith
+returns-in_err-tree-clause-metadata g c =
+    rw (err_from_is_err_and c.from_residual.result c.from_residual.ensures.1).1 tt
 
 pub returns-in_err-tree-clause-floor : goal.returns-in_err-tree-clause-floor
-returns-in_err-tree-clause-floor g c = grind arith
+returns-in_err-tree-clause-floor g c =
+    rw (err_from_is_err_and c.from_residual.result c.from_residual.ensures.1).1 tt
 
 pub returns-in_err-tree-clause-count : goal.returns-in_err-tree-clause-count
-returns-in_err-tree-clause-count g c = grind arith
+returns-in_err-tree-clause-count g c =
+    rw (err_from_is_err_and c.from_residual.result c.from_residual.ensures.1).1 tt
 
 pub returns-in_err-tree-clause-entries : goal.returns-in_err-tree-clause-entries
-returns-in_err-tree-clause-entries g c = grind arith
+returns-in_err-tree-clause-entries g c =
+    rw (err_from_is_err_and c.from_residual.result c.from_residual.ensures.1).1 tt
 
 pub returns-in_err-tree-clause-snapshot : goal.returns-in_err-tree-clause-snapshot
-returns-in_err-tree-clause-snapshot g c = grind arith
+returns-in_err-tree-clause-snapshot g c =
+    rw (err_from_is_err_and c.from_residual.result c.from_residual.ensures.1).1 tt
+
+pub returns-in_err-status-clause-metadata : goal.returns-in_err-status-clause-metadata
+returns-in_err-status-clause-metadata g c =
+    rw (err_from_is_err_and c.from_residual-in_err-status.result c.from_residual-in_err-status.ensures.1).1 tt
+
+pub returns-in_err-status-clause-floor : goal.returns-in_err-status-clause-floor
+returns-in_err-status-clause-floor g c =
+    rw (err_from_is_err_and c.from_residual-in_err-status.result c.from_residual-in_err-status.ensures.1).1 tt
+
+pub returns-in_err-status-clause-count : goal.returns-in_err-status-clause-count
+returns-in_err-status-clause-count g c =
+    rw (err_from_is_err_and c.from_residual-in_err-status.result c.from_residual-in_err-status.ensures.1).1 tt
+
+pub returns-in_err-status-clause-entries : goal.returns-in_err-status-clause-entries
+returns-in_err-status-clause-entries g c =
+    rw (err_from_is_err_and c.from_residual-in_err-status.result c.from_residual-in_err-status.ensures.1).1 tt
+
+pub returns-in_err-status-clause-snapshot : goal.returns-in_err-status-clause-snapshot
+returns-in_err-status-clause-snapshot g c =
+    rw (err_from_is_err_and c.from_residual-in_err-status.result c.from_residual-in_err-status.ensures.1).1 tt
+
+pub returns-in_err-active-clause-metadata : goal.returns-in_err-active-clause-metadata
+returns-in_err-active-clause-metadata g c =
+    rw (err_from_is_err_and c.from_residual-in_err-active.result c.from_residual-in_err-active.ensures.1).1 tt
+
+pub returns-in_err-active-clause-floor : goal.returns-in_err-active-clause-floor
+returns-in_err-active-clause-floor g c =
+    rw (err_from_is_err_and c.from_residual-in_err-active.result c.from_residual-in_err-active.ensures.1).1 tt
+
+pub returns-in_err-active-clause-count : goal.returns-in_err-active-clause-count
+returns-in_err-active-clause-count g c =
+    rw (err_from_is_err_and c.from_residual-in_err-active.result c.from_residual-in_err-active.ensures.1).1 tt
+
+pub returns-in_err-active-clause-entries : goal.returns-in_err-active-clause-entries
+returns-in_err-active-clause-entries g c =
+    rw (err_from_is_err_and c.from_residual-in_err-active.result c.from_residual-in_err-active.ensures.1).1 tt
+
+pub returns-in_err-active-clause-snapshot : goal.returns-in_err-active-clause-snapshot
+returns-in_err-active-clause-snapshot g c =
+    rw (err_from_is_err_and c.from_residual-in_err-active.result c.from_residual-in_err-active.ensures.1).1 tt

@@ -36,3 +36,9 @@ returns-in_err-commit-clause-why g c =
     (grafting_of g.F.Family.shape g.row.N) (λ x. commit e x c.args.metadata) c.self.inside.log c.put_commit.new.log
     c.self.inside.active.entries c.self.inside.active.entries c.self.inside.last c.args.self.now c.self.view_is error
     (λ last. same ∙ why last)) c.from_residual.ensures.1
+
+pub invariant_of-self : goal.invariant_of-self
+invariant_of-self g c = c.self.invariant
+
+pub invariant_of-self-2 : goal.invariant_of-self-2
+invariant_of-self-2 g c = c.self.invariant

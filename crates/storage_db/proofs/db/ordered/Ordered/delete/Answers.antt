@@ -44,3 +44,9 @@ returns-in_err-remove-clause-why g c =
 
 pub returns-then-not-contains_key-clause-answer : goal.returns-then-not-contains_key-clause-answer
 returns-then-not-contains_key-clause-answer g c = search rules
+
+pub invariant_of-self : goal.invariant_of-self
+invariant_of-self g c = c.self.invariant
+
+pub invariant_of-self-2 : goal.invariant_of-self-2
+invariant_of-self-2 g c = c.self.invariant

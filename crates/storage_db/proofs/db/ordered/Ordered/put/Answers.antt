@@ -2,7 +2,7 @@ use Rattle.storage_current.specs.Keys.{keyed_by}
 use Rattle.storage_current.specs.Snapshots.{grafting_of}
 use Rattle.storage_db.specs.Databases.{put}
 use Rattle.storage_db.proofs.Keeping.{done_ok, refused_err, kept_err}
-use Rattle.std.proofs.Common.{rules}
+use Rattle.std.proofs.Common.{sym}
 use Rattle.storage_db.proofs.db.ordered.Ordered.put.Goals as goal
 
 pub returns-then-contains_key-clause-ok : goal.returns-then-contains_key-clause-ok
@@ -42,4 +42,10 @@ returns-else-contains_key-clause-why g c = refused_err (keyed_by g.K.Write.text 
     c.args.self.now c.self.view_is c.put_new.result c.put_new.ensures.why
 
 pub put_new-requires : goal.put_new-requires
-put_new-requires g c = search rules
+put_new-requires g c = sym c.if-contains_key.ensures
+
+pub invariant_of-self : goal.invariant_of-self
+invariant_of-self g c = c.self.invariant
+
+pub invariant_of-self-else-contains_key : goal.invariant_of-self-else-contains_key
+invariant_of-self-else-contains_key g c = c.self.invariant
