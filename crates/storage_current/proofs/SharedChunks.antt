@@ -1,6 +1,8 @@
 -- Proofs over chunks that are arrays, and proofs over chunks that are shared bytes, of a size that chunks may have.
-use Rattle.std.proofs.Common.{◌≡◌, ℕ, ◌^◌, Bool, List, [], ◌∷◌, refl, ap, subst}
+use Rattle.std.proofs.Common.{◌≡◌, ℕ, ◌^◌, Bool, true, List, [], ◌∷◌, Option, Some, None, refl, ap, subst}
+use Rattle.std.specs.Prelude.{MatchOption}
 use Rattle.std.specs.Bool.{Decides, one_answer}
+use Rattle.std.specs.Option.{is_some}
 use Rattle.std.proofs.lemmas.Bool.{le-leb}
 use Rattle.storage_codec.specs.Codec.{Answer}
 use Rattle.storage_bitmap.specs.Chunks.{IsChunkSize}
@@ -8,6 +10,12 @@ use Rattle.storage_current.specs.CurrentWire.{operation_at, sized_operation_at}
 use Rattle.storage_current.specs.KeyWire.{pair_at, exclusion_at}
 use Rattle.storage_current.specs.SharedChunks.{AgreeWhereSeenAlike}
 use Rattle.storage_current.specs.Snapshots.{OperationProof}
+
+-- a size is one that chunks may have where the height of a chunk is some
+pub chunk_size_is : {size : ℕ} (height : Option ℕ) → MatchOption height (IsChunkSize size → ⊥) (λ _. IsChunkSize size)
+    → is_some height ≡ true → IsChunkSize size
+chunk_size_is None is e = absurd (cc)
+chunk_size_is (Some h) is e = is
 
 module _ (there : Bool) (d size most : ℕ) (is : IsChunkSize size) where
   pub operations_alike : (bytes : List ℕ) → operation_at there d size most bytes

@@ -10,3 +10,7 @@ chunk_over-requires-clause-small g c = valid_height g.F.Family.shape g.met.F.Fam
 pub returns-in-Some : goal.returns-in-Some
 unfolding be8
 returns-in-Some g c = search rules
+
+pub returns-in-None : goal.returns-in-None
+unfolding be8
+returns-in-None g c = search rules
