@@ -1,11 +1,18 @@
-use Rattle.std.proofs.Common.{rules}
+use Rattle.std.proofs.Common.{inl, refl}
+use Rattle.light_c.proofs.Told.{means_again, says_again}
 use Rattle.light_c.proofs.fixed_value.gawerunoa_check_fixed_value.Goals as goal
 
 pub returns-in_default-of_bytes-clause-exact : goal.returns-in_default-of_bytes-clause-exact
-returns-in_default-of_bytes-clause-exact c = search rules
+returns-in_default-of_bytes-clause-exact c = rw (c.in-Ok.ensures.0, c.in-Some.ensures.0, c.in_default-of_bytes.ensures)
 
 pub returns-in-Of256-clause-exact : goal.returns-in-Of256-clause-exact
-returns-in-Of256-clause-exact c = search rules
+returns-in-Of256-clause-exact c =
+    let is = rw c.in-Of256.is at c.in-Ok.ensures.1 in
+    rw (c.in-Ok.ensures.0, c.in-Some.ensures.0, c.in-Some-of_bytes.ensures.0, is.0, ← is.1, ← c.in-Some.ensures.1, ← c.in-Some-of_bytes.ensures.1)
+    (says_again _ _ c.of_key.ensures.exact)
 
 pub returns-in-Of256-clause-meaning : goal.returns-in-Of256-clause-meaning
-returns-in-Of256-clause-meaning c = search rules
+returns-in-Of256-clause-meaning c = λ none is_yes.
+    let is = rw c.in-Of256.is at c.in-Ok.ensures.1 in
+    rw (is.0, ← is.1, ← c.in-Some.ensures.1, ← c.in-Some-of_bytes.ensures.1)
+    (means_again _ _ _ c.of_key.ensures.exact (c.of_key.ensures.meaning (inl refl)) is_yes)

@@ -1,6 +1,5 @@
 use Rattle.std.proofs.lemmas.Bool.{ne_eqb}
-use Rattle.light_c.proofs.Told.{means_again}
-use Rattle.std.proofs.Common.{rules}
+use Rattle.light_c.proofs.Told.{means_again, says_again}
 use Rattle.light_c.proofs.operation.of_family.Goals as goal
 
 pub returns-then-family-eq-MMR-clause-meaning : goal.returns-then-family-eq-MMR-clause-meaning
@@ -15,4 +14,5 @@ returns-else-family-eq-MMR-clause-meaning g c = λ wide.
     (c.checked-else-family-eq-MMR.ensures.meaning wide))
 
 pub returns-then-family-eq-MMR-clause-exact : goal.returns-then-family-eq-MMR-clause-exact
-returns-then-family-eq-MMR-clause-exact g c = search rules
+returns-then-family-eq-MMR-clause-exact g c =
+    rw c.if-family-eq-MMR.true (says_again _ _ c.checked.ensures.exact)

@@ -1,9 +1,9 @@
-use Rattle.std.proofs.Common.{inl, inr, refl, rules}
+use Rattle.std.proofs.Common.{inl, inr, refl}
 use Rattle.storage_current.specs.Snapshots.{grafting_of}
 use Rattle.light_c.specs.Agreed.{function_of, has_pending_of, shape_of, digest_size_of}
 use Rattle.light_c.specs.StringKeys.{IsTrueStringAbsenceOf}
 use Rattle.light_c.proofs.Agreeing.{agreeing_256, agreeing_512}
-use Rattle.light_c.proofs.Told.{means_again}
+use Rattle.light_c.proofs.Told.{means_again, says_again}
 use Rattle.light_c.proofs.string_absence.gawerunoa_check_string_absence.Goals as goal
 
 pub returns-in-Of256-clause-meaning : goal.returns-in-Of256-clause-meaning
@@ -23,7 +23,13 @@ returns-in-Of512-clause-meaning c = λ none is.
     c.of_key-in-Of512.ensures.exact (c.of_key-in-Of512.ensures.meaning (inr refl)) is)
 
 pub returns-in-Of256-clause-exact : goal.returns-in-Of256-clause-exact
-returns-in-Of256-clause-exact c = search rules
+returns-in-Of256-clause-exact c =
+    let is = rw c.in-Of256.is at c.in-Ok.ensures.1 in
+    rw (c.in-Ok.ensures.0, is.0, ← is.1)
+    (says_again _ _ c.of_key.ensures.exact)
 
 pub returns-in-Of512-clause-exact : goal.returns-in-Of512-clause-exact
-returns-in-Of512-clause-exact c = search rules
+returns-in-Of512-clause-exact c =
+    let is = rw c.in-Of512.is at c.in-Ok.ensures.1 in
+    rw (c.in-Ok.ensures.0, is.0, ← is.1)
+    (says_again _ _ c.of_key-in-Of512.ensures.exact)
