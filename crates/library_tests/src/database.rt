@@ -7,7 +7,7 @@ use std::mem;
 use std::process::Abort;
 use std::test::Fail;
 use storage_codec::codec::{Encode, FixedBytes, U64};
-use storage_codec::digest::{Hasher, Sha256, Sha512};
+use storage_codec::digest::{Digest, Hasher, Sha256, Sha512};
 use storage_db::db::{Error, Ordered};
 use storage_merkle::merkle::{Graftable, mmb, mmr};
 use storage_ops::qmdb::any::operation::OperationCodec;
@@ -110,54 +110,14 @@ fn next_number(number: u64) -> u64 {
         .wrapping_add(1_442_695_040_888_963_407)
 }
 
-/// Whether the database answers rightly what value `key` had at the last commit: by that of `number` and a proof, which is accepted,
-/// or that it had none.
-fn is_value<F: Graftable, H: Hasher, K: Key, V: OperationCodec<F, Update<K, V>>, const N: usize>(
-    alloc: Global,
-    database: &Ordered<F, H, K, V, N>,
-    key: &K,
-    number: Option<u64>,
-) -> Result<bool, Fail>
-where
-    V::Value: Numbered,
-    requires { IsChunkSize N }
-{
-    let Some(root) = database.root() else {
-        return Ok(false);
-    };
-    match database.prove_value(key) {
-        Ok((value, proof)) => {
-            let is_right = is_of(alloc, Some(&value), number)?;
-            Ok(is_right && proof.verify::<H, V>(alloc, key.clone()?, value, &root)?)
-        }
-        Err(Error::Absent) => Ok(number.is_none()),
-        Err(refusal) => Err(refusal.into()),
-    }
-}
-
-/// Whether the database answers rightly if `key` had no value at the last commit: by a proof, which is accepted, or that it had one.
-fn is_absence<F: Graftable, H: Hasher, K: Key, V: OperationCodec<F, Update<K, V>>, const N: usize>(
-    alloc: Global,
-    database: &Ordered<F, H, K, V, N>,
-    key: &K,
-    is_absent: bool,
-) -> Result<bool, Fail>
-    requires { IsChunkSize N }
-{
-    let Some(root) = database.root() else {
-        return Ok(false);
-    };
-    match database.prove_absence(key) {
-        Ok(proof) => Ok(is_absent && proof.verify::<H>(alloc, key, &root)?),
-        Err(Error::Present) => Ok(!is_absent),
-        Err(refusal) => Err(refusal.into()),
-    }
-}
-
 /// A database whose keys and values are those of numbers.
-trait ByNumber {
+trait ByNumber: Sized {
     /// Whether its chunks have a size that a chunk may have.
     ghost is_sized: { Type 0 };
+
+    /// One without operations.
+    fn empty(alloc: Global) -> Self
+        requires { Self.is_sized };
 
     /// Gives the key of a number the value of another.
     fn put_number(&mut self, alloc: Global, key: u64, value: u64) -> Result<(), Fail>;
@@ -177,9 +137,18 @@ trait ByNumber {
         committed: Option<u64>,
     ) -> Result<bool, Fail>;
 
-    /// Whether it proves that the key of a number had this value at the last commit, or none.
-    fn proves_number(&self, alloc: Global, key: u64, value: Option<u64>) -> Result<bool, Fail>
+    /// Whether it answers rightly what value the key of a number had at the last commit: by that of `number` and a proof, which is
+    /// accepted, or that it had none.
+    fn proves_value(&self, alloc: Global, key: u64, number: Option<u64>) -> Result<bool, Fail>
         requires { Self.is_sized };
+
+    /// Whether it answers rightly if the key of a number had no value at the last commit: by a proof, which is accepted, or that it
+    /// had one.
+    fn proves_absence(&self, alloc: Global, key: u64, is_absent: bool) -> Result<bool, Fail>
+        requires { Self.is_sized };
+
+    /// The bytes of the canonical root; none where there was no commit.
+    fn root_bytes(&self, alloc: Global) -> Result<Vec<u8>, Fail>;
 }
 
 impl<
@@ -193,6 +162,10 @@ where
     V::Value: Numbered,
 {
     ghost is_sized = { IsChunkSize N };
+
+    fn empty(alloc: Global) -> Self {
+        Ordered::new(alloc)
+    }
 
     fn put_number(&mut self, alloc: Global, key: u64, value: u64) -> Result<(), Fail> {
         self.put(K::numbered(alloc, key)?, V::Value::numbered(alloc, value)?)?;
@@ -224,10 +197,38 @@ where
         Ok(is_now && is_of(alloc, self.get_committed(&key), committed)?)
     }
 
-    fn proves_number(&self, alloc: Global, key: u64, value: Option<u64>) -> Result<bool, Fail> {
+    fn proves_value(&self, alloc: Global, key: u64, number: Option<u64>) -> Result<bool, Fail> {
+        let Some(root) = self.root() else {
+            return Ok(false);
+        };
         let key = K::numbered(alloc, key)?;
-        let is_shown = is_value(alloc, self, &key, value)?;
-        Ok(is_shown && is_absence(alloc, self, &key, value.is_none())?)
+        match self.prove_value(&key) {
+            Ok((value, proof)) => {
+                let is_right = is_of(alloc, Some(&value), number)?;
+                Ok(is_right && proof.verify::<H, V>(alloc, key, value, &root)?)
+            }
+            Err(Error::Absent) => Ok(number.is_none()),
+            Err(refusal) => Err(refusal.into()),
+        }
+    }
+
+    fn proves_absence(&self, alloc: Global, key: u64, is_absent: bool) -> Result<bool, Fail> {
+        let Some(root) = self.root() else {
+            return Ok(false);
+        };
+        let key = K::numbered(alloc, key)?;
+        match self.prove_absence(&key) {
+            Ok(proof) => Ok(is_absent && proof.verify::<H>(alloc, &key, &root)?),
+            Err(Error::Present) => Ok(!is_absent),
+            Err(refusal) => Err(refusal.into()),
+        }
+    }
+
+    fn root_bytes(&self, alloc: Global) -> Result<Vec<u8>, Fail> {
+        match self.root() {
+            Some(root) => Ok(Vec::from_slice(alloc, root.bytes())?),
+            None => Ok(Vec::new(alloc)),
+        }
     }
 }
 
@@ -240,7 +241,9 @@ fn prove<D: ByNumber>(
 ) -> Result<(), Fail>
     requires { D.is_sized }
 {
-    assert!(rt; database.proves_number(rt.alloc(), key, at(&plain.committed, key))?);
+    let value = at(&plain.committed, key);
+    assert!(rt; database.proves_value(rt.alloc(), key, value)?);
+    assert!(rt; database.proves_absence(rt.alloc(), key, value.is_none())?);
     Ok(())
 }
 
@@ -376,45 +379,37 @@ fn command<D: ByNumber>(
 }
 
 /// A commit and 2,500 commands of a database without operations, beside a plain map.
-fn run<D: ByNumber>(
+fn run<D: ByNumber + Drop>(
     rt: &(impl Abort + AllocGlobal),
-    database: &mut D,
     seed: u64,
     last: u64,
 ) -> Result<(), Fail>
     requires { D.is_sized }
 {
     let mut plain = Plain::new(rt.alloc())?;
+    let mut database = D::empty(rt.alloc());
     database.commit_number(rt.alloc(), None)?;
-    command(rt, database, &mut plain, seed, last)
+    command(rt, &mut database, &mut plain, seed, last)
 }
 
 /// Four keys of one size over an MMR.
 fn few_keys_of_one_size(rt: &(impl Abort + AllocGlobal)) -> Result<(), Fail> {
-    let mut database = Ordered::<mmr::Family, Sha256, U64, FixedEncoding<u64>, 1>::new(rt.alloc());
-    run(rt, &mut database, 78, 3)
+    run::<Ordered<mmr::Family, Sha256, U64, FixedEncoding<u64>, 1>>(rt, 78, 3)
 }
 
 /// 256 keys of any size over an MMR.
 fn many_keys_of_any_size(rt: &(impl Abort + AllocGlobal)) -> Result<(), Fail> {
-    let mut database = Ordered::<mmr::Family, Sha512, Vec<u8>, VariableEncoding<Vec<u8>>, 2>::new(
-        rt.alloc(),
-    );
-    run(rt, &mut database, 346, 255)
+    run::<Ordered<mmr::Family, Sha512, Vec<u8>, VariableEncoding<Vec<u8>>, 2>>(rt, 346, 255)
 }
 
 /// Four keys of any size over an MMB.
 fn few_keys_of_any_size(rt: &(impl Abort + AllocGlobal)) -> Result<(), Fail> {
-    let mut database = Ordered::<mmb::Family, Sha256, Vec<u8>, VariableEncoding<Vec<u8>>, 1>::new(
-        rt.alloc(),
-    );
-    run(rt, &mut database, 213, 3)
+    run::<Ordered<mmb::Family, Sha256, Vec<u8>, VariableEncoding<Vec<u8>>, 1>>(rt, 213, 3)
 }
 
 /// 256 keys of one size over an MMB.
 fn many_keys_of_one_size(rt: &(impl Abort + AllocGlobal)) -> Result<(), Fail> {
-    let mut database = Ordered::<mmb::Family, Sha512, U64, FixedEncoding<u64>, 2>::new(rt.alloc());
-    run(rt, &mut database, 121, 255)
+    run::<Ordered<mmb::Family, Sha512, U64, FixedEncoding<u64>, 2>>(rt, 121, 255)
 }
 
 #[test]
@@ -425,35 +420,31 @@ fn ten_thousand_commands(rt: HostRuntime) -> Result<(), Fail> {
     many_keys_of_one_size(&rt)
 }
 
-/// Commits with the value 1 after the keys 5 and 9 are put and committed and 9 is deleted.
-fn commit_one<D: ByNumber>(alloc: Global, database: &mut D) -> Result<(), Fail> {
+/// The bytes of the root of a commit with the value 1 after the keys 5 and 9 are put and committed and 9 is deleted.
+fn committed_root<D: ByNumber + Drop>(alloc: Global) -> Result<Vec<u8>, Fail>
+    requires { D.is_sized }
+{
+    let mut database = D::empty(alloc);
     database.commit_number(alloc, None)?;
     database.put_number(alloc, 5, 7)?;
     database.put_number(alloc, 9, 8)?;
     database.commit_number(alloc, None)?;
     database.delete_number(alloc, 9)?;
-    database.commit_number(alloc, Some(1))
-}
-
-/// The root of that commit.
-fn commit_value(alloc: Global) -> Result<Option<FixedBytes<32>>, Fail> {
-    let mut database = Ordered::<mmr::Family, Sha256, FixedBytes<4>, FixedEncoding<u64>, 1>::new(
-        alloc,
-    );
-    commit_one(alloc, &mut database)?;
-    Ok(database.root())
+    database.commit_number(alloc, Some(1))?;
+    database.root_bytes(alloc)
 }
 
 // what is expected is from an independent program
 #[test]
 fn value_of_a_commit(rt: HostRuntime) -> Result<(), Fail> {
-    let root = FixedBytes {
-        bytes: [
-            0x37, 0xac, 0x85, 0xec, 0x76, 0x14, 0xc0, 0x48, 0x07, 0xf3, 0x50, 0xbf, 0xa6, 0x71,
-            0xba, 0x16, 0x8e, 0xb6, 0x9a, 0xc1, 0xaa, 0xeb, 0x9d, 0x0a, 0xdc, 0xcf, 0x70, 0x5b,
-            0x99, 0x26, 0x28, 0x93,
-        ],
-    };
-    assert!(rt; commit_value(rt.alloc())? == Some(root));
+    let root = [
+        0x37, 0xac, 0x85, 0xec, 0x76, 0x14, 0xc0, 0x48, 0x07, 0xf3, 0x50, 0xbf, 0xa6, 0x71, 0xba,
+        0x16, 0x8e, 0xb6, 0x9a, 0xc1, 0xaa, 0xeb, 0x9d, 0x0a, 0xdc, 0xcf, 0x70, 0x5b, 0x99, 0x26,
+        0x28, 0x93,
+    ];
+    let found = committed_root::<
+        Ordered<mmr::Family, Sha256, FixedBytes<4>, FixedEncoding<u64>, 1>,
+    >(rt.alloc())?;
+    assert!(rt; found.as_slice() == root.as_slice());
     Ok(())
 }
