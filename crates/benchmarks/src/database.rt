@@ -1,9 +1,8 @@
-//! A database that many keys are put into, and its commit. The arguments are what is done (`put`, or `commit` after that) and how
+//! A database that many keys are put into, and its commit. The words are what is done (`put`, or `commit` after that) and how
 //! many keys get a value. They are put in no order of theirs. The trees are MMRs under SHA-256, keys have 4 bytes, values are
 //! numbers, chunks have 32 bytes.
 //!
-//! It prints the value of the last key, or with `commit` the canonical root.
-#![tactic(auto)]
+//! The answer is the value of the last key, or with `commit` the canonical root.
 
 use anyhow::{Result, bail};
 use commonware_storage::codec::FixedBytes;
@@ -12,7 +11,6 @@ use commonware_storage::digest::Sha256;
 use commonware_storage::merkle::mmr::Family;
 use commonware_storage::qmdb::any::FixedEncoding;
 use std::alloc::Global;
-use std::env;
 
 type Database = Ordered<Family, Sha256, FixedBytes<4>, FixedEncoding<u64>, 32>;
 
@@ -63,13 +61,10 @@ fn report(alloc: Global, work: &str, count: u32) -> Result<String> {
     }
 }
 
-fn main(rt: HostRuntime) -> Result<()> {
-    let words: Vec<String> = env::args(&rt)?.skip(1).collect(rt.alloc())?;
-    let [work, count] = words.as_slice() else {
+/// The line to print for `words`: what is done, and how many keys are put.
+pub fn reply(alloc: Global, words: &[&str]) -> Result<String> {
+    let [work, count] = words else {
         bail!("put or commit, and how many keys");
     };
-    let count = count.as_str().parse::<u32>()?;
-    let line = report(rt.alloc(), work.as_str(), count)?;
-    println!(rt; "{line}")?;
-    Ok(())
+    report(alloc, *work, count.parse::<u32>()?)
 }

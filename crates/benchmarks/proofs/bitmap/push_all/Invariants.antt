@@ -1,6 +1,6 @@
 use Rattle.std.proofs.Common.{◌≤◌, ◌+◌, ◌-◌, ◌^◌}
 use Rattle.storage_bitmap.specs.Chunks.{bit_count}
-use Rattle.bench_bitmap.proofs.push_all.Given as goal
+use Rattle.benchmarks.proofs.bitmap.push_all.Given as goal
 
 abbrev pub invariant-loop-left : goal.invariant-loop-left
 invariant-loop-left g l = bit_count g.row.N l.bitmap.retained + l.left ≤ 2 ^ 62

@@ -1,12 +1,10 @@
-//! A plain loop of hashes, against which other times are measured. Its arguments are pairs of a count and a length: for each
+//! A plain loop of hashes, against which other times are measured. Its words are pairs of a count and a length: for each
 //! pair it hashes `count` strings of `length` bytes each, of which each begins with the digest of the one before it, cut to
-//! that length or filled up with zeros. It prints the last digest. The hashes are SHA-256, but SHA-512 where `sha512` is the first
-//! argument.
-#![tactic(auto)]
+//! that length or filled up with zeros. The answer is the last digest. The hashes are SHA-256, but SHA-512 where `sha512` is the
+//! first word.
 
 use anyhow::{Result, bail};
 use std::alloc::Global;
-use std::env;
 use storage_codec::digest::{Digest, Hasher, Sha256, Sha512};
 
 /// Puts `digest` at the start of `string`, as much of it as there is room for, and answers the digest of `string`.
@@ -33,29 +31,24 @@ fn hashed<H: Hasher>(
 }
 
 /// The last digest of all `pairs`, in hexadecimal.
-fn report<H: Hasher>(alloc: Global, pairs: &[String]) -> Result<String> {
+fn report<H: Hasher>(alloc: Global, pairs: &[&str]) -> Result<String> {
     let mut digest = H::fill(0);
     for pair in pairs.chunks(2) {
         let [count, length] = pair else {
             bail!("a count without a length");
         };
-        let count = count.as_str().parse::<u64>()?;
-        let length = length.as_str().parse::<usize>()?;
+        let count = count.parse::<u64>()?;
+        let length = length.parse::<usize>()?;
         digest = hashed::<H>(alloc, digest, count, length)?;
     }
     Ok(hex::encode(alloc, digest.bytes())?)
 }
 
-fn main(rt: HostRuntime) -> Result<()> {
-    let words: Vec<String> = env::args(&rt)?.skip(1).collect(rt.alloc())?;
-    let Some((first, pairs)) = words.split_first() else {
-        bail!("pairs of a count and a length");
-    };
-    let text = if first.as_str() == "sha512" {
-        report::<Sha512>(rt.alloc(), pairs)?
-    } else {
-        report::<Sha256>(rt.alloc(), &words)?
-    };
-    println!(rt; "{text}")?;
-    Ok(())
+/// The line to print for `words`: the pairs, and before them the digest function if it is not SHA-256.
+pub fn reply(alloc: Global, words: &[&str]) -> Result<String> {
+    match words {
+        [] => bail!("pairs of a count and a length"),
+        ["sha512", pairs @ ..] => report::<Sha512>(alloc, pairs),
+        pairs => report::<Sha256>(alloc, pairs),
+    }
 }

@@ -1,9 +1,8 @@
-//! A snapshot of many operations under SHA-512, and a proof from it. The arguments are what is made (`root` or `prove`), the
+//! A snapshot of many operations under SHA-512, and a proof from it. The words are what is made (`root` or `prove`), the
 //! number of operations, and how many bytes each has, at least 8; 18 where that is not said. Their tree is an MMR, chunks have
 //! 32 bytes, two in three are active, and the floor is half their number.
 //!
-//! It prints the canonical root, and with `prove` the bytes of the proof of the last operation.
-#![tactic(auto)]
+//! The answer is the canonical root, and with `prove` the bytes of the proof of the last operation.
 
 use anyhow::{Result, bail};
 use commonware_storage::bitmap::{Prunable, Readable};
@@ -14,7 +13,6 @@ use commonware_storage::merkle::{ElementPlan, Location, MAX_LEAVES};
 use commonware_storage::qmdb::current::proof::constant::OperationProof;
 use commonware_storage::qmdb::current::{OperationTree, Snapshot};
 use std::alloc::Global;
-use std::env;
 
 /// The bytes of an operation where their number is not said.
 const LENGTH: usize = 18;
@@ -113,15 +111,12 @@ fn report(alloc: Global, work: &str, count: u64, length: usize) -> Result<String
     told(alloc, work, &snapshot, floor, count.saturating_sub(1))
 }
 
-fn main(rt: HostRuntime) -> Result<()> {
-    let words: Vec<String> = env::args(&rt)?.skip(1).collect(rt.alloc())?;
-    let (work, count, length) = match words.as_slice() {
+/// The lines to print for `words`: what is made, of how many operations, and how many bytes each has if not `LENGTH`.
+pub fn reply(alloc: Global, words: &[&str]) -> Result<String> {
+    let (work, count, length) = match words {
         [work, count] => (work, count, LENGTH),
-        [work, count, length] => (work, count, length.as_str().parse::<usize>()?),
+        [work, count, length] => (work, count, length.parse::<usize>()?),
         _ => bail!("root or prove, how many operations, and their bytes"),
     };
-    let count = count.as_str().parse::<u64>()?;
-    let lines = report(rt.alloc(), work, count, length)?;
-    println!(rt; "{lines}")?;
-    Ok(())
+    report(alloc, *work, count.parse::<u64>()?, length)
 }

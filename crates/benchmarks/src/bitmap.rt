@@ -1,10 +1,9 @@
-//! A bitmap of many bits, and what its root takes. The arguments are the size of a chunk in bytes (1, 4, 16 or 32), the number of
+//! A bitmap of many bits, and what its root takes. The words are the size of a chunk in bytes (1, 4, 16 or 32), the number of
 //! bits that are pushed, of which each fourth one is set, and the number of them, spread evenly, that are turned one after
 //! another, with a new root each time.
 //!
-//! It prints the last root, how many strings were hashed for the root of the pushed bits, and how many at most for the root after
-//! one of them was turned.
-#![tactic(auto)]
+//! The answer is the last root, how many strings were hashed for the root of the pushed bits, and how many at most for the root
+//! after one of them was turned.
 
 ghost use Rattle.std.specs.Prelude.{◌≡◌, ℕ, ◌+◌, ◌≤◌, IfSome};
 ghost use Rattle.storage_merkle.specs.Shape.{max_leaves};
@@ -15,7 +14,6 @@ mod counted;
 use anyhow::{Result, bail};
 use counted::Counted;
 use std::alloc::Global;
-use std::env;
 use storage_bitmap::bitmap::authenticated::{
     BitMap, MerkleizedBitMap, PrunedState, UnmerkleizedBitMap,
 };
@@ -124,37 +122,51 @@ fn turned<const N: usize>(
     merkleized(bitmap, hasher)
 }
 
+/// The root of the bitmap of `count` bits after `turns` of them, spread evenly, were turned, and how many strings were hashed at
+/// most for the root after one of them.
+fn all_turned<const N: usize>(
+    mut bitmap: MerkleizedBitMap<Digest, N>,
+    hasher: &Hasher,
+    count: u64,
+    turns: u64,
+) -> Result<(Digest, u64)> {
+    let mut most = 0;
+    for turn in 0..turns {
+        bitmap = turned(bitmap, hasher, count / turns * turn)?;
+        most = hasher.take().max(most);
+    }
+    Ok((bitmap.root(), most))
+}
+
 /// The lines to print for chunks of `N` bytes, `count` bits and `turns` turned ones.
 fn report<const N: usize>(alloc: Global, count: u64, turns: u64) -> Result<String>
     requires { IsChunkSize N }
 {
     let hasher = Counted::new(Standard::new(Bagging::ForwardFold));
-    let mut bitmap = pushed::<N>(alloc, &hasher, count)?;
+    let bitmap = pushed::<N>(alloc, &hasher, count)?;
     let whole = hasher.take();
-    let mut most = 0;
-    for turn in 0..turns {
-        bitmap = turned(bitmap, &hasher, count / turns * turn)?;
-        most = hasher.take().max(most);
-    }
-    let root = hex::encode(alloc, bitmap.root().bytes)?;
+    let (root, most) = all_turned(bitmap, &hasher, count, turns)?;
+    let root = hex::encode(alloc, root.bytes)?;
     Ok(format!(in alloc; "{root}\nhashed for all: {whole}\nhashed for one bit: {most}")?)
 }
 
-/// Reads the arguments and prints the report.
-fn main(rt: HostRuntime) -> Result<()> {
-    let words: Vec<String> = env::args(&rt)?.skip(1).collect(rt.alloc())?;
-    let [size, count, turns] = words.as_slice() else {
+/// The same for chunks of so many bytes as `size` says.
+fn of_size(alloc: Global, size: &str, count: u64, turns: u64) -> Result<String> {
+    match size {
+        "1" => report::<1>(alloc, count, turns),
+        "4" => report::<4>(alloc, count, turns),
+        "16" => report::<16>(alloc, count, turns),
+        "32" => report::<32>(alloc, count, turns),
+        _ => bail!("a chunk has 1, 4, 16 or 32 bytes"),
+    }
+}
+
+/// The lines to print for `words`: the size of a chunk, how many bits there are, and how many of them are turned.
+pub fn reply(alloc: Global, words: &[&str]) -> Result<String> {
+    let [size, count, turns] = words else {
         bail!("the size of a chunk, how many bits, and how many of them are turned");
     };
-    let count = count.as_str().parse::<u64>()?;
-    let turns = turns.as_str().parse::<u64>()?;
-    let lines = match size.as_str() {
-        "1" => report::<1>(rt.alloc(), count, turns)?,
-        "4" => report::<4>(rt.alloc(), count, turns)?,
-        "16" => report::<16>(rt.alloc(), count, turns)?,
-        "32" => report::<32>(rt.alloc(), count, turns)?,
-        _ => bail!("a chunk has 1, 4, 16 or 32 bytes"),
-    };
-    println!(rt; "{lines}")?;
-    Ok(())
+    let count = count.parse::<u64>()?;
+    let turns = turns.parse::<u64>()?;
+    of_size(alloc, *size, count, turns)
 }

@@ -1,8 +1,7 @@
-//! Checks proofs of operations many times. The arguments are how each check is given the proof, `repeated` as it is or `shared` as
-//! shared bytes that are lent anew, and how often. Each line of standard input is a proof: the family, how many bytes a chunk has,
-//! the location, and in hexadecimal the operation, the proof and the canonical root; `sha512` stands first where the digests are of
-//! SHA-512 and not of SHA-256. For each line it prints how many answers were yes.
-#![tactic(auto)]
+//! The proof of an operation, checked many times. The words are how each check is given the proof, `repeated` as it is or `shared`
+//! as shared bytes that are lent anew, how often, and the proof: the family, how many bytes a chunk has, the location, and in
+//! hexadecimal the operation, the proof and the canonical root; `sha512` stands before the family where the digests are of SHA-512
+//! and not of SHA-256. The answer is how many of the checks said yes.
 
 use anyhow::{Result, bail};
 use bytes::Bytes;
@@ -10,8 +9,6 @@ use commonware_storage::digest::{Digest, Hasher, Sha256, Sha512};
 use commonware_storage::light::{check_operation, check_operation_shared};
 use commonware_storage::merkle::{Graftable, Location, mmb, mmr};
 use std::alloc::Global;
-use std::io::{BufRead, BufReader, BufWriter, Write};
-use std::{env, io};
 
 /// How the checks are given a proof, and how often.
 #[derive(Clone, Copy, Drop)]
@@ -21,13 +18,10 @@ enum Work {
 }
 
 impl Work {
-    /// Reads the arguments `words`.
-    fn parse(words: &[String]) -> Result<Work> {
-        let [work, count] = words else {
-            bail!("repeated or shared, and a number");
-        };
-        let count = count.as_str().parse::<u64>()?;
-        match work.as_str() {
+    /// Reads how the checks are given a proof, and how often.
+    fn parse(work: &str, count: &str) -> Result<Work> {
+        let count = count.parse::<u64>()?;
+        match work {
             "repeated" => Ok(Work::Repeated(count)),
             "shared" => Ok(Work::Shared(count)),
             _ => bail!("repeated or shared"),
@@ -46,7 +40,7 @@ struct Case<D> {
 }
 
 impl<D: Digest> Case<D> {
-    /// Reads `columns`, those of a line after the family.
+    /// Reads `columns`, the words after the family.
     fn parse(alloc: Global, columns: &[&str]) -> Result<Self> {
         let [chunk_size, location, operation, proof, root] = columns else {
             bail!("not the columns of a proof");
@@ -117,25 +111,14 @@ fn over<H: Hasher>(alloc: Global, work: Work, columns: &[&str]) -> Result<String
     }
 }
 
-/// The line to print for `line`, a line of the input.
-fn reply(alloc: Global, work: Work, line: &str) -> Result<String> {
-    let columns: Vec<&str> = line.split(' ').collect(alloc)?;
-    match columns.as_slice() {
+/// The line to print for `words`: how and how often the proof is checked, and its columns.
+pub fn reply(alloc: Global, words: &[&str]) -> Result<String> {
+    let [work, count, columns @ ..] = words else {
+        bail!("repeated or shared, a number, and a proof");
+    };
+    let work = Work::parse(*work, *count)?;
+    match columns {
         ["sha512", rest @ ..] => over::<Sha512>(alloc, work, rest),
         columns => over::<Sha256>(alloc, work, columns),
     }
-}
-
-fn main(rt: HostRuntime) -> Result<()> {
-    let words: Vec<String> = env::args(&rt)?.skip(1).collect(rt.alloc())?;
-    let work = Work::parse(&words)?;
-    let mut out = BufWriter::new(rt.alloc(), io::writer(&rt))?;
-    for line in BufReader::new(rt.alloc(), rt.reader())?.lines(rt.alloc()) {
-        let line = line?;
-        let answer = reply(rt.alloc(), work, line.as_str())?;
-        out.write_all(answer.as_bytes())?;
-        out.write_all(b"\n")?;
-    }
-    out.flush()?;
-    Ok(())
 }
