@@ -1,5 +1,4 @@
-use Rattle.std.proofs.Common.{rules}
 use Rattle.storage_codec.proofs.digest.FixedBytes64Digest.bytes.Goals as goal
 
 pub returns : goal.returns
-returns c = search rules
+returns c = cc

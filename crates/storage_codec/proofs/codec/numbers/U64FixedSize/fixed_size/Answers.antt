@@ -1,5 +1,5 @@
-use Rattle.std.proofs.Common.{rules}
+use Rattle.std.proofs.Common.{refl}
 use Rattle.storage_codec.proofs.codec.numbers.U64FixedSize.fixed_size.Goals as goal
 
 pub returns : goal.returns
-returns c = search rules
+returns c = refl

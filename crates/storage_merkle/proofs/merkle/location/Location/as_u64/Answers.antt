@@ -1,5 +1,5 @@
-use Rattle.std.proofs.Common.{rules}
+use Rattle.std.proofs.Common.{refl}
 use Rattle.storage_merkle.proofs.merkle.location.Location.as_u64.Goals as goal
 
 pub returns : goal.returns
-returns g c = search rules
+returns g c = rw (← c.self.view_is) refl

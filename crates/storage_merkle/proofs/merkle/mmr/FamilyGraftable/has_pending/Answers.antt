@@ -1,5 +1,5 @@
-use Rattle.std.proofs.Common.{rules}
+use Rattle.std.proofs.Common.{refl}
 use Rattle.storage_merkle.proofs.merkle.mmr.FamilyGraftable.has_pending.Goals as goal
 
 pub returns : goal.returns
-returns c = search rules
+returns c = refl

@@ -1,5 +1,5 @@
-use Rattle.std.proofs.Common.{rules}
+use Rattle.std.proofs.Common.{refl}
 use Rattle.storage_merkle.proofs.merkle.plan.RangePlan.leaves.Goals as goal
 
 pub returns-clause-value : goal.returns-clause-value
-returns-clause-value g c = search rules
+returns-clause-value g c = rw (← c.self.view_is) refl

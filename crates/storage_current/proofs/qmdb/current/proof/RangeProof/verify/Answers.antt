@@ -1,7 +1,7 @@
 use Rattle.std.specs.Result.{IfOk}
 use Rattle.std.specs.Bool.{IsTrue}
 use Rattle.std.proofs.lemmas.List.{map-id}
-use Rattle.std.proofs.Common.{◌↔◌, List, ℕ, map, subst, rules}
+use Rattle.std.proofs.Common.{◌↔◌, List, ℕ, map, subst}
 use Rattle.storage_current.specs.CurrentProofs.{IsCurrent}
 use Rattle.storage_current.specs.CurrentSoundness.{MeansCurrent}
 use Rattle.storage_current.specs.Held.{range_proof_of}
@@ -24,4 +24,4 @@ returns-clause-meaning g c = λ wide.
     (map-id c.args.chunks.now) (c.verify_with_chunk_size.ensures.meaning wide)
 
 pub returns-clause-at_once : goal.returns-clause-at_once
-returns-clause-at_once g c = search rules
+returns-clause-at_once g c = c.verify_with_chunk_size.ensures.at_once

@@ -1,5 +1,4 @@
-use Rattle.std.proofs.Common.{rules}
 use Rattle.storage_merkle.proofs.merkle.multi.needed.LocationLocated.location.Goals as goal
 
 pub returns : goal.returns
-returns g c = search rules
+returns g c = c.as_u64.ensures

@@ -1,5 +1,4 @@
-use Rattle.std.proofs.Common.{rules}
 use Rattle.storage_current.proofs.qmdb.current.grafting.verifier.VerifierHasher.hash.Goals as goal
 
 pub returns : goal.returns
-returns g c = search rules
+returns g c = c.hash.ensures
