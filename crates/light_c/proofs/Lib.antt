@@ -1,5 +1,3 @@
-pub mod Agreeing
-pub mod KeyAnswers
+pub mod Alike
+pub mod Answered
 pub mod Pieces
-pub mod StringAnswers
-pub mod Told

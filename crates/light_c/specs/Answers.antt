@@ -1,5 +1,5 @@
 -- What a call from C answers, and what it refuses.
-use Rattle.std.specs.Prelude.{◌≡◌, ◌==◌, ◌&&◌, ◌⊎◌, ℕ, ℤ, pos, negsuc, Bool, true, false, List, length, sum, Option, Some, None, Result, Ok, Err, if◌then◌else◌}
+use Rattle.std.specs.Prelude.{◌≡◌, ◌==◌, ◌&&◌, ◌⊎◌, ℕ, ℤ, pos, negsuc, List, length, sum, Option, Some, None, if◌then◌else◌}
 
 -- the answers; those below -1 are refusals, and say nothing of what is claimed
 abbrev pub yes : ℤ
@@ -28,12 +28,6 @@ other_key = negsuc 5
 
 abbrev pub other_value : ℤ
 other_value = negsuc 6
-
--- what a check's answer is told as
-abbrev pub code_of : {E : Type 0} → Result Bool E → ℤ
-code_of (Ok true) = yes
-code_of (Ok false) = no
-code_of (Err e) = no_memory
 
 -- the answer says whether a check accepts, or that memory ran out
 abbrev pub Says : ℤ → Type 0 → Type 0

@@ -2,8 +2,9 @@
 
 ghost use Rattle.std.specs.Prelude.{◌≡◌, MatchResult, None, Some};
 ghost use Rattle.light_c.specs.Agreed.{IsRoot, agreed_refusal};
+ghost use Rattle.light_c.specs.KeyParts.{fault_code};
 
-use crate::answer::{OTHER_FAMILY, OTHER_HASH, OTHER_ROOT};
+use crate::answer::Fault;
 use commonware_storage::codec::FixedBytes;
 
 /// Merkle mountain ranges.
@@ -29,25 +30,25 @@ pub enum Root {
 }
 
 /// The root as a digest, or the first that is refused of the family, the digest function and the root.
-pub fn trusted(family: u32, hash: u32, root: &[u8]) -> Result<Root, i32>
+pub fn trusted(family: u32, hash: u32, root: &[u8]) -> Result<Root, Fault>
     ensures { MatchResult result
         (λ digest. (agreed_refusal family hash root.now ≡ None) × IsRoot hash root.now digest)
-        (λ code. agreed_refusal family hash root.now ≡ Some code) }
+        (λ fault. agreed_refusal family hash root.now ≡ Some (fault_code fault)) }
 {
     if family != MMR && family != MMB {
-        return Err(OTHER_FAMILY);
+        return Err(Fault::OtherFamily);
     }
     if hash == SHA256 {
         match <[u8; 32]>::try_from(root) {
             Ok(bytes) => Ok(Root::Of256(FixedBytes { bytes })),
-            Err(_) => Err(OTHER_ROOT),
+            Err(_) => Err(Fault::OtherRoot),
         }
     } else if hash == SHA512 {
         match <[u8; 64]>::try_from(root) {
             Ok(bytes) => Ok(Root::Of512(FixedBytes { bytes })),
-            Err(_) => Err(OTHER_ROOT),
+            Err(_) => Err(Fault::OtherRoot),
         }
     } else {
-        Err(OTHER_HASH)
+        Err(Fault::OtherHash)
     }
 }

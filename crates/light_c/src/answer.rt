@@ -1,7 +1,7 @@
 //! What a call answers.
 
 ghost use Rattle.std.specs.Prelude.{◌≡◌};
-ghost use Rattle.light_c.specs.Answers.{code_of};
+ghost use Rattle.light_c.specs.KeyParts.{code_of, of_check};
 
 use commonware_storage::NoMemory;
 
@@ -32,13 +32,54 @@ pub const OTHER_KEY: i32 = -6;
 /// The value, or its size, is one that no value of one size has: these have 4, 8, 20 or 32 bytes.
 pub const OTHER_VALUE: i32 = -7;
 
-/// What a check's answer is told as.
-pub fn told(answer: Result<bool, NoMemory>) -> i32
+/// Why an answer is neither yes nor no.
+#[derive(Clone, Copy, Drop)]
+pub enum Fault {
+    /// Told as [`NO_MEMORY`].
+    Memory,
+
+    /// Told as [`OTHER_ROOT`].
+    OtherRoot,
+
+    /// Told as [`OTHER_FAMILY`].
+    OtherFamily,
+
+    /// Told as [`OTHER_HASH`].
+    OtherHash,
+
+    /// Told as [`OTHER_LENGTHS`].
+    OtherLengths,
+
+    /// Told as [`OTHER_KEY`].
+    OtherKey,
+
+    /// Told as [`OTHER_VALUE`].
+    OtherValue,
+}
+
+/// What an answer is told as.
+pub fn told(answer: Result<bool, Fault>) -> i32
     ensures { result ≡ code_of answer }
 {
     match answer {
         Ok(true) => YES,
         Ok(false) => NO,
-        Err(NoMemory) => NO_MEMORY,
+        Err(Fault::Memory) => NO_MEMORY,
+        Err(Fault::OtherRoot) => OTHER_ROOT,
+        Err(Fault::OtherFamily) => OTHER_FAMILY,
+        Err(Fault::OtherHash) => OTHER_HASH,
+        Err(Fault::OtherLengths) => OTHER_LENGTHS,
+        Err(Fault::OtherKey) => OTHER_KEY,
+        Err(Fault::OtherValue) => OTHER_VALUE,
+    }
+}
+
+/// A check's answer, as one that could have been a refusal.
+pub fn checked(answer: Result<bool, NoMemory>) -> Result<bool, Fault>
+    ensures { result ≡ of_check answer }
+{
+    match answer {
+        Ok(accepts) => Ok(accepts),
+        Err(NoMemory) => Err(Fault::Memory),
     }
 }

@@ -1,168 +1,167 @@
-//! Checks of keys, and values, of any types of one size, in operations that are filled up with zeros to one size.
+//! The claims about keys of one size in operations that are filled up with zeros to one size, where all values have one size.
 
-ghost use Rattle.std.specs.Prelude.{◌≡◌, ◌+◌, ◌↔◌, ◌⊎◌, IfOk, IsTrue, Ok, false};
-ghost use Rattle.storage_bitmap.specs.Chunks.{IsChunkSize};
-ghost use Rattle.storage_ops.specs.Fixed.{fixed_operation_text};
-ghost use Rattle.storage_ops.specs.Updates.{ordered_at};
-ghost use Rattle.storage_current.specs.Keys.{keyed_by};
-ghost use Rattle.storage_current.specs.Snapshots.{grafting_of};
-ghost use Rattle.commonware_storage.specs.LightKeys.{IsAcceptedAbsence, IsAcceptedValue, IsTrueAbsence, IsTrueValue};
-ghost use Rattle.light_c.specs.Agreed.{has_pending_of, shape_of};
-ghost use Rattle.light_c.specs.KeyBytes.{OfSized};
-ghost use Rattle.light_c.specs.KeyParts.{AcceptsAbsence, AcceptsValue, TrueAbsence, TrueValue};
-ghost use Rattle.light_c.specs.SizedStrings.{bytes_of};
+ghost use Rattle.std.specs.Prelude.{◌≡◌, length, None, refl};
+ghost use Rattle.light_c.specs.Answers.{or_then};
+ghost use Rattle.light_c.specs.KeyParts.{IsAnswer, code_of, filled, has_sized, has_value, keys_of, lacks_sized, lacks_values, of_check, setting_of};
+ghost use Rattle.light_c.specs.SizedStrings.{bytes_of, size_in_bytes, value_refusal};
 
-use crate::agreed::MMR;
-use crate::sized::SizedBytes;
+use crate::answer::{Fault, checked};
+use crate::claim::Claim;
+use crate::sized::{Size, SizedBytes, of_bytes, size_of};
 use commonware_storage::NoMemory;
 use commonware_storage::codec::{FixedBytes, Read, Small};
 use commonware_storage::digest::Hasher;
 use commonware_storage::light::{check_absence, check_value};
-use commonware_storage::merkle::{mmb, mmr};
-use commonware_storage::qmdb::any::{FixedEncoding, FixedValue};
+use commonware_storage::merkle::Graftable;
+use commonware_storage::qmdb::any::{self, FixedEncoding};
 use commonware_storage::qmdb::operation::Key;
 use std::alloc::Global;
 
-/// What `check_value` answers over this family.
-pub fn value_of<H: Hasher, K: Key + Small + Read<Cfg = ()>, V: FixedValue>(
+/// That the key has the value with these bytes.
+#[derive(Drop)]
+pub struct FixedValue<'a> {
+    /// The value's bytes.
+    pub value: &'a [u8],
+}
+
+impl Claim for FixedValue<'_> {
+    ghost refusal = { λ before it. or_then before (value_refusal (length it.value.now)) };
+
+    ghost asked = { λ it _ _ keys n key. has_sized keys (filled n) key it.value.now };
+
+    fn of<F: Graftable, H: Hasher, K: Key + Small + Read<Cfg = ()>>(
+        &self,
+        alloc: Global,
+        chunk_size: usize,
+        proof: &[u8],
+        key: K,
+        root: &H::Digest,
+    ) -> Result<bool, Fault> {
+        let Some(value) = of_bytes(self.value) else {
+            return Err(Fault::OtherValue);
+        };
+        checked(filled_value::<F, H, K>(alloc, chunk_size, proof, key, &value, root))
+    }
+
+    ghost first = { λ _ _. refl };
+}
+
+/// That the key has no value.
+#[derive(Drop)]
+pub struct FixedAbsence {
+    /// How many bytes a value has.
+    pub value_size: usize,
+}
+
+impl Claim for FixedAbsence {
+    ghost refusal = { λ before it. or_then before (value_refusal it.value_size) };
+
+    ghost asked = { λ it _ _ keys n. lacks_sized keys (filled n) it.value_size };
+
+    fn of<F: Graftable, H: Hasher, K: Key + Small + Read<Cfg = ()>>(
+        &self,
+        alloc: Global,
+        chunk_size: usize,
+        proof: &[u8],
+        key: K,
+        root: &H::Digest,
+    ) -> Result<bool, Fault> {
+        let Some(size) = size_of(self.value_size) else {
+            return Err(Fault::OtherValue);
+        };
+        checked(filled_absence::<F, H, K>(alloc, chunk_size, proof, &key, size, root))
+    }
+
+    ghost first = { λ _ _. refl };
+}
+
+/// What `check_value` answers.
+fn value_of<F: Graftable, H: Hasher, K: Key + Small + Read<Cfg = ()>, V: any::FixedValue>(
     alloc: Global,
-    family: u32,
     chunk_size: usize,
     proof: &[u8],
     key: K,
     value: V,
     root: &H::Digest,
 ) -> Result<bool, NoMemory>
-    ensures refused { ¬ IsChunkSize chunk_size → result ≡ Ok false }
-    ensures exact { let operation = fixed_operation_text K.size
-        (K.size + V.size + K.size) V.size in let e = keyed_by K.text V.text operation K.cmp in
-        IfOk result (λ yes. IsTrue yes ↔ IsAcceptedValue e K.view (K.parse tt) H.hash_of
-        (grafting_of (shape_of family) chunk_size) (has_pending_of family) H.Digest.size proof.now
-        key value (H.Digest.text root.now)) }
-    ensures meaning { let operation = fixed_operation_text K.size
-        (K.size + V.size + K.size) V.size in let e = keyed_by K.text V.text operation K.cmp in
-        (H.Digest.size ≡ 32) ⊎ (H.Digest.size ≡ 64)
-        → IfOk result (λ yes. IsTrue yes → IsTrueValue e K.view (K.parse tt) H.hash_of
-        (grafting_of (shape_of family) chunk_size) (has_pending_of family) H.Digest.size proof.now
-        key value (H.Digest.text root.now)) }
+    ensures { IsAnswer None (code_of (of_check result))
+        (has_value (keys_of K.text K.cmp K.view (K.parse tt)) V.text (filled K.size V.size) key
+        value)
+        (setting_of H.hash_of F.shape F.has_pending H.Digest.size chunk_size proof.now
+        (H.Digest.text root.now)) }
 {
-    let cfg = &();
-    if family == MMR {
-        check_value::<mmr::Family, H, K, FixedEncoding<V>>(
-            alloc, proof, chunk_size, cfg, key, value, root,
-        )
-    } else {
-        check_value::<mmb::Family, H, K, FixedEncoding<V>>(
-            alloc, proof, chunk_size, cfg, key, value, root,
-        )
-    }
+    check_value::<F, H, K, FixedEncoding<V>>(alloc, proof, chunk_size, &(), key, value, root)
 }
 
-/// What `check_absence` answers over this family.
-pub fn absence_of<H: Hasher, K: Key + Small + Read<Cfg = ()>, V: FixedValue>(
+/// What `check_absence` answers.
+fn absence_of<F: Graftable, H: Hasher, K: Key + Small + Read<Cfg = ()>, V: any::FixedValue>(
     alloc: Global,
-    family: u32,
     chunk_size: usize,
     proof: &[u8],
     key: &K,
     root: &H::Digest,
 ) -> Result<bool, NoMemory>
-    ensures refused { ¬ IsChunkSize chunk_size → result ≡ Ok false }
-    ensures exact { let operation = fixed_operation_text K.size
-        (K.size + V.size + K.size) V.size in let e = keyed_by K.text V.text operation K.cmp in
-        IfOk result (λ yes. IsTrue yes ↔ IsAcceptedAbsence e K.view V.view
-        (ordered_at (K.parse tt) (V.parse tt)) (V.parse tt) H.hash_of
-        (grafting_of (shape_of family) chunk_size) (has_pending_of family) H.Digest.size proof.now
-        key.now (H.Digest.text root.now)) }
-    ensures meaning { let operation = fixed_operation_text K.size
-        (K.size + V.size + K.size) V.size in let e = keyed_by K.text V.text operation K.cmp in
-        (H.Digest.size ≡ 32) ⊎ (H.Digest.size ≡ 64)
-        → IfOk result (λ yes. IsTrue yes → IsTrueAbsence e K.view V.view
-        (ordered_at (K.parse tt) (V.parse tt)) (V.parse tt) H.hash_of
-        (grafting_of (shape_of family) chunk_size) (has_pending_of family) H.Digest.size proof.now
-        key.now (H.Digest.text root.now)) }
+    ensures { IsAnswer None (code_of (of_check result))
+        (lacks_values (keys_of K.text K.cmp K.view (K.parse tt)) V.text V.view (V.parse tt)
+        (V.parse tt) (filled K.size V.size) key.now)
+        (setting_of H.hash_of F.shape F.has_pending H.Digest.size chunk_size proof.now
+        (H.Digest.text root.now)) }
 {
-    let cfgs = &((), ());
-    if family == MMR {
-        check_absence::<mmr::Family, H, K, FixedEncoding<V>>(
-            alloc, proof, chunk_size, cfgs, key, root,
-        )
-    } else {
-        check_absence::<mmb::Family, H, K, FixedEncoding<V>>(
-            alloc, proof, chunk_size, cfgs, key, root,
-        )
-    }
+    check_absence::<F, H, K, FixedEncoding<V>>(alloc, proof, chunk_size, &((), ()), key, root)
 }
 
-/// The same as [`value_of`] of a key of one size.
-pub fn value_of_sized<H: Hasher, V: FixedValue>(
+/// What `check_value` answers for a value of one size.
+fn filled_value<F: Graftable, H: Hasher, K: Key + Small + Read<Cfg = ()>>(
     alloc: Global,
-    family: u32,
     chunk_size: usize,
     proof: &[u8],
-    key: &SizedBytes,
-    value: V,
+    key: K,
+    value: &SizedBytes,
     root: &H::Digest,
 ) -> Result<bool, NoMemory>
-    ensures refused { ¬ IsChunkSize chunk_size → result ≡ Ok false }
-    ensures exact { IfOk result (λ yes. IsTrue yes ↔ OfSized (AcceptsValue H.hash_of
-        (grafting_of (shape_of family) chunk_size) (has_pending_of family) H.Digest.size proof.now
-        (H.Digest.text root.now) (λ n. fixed_operation_text n (n + V.size + n) V.size) V.text value)
-        (bytes_of key.now)) }
-    ensures meaning { (H.Digest.size ≡ 32) ⊎ (H.Digest.size ≡ 64)
-        → IfOk result (λ yes. IsTrue yes → OfSized (TrueValue H.hash_of
-        (grafting_of (shape_of family) chunk_size) (has_pending_of family) H.Digest.size proof.now
-        (H.Digest.text root.now) (λ n. fixed_operation_text n (n + V.size + n) V.size) V.text value)
-        (bytes_of key.now)) }
+    ensures { IsAnswer None (code_of (of_check result))
+        (has_sized (keys_of K.text K.cmp K.view (K.parse tt)) (filled K.size) key
+        (bytes_of value.now))
+        (setting_of H.hash_of F.shape F.has_pending H.Digest.size chunk_size proof.now
+        (H.Digest.text root.now)) }
 {
-    match key {
-        SizedBytes::Of4(key) => {
-            value_of::<H, FixedBytes<4>, V>(alloc, family, chunk_size, proof, *key, value, root)
+    match value {
+        SizedBytes::Of4(value) => {
+            value_of::<F, H, K, FixedBytes<4>>(alloc, chunk_size, proof, key, *value, root)
         }
-        SizedBytes::Of8(key) => {
-            value_of::<H, FixedBytes<8>, V>(alloc, family, chunk_size, proof, *key, value, root)
+        SizedBytes::Of8(value) => {
+            value_of::<F, H, K, FixedBytes<8>>(alloc, chunk_size, proof, key, *value, root)
         }
-        SizedBytes::Of20(key) => {
-            value_of::<H, FixedBytes<20>, V>(alloc, family, chunk_size, proof, *key, value, root)
+        SizedBytes::Of20(value) => {
+            value_of::<F, H, K, FixedBytes<20>>(alloc, chunk_size, proof, key, *value, root)
         }
-        SizedBytes::Of32(key) => {
-            value_of::<H, FixedBytes<32>, V>(alloc, family, chunk_size, proof, *key, value, root)
+        SizedBytes::Of32(value) => {
+            value_of::<F, H, K, FixedBytes<32>>(alloc, chunk_size, proof, key, *value, root)
         }
     }
 }
 
-/// The same as [`absence_of`] of a key of one size.
-pub fn absence_of_sized<H: Hasher, V: FixedValue>(
+/// What `check_absence` answers over values of one size.
+fn filled_absence<F: Graftable, H: Hasher, K: Key + Small + Read<Cfg = ()>>(
     alloc: Global,
-    family: u32,
     chunk_size: usize,
     proof: &[u8],
-    key: &SizedBytes,
+    key: &K,
+    size: Size,
     root: &H::Digest,
 ) -> Result<bool, NoMemory>
-    ensures refused { ¬ IsChunkSize chunk_size → result ≡ Ok false }
-    ensures exact { IfOk result (λ yes. IsTrue yes ↔ OfSized (AcceptsAbsence H.hash_of
-        (grafting_of (shape_of family) chunk_size) (has_pending_of family) H.Digest.size proof.now
-        (H.Digest.text root.now) (λ n. fixed_operation_text n (n + V.size + n) V.size) V.text V.view
-        (V.parse tt) (V.parse tt)) (bytes_of key.now)) }
-    ensures meaning { (H.Digest.size ≡ 32) ⊎ (H.Digest.size ≡ 64)
-        → IfOk result (λ yes. IsTrue yes → OfSized (TrueAbsence H.hash_of
-        (grafting_of (shape_of family) chunk_size) (has_pending_of family) H.Digest.size proof.now
-        (H.Digest.text root.now) (λ n. fixed_operation_text n (n + V.size + n) V.size) V.text V.view
-        (V.parse tt) (V.parse tt)) (bytes_of key.now)) }
+    ensures { IsAnswer None (code_of (of_check result))
+        (lacks_sized (keys_of K.text K.cmp K.view (K.parse tt)) (filled K.size)
+        (size_in_bytes size) key.now)
+        (setting_of H.hash_of F.shape F.has_pending H.Digest.size chunk_size proof.now
+        (H.Digest.text root.now)) }
 {
-    match key {
-        SizedBytes::Of4(key) => {
-            absence_of::<H, FixedBytes<4>, V>(alloc, family, chunk_size, proof, key, root)
-        }
-        SizedBytes::Of8(key) => {
-            absence_of::<H, FixedBytes<8>, V>(alloc, family, chunk_size, proof, key, root)
-        }
-        SizedBytes::Of20(key) => {
-            absence_of::<H, FixedBytes<20>, V>(alloc, family, chunk_size, proof, key, root)
-        }
-        SizedBytes::Of32(key) => {
-            absence_of::<H, FixedBytes<32>, V>(alloc, family, chunk_size, proof, key, root)
-        }
+    match size {
+        Size::Four => absence_of::<F, H, K, FixedBytes<4>>(alloc, chunk_size, proof, key, root),
+        Size::Eight => absence_of::<F, H, K, FixedBytes<8>>(alloc, chunk_size, proof, key, root),
+        Size::Twenty => absence_of::<F, H, K, FixedBytes<20>>(alloc, chunk_size, proof, key, root),
+        Size::ThirtyTwo => absence_of::<F, H, K, FixedBytes<32>>(
+            alloc, chunk_size, proof, key, root,
+        ),
     }
 }

@@ -9,21 +9,16 @@
 //! before it answers.
 #![tactic(auto)]
 
-pub mod absence;
 pub mod agreed;
 pub mod answer;
 mod byte_strings;
+mod claim;
 mod fixed;
-pub mod fixed_absence;
-pub mod fixed_value;
+pub mod keys;
 pub mod operation;
+mod question;
 pub mod range;
 mod sized;
-pub mod sized_absence;
-pub mod sized_value;
-pub mod string_absence;
-pub mod string_sized_absence;
-pub mod string_sized_value;
-pub mod string_value;
-pub mod value;
+pub mod string_keys;
+mod strings;
 mod variable;

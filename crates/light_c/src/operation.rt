@@ -1,17 +1,18 @@
 //! A check of an operation.
 
-ghost use Rattle.std.specs.Prelude.{◌≡◌, ◌⊎◌, None};
+ghost use Rattle.std.specs.Prelude.{◌≡◌, None, refl};
 ghost use Rattle.storage_bitmap.specs.Chunks.{IsChunkSize};
 ghost use Rattle.storage_current.specs.Snapshots.{grafting_of};
 ghost use Rattle.commonware_storage.specs.Light.{IsAcceptedAt, IsTrueAt};
 ghost use Rattle.light_c.specs.Agreed.{function_of, has_pending_of, agreed_refusal, shape_of, digest_size_of};
 ghost use Rattle.light_c.specs.Answers.{IsTold, Says, no, yes};
+ghost use Rattle.light_c.specs.KeyParts.{operation_of};
 
-use crate::agreed::{MMR, Root, trusted};
-use crate::answer::told;
-use commonware_storage::digest::{Hasher, Sha256, Sha512};
+use crate::answer::{Fault, checked, told};
+use crate::question::{Question, ask};
+use commonware_storage::digest::Hasher;
 use commonware_storage::light::check_operation;
-use commonware_storage::merkle::{Graftable, Location, mmb, mmr};
+use commonware_storage::merkle::{Graftable, Location};
 use std::alloc::Global;
 
 /// Whether the operation with the bytes `operation` stands at `location` of the snapshot with the canonical root `root`, and is
@@ -38,58 +39,38 @@ pub extern "C" fn gawerunoa_check_operation(
     ensures refused { agreed_refusal family hash root.now ≡ None → ¬ IsChunkSize chunk_size
         → result ≡ no }
 {
-    match trusted(family, hash, root) {
-        Ok(Root::Of256(root)) => {
-            of_family::<Sha256>(alloc, family, chunk_size, location, proof, operation, &root)
-        }
-        Ok(Root::Of512(root)) => {
-            of_family::<Sha512>(alloc, family, chunk_size, location, proof, operation, &root)
-        }
-        Err(code) => code,
-    }
+    let question = Operation {
+        location,
+        operation,
+    };
+    told(ask(alloc, family, hash, chunk_size, proof, &question, root))
 }
 
-/// The same over a digest function, against a digest.
-fn of_family<H: Hasher>(
-    alloc: Global,
-    family: u32,
-    chunk_size: usize,
+/// Whether an operation stands at a location, and is active.
+#[derive(Drop)]
+struct Operation<'a> {
+    /// The location.
     location: u64,
-    proof: &[u8],
-    operation: &[u8],
-    root: &H::Digest,
-) -> i32
-    ensures exact { Says result (IsAcceptedAt H.hash_of (grafting_of (shape_of family) chunk_size)
-        (has_pending_of family) H.Digest.size location proof.now operation.now
-        (H.Digest.text root.now)) }
-    ensures meaning { (H.Digest.size ≡ 32) ⊎ (H.Digest.size ≡ 64) → result ≡ yes → IsTrueAt
-        H.hash_of (grafting_of (shape_of family) chunk_size) (has_pending_of family) H.Digest.size
-        location proof.now operation.now (H.Digest.text root.now) }
-    ensures refused { ¬ IsChunkSize chunk_size → result ≡ no }
-{
-    if family == MMR {
-        checked::<mmr::Family, H>(alloc, chunk_size, location, proof, operation, root)
-    } else {
-        checked::<mmb::Family, H>(alloc, chunk_size, location, proof, operation, root)
-    }
+
+    /// The operation's bytes.
+    operation: &'a [u8],
 }
 
-/// The same over a family.
-fn checked<F: Graftable, H: Hasher>(
-    alloc: Global,
-    chunk_size: usize,
-    location: u64,
-    proof: &[u8],
-    operation: &[u8],
-    root: &H::Digest,
-) -> i32
-    ensures exact { Says result (IsAcceptedAt H.hash_of (grafting_of F.shape chunk_size)
-        F.has_pending H.Digest.size location proof.now operation.now (H.Digest.text root.now)) }
-    ensures meaning { (H.Digest.size ≡ 32) ⊎ (H.Digest.size ≡ 64) → result ≡ yes → IsTrueAt
-        H.hash_of (grafting_of F.shape chunk_size) F.has_pending H.Digest.size location proof.now
-        operation.now (H.Digest.text root.now) }
-    ensures refused { ¬ IsChunkSize chunk_size → result ≡ no }
-{
-    let location = Location::new(location);
-    told(check_operation::<F, H>(alloc, proof, chunk_size, location, operation, root))
+impl Question for Operation<'_> {
+    ghost refusal = { λ before _. before };
+
+    ghost asked = { λ it. operation_of it.location it.operation.now };
+
+    fn answer<F: Graftable, H: Hasher>(
+        &self,
+        alloc: Global,
+        chunk_size: usize,
+        proof: &[u8],
+        root: &H::Digest,
+    ) -> Result<bool, Fault> {
+        let location = Location::new(self.location);
+        checked(check_operation::<F, H>(alloc, proof, chunk_size, location, self.operation, root))
+    }
+
+    ghost first = { λ _ _. refl };
 }

@@ -1,18 +1,22 @@
 //! A check of a range of operations.
 
-ghost use Rattle.std.specs.Prelude.{◌≡◌, ◌⊎◌, None};
+ghost use Rattle.std.specs.Prelude.{◌≡◌, None, refl};
+ghost use Rattle.storage_bitmap.specs.Chunks.{IsChunkSize};
 ghost use Rattle.storage_current.specs.Snapshots.{grafting_of};
 ghost use Rattle.commonware_storage.specs.LightRanges.{IsAcceptedRange, IsTrueRange};
 ghost use Rattle.light_c.specs.Agreed.{function_of, has_pending_of, agreed_refusal, shape_of, digest_size_of};
 ghost use Rattle.light_c.specs.Answers.{IsTold, Says, lengths_refusal, or_then, yes};
 ghost use Rattle.light_c.specs.ByteStrings.{cut};
+ghost use Rattle.light_c.specs.KeyParts.{IsAnswer, code_of, of_check, range_of, setting_of};
 
-use crate::agreed::{MMR, Root, trusted};
-use crate::answer::{NO_MEMORY, OTHER_LENGTHS, told};
+use crate::answer::{Fault, checked, told};
 use crate::byte_strings::{Joined, adds_up, cut_up};
-use commonware_storage::digest::{Hasher, Sha256, Sha512};
+use crate::question::{Question, ask};
+use commonware_storage::NoMemory;
+use commonware_storage::digest::Hasher;
 use commonware_storage::light::check_range;
-use commonware_storage::merkle::{Graftable, Location, mmb, mmr};
+use commonware_storage::merkle::{Graftable, Location};
+use commonware_storage::qmdb::current::grafting::chunk_height;
 use std::alloc::Global;
 
 /// Whether the given operations stand at the locations from `start` on of the snapshot with the canonical root `root`, and the
@@ -49,101 +53,106 @@ pub extern "C" fn gawerunoa_check_range<'a>(
         (has_pending_of family) (digest_size_of hash) max_digests start proof.now
         (cut operation_lengths.now operations.now) (cut chunk_lengths.now chunks.now) root.now }
 {
-    let root = match trusted(family, hash, root) {
-        Ok(root) => root,
-        Err(code) => return code,
-    };
-    if !adds_up(operation_lengths, operations.len()) || !adds_up(chunk_lengths, chunks.len()) {
-        return OTHER_LENGTHS;
-    }
-    let claim = Claim {
+    let question = Range {
+        max_digests,
         start,
-        operations: Joined {
-            bytes: operations,
-            lengths: operation_lengths,
-        },
-        chunks: Joined {
-            bytes: chunks,
-            lengths: chunk_lengths,
-        },
+        operations,
+        operation_lengths,
+        chunks,
+        chunk_lengths,
     };
-    match root {
-        Root::Of256(root) => {
-            of_family::<Sha256>(alloc, family, chunk_size, max_digests, proof, &claim, &root)
-        }
-        Root::Of512(root) => {
-            of_family::<Sha512>(alloc, family, chunk_size, max_digests, proof, &claim, &root)
-        }
-    }
+    told(ask(alloc, family, hash, chunk_size, proof, &question, root))
 }
 
-/// What is claimed of a range.
+/// Whether operations stand from a location on, and these are the chunks that they touch.
 #[derive(Drop)]
-struct Claim<'a> {
+struct Range<'a> {
+    /// How many digests the proof may have.
+    max_digests: usize,
+
     /// The first location.
     start: u64,
 
-    /// The operations from there on.
-    operations: Joined<'a>,
+    /// The operations, joined.
+    operations: &'a [u8],
 
-    /// The chunks of activity bits that they touch.
-    chunks: Joined<'a>,
+    /// How many bytes each operation has.
+    operation_lengths: &'a [usize],
+
+    /// The chunks of activity bits, joined.
+    chunks: &'a [u8],
+
+    /// How many bytes each chunk has.
+    chunk_lengths: &'a [usize],
 }
 
-/// The same over a digest function, against a digest.
-fn of_family<H: Hasher>(
-    alloc: Global,
-    family: u32,
-    chunk_size: usize,
-    max_digests: usize,
-    proof: &[u8],
-    claim: &Claim,
-    root: &H::Digest,
-) -> i32
-    ensures exact { Says result (IsAcceptedRange H.hash_of
-        (grafting_of (shape_of family) chunk_size) (has_pending_of family) H.Digest.size max_digests
-        claim.now.start proof.now
-        (cut claim.now.operations.lengths.now claim.now.operations.bytes.now)
-        (cut claim.now.chunks.lengths.now claim.now.chunks.bytes.now) (H.Digest.text root.now)) }
-    ensures meaning { (H.Digest.size ≡ 32) ⊎ (H.Digest.size ≡ 64) → result ≡ yes → IsTrueRange
-        H.hash_of (grafting_of (shape_of family) chunk_size) (has_pending_of family) H.Digest.size
-        max_digests claim.now.start proof.now
-        (cut claim.now.operations.lengths.now claim.now.operations.bytes.now)
-        (cut claim.now.chunks.lengths.now claim.now.chunks.bytes.now) (H.Digest.text root.now) }
-{
-    if family == MMR {
-        checked::<mmr::Family, H>(alloc, chunk_size, max_digests, proof, claim, root)
-    } else {
-        checked::<mmb::Family, H>(alloc, chunk_size, max_digests, proof, claim, root)
+impl Question for Range<'_> {
+    ghost refusal = { λ before it. or_then before (lengths_refusal it.operations.now
+        it.operation_lengths.now it.chunks.now it.chunk_lengths.now) };
+
+    ghost asked = { λ it. range_of it.max_digests it.start
+        (cut it.operation_lengths.now it.operations.now)
+        (cut it.chunk_lengths.now it.chunks.now) };
+
+    fn answer<F: Graftable, H: Hasher>(
+        &self,
+        alloc: Global,
+        chunk_size: usize,
+        proof: &[u8],
+        root: &H::Digest,
+    ) -> Result<bool, Fault> {
+        if !adds_up(self.operation_lengths, self.operations.len())
+            || !adds_up(self.chunk_lengths, self.chunks.len())
+        {
+            return Err(Fault::OtherLengths);
+        }
+        if chunk_height(chunk_size).is_none() {
+            return Ok(false);
+        }
+        let operations = Joined {
+            bytes: self.operations,
+            lengths: self.operation_lengths,
+        };
+        let chunks = Joined {
+            bytes: self.chunks,
+            lengths: self.chunk_lengths,
+        };
+        let start = Location::new(self.start);
+        checked(cut_range::<F, H>(
+            alloc,
+            chunk_size,
+            proof,
+            self.max_digests,
+            start,
+            &operations,
+            &chunks,
+            root,
+        ))
     }
+
+    ghost first = { λ _ _. refl };
 }
 
-/// The same over a family.
-fn checked<F: Graftable, H: Hasher>(
+/// What `check_range` answers for the strings, each by itself.
+fn cut_range<F: Graftable, H: Hasher>(
     alloc: Global,
     chunk_size: usize,
-    max_digests: usize,
     proof: &[u8],
-    claim: &Claim,
+    max_digests: usize,
+    start: Location<F>,
+    operations: &Joined,
+    chunks: &Joined,
     root: &H::Digest,
-) -> i32
-    ensures exact { Says result (IsAcceptedRange H.hash_of (grafting_of F.shape chunk_size)
-        F.has_pending H.Digest.size max_digests claim.now.start proof.now
-        (cut claim.now.operations.lengths.now claim.now.operations.bytes.now)
-        (cut claim.now.chunks.lengths.now claim.now.chunks.bytes.now) (H.Digest.text root.now)) }
-    ensures meaning { (H.Digest.size ≡ 32) ⊎ (H.Digest.size ≡ 64) → result ≡ yes → IsTrueRange
-        H.hash_of (grafting_of F.shape chunk_size) F.has_pending H.Digest.size max_digests
-        claim.now.start proof.now (cut claim.now.operations.lengths.now claim.now.operations.bytes.now)
-        (cut claim.now.chunks.lengths.now claim.now.chunks.bytes.now) (H.Digest.text root.now) }
+) -> Result<bool, NoMemory>
+    requires { IsChunkSize chunk_size }
+    ensures { IsAnswer None (code_of (of_check result)) (range_of max_digests start
+        (cut operations.now.lengths.now operations.now.bytes.now)
+        (cut chunks.now.lengths.now chunks.now.bytes.now)) (setting_of H.hash_of F.shape
+        F.has_pending H.Digest.size chunk_size proof.now (H.Digest.text root.now)) }
 {
-    let Ok(operations) = cut_up(alloc, &claim.operations) else {
-        return NO_MEMORY;
-    };
-    let Ok(chunks) = cut_up(alloc, &claim.chunks) else {
-        return NO_MEMORY;
-    };
-    let start = Location::new(claim.start);
-    told(check_range::<F, H>(
+    let operations = cut_up(alloc, operations)?;
+    let chunks = cut_up(alloc, chunks)?;
+    check_range::<F, H>(
         alloc,
         proof,
         chunk_size,
@@ -152,5 +161,5 @@ fn checked<F: Graftable, H: Hasher>(
         &operations,
         &chunks,
         root,
-    ))
+    )
 }

@@ -1,32 +1,144 @@
-//! Checks of keys, and values, of any type, in operations that are as long as their parts.
+//! Checks of keys in operations that are as long as their parts, and the claims about keys of one size there.
 
-ghost use Rattle.std.specs.Prelude.{◌≡◌, ◌↔◌, ◌⊎◌, IfOk, IsTrue, Ok, false};
+ghost use Rattle.std.specs.Prelude.{◌≡◌, length, None, refl};
 ghost use Rattle.storage_bitmap.specs.Chunks.{IsChunkSize};
-ghost use Rattle.storage_ops.specs.Updates.{ordered_at};
 ghost use Rattle.storage_ops.specs.Variable.{variable_operation_text};
-ghost use Rattle.storage_current.specs.Keys.{keyed_by};
-ghost use Rattle.storage_current.specs.Snapshots.{grafting_of};
-ghost use Rattle.commonware_storage.specs.LightKeys.{IsAcceptedAbsence, IsAcceptedValue, IsTrueAbsence, IsTrueValue};
-ghost use Rattle.light_c.specs.Agreed.{has_pending_of, shape_of};
-ghost use Rattle.light_c.specs.KeyBytes.{OfSized};
-ghost use Rattle.light_c.specs.KeyParts.{AcceptsAbsence, AcceptsValue, TrueAbsence, TrueValue};
-ghost use Rattle.light_c.specs.SizedStrings.{bytes_of};
+ghost use Rattle.light_c.specs.Answers.{or_then};
+ghost use Rattle.light_c.specs.KeyParts.{IsAnswer, as_long, code_of, has_sized, has_value, has_vector, keys_of, lacks_sized, lacks_values, lacks_vector, of_check, setting_of};
+ghost use Rattle.light_c.specs.SizedStrings.{bytes_of, size_in_bytes, value_refusal};
 
-use crate::agreed::MMR;
-use crate::sized::SizedBytes;
+use crate::answer::{Fault, checked};
+use crate::claim::Claim;
+use crate::sized::{Size, SizedBytes, of_bytes, size_of};
 use commonware_storage::NoMemory;
-use commonware_storage::codec::FixedBytes;
+use commonware_storage::codec::{FixedBytes, RangeCfg, Read, Small};
 use commonware_storage::digest::Hasher;
 use commonware_storage::light::{check_absence, check_value};
-use commonware_storage::merkle::{mmb, mmr};
+use commonware_storage::merkle::Graftable;
 use commonware_storage::qmdb::any::{VariableEncoding, VariableValue};
+use commonware_storage::qmdb::current::grafting::chunk_height;
 use commonware_storage::qmdb::operation::Key;
 use std::alloc::Global;
 
-/// What `check_value` answers over this family; `cfg` is what the reader of the proof's next key is told.
-pub fn value_of<H: Hasher, K: Key, V: VariableValue>(
+/// That the key has the value with these bytes, where values have any length.
+#[derive(Drop)]
+pub struct Value<'a> {
+    /// The value's bytes.
+    pub value: &'a [u8],
+}
+
+impl Claim for Value<'_> {
+    ghost refusal = { λ before _. before };
+
+    ghost asked = { λ it _ _ keys _ key. has_vector keys key it.value.now };
+
+    fn of<F: Graftable, H: Hasher, K: Key + Small + Read<Cfg = ()>>(
+        &self,
+        alloc: Global,
+        chunk_size: usize,
+        proof: &[u8],
+        key: K,
+        root: &H::Digest,
+    ) -> Result<bool, Fault> {
+        if chunk_height(chunk_size).is_none() {
+            return Ok(false);
+        }
+        checked(vector_value::<F, H, K>(alloc, chunk_size, proof, &(), key, self.value, root))
+    }
+
+    ghost first = { λ _ _. refl };
+}
+
+/// That the key has the value with these bytes, where all values have one size.
+#[derive(Drop)]
+pub struct SizedValue<'a> {
+    /// The value's bytes.
+    pub value: &'a [u8],
+}
+
+impl Claim for SizedValue<'_> {
+    ghost refusal = { λ before it. or_then before (value_refusal (length it.value.now)) };
+
+    ghost asked = { λ it _ _ keys _ key. has_sized keys as_long key it.value.now };
+
+    fn of<F: Graftable, H: Hasher, K: Key + Small + Read<Cfg = ()>>(
+        &self,
+        alloc: Global,
+        chunk_size: usize,
+        proof: &[u8],
+        key: K,
+        root: &H::Digest,
+    ) -> Result<bool, Fault> {
+        let Some(value) = of_bytes(self.value) else {
+            return Err(Fault::OtherValue);
+        };
+        checked(sized_value::<F, H, K>(alloc, chunk_size, proof, &(), key, &value, root))
+    }
+
+    ghost first = { λ _ _. refl };
+}
+
+/// That the key has no value, where values in proofs have such lengths.
+#[derive(Drop)]
+pub struct Absence {
+    /// The lengths of values.
+    pub lengths: RangeCfg,
+}
+
+impl Claim for Absence {
+    ghost refusal = { λ before _. before };
+
+    ghost asked = { λ it _ _ keys _. lacks_vector keys it.lengths.min it.lengths.max };
+
+    fn of<F: Graftable, H: Hasher, K: Key + Small + Read<Cfg = ()>>(
+        &self,
+        alloc: Global,
+        chunk_size: usize,
+        proof: &[u8],
+        key: K,
+        root: &H::Digest,
+    ) -> Result<bool, Fault> {
+        let value = (self.lengths, ());
+        let cfgs = &(((), value), value);
+        checked(absence_of::<F, H, K, Vec<u8>>(alloc, chunk_size, proof, cfgs, &key, root))
+    }
+
+    ghost first = { λ _ _. refl };
+}
+
+/// That the key has no value, where all values have one size.
+#[derive(Drop)]
+pub struct SizedAbsence {
+    /// How many bytes a value has.
+    pub value_size: usize,
+}
+
+impl Claim for SizedAbsence {
+    ghost refusal = { λ before it. or_then before (value_refusal it.value_size) };
+
+    ghost asked = { λ it _ _ keys _. lacks_sized keys as_long it.value_size };
+
+    fn of<F: Graftable, H: Hasher, K: Key + Small + Read<Cfg = ()>>(
+        &self,
+        alloc: Global,
+        chunk_size: usize,
+        proof: &[u8],
+        key: K,
+        root: &H::Digest,
+    ) -> Result<bool, Fault> {
+        let Some(size) = size_of(self.value_size) else {
+            return Err(Fault::OtherValue);
+        };
+        let cfgs = &(((), ()), ());
+        checked(sized_absence::<F, H, K>(alloc, chunk_size, proof, cfgs, &key, size, root))
+    }
+
+    ghost first = { λ _ _. refl };
+}
+
+/// What `check_value` answers; `cfg` is what the reader of the proof's next key is told.
+fn value_of<F: Graftable, H: Hasher, K: Key, V: VariableValue>(
     alloc: Global,
-    family: u32,
     chunk_size: usize,
     proof: &[u8],
     cfg: &K::Cfg,
@@ -34,141 +146,114 @@ pub fn value_of<H: Hasher, K: Key, V: VariableValue>(
     value: V,
     root: &H::Digest,
 ) -> Result<bool, NoMemory>
-    ensures refused { ¬ IsChunkSize chunk_size → result ≡ Ok false }
-    ensures exact { let e = keyed_by K.text V.text variable_operation_text K.cmp in
-        IfOk result (λ yes. IsTrue yes ↔ IsAcceptedValue e K.view (K.parse cfg.now) H.hash_of
-        (grafting_of (shape_of family) chunk_size) (has_pending_of family) H.Digest.size proof.now
-        key value (H.Digest.text root.now)) }
-    ensures meaning { let e = keyed_by K.text V.text variable_operation_text K.cmp in
-        (H.Digest.size ≡ 32) ⊎ (H.Digest.size ≡ 64)
-        → IfOk result (λ yes. IsTrue yes → IsTrueValue e K.view (K.parse cfg.now) H.hash_of
-        (grafting_of (shape_of family) chunk_size) (has_pending_of family) H.Digest.size proof.now
-        key value (H.Digest.text root.now)) }
+    ensures { IsAnswer None (code_of (of_check result))
+        (has_value (keys_of K.text K.cmp K.view (K.parse cfg.now)) V.text variable_operation_text
+        key value)
+        (setting_of H.hash_of F.shape F.has_pending H.Digest.size chunk_size proof.now
+        (H.Digest.text root.now)) }
 {
-    if family == MMR {
-        check_value::<mmr::Family, H, K, VariableEncoding<V>>(
-            alloc, proof, chunk_size, cfg, key, value, root,
-        )
-    } else {
-        check_value::<mmb::Family, H, K, VariableEncoding<V>>(
-            alloc, proof, chunk_size, cfg, key, value, root,
-        )
-    }
+    check_value::<F, H, K, VariableEncoding<V>>(alloc, proof, chunk_size, cfg, key, value, root)
 }
 
-/// What `check_absence` answers over this family; `cfgs` is what the readers of the proof's update and value are told.
-pub fn absence_of<H: Hasher, K: Key, V: VariableValue>(
+/// What `check_absence` answers; `cfgs` is what the readers of the proof's update and value are told, which of the values is one.
+pub fn absence_of<F: Graftable, H: Hasher, K: Key, V: VariableValue>(
     alloc: Global,
-    family: u32,
     chunk_size: usize,
     proof: &[u8],
     cfgs: &((K::Cfg, V::Cfg), V::Cfg),
     key: &K,
     root: &H::Digest,
 ) -> Result<bool, NoMemory>
-    ensures refused { ¬ IsChunkSize chunk_size → result ≡ Ok false }
-    ensures exact { let e = keyed_by K.text V.text variable_operation_text K.cmp in
-        IfOk result (λ yes. IsTrue yes ↔ IsAcceptedAbsence e K.view V.view
-        (ordered_at (K.parse cfgs.now.0.0) (V.parse cfgs.now.0.1)) (V.parse cfgs.now.1) H.hash_of
-        (grafting_of (shape_of family) chunk_size) (has_pending_of family) H.Digest.size proof.now
-        key.now (H.Digest.text root.now)) }
-    ensures meaning { let e = keyed_by K.text V.text variable_operation_text K.cmp in
-        (H.Digest.size ≡ 32) ⊎ (H.Digest.size ≡ 64)
-        → IfOk result (λ yes. IsTrue yes → IsTrueAbsence e K.view V.view
-        (ordered_at (K.parse cfgs.now.0.0) (V.parse cfgs.now.0.1)) (V.parse cfgs.now.1) H.hash_of
-        (grafting_of (shape_of family) chunk_size) (has_pending_of family) H.Digest.size proof.now
-        key.now (H.Digest.text root.now)) }
+    ensures { IsAnswer None (code_of (of_check result))
+        (lacks_values (keys_of K.text K.cmp K.view (K.parse cfgs.now.0.0)) V.text V.view
+        (V.parse cfgs.now.0.1) (V.parse cfgs.now.1) variable_operation_text key.now)
+        (setting_of H.hash_of F.shape F.has_pending H.Digest.size chunk_size proof.now
+        (H.Digest.text root.now)) }
 {
-    if family == MMR {
-        check_absence::<mmr::Family, H, K, VariableEncoding<V>>(
-            alloc, proof, chunk_size, cfgs, key, root,
-        )
-    } else {
-        check_absence::<mmb::Family, H, K, VariableEncoding<V>>(
-            alloc, proof, chunk_size, cfgs, key, root,
-        )
-    }
+    check_absence::<F, H, K, VariableEncoding<V>>(alloc, proof, chunk_size, cfgs, key, root)
 }
 
-/// The same as [`value_of`] of a key of one size.
-pub fn value_of_sized<H: Hasher, V: VariableValue>(
+/// What `check_value` answers for a copy of the value; `cfg` is what the reader of the proof's next key is told.
+pub fn vector_value<F: Graftable, H: Hasher, K: Key>(
     alloc: Global,
-    family: u32,
     chunk_size: usize,
     proof: &[u8],
-    key: &SizedBytes,
-    value: V,
+    cfg: &K::Cfg,
+    key: K,
+    value: &[u8],
     root: &H::Digest,
 ) -> Result<bool, NoMemory>
-    ensures refused { ¬ IsChunkSize chunk_size → result ≡ Ok false }
-    ensures exact { IfOk result (λ yes. IsTrue yes ↔ OfSized (AcceptsValue H.hash_of
-        (grafting_of (shape_of family) chunk_size) (has_pending_of family) H.Digest.size proof.now
-        (H.Digest.text root.now) (λ _. variable_operation_text) V.text value)
-        (bytes_of key.now)) }
-    ensures meaning { (H.Digest.size ≡ 32) ⊎ (H.Digest.size ≡ 64)
-        → IfOk result (λ yes. IsTrue yes → OfSized (TrueValue H.hash_of
-        (grafting_of (shape_of family) chunk_size) (has_pending_of family) H.Digest.size proof.now
-        (H.Digest.text root.now) (λ _. variable_operation_text) V.text value)
-        (bytes_of key.now)) }
+    requires { IsChunkSize chunk_size }
+    ensures { IsAnswer None (code_of (of_check result))
+        (has_vector (keys_of K.text K.cmp K.view (K.parse cfg.now)) key value.now)
+        (setting_of H.hash_of F.shape F.has_pending H.Digest.size chunk_size proof.now
+        (H.Digest.text root.now)) }
 {
-    let cfg = &();
-    match key {
-        SizedBytes::Of4(key) => {
-            value_of::<H, FixedBytes<4>, V>(
-                alloc, family, chunk_size, proof, cfg, *key, value, root,
-            )
+    let Ok(value) = Vec::from_slice(alloc, value) else {
+        return Err(NoMemory);
+    };
+    value_of::<F, H, K, Vec<u8>>(alloc, chunk_size, proof, cfg, key, value, root)
+}
+
+/// What `check_value` answers for a value of one size; `cfg` is what the reader of the proof's next key is told.
+pub fn sized_value<F: Graftable, H: Hasher, K: Key>(
+    alloc: Global,
+    chunk_size: usize,
+    proof: &[u8],
+    cfg: &K::Cfg,
+    key: K,
+    value: &SizedBytes,
+    root: &H::Digest,
+) -> Result<bool, NoMemory>
+    ensures { IsAnswer None (code_of (of_check result))
+        (has_sized (keys_of K.text K.cmp K.view (K.parse cfg.now)) as_long key (bytes_of value.now))
+        (setting_of H.hash_of F.shape F.has_pending H.Digest.size chunk_size proof.now
+        (H.Digest.text root.now)) }
+{
+    match value {
+        SizedBytes::Of4(value) => {
+            value_of::<F, H, K, FixedBytes<4>>(alloc, chunk_size, proof, cfg, key, *value, root)
         }
-        SizedBytes::Of8(key) => {
-            value_of::<H, FixedBytes<8>, V>(
-                alloc, family, chunk_size, proof, cfg, *key, value, root,
-            )
+        SizedBytes::Of8(value) => {
+            value_of::<F, H, K, FixedBytes<8>>(alloc, chunk_size, proof, cfg, key, *value, root)
         }
-        SizedBytes::Of20(key) => {
-            value_of::<H, FixedBytes<20>, V>(
-                alloc, family, chunk_size, proof, cfg, *key, value, root,
-            )
+        SizedBytes::Of20(value) => {
+            value_of::<F, H, K, FixedBytes<20>>(alloc, chunk_size, proof, cfg, key, *value, root)
         }
-        SizedBytes::Of32(key) => {
-            value_of::<H, FixedBytes<32>, V>(
-                alloc, family, chunk_size, proof, cfg, *key, value, root,
-            )
+        SizedBytes::Of32(value) => {
+            value_of::<F, H, K, FixedBytes<32>>(alloc, chunk_size, proof, cfg, key, *value, root)
         }
     }
 }
 
-/// The same as [`absence_of`] of a key of one size.
-pub fn absence_of_sized<H: Hasher, V: VariableValue>(
+/// What `check_absence` answers over values of one size; `cfgs` is what the readers of the proof's update and value are told.
+pub fn sized_absence<F: Graftable, H: Hasher, K: Key>(
     alloc: Global,
-    family: u32,
     chunk_size: usize,
     proof: &[u8],
-    cfgs: &(((), V::Cfg), V::Cfg),
-    key: &SizedBytes,
+    cfgs: &((K::Cfg, ()), ()),
+    key: &K,
+    size: Size,
     root: &H::Digest,
 ) -> Result<bool, NoMemory>
-    ensures refused { ¬ IsChunkSize chunk_size → result ≡ Ok false }
-    ensures exact { IfOk result (λ yes. IsTrue yes ↔ OfSized (AcceptsAbsence H.hash_of
-        (grafting_of (shape_of family) chunk_size) (has_pending_of family) H.Digest.size proof.now
-        (H.Digest.text root.now) (λ _. variable_operation_text) V.text V.view
-        (V.parse cfgs.now.0.1) (V.parse cfgs.now.1)) (bytes_of key.now)) }
-    ensures meaning { (H.Digest.size ≡ 32) ⊎ (H.Digest.size ≡ 64)
-        → IfOk result (λ yes. IsTrue yes → OfSized (TrueAbsence H.hash_of
-        (grafting_of (shape_of family) chunk_size) (has_pending_of family) H.Digest.size proof.now
-        (H.Digest.text root.now) (λ _. variable_operation_text) V.text V.view
-        (V.parse cfgs.now.0.1) (V.parse cfgs.now.1)) (bytes_of key.now)) }
+    ensures { IsAnswer None (code_of (of_check result))
+        (lacks_sized (keys_of K.text K.cmp K.view (K.parse cfgs.now.0.0)) as_long
+        (size_in_bytes size) key.now)
+        (setting_of H.hash_of F.shape F.has_pending H.Digest.size chunk_size proof.now
+        (H.Digest.text root.now)) }
 {
-    match key {
-        SizedBytes::Of4(key) => {
-            absence_of::<H, FixedBytes<4>, V>(alloc, family, chunk_size, proof, cfgs, key, root)
+    match size {
+        Size::Four => {
+            absence_of::<F, H, K, FixedBytes<4>>(alloc, chunk_size, proof, cfgs, key, root)
         }
-        SizedBytes::Of8(key) => {
-            absence_of::<H, FixedBytes<8>, V>(alloc, family, chunk_size, proof, cfgs, key, root)
+        Size::Eight => {
+            absence_of::<F, H, K, FixedBytes<8>>(alloc, chunk_size, proof, cfgs, key, root)
         }
-        SizedBytes::Of20(key) => {
-            absence_of::<H, FixedBytes<20>, V>(alloc, family, chunk_size, proof, cfgs, key, root)
+        Size::Twenty => {
+            absence_of::<F, H, K, FixedBytes<20>>(alloc, chunk_size, proof, cfgs, key, root)
         }
-        SizedBytes::Of32(key) => {
-            absence_of::<H, FixedBytes<32>, V>(alloc, family, chunk_size, proof, cfgs, key, root)
+        Size::ThirtyTwo => {
+            absence_of::<F, H, K, FixedBytes<32>>(alloc, chunk_size, proof, cfgs, key, root)
         }
     }
 }

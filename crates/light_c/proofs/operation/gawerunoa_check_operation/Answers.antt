@@ -1,14 +1,12 @@
-use Rattle.std.proofs.Common.{inr, refl}
-use Rattle.light_c.proofs.Told.{means_again, says_again}
+use Rattle.light_c.proofs.Answered.{answered, wide_of}
 use Rattle.light_c.proofs.operation.gawerunoa_check_operation.Goals as goal
 
-pub returns-in-Ok-Of512-clause-exact : goal.returns-in-Ok-Of512-clause-exact
-returns-in-Ok-Of512-clause-exact c =
-    let is = rw c.in-Ok-Of512.field-0-is at c.in-Ok-Of512.ensures.1 in
-    rw (c.in-Ok-Of512.ensures.0, is.0, ← is.1) (says_again _ _ c.of_family-in-Ok-Of512.ensures.exact)
+pub returns-clause-exact : goal.returns-clause-exact
+returns-clause-exact c = (answered c.ask.result c.told.result c.told.ensures c.ask.ensures).exact
 
-pub returns-in-Ok-Of512-clause-meaning : goal.returns-in-Ok-Of512-clause-meaning
-returns-in-Ok-Of512-clause-meaning c = λ none is_yes.
-    let is = rw c.in-Ok-Of512.field-0-is at c.in-Ok-Of512.ensures.1 in
-    rw (is.0, ← is.1)
-    (means_again _ _ _ c.of_family-in-Ok-Of512.ensures.exact (c.of_family-in-Ok-Of512.ensures.meaning (inr refl)) is_yes)
+pub returns-clause-meaning : goal.returns-clause-meaning
+returns-clause-meaning c = λ none is.
+    (answered c.ask.result c.told.result c.told.ensures c.ask.ensures).meaning none is (wide_of c.args.hash)
+
+pub returns-clause-refused : goal.returns-clause-refused
+returns-clause-refused c = (answered c.ask.result c.told.result c.told.ensures c.ask.ensures).refused

@@ -1,14 +1,6 @@
-use Rattle.std.proofs.lemmas.Bool.{ne_eqb}
+use Rattle.light_c.proofs.Answered.{check_answer}
 use Rattle.light_c.proofs.variable.value_of.Goals as goal
 
-pub returns-else-family-eq-MMR-clause-meaning : goal.returns-else-family-eq-MMR-clause-meaning
-returns-else-family-eq-MMR-clause-meaning g c = λ wide.
-    rw (ne_eqb c.args.family 0 c.if-family-eq-MMR.false) (c.check_value-else-family-eq-MMR.ensures.meaning wide)
-
-pub returns-then-family-eq-MMR-clause-exact : goal.returns-then-family-eq-MMR-clause-exact
-returns-then-family-eq-MMR-clause-exact g c =
-    rw c.if-family-eq-MMR.true c.check_value.ensures.exact
-
-pub returns-then-family-eq-MMR-clause-meaning : goal.returns-then-family-eq-MMR-clause-meaning
-returns-then-family-eq-MMR-clause-meaning g c = λ wide.
-    rw c.if-family-eq-MMR.true (c.check_value.ensures.meaning wide)
+pub returns : goal.returns
+returns g c =
+    check_answer c.check_value.result _ _ c.check_value.ensures.refused c.check_value.ensures.exact c.check_value.ensures.meaning

@@ -1,9 +1,0 @@
-use Rattle.light_c.proofs.Told.{told_means, told_says}
-use Rattle.light_c.proofs.absence.of_key.Goals as goal
-
-pub returns-clause-exact : goal.returns-clause-exact
-returns-clause-exact g c = told_says c.absence_of_sized.result c.told.result _ c.told.ensures c.absence_of_sized.ensures.exact
-
-pub returns-clause-meaning : goal.returns-clause-meaning
-returns-clause-meaning g c =
-    λ wide. told_means c.absence_of_sized.result c.told.result _ c.told.ensures (c.absence_of_sized.ensures.meaning wide)
