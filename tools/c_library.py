@@ -5,7 +5,7 @@
 
 Into the folder go `libgawerunoa.a` and `libgawerunoa.so`. Both have the code of the crate and the kit's three functions over malloc,
 realloc and free, and no names but those that begin with `gawerunoa_`. With --built the crate is proved and built here, over the
-libraries that a gate left in TREE, and the LLVM module of its code goes into the folder too, for tools/wasm. It wants gcc with its
+libraries that a gate left in TREE, and the LLVM module of its code goes into the folder too, for examples/page/wasm. It wants gcc with its
 binutils.
 """
 import argparse

@@ -2,6 +2,8 @@
 
 Nothing here is made for speed, and nothing is taken from the sources of the crates. A node is the pair of its first leaf and its
 height, a range that of its first location and the one past its last; docs/DEFINITIONS.md and docs/FORMAT.md say the same in words.
+
+Below them each function of LISTS answers a case of the list of `replay` with its name, from its columns, over a digest function.
 """
 import functools
 import hashlib
@@ -273,3 +275,289 @@ class Bits:
         if place == self.complete:
             return [self.tree_root]
         return self.tree.range_proof(self.direction, 0, place, place + 1) + ([self.partial] if self.partial else [])
+
+
+MMR, MMB = Family("mmr"), Family("mmb")
+SIZE_REFUSED = "C6(current_proof|invalid_bitmap_chunk_size)"
+# The bytes of a key, of an ordered update of fixed size and of a value.
+KEY, UPDATE, VALUE = 4, 16, 8
+
+
+class Refused(Exception):
+    """The code of a refusal."""
+
+
+def family_of(name):
+    return {"mmr": MMR, "mmb": MMB}[name]
+
+
+def strings(text, between=",", none="none"):
+    """The byte strings of a column; `-` is no bytes."""
+    return [] if text == none else [bytes.fromhex(it.replace("-", "")) for it in text.split(between)]
+
+
+def numbers(text, between=","):
+    return [] if text in ("none", "-") else [int(it) for it in text.split(between)]
+
+
+def told(digests):
+    return ",".join(it.hex() if it else "-" for it in digests) or "none"
+
+
+def verdict(yes):
+    return "yes" if yes else "no"
+
+
+def at(nodes, position):
+    """The node at a position."""
+    if position not in nodes:
+        raise Refused(f"E4({position})")
+    return nodes[position]
+
+
+def element_checks(digests, family, direction, leaves, inactive, proof, location, element, root, _):
+    tree = Tree(digests, family_of(family), strings(element))
+    check = Check(tree, direction, int(leaves), int(inactive), strings(proof), int(location))
+    return f"{verdict(check.root == bytes.fromhex(root))} {check.hashed} {check.folds}"
+
+
+def plain_operations(digests, family, leaves, inactive, proof, start, operations, root, _):
+    tree, root = Tree(digests, family_of(family), strings(operations)), bytes.fromhex(root)
+    if not tree.elements:
+        empty = (leaves, inactive, proof, start) == ("0", "0", "none", "0")
+        return verdict(empty and root == tree.root("backward", 0))
+    return verdict(Check(tree, "backward", int(leaves), int(inactive), strings(proof), int(start)).root == root)
+
+
+def parts(digests, family, direction, inactive, elements, start, end):
+    """The store of a range gives the own proof of each part."""
+    count = int(end) - int(start)
+    return f"{count * (count + 1) // 2} {count * (count + 1) // 2}"
+
+
+def served(digests, family, direction, elements, positions):
+    tree = Tree(digests, family_of(family), strings(elements))
+    nodes = tree.family.nodes(tree.leaves)
+    return told([tree.node(at(nodes, it)) for it in numbers(positions)])
+
+
+def built(digests, family, direction, leaves, location, inactive, nodes):
+    family, leaves, location = family_of(family), int(leaves), int(location)
+    given = dict(it.split("=") for it in nodes.split("/")) if nodes != "-" else {}
+    given = {int(position): bytes.fromhex(it) for position, it in given.items()}
+    if int(inactive) > len(family.heights(leaves)):
+        raise Refused("E8")
+    folds = {"left": digests.fold_left, "right": digests.fold_right}
+    sited = sites(family, direction, leaves, int(inactive), range(location, location + 1))
+    return told([folds[way]([at(given, family.position(it)) for it in peaks]) for way, peaks in sited])
+
+
+def mem_init(digests, family, direction, boundary, pinned):
+    family, boundary, pinned = family_of(family), int(boundary), strings(pinned)
+    if boundary > MAX_LEAVES:
+        raise Refused(f"E3({boundary})")
+    peaks = family.peaks(boundary)
+    if len(pinned) < len(peaks):
+        raise Refused(f"E5({family.position(peaks[len(pinned)])})")
+    root = root_of(digests, family, direction, boundary, 0, [], pinned[: len(peaks)])
+    added = "ok" if boundary < MAX_LEAVES else f"E3({boundary})"
+    return f"{family.size(boundary)}:{root.hex()}:{added}"
+
+
+def verifiers(digests, family, height, start, chunks, graftable, position, left, right):
+    family, start = family_of(family), int(start)
+    supplied = {start + place: it for place, it in enumerate(strings(chunks)) if start + place < int(graftable)}
+    tree = Tree(digests, family, [], int(height), supplied)
+    return tree.over(family.nodes(64)[int(position)], bytes.fromhex(left), bytes.fromhex(right)).hex()
+
+
+class Reader:
+    """Bytes that are read from the front."""
+
+    def __init__(self, text, digests):
+        self.left, self.digests = bytes.fromhex(text.replace("-", "")), digests
+
+    def take(self, count):
+        if len(self.left) < count:
+            raise Refused("C1")
+        taken, self.left = self.left[:count], self.left[count:]
+        return taken
+
+    def varint(self):
+        number, place = 0, 0
+        while True:
+            byte = self.take(1)[0]
+            if place == 9 and byte != 1 or place and not byte:
+                raise Refused("C4")
+            number += byte % 128 << 7 * place
+            place += 1
+            if byte < 128:
+                return number
+
+    def location(self):
+        number = self.varint()
+        if number > MAX_LEAVES:
+            raise Refused("C6(location|past_the_limit)")
+        return number
+
+    def option(self, size):
+        byte = self.take(1)[0]
+        if byte > 1:
+            raise Refused("C2")
+        return self.take(size) if byte else None
+
+    def pending(self, family):
+        return self.option(self.digests.size) if family is MMB else None
+
+    def operation_proof(self, family, size, most):
+        """Location, chunk, leaves, inactive peaks, digests, both slots, operations root."""
+        if size & (size - 1) or not 1 <= size <= 2**59:
+            raise Refused(SIZE_REFUSED)
+        heads = [self.location(), self.take(size), self.location(), self.varint()]
+        count = self.varint()
+        if count > most:
+            raise Refused(f"C5({count})")
+        proof = [self.take(self.digests.size) for _ in range(count)]
+        slots = [self.pending(family), self.option(self.digests.size)]
+        return *heads, proof, *slots, self.take(self.digests.size)
+
+    def key_proof(self, family, claim, size, most):
+        tag = self.take(1)[0] if claim == "absence" else None
+        if tag is not None and tag > 1:
+            raise Refused(f"C3({tag})")
+        self.operation_proof(family, size, most)
+        if tag is None:
+            self.take(KEY)
+        elif tag == 0:
+            self.take(UPDATE)
+        else:
+            self.option(VALUE)
+
+
+def key_proofs(digests, family, claim, reader, most, text):
+    read = Reader(text, digests)
+    try:
+        read.key_proof(family_of(family), claim, 1 if reader == "array" else int(reader), int(most))
+    except Refused as refused:
+        return f"{refused} - {refused}"
+    left = len(read.left)
+    return f"{text[: len(text) - 2 * left]} {left} {f'C7({left})' if left else 'same'}"
+
+
+def operation_checks(digests, family, size, leaves, operation, proof, root, _):
+    read = Reader(proof, digests)
+    location, chunk, own_leaves, *rest = read.operation_proof(family_of(family), int(size), 128)
+    if read.left:
+        raise Refused(f"C7({len(read.left)})")
+    leaves = own_leaves if leaves == "-" else int(leaves)
+    tree = Tree(digests, family_of(family), [bytes.fromhex(operation)])
+    return verdict(leaves <= MAX_LEAVES and current_root(tree, location, chunk, leaves, *rest) == bytes.fromhex(root))
+
+
+def current_root(tree, location, chunk, leaves, inactive, proof, pending, partial, ops_root):
+    """The canonical root that the check of an operation proof gives; none where a part does not fit, or the bit is clear."""
+    width, bit = 8 * len(chunk), location % (8 * len(chunk))
+    height, slots = width.bit_length() - 1, slots_of(tree.family, leaves, width)
+    if not chunk[bit // 8] >> bit % 8 & 1 or [it is None for it in slots] != [it is None for it in (pending, partial)]:
+        return None
+    place = location // width
+    if any(slot == place and tree.digests.of(chunk) != it for slot, it in zip(slots, (pending, partial))):
+        return None
+    if place < graftable(tree.family, leaves, height):
+        tree.height, tree.chunks = height, {place: chunk}
+    root = Check(tree, "backward", leaves, inactive, proof, location).root
+    return root and canonical(tree.digests, leaves % width, ops_root, root, pending, partial)
+
+
+def slots(digests, family, digest):
+    if family == "mmr":
+        return "- 0"
+    return "00 1" if digest == "-" else f"01{digest} {1 + digests.size}"
+
+
+def slots_read(digests, family, text):
+    read = Reader(text, digests)
+    digest = read.pending(family_of(family))
+    return f"{digest.hex() if digest else '-'} {len(read.left)}"
+
+
+def filled(digests, byte):
+    return f"{digests.filled(int(byte)).hex()} {digests.size}"
+
+
+def combined_views(digests, family, size, floor, bits, operations):
+    """Both trees read as one have each node of the grafted view."""
+    return str(family_of(family).size(len(strings(operations))))
+
+
+def combined_ranges(digests, family, size, floor, bits, operations, start, most):
+    """What is served is the own proof, which is accepted."""
+    width, end = 8 * int(size), min(int(start) + int(most), len(bits))
+    chunks = chunks_of(bits, int(size))[int(start) // width : -(-end // width)]
+    return f"{','.join(map(str, range(int(start), end)))} {told(chunks)} yes"
+
+
+def each_operation(digests, family, size, floor, bits, operations):
+    """The own proof of an operation is accepted where its bit is set."""
+    return bits
+
+
+def each_range(digests, family, size, floor, bits, operations):
+    """The own proof of each range is accepted."""
+    return str(len(bits) * (len(bits) + 1) // 2)
+
+
+def bit_proofs(digests, direction, size, bits, bit):
+    bits, bit = Bits(digests, direction, int(size), bits), int(bit)
+    length = len(bits.bits)
+    return f"{bits.root.hex()} {told(bits.proof(bit)) if bit < length else f'E7({bit},{length})'}"
+
+
+def bits_after(calls, width):
+    """The bits after calls on a bitmap, and how many chunks of them are pruned."""
+    bits, pruned = "", 0
+    for call in calls.split(","):
+        verb, _, rest = call.partition(":")
+        if verb == "p":
+            bits += rest
+        elif verb == "s":
+            place, value = rest.split(":")
+            bits = bits[: int(place)] + value + bits[int(place) + 1 :]
+        elif verb == "x":
+            pruned = int(rest) // width
+    return bits, pruned
+
+
+def bitmaps_read(digests, direction, size, calls, places):
+    width = 8 * int(size)
+    bits, pruned = bits_after(calls, width)
+    chunks = chunks_of(bits, int(size))
+    each = ",".join(f"{it}:{bits[it]}:{chunks[it // width].hex()}" for it in numbers(places))
+    return f"{width} {each} {len(bits)} {pruned} {told(chunks[pruned:])}"
+
+
+def bitmaps_served(digests, direction, size, calls, positions):
+    bits, pruned = bits_after(calls, 8 * int(size))
+    tree = Bits(digests, direction, int(size), bits).tree
+    kept = {position: it for position, it in MMR.nodes(tree.leaves).items() if position >= MMR.size(pruned) or it in MMR.peaks(pruned)}
+    places = numbers(positions)
+    one_by_one = told([tree.node(kept[it]) if it in kept else None for it in places])
+    try:
+        at_once = told([tree.node(at(kept, it)) for it in places])
+    except Refused as refused:
+        at_once = str(refused)
+    return f"{MMR.size(tree.leaves)} {one_by_one} {at_once}"
+
+
+LISTS = {it.__name__: it for it in (
+    element_checks, plain_operations, parts, served, built, mem_init, verifiers, key_proofs, operation_checks, slots,
+    slots_read, filled, combined_views, combined_ranges, each_operation, each_range, bit_proofs, bitmaps_read, bitmaps_served,
+)}
+
+
+def answer(digests, name, columns):
+    """The answer of a case of a list."""
+    try:
+        return LISTS[name](digests, *columns)
+    except Refused as refused:
+        return str(refused)

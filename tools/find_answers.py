@@ -7,9 +7,9 @@ The check tries its tactics at a goal one after another. A goal that only a late
 function is proved; and an edit of must-fail/ that breaks a goal costs all of them. So this tool tries them once: one tactic at all goals
 of the functions in one check, the next one at those that are left. A goal that another than the first tactic closes gets its answer in
 the function's Answers.antt. Then each edit of these functions that names no goal is put into a copy of the crate: where an answer
-breaks, the edit names that goal (a line 'goal: GOAL'), and the proof file answers it. So tools/wrong_bodies.py need not search. With
---every the proof files answer every goal of these functions that an edit breaks, also of edits that name one: so `rt ci`, which looks
-at all goals of an edited function, need not search either.
+breaks, the edit names that goal (a line 'goal: GOAL'), and brings its answer where no proof file has it ('goal: GOAL c = search rules').
+So tools/wrong_bodies.py need not search. With --every the proof files answer every goal of these functions that an edit breaks, also of
+edits that name one: so `rt ci`, which looks at all goals of an edited function, need not search either.
 
 FUNCTION is a function's name as the check prints it, below the crate. Without one, all are tried that an edit without a goal is in;
 with --slow besides those whose goals took so many seconds, by the times of the files that the last check with one job kept. The crate
@@ -104,12 +104,11 @@ class Finder:
 
     def __init__(self, crate, kept):
         self.crate, self.kept, self.texts = crate, kept, dict(crate.texts)
-        self.trial = trial.Trial(crate, None, set(), True, None)
+        self.trial = trial.Trial(crate, None, None)
         self.trial.functions = self.check(self.texts, ()).functions
         self.places = {}
         for file, text in self.texts.items():
-            lines = text.split("\n") if file.endswith(".rt") else []
-            for place in filter(None, (trial.place_of(file, lines, it) for it in range(len(lines)))):
+            for place in trial.places_in(file, text):
                 self.places.update((it, place) for it in self.trial.functions if trial.is_of(it, place))
 
     def check(self, texts, functions, edits=()):
@@ -163,7 +162,7 @@ class Finder:
         edits = [it for it in trial.edits_of(self.crate.folder) if every or not it.goal]
         for edit in edits:
             edit.locate(self.texts)
-        return [it for it in edits if it.is_of_bodies]
+        return [it for it in edits if it.is_of_functions]
 
     def functions_of(self, edit):
         return {it for place in edit.places for it in self.trial.named_at(place)}
@@ -173,7 +172,7 @@ class Finder:
         has an answer of its own, where there is one. Looks at the edits that name no goal, or at every one."""
         answered = {it.file: it.text(it.found) for it in files if it.found}
         found = {}
-        for edits in trial.rounds_of([it for it in self.edits(every) if functions & self.functions_of(it)]):
+        for edits in rounds_of([it for it in self.edits(every) if functions & self.functions_of(it)]):
             for edit in edits:
                 # of such an edit's functions only what is answered is tried
                 edit.goal = "any"
@@ -187,6 +186,14 @@ class Finder:
         return found
 
 
+def rounds_of(edits):
+    """The edits in rounds, in each of which no two touch the same function or text."""
+    while edits:
+        tried = trial.tried_together(edits)
+        yield tried
+        edits = [it for it in edits if it not in tried]
+
+
 def is_new(function, goal, files):
     """Whether a goal of a function gets an answer for an edit's sake alone."""
     file = file_of(function, files)
@@ -197,6 +204,14 @@ def file_of(function, files):
     """The proof file of a function, if it is one of these."""
     path = "/".join(function.split("::")[1:])
     return next((it for it in files if re.sub(r"(^|/)\+", r"\1", it.file) == f"proofs/{path}/Answers.antt"), None)
+
+
+def with_answer(function, goal, files):
+    """A goal as an edit names it, with its answer where it gets one for the edit's sake alone."""
+    if not is_new(function, goal, files):
+        return goal
+    file = file_of(function, files)
+    return f"{goal} {file.goals[goal]} = {file.tactic(0)}"
 
 
 def slow_functions(crate, kept, seconds):
@@ -242,12 +257,13 @@ def main():
     first = {edit: goals[0] for edit, goals in broken.items() if edit in unnamed}
     needed = {it for goals in broken.values() for it in goals} if asked.every else set(first.values())
     for it in files:
-        wanted = {goal for function, goal in needed if file_of(function, files) is it}
+        wanted = {goal for function, goal in needed if file_of(function, files) is it} if asked.every else set()
         answers = {goal: number for goal, number in it.found.items() if number or goal in wanted}
         if answers:
             (crate.folder / it.file).parent.mkdir(parents=True, exist_ok=True)
             (crate.folder / it.file).write_text(it.text(answers))
-    write_goals(crate.folder, {edit: goal for edit, (_, goal) in first.items()})
+    named = lambda function, goal: goal if asked.every else with_answer(function, goal, files)
+    write_goals(crate.folder, {edit: named(*it) for edit, it in first.items()})
     print(f"{len(first)} edits name a goal now, {len(needed)} goals that edits break are answered")
 
 

@@ -3,9 +3,9 @@
 
     tools/refused_memory.py [CRATE..]
 
-Takes what `rt ci` left: the tests of each crate that has some, and the programs `stateproof`, `replay` and `altered_proofs`; or of
-the named crates alone. A case is a test, a command of `stateproof`, a line for `replay`, or for `altered_proofs` the shortest line of each
-kind. Of the lines for `replay` that are of a worked row, which begin with its name and a colon, all of each list are taken where they
+Takes what `rt ci` left: the tests of each crate that has some, and the programs `stateproof`, `replay` and `benchmarks`; or of
+the named crates alone. A case is a test, a command of `stateproof`, a line for `replay`, or for `benchmarks` the shortest line of each
+kind of its rows. Of the lines for `replay` that are of a worked row, which begin with its name and a colon, all of each list are taken where they
 are at most LINES_OF_ROW, else LINES of them and those that ALSO names; of the others LINES of each list. A case is run once with all
 memory that it asks for, and must give the right answer. Then each of its requests for memory is refused in turn: once alone, and once
 with all that come after it. Such a run must give the right answer too, or name want of memory, and write nothing else.
@@ -48,8 +48,9 @@ LAST = 2**64 - 1
 # Want of memory as it is printed, alone or within the errors of the layers above.
 WANT = r"(\w+\()*(AllocError|AllocFailed \{ \.\. \}|NoMemory|OutOfMemory|Memory)\)*"
 
-# What a test writes that returns an error, and one that was given another answer than it expected.
+# What a test writes that returns an error, one that is ended by it, and one that was given another answer than it expected.
 RETURNED = re.compile(rf"error: {WANT}\n.*\n")
+ENDED = re.compile(rf"error: {WANT}\n")
 ANSWERED = re.compile(rf"assertion `left == right` failed(: .*)?\n  left: {WANT}\n right: .*\n")
 STOPPED = re.compile(r"\ntest stopped at .*\n")
 
@@ -90,8 +91,8 @@ def is_want_of_test(ending):
     """Whether a test ended, and named want of memory as its error or as the answer that it was given."""
     if ending.status == 101:
         return ending.output == "" and bool(RETURNED.fullmatch(ending.errors))
-    answered = ANSWERED.fullmatch(ending.errors) and STOPPED.fullmatch(ending.output)
-    return ending.status == -6 and bool(answered)
+    is_named = ENDED.fullmatch(ending.errors) or ANSWERED.fullmatch(ending.errors)
+    return ending.status == -6 and bool(is_named and STOPPED.fullmatch(ending.output))
 
 
 def tests(shim, crate):
@@ -137,7 +138,7 @@ def commands(shim):
 
 
 def is_want_of_line(ending):
-    """Whether `replay` answered nothing but that it wants memory."""
+    """Whether `replay`, or `benchmarks`, answered nothing but that it wants memory."""
     return ending.status == 1 and ending.output == "" and re.fullmatch(rf"Error: {WANT}\n", ending.errors) is not None
 
 
@@ -171,22 +172,24 @@ def lines():
         yield Case(given.strip(), [built("replay")], given, (0, answer, ""), is_want_of_line, each)
 
 
-def is_want_of_check(ending):
-    """Whether `altered_proofs` answered nothing but that it wants memory."""
-    said = re.fullmatch(r"Error: (out of memory|Out of memory|memory allocation failed)\n", ending.errors)
-    return ending.status == 1 and ending.output == "" and said is not None
-
-
-def shortest_checks():
-    """A case for the shortest line of each kind that `altered_proofs` answers."""
-    folder = ROOT / "crates/altered_proofs"
+def shortest_lines():
+    """The shortest line of each kind of the rows that `benchmarks` answers, which come before the measured work, and its answer."""
+    folder = ROOT / "crates/benchmarks"
     kinds = {}
     for given, answer in zip((folder / "stdin").open(), (folder / "stdout").open()):
+        row, _ = list_of(given)
+        if not row:
+            break
         kind = given.split()[1]
         if kind not in kinds or len(given) < len(kinds[kind][0]):
             kinds[kind] = given, answer
-    for given, answer in kinds.values():
-        yield Case(given.strip(), [built("altered_proofs")], given, (0, answer, ""), is_want_of_check)
+    return kinds
+
+
+def shortest_checks():
+    """A case for each of these lines."""
+    for given, answer in shortest_lines().values():
+        yield Case(given.strip(), [built("benchmarks")], given, (0, answer, ""), is_want_of_line)
 
 
 def refused(requests, each):
@@ -235,7 +238,7 @@ def cases_of(shim, crate):
         return [*commands(shim)]
     if crate == "replay":
         return [*lines()]
-    if crate == "altered_proofs":
+    if crate == "benchmarks":
         return [*shortest_checks()]
     sources = (ROOT / f"crates/{crate}/src").rglob("*.rt")
     return [*tests(shim, crate)] if any("#[test]" in it.read_text() for it in sources) else []

@@ -4,8 +4,11 @@
 Of the edits of a crate a harmless one must be named, also where the function that it is in calls one with a wrong body, where it
 needs a trait's block that is not proved for another edit, where it takes away a goal that a proof file answers, and where such a goal
 of another function of that name fails. An edit that cannot be applied must be named too, one that cannot be applied behind those above
-it in its file among them, and a crate that is not proved without an edit. An edit that names the goal that it breaks is refused by it, and one that names another goal by a search. A crate that a gate
-keeps from an earlier run is tried all the same. The last line is 'N passed, M failed'.
+it in its file among them, and a crate that is not proved without an edit. An edit that names the goal that it breaks is refused by it,
+and one that names another goal by a search; an edit whose own answer does not hold without it is named, and so is a harmless edit of a
+constant, or of a contract that other functions stand on. What is refused is the same over work that was kept of another crate of the
+same name, in which a wrong body is the right one, and over files that hold nothing. A crate that a gate keeps from an earlier run is
+tried all the same. The last line is 'N passed, M failed'.
 """
 import pathlib
 import shutil
@@ -53,6 +56,22 @@ pub fn four_more_than_a_number_below_fifty_by_way_of_three_more(n: u64) -> u64
     let third = three_more(n);
     third + 1
 }
+
+/// How much five more is.
+const FIVE: u64 = 5;
+
+/// Five more than a number.
+pub fn five_more(n: u64) -> u64
+    requires { n < 50 }
+    ensures { result ≡ n + 5 }
+{
+    n + FIVE
+}
+
+/// A number is less than the next, and than each later one.
+pub fn numbers_ascend()
+    ensures { (n : ℕ) → n < n + 1 }
+{}
 
 /// What is written as so many bytes, whatever its value.
 pub trait Measured {
@@ -103,6 +122,12 @@ use Rattle.sums.proofs.{ANSWERED}.Goals as goal
 pub three_more-third-requires : goal.three_more-third-requires
 three_more-third-requires c = omega (arith, c.requires)
 """,
+    "numbers_ascend": """use Rattle.std.proofs.Common.{arith}
+use Rattle.sums.proofs.numbers_ascend.Goals as goal
+
+pub returns : goal.returns
+returns c = omega (arith, c.requires)
+""",
     "DoubleWordMeasured/measure": """use Rattle.std.proofs.Common.{refl}
 use Rattle.sums.proofs.DoubleWordMeasured.measure.Goals as goal
 
@@ -120,42 +145,75 @@ EDITS = {
     "block_wrong": ("        2", "        1"),
     "harmless_beside_block": ("word.measure()", "word.measure() + 0"),
     "harmless_where_a_goal_is_answered": ("let third = three_more(n);", "let third = n + 3;"),
-    "no_such_text": ("five_more", "six_more"),
+    "no_such_text": ("seven_more", "six_more"),
     "text_taken_by_one_above": ("    n + 1", "    n + 3"),
     # an edit that names the answered goal that it breaks, a harmless one that names a goal, and one that breaks another goal
     "wrong_by_its_answer": ("        4", "        6", "returns"),
     "harmless_that_names_a_goal": ("        4", "        2 + 2", "returns"),
     "wrong_by_another_goal": ("third + 1", "third + 2", "three_more-third-requires"),
+    # edits that bring the answer which they break, one that does not hold in the crate itself, and a harmless one
+    "wrong_by_its_own_answer": ("n + FIVE", "n + FIVE + 1", "returns c = omega (arith, c.requires)"),
+    "own_answer_that_never_holds": ("    n + 3", "    n + 4", "returns c = c.requires"),
+    "harmless_that_brings_an_answer": ("n + FIVE", "FIVE + n", "returns c = omega (arith, c.requires)"),
+    # edits of a constant, which name a function, and of contracts: of a law, and of a function that others call
+    "constant_wrong": ("u64 = 5;", "u64 = 6;", None, "five_more"),
+    "harmless_constant": ("u64 = 5;", "u64 = 2 + 3;", None, "five_more"),
+    "law_wrong": ("n < n + 1 }", "n < n }", "returns"),
+    "harmless_law": ("n < n + 1 }", "n < n + 2 }"),
+    "called_contract_wrong": ("{ result ≡ n + 3 }", "{ result ≡ n + 2 }"),
 }
 # the edits that are not in a file of their own, which has their name
 GROUPS = {"callee_wrong": "src.lib", "text_taken_by_one_above": "src.lib"}
-REFUSED = {"callee_wrong", "other_word_wrong", "block_wrong", "wrong_by_its_answer", "wrong_by_another_goal"}
+REFUSED = {"callee_wrong", "other_word_wrong", "block_wrong", "wrong_by_its_answer", "wrong_by_another_goal", "wrong_by_its_own_answer"}
+REFUSED |= {"constant_wrong", "law_wrong", "called_contract_wrong"}
+# a crate of the same name in which a wrong body is the right one
+OTHER = CRATE.replace("n + 2 }\n{\n    let", "n + 4 }\n{\n    let").replace("n + 1 }\n{\n    n + 1", "n + 2 }\n{\n    n + 2")
+# proves the crate of the folder where it runs, and keeps that work
+KEEP = """import sys, wrong_bodies as it
+sys.exit(not it.Crate("sums", {"sums": []}, it.ROOT, it.kit_folder()).check([], str(it.ROOT / "kept")).is_proved)"""
 
 
-def goals_of(edit):
-    """The line of an edit that names a goal, where it does."""
-    return "".join(f"goal: {it}\n" for it in edit[2:])
+def lines_of(edit):
+    """The lines of an edit that name a goal and a function, where it names them."""
+    return "".join(f"{word}: {it}\n" for word, it in zip(("goal", "function"), edit[2:]) if it)
 
 
-def said(text, edits, gate=None):
+def kept_from(text):
+    """A folder with what checks keep of a crate with this text, to be removed."""
+    folder = tempfile.mkdtemp()
+    root = pathlib.Path(folder)
+    lay_out(root, text)
+    subprocess.run([sys.executable, "-c", KEEP], cwd=root / "tools", check=True)
+    return root
+
+
+def lay_out(root, text):
+    """Makes a repository of one crate with this text."""
+    for it in ("tools", "crates/sums/src", "crates/sums/must-fail", *(f"crates/sums/proofs/{it}" for it in ANSWERS)):
+        (root / it).mkdir(parents=True)
+    shutil.copy(TOOL, root / "tools")
+    (root / "crates.txt").write_text("sums:\n")
+    (root / "crates/sums/src/lib.rt").write_text(text)
+    (root / "crates/sums/proofs/Lib.antt").write_text("")
+    for folder, answers in ANSWERS.items():
+        (root / "crates/sums/proofs" / folder / "Answers.antt").write_text(answers)
+
+
+def said(text, edits, gate=None, kept=None):
     """What the tool says of a crate with this text and these edits, by the name of each edit, and its status; beside a gate where its log
-    is given."""
+    is given, and over what was kept in a folder where there is one."""
     with tempfile.TemporaryDirectory() as name:
         root = pathlib.Path(name)
         crate = root / "crates/sums"
-        for folder in ("tools", "crates/sums/src", "crates/sums/must-fail", *(f"crates/sums/proofs/{it}" for it in ANSWERS)):
-            (root / folder).mkdir(parents=True)
-        shutil.copy(TOOL, root / "tools")
-        (root / "crates.txt").write_text("sums:\n")
-        (crate / "src/lib.rt").write_text(text)
-        (crate / "proofs/Lib.antt").write_text("")
-        for folder, answers in ANSWERS.items():
-            (crate / "proofs" / folder / "Answers.antt").write_text(answers)
+        lay_out(root, text)
         for it, edit in edits.items():
             group = crate / f"must-fail/{GROUPS.get(it, it)}.edit"
             above = group.read_text() if group.exists() else "file: src/lib.rt\n"
-            group.write_text(f"{above}\nname: {it}\n{goals_of(edit)}old: {edit[0]}\nnew: {edit[1]}\n")
+            group.write_text(f"{above}\nname: {it}\n{lines_of(edit)}old: {edit[0]}\nnew: {edit[1]}\n")
         words = [root / "tools/wrong_bodies.py"]
+        if kept:
+            shutil.copytree(kept / "kept", crate / "out/incremental")
+            words += ["--kept"]
         if gate:
             (root / "gate.log").write_text(gate)
             (root / "gate.status").write_text("0")
@@ -178,10 +236,18 @@ def main():
     lost, status, _ = said(CRATE, {"callee_wrong": EDITS["callee_wrong"]}, "rt: sums NOT PROVED\n")
     results["a named goal is what refuses"] = "`returns`" in tried.get("wrong_by_its_answer", "")
     results["a crate that the gate does not prove is named"] = status == 1 and any("without an edit" in it for it in lost)
+    other = kept_from(OTHER)
+    for it in (other / "kept").rglob("*three_more*.oantt"):
+        it.write_bytes(b"no checked file")
+    few = {it: EDITS[it] for it in ("callee_wrong", "harmless_caller", "wrong_by_its_answer")}
+    over, status, more = said(CRATE, few, kept=other)
+    well = {it for it, why in over.items() if why.startswith("refused")}
+    results["over what was kept of another crate the same is refused"] = over.keys() == few.keys() and well == few.keys() & REFUSED
+    shutil.rmtree(other)
     for name, is_well in results.items():
         print(f"{name}: {'passed' if is_well else 'FAILED'}")
     if not all(results.values()):
-        print(output)
+        print(output, more)
     print(f"{sum(results.values())} passed, {len(results) - sum(results.values())} failed")
     return 0 if all(results.values()) else 1
 

@@ -1,37 +1,44 @@
 #!/usr/bin/env python3
 """Tries the must-fail edits of the crates, and sees that the prover refuses each of them at a goal of the edited function.
 
-    tools/wrong_bodies.py [--built FOLDER [--gate LOG]] [--jobs N] [--kept] [--only NAME,..] [CRATE..]
+    tools/wrong_bodies.py [--built FOLDER [--gate LOG]] [--jobs N] [--kept] [--times] [--only NAME,..] [CRATE..]
 
 A file crates/CRATE/must-fail/NAME.edit has one edit: a line 'file: src/FILE.rt', then pairs of lines 'old: TEXT' and 'new: TEXT'.
-A file with lines 'name: NAME' has a group: an edit of its own under each of them, of the file that is named last above it. `rt ci` takes a
-group for one edit, so that each must be found once also where those above it are made. A line
-'goal: GOAL' names a goal of the edited function which a proof file answers, and whose answer the edit breaks: of that function nothing
-is searched then, since one goal is enough. An edit that breaks no such answer is tried once more, with all searches.
+A file with lines 'name: NAME' has a group: an edit of its own under each of them, of the file that is named last above it. `rt ci`
+takes a group for one edit, so that each must be found once also where those above it are made. Two more lines may stand there:
+- 'goal: GOAL' names a goal of the edited function which a proof file answers, and whose answer the edit breaks: of that function
+  nothing is searched then, since one goal is enough. Where no proof file answers the goal, the edit may bring its answer, written as
+  there: 'goal: GOAL c = search rules'. An edit that breaks no such answer is tried once more, with all searches;
+- 'function: PATH', below the crate, names the function that refuses an edit of a definition, a type or a constant.
 
 A crate is checked without an edit first, and must be proved. What that check kept is where the others begin. Where a gate has proved
-the crate from nothing, that is the check without an edit, and the others begin with nothing kept; where it says that an earlier run
-proved the same files, the crate is checked here. Then all edits of bodies are put into one copy of the crate, and the functions that
-they are in are checked together, with what they call and nothing that calls them. There is another round for methods of `impl` blocks
-of traits, and where two edits touch one function or one text; an edit of anything but the body of a function is tried alone: that of a
-constant on the first function that names it, then on all of them; any other on the laws, then on the functions of its module too; and
-what they do not refuse on the whole crate. An edit is refused where the check names a goal inside the edited function that is not
-proved. That the function calls, or waits for, one that is not proved does not count, nor that a proof file misses a name. A goal may
-also fail since it needs an `impl` block that is not proved for another edit: such an edit is tried again without those that are
-settled. What is still in doubt is tried alone, as is an edit whose goal stands in a proof file where more than one function may have
-it. A function that fails by goals of its own without an edit in it is a fault.
+the crate from nothing, that is the check without an edit, and the others begin with what the gate kept of it, or else with nothing;
+where it says that an earlier run proved the same files, the crate is checked here. What was kept makes no goal fail: the check takes
+from it what is proved of the same texts, and proves the rest. Answers that edits bring must hold in a copy of the crate with no edit.
+
+Then all edits of bodies are put into one copy, and the functions that they are in are checked together, with what they call and nothing
+that calls them. An edit of the contract of a function that nothing else names, as of a law, is tried with those of bodies, since it
+changes that function alone. The next round has those that touch a function or a text which one of the first touches, and those in
+doubt: a goal may fail since it needs an `impl` block that is not proved for another edit. What a round does not settle is tried alone,
+as is an edit whose goal stands in a proof file where more than one function may have it, and any edit of anything else: on the function
+that it names, then that of a constant on the first function that names it and on all of them, any other on the laws and on the
+functions of its module too, and at last on the whole crate.
+
+An edit is refused where the check names a goal inside the edited function that is not proved. That the function calls, or waits for,
+one that is not proved does not count, nor that a proof file misses a name. A function that fails by goals of its own without an edit in
+it is a fault.
 
 The libraries below a crate are taken from the tree FOLDER, where `rt ci` or `rt lib` left them; without --built they are proved here
 first. With --gate the gate `rt ci` is at work in FOLDER and writes LOG, and makes a file of LOG's name with the ending .status when it
 ends: a crate waits until LOG says that it is proved, is not tried where the gate does not prove it, and half of the processors are left
 to the gate. N crates are tried side by side, by default one a processor. While edits are written, --kept begins over what `rt check`
 kept in the crate's folder, and --only takes the edits of these names alone. A line for each edit names the crate, the edit, and the
-goal that refused it or why it was not refused. The last line is 'N refused, M not'.
+goal that refused it or why it was not refused; with --times, a line for each check says what it took of a processor. The last line is
+'N refused, M not'.
 """
 import argparse
 import collections
 import concurrent.futures
-import contextlib
 import os
 import pathlib
 import re
@@ -58,6 +65,14 @@ MISSES_NAME = re.compile(r"has no field|is not in scope|has no `|was not admitte
 UNSEARCHED = "#[tactic(none)]"
 # A line that declares a constant.
 CONSTANT = re.compile(r"(?:pub(?:\([\w:]+\))? )?const (\w+)")
+# The modules of what an edit's answer names.
+MEANT = {
+    "rules": "Rattle.std.proofs.Common",
+    "arith": "Rattle.std.proofs.Common",
+    "common_steps": "Rattle.std.proofs.lemmas.Grind",
+}
+# The goal that an edit names, and the answer that it brings.
+NAMED_GOAL = re.compile(r"goal: (\S+)((?: [^=]*)?= .*)?")
 # A line on which a function begins, with its indentation.
 HEAD = re.compile(r"( *)(?:pub(?:\([\w:]+\))? |default |const |final |unsafe |extern \"C\" )*fn (\w+)")
 
@@ -71,12 +86,13 @@ class BadEdit(Exception):
 
 
 class Edit:
-    """A named edit of a crate: the lines that it changes, and the functions whose bodies it changes, if it changes nothing else; and the
-    answered goal that it breaks, where it names one."""
+    """A named edit of a crate: the lines that it changes, and the functions which it changes, if it changes nothing else; the answered
+    goal that it breaks, with its answer where the edit brings it, and the function that refuses it, where it names them."""
 
     def __init__(self, name, changes, group):
-        self.name, self.changes, self.group, self.goal = name, changes, group, None
-        self.lines, self.places, self.is_of_bodies = {}, set(), True
+        self.name, self.changes, self.group = name, changes, group
+        self.goal = self.answer = self.function = None
+        self.lines, self.places, self.is_of_functions = {}, set(), True
 
     def locate(self, texts):
         """Finds which lines of the crate's texts become which, and where they stand."""
@@ -87,8 +103,12 @@ class Edit:
             for number, line in enumerate(text.split("\n")):
                 if line != before[number]:
                     self.lines[file, number] = line
-                    self.place(file, before, number, line)
-        self.is_of_bodies = self.is_of_bodies and bool(self.places)
+                    self.place(texts, file, number, line)
+        self.is_of_functions = self.is_of_functions and bool(self.places)
+        if self.function and not self.is_of_functions:
+            self.places = set(places_named(self.function, texts))
+            if not self.places:
+                raise BadEdit(f"there is no function {self.function}")
 
     def applied(self, texts):
         """The texts of the files that it changes, as it leaves them."""
@@ -102,9 +122,10 @@ class Edit:
             edited[change.file] = text.replace(change.old, change.new)
         return edited
 
-    def place(self, file, before, number, line):
-        """Notes the function whose body a changed line is in. An import beside it is no other place."""
-        place = function_at(file, before, number)
+    def place(self, texts, file, number, line):
+        """Notes the function that a changed line is of. An import beside it is no other place."""
+        before = texts[file].split("\n")
+        place = function_at(file, before, number) or contract_at(texts, file, number)
         if place:
             self.places.add(place)
         elif HEAD.match(before[number]) and "{" in line:
@@ -112,11 +133,13 @@ class Edit:
             block = block_of(before, number)
             self.places.add(Place(file, number + 1, number + 1, number + 1, HEAD.match(line)[2], owner_of(block), words_of(block)))
         elif not re.match(r"(pub |ghost )?use ", before[number]):
-            self.is_of_bodies = False
+            self.is_of_functions = False
 
-    def is_of_blocks(self):
-        """Whether it changes a method of an `impl` block of a trait."""
-        return any(len(it.owner) > 1 for it in self.places)
+    def without_change(self):
+        """The edit's functions and its goal, with nothing changed."""
+        same = Edit(self.name, [], self.group)
+        same.goal, same.places = self.goal, self.places
+        return same
 
     def overlaps(self, other):
         """Whether both change the same function or the same line."""
@@ -128,6 +151,31 @@ def function_at(file, lines, number):
     places = (place_of(file, lines, first) for first in range(number + 1 if file.endswith(".rt") else 0))
     found = [it for it in places if it and number < it.last]
     return found[-1] if found and number + 1 >= found[-1].body else None
+
+
+def contract_at(texts, file, number):
+    """The free function in whose contract a line is, if neither code nor proofs of others name that function; or else None."""
+    lines = texts[file].split("\n")
+    heads = range(number + 1 if file.endswith(".rt") else 0)
+    place = next((it for it in (place_of(file, lines, at) for at in reversed(heads)) if it), None)
+    if not place or place.owner or not number + 1 < place.body:
+        return None
+    own = "/".join(["proofs", *module_of(file), place.name, ""])
+    is_its = lambda path, at: path.startswith(own) or path == file and place.first <= at + 1 <= place.last
+    name = re.compile(rf"\b{place.name}\b")
+    naming = (path for path, text in texts.items() for at, it in enumerate(text.split("\n")) if name.search(it) and not is_its(path, at))
+    return None if any(naming) else place
+
+
+def places_in(file, text):
+    """The places of the functions of a file."""
+    lines = text.split("\n") if file.endswith(".rt") else []
+    return filter(None, (place_of(file, lines, it) for it in range(len(lines))))
+
+
+def places_named(path, texts):
+    """The places of the function of a path below the crate."""
+    return [it for file, text in texts.items() for it in places_in(file, text) if is_of(f"::{path}", it)]
 
 
 def place_of(file, lines, first):
@@ -240,8 +288,10 @@ def edits_of(folder):
             if line.startswith("name: "):
                 changes = []
                 edits.append(Edit(line[len("name: ") :].strip(), changes, path.stem))
-            elif line.startswith("goal: "):
-                edits[-1].goal = line[len("goal: ") :].strip()
+            elif goal := NAMED_GOAL.fullmatch(line):
+                edits[-1].goal, edits[-1].answer = goal[1], goal[2]
+            elif line.startswith("function: "):
+                edits[-1].function = line[len("function: ") :].strip()
             elif line.startswith("file: "):
                 file = line[len("file: ") :].strip()
             elif line.startswith("old: "):
@@ -252,25 +302,20 @@ def edits_of(folder):
     return edits
 
 
-def rounds_of(edits):
-    """The edits in rounds, in each of which no two touch the same function or text, and all or none are of blocks of traits."""
-    rounds = []
+def tried_together(edits):
+    """The first of the edits of functions, and with it each that touches no function or text which one before it touches."""
+    taken = []
     for edit in edits:
-        if not edit.is_of_bodies:
-            continue
-        fits = lambda it: it[0].is_of_blocks() == edit.is_of_blocks() and not any(edit.overlaps(other) for other in it)
-        fitting = next(filter(fits, rounds), None)
-        if fitting is None:
-            rounds.append(fitting := [])
-        fitting.append(edit)
-    return rounds + [[it] for it in edits if not it.is_of_bodies]
+        if edit.is_of_functions and not any(edit.overlaps(it) for it in taken):
+            taken.append(edit)
+    return taken
 
 
 class Verdict:
     """What a check says: whether the crate is proved, each goal that is left with its function, and what only misses a name."""
 
-    def __init__(self, said):
-        self.said = said
+    def __init__(self, said, seconds=0):
+        self.said, self.seconds = said, seconds
         self.goals, self.nameless, self.doubtful, self.functions = [], [], set(), []
         blocks, open_goals = set(BLOCK.findall(said)), []
         answers = collections.defaultdict(list)
@@ -305,6 +350,10 @@ class Verdict:
         """The first goal in a function that the edit changes; or, by the answer alone, the goal that the edit names."""
         is_its = lambda it: not by_answer or it.file is None and it.text.startswith(f"`{edit.goal}`:")
         return next((it for it in self.goals if is_inside(it, edit.places) and is_its(it)), None)
+
+    def has_no_fault_in(self, file):
+        """Whether the check finds no fault in a file."""
+        return not re.search(rf"^(?:\./)?{re.escape(file)}:.*error", self.said, re.M)
 
     def strays(self, edits):
         """The goals in functions that none of the edits changes, and that need no block which is not proved."""
@@ -341,33 +390,50 @@ class Crate:
     def is_text(self, path):
         return path.suffix in (".rt", ".antt") and path.relative_to(self.folder).parts[0] in ("src", "specs", "proofs")
 
-    def count_rounds(self):
-        """How many rounds its edits take, without those that cannot be applied."""
-        sound = []
-        for edit in edits_of(self.folder):
-            with contextlib.suppress(BadEdit):
-                edit.locate(self.texts)
-                sound.append(edit)
-        return len(rounds_of(sound))
+    def kept_at(self, folder):
+        """Where checks of this crate have kept their work in a tree."""
+        return folder / "crates" / self.name / "out/incremental"
 
-    def check(self, edits, kept, functions=(), by_answers=False):
+    def check(self, edits, kept, functions=(), by_answers=False, answers=()):
         """Checks a copy of the crate with the edits, over what earlier checks kept: all of it, or these functions and what they call. By
-        answers, nothing is searched of the functions of edits that name a goal."""
+        answers, nothing is searched of the functions of edits that name a goal. The answers are proof files that this check has."""
         only = [word for it in functions for word in ("--only", it.partition("::")[2])]
-        texts = {file: text.split("\n") for file, text in self.texts.items()}
+        texts = {file: text.split("\n") for file, text in {**self.texts, **dict(answers)}.items()}
         for edit in edits:
             for (file, number), line in edit.lines.items():
                 texts[file][number] = line
-            for place in edit.places if by_answers and edit.goal else ():
-                leave_unsearched(texts[place.file], place)
+        for place in {place for edit in edits if by_answers and edit.goal for place in edit.places}:
+            leave_unsearched(texts[place.file], place)
         with tempfile.TemporaryDirectory(prefix="wrong-bodies-") as room:
             for file, text in texts.items():
                 path = pathlib.Path(room, file)
                 path.parent.mkdir(parents=True, exist_ok=True)
                 path.write_text("\n".join(text))
             how = {"cwd": room, "stdin": subprocess.DEVNULL, "stdout": subprocess.PIPE, "stderr": subprocess.STDOUT}
-            ran = subprocess.run([*self.command, "--incremental", kept, *only], text=True, errors="replace", **how)
-        return Verdict(ran.stdout)
+            with subprocess.Popen([*self.command, "--incremental", kept, *only], text=True, errors="replace", **how) as ran:
+                said = ran.stdout.read()
+                _, status, usage = os.wait4(ran.pid, 0)
+                ran.returncode = os.waitstatus_to_exitcode(status)
+        return Verdict(said, usage.ru_utime + usage.ru_stime)
+
+    def proof_file(self, function):
+        """The file in which the goals of a function are answered."""
+        path = "/".join(function.split("::")[1:])
+        folders = (it.rpartition("/")[0] for it in self.texts if it.startswith("proofs/"))
+        folder = next((it for it in folders if re.sub(r"(^|/)\+", r"\1", it) == f"proofs/{path}"), f"proofs/{path}")
+        return f"{folder}/Answers.antt"
+
+    def with_answers(self, answers):
+        """The proof files with more answers, each given by its function, its goal and what stands behind the goal's name."""
+        files = {}
+        for function, goal, answer in answers:
+            file = self.proof_file(function)
+            path = file.removesuffix("/Answers.antt").replace("/", ".")
+            before = files.get(file, self.texts.get(file, f"use Rattle.{self.name}.{path}.Goals as goal\n"))
+            if f"pub {goal} :" not in before:
+                uses = [f"use {module}.{{{name}}}\n" for name, module in MEANT.items() if is_named(name, answer) and not is_named(name, before)]
+                files[file] = f"{''.join(uses)}{before}\npub {goal} : goal.{goal}\n{goal}{answer}\n"
+        return files
 
 
 class Gate:
@@ -422,6 +488,29 @@ def libraries_below(name, uses):
     return found
 
 
+def is_named(name, text):
+    """Whether a text has a name."""
+    return re.search(rf"(?<![\w.-]){re.escape(name)}(?![\w-])", text) is not None
+
+
+def with_one_answer(text, goal):
+    """A proof file without the answers to other goals than this one, but for those which it names."""
+    parts = re.split(r"\n\n(?=\S)", text.rstrip("\n"))
+    others = {it: found[1] for it in parts if (found := re.match(r"(?:--.*\n)*pub (\S+) :\s+goal\.\1\b", it)) and found[1] != goal}
+    kept = [it for it in parts if it not in others]
+    while more := [it for it in others if it not in kept and any(is_named(others[it], other) for other in kept)]:
+        kept += more
+    return "\n\n".join(it for it in parts if it in kept) + "\n"
+
+
+def linked(source, target):
+    """Gives a file a second place, or a copy of it where that place is on another disk."""
+    try:
+        os.link(source, target)
+    except OSError:
+        shutil.copy2(source, target)
+
+
 def told(goal):
     place = f" at {goal.file}:{goal.line}" if goal.file else ""
     return f"{goal.function}{place}: {goal.text[:160]}"
@@ -442,8 +531,9 @@ def why_not(edit, verdict):
 class Trial:
     """The trial of a crate's edits: prints a line for each, and counts them."""
 
-    def __init__(self, crate, printing, names, is_over_kept, gate):
-        self.crate, self.printing, self.names, self.is_over_kept, self.gate = crate, printing, names, is_over_kept, gate
+    def __init__(self, crate, printing, asked):
+        self.crate, self.printing, self.asked = crate, printing, asked
+        self.functions, self.answers = [], {}
         self.refused = self.failed = 0
 
     def say(self, text, is_refused):
@@ -454,7 +544,7 @@ class Trial:
     def judge(self, edit, verdict, is_alone):
         """Says that an edit is refused, and by which goal; returns whether it is."""
         goal = verdict.refusal_of(edit, bool(edit.goal) and not is_alone)
-        if goal is None and not edit.is_of_bodies and verdict.goals:
+        if goal is None and is_alone and not edit.is_of_functions and verdict.goals:
             goal = verdict.goals[0]
         if goal is None or not verdict.is_refused:
             return False
@@ -467,8 +557,28 @@ class Trial:
         """Whether a goal that a proof file has, and so no line tells where it is, may be one of another function of that name."""
         return goal.file is None and sum(is_of(it, place) for place in edit.places for it in self.functions) > 1
 
+    def is_in_doubt(self, edit, verdict):
+        """Whether goals of an edit's functions may fail for an `impl` block that another edit makes wrong."""
+        return any(is_of(it, place) for it in verdict.doubtful for place in edit.places)
+
     def run(self):
         """Tries all edits of the crate; the work that is kept goes from one check to the next."""
+        sound = self.sound_edits()
+        with tempfile.TemporaryDirectory(prefix="wrong-bodies-kept-") as kept:
+            self.begin(kept)
+            self.functions = self.functions_without_edit(kept)
+            if not self.functions:
+                self.say("is not proved without an edit", False)
+                return self
+            sound = self.with_sure_answers(sound, kept)
+            self.try_together([it for it in sound if it.is_of_functions], kept)
+            for edit in sound:
+                if not edit.is_of_functions:
+                    self.try_alone(edit, kept)
+        return self
+
+    def sound_edits(self):
+        """The edits that are asked for and can be applied; names the others."""
         sound, names, above = [], collections.Counter(), collections.defaultdict(dict)
         for edit in edits_of(self.crate.folder):
             names[edit.name] += 1
@@ -480,29 +590,63 @@ class Trial:
                 sound.append(edit)
             except BadEdit as why:
                 self.say(f"{edit.name}: BAD EDIT: {why}", False)
-        sound = [it for it in sound if not self.names or it.name in self.names]
-        with tempfile.TemporaryDirectory(prefix="wrong-bodies-kept-") as kept:
-            if self.is_over_kept:
-                shutil.copytree(self.crate.folder / "out/incremental", kept, copy_function=os.link, dirs_exist_ok=True)
-            self.functions = self.functions_without_edit(kept)
-            if not self.functions:
-                self.say("is not proved without an edit", False)
-                return self
-            for edits in rounds_of(sound):
-                self.run_round(edits, kept)
-        return self
+        return [it for it in sound if not self.asked.only or it.name in self.asked.only]
+
+    def begin(self, kept):
+        """Begins over what checks of the crate without an edit have kept, in its own folder or where it was built, if anything."""
+        trees = [ROOT] * self.asked.kept + [self.asked.built] * bool(self.asked.built)
+        found = next((it for it in map(self.crate.kept_at, trees) if it.is_dir()), None)
+        if found:
+            shutil.copytree(found, kept, copy_function=linked, dirs_exist_ok=True)
 
     def functions_without_edit(self, kept):
         """The crate's functions, all proved without an edit: by the gate, or here. None where one is not."""
-        if self.gate and not self.gate.keeps(self.crate):
-            return self.gate.functions_of(self.crate)
-        clean = self.crate.check([], kept)
+        gate = self.asked.gate
+        if gate and not gate.keeps(self.crate):
+            return gate.functions_of(self.crate)
+        clean = self.timed([], kept)
         return clean.functions if clean.is_proved else None
 
-    def check(self, edits, kept, by_answers=False):
-        """Checks the functions that the edits of bodies are in."""
-        functions = {it for edit in edits for place in edit.places for it in self.named_at(place)}
-        return self.crate.check(edits, kept, sorted(functions), by_answers)
+    def with_sure_answers(self, edits, kept):
+        """The edits without those whose own answers do not hold in the crate as it is, which it names."""
+        asked = [it for it in edits if it.answer]
+        if not asked:
+            return edits
+        answers = self.crate.with_answers((function, it.goal, it.answer) for it in asked for function in self.functions_of(it))
+        functions = sorted({function for it in asked for function in self.functions_of(it)})
+        verdict = self.timed([it.without_change() for it in asked], kept, functions, True, answers)
+        self.answers = {file: text for file, text in answers.items() if verdict.has_no_fault_in(file)}
+        lost = [it for it in asked if any(self.crate.proof_file(function) not in self.answers for function in self.functions_of(it))]
+        for edit in lost:
+            self.say(f"{edit.name}: NOT TRIED: its own answer does not hold without it", False)
+        return [it for it in edits if it not in lost]
+
+    def timed(self, edits, kept, functions=(), by_answers=False, answers=None):
+        """Checks the crate with the edits and their own answers, and says what that took where times are asked for. By answers, nothing
+        but the goal that an edit names is answered of its functions."""
+        texts, files = {**self.crate.texts, **(answers or self.answers)}, {}
+        for edit in edits:
+            for file in {self.crate.proof_file(it) for it in self.functions_of(edit)} & texts.keys():
+                files[file] = with_one_answer(texts[file], edit.goal) if by_answers and edit.goal else texts[file]
+        verdict = self.crate.check(edits, kept, functions, by_answers, files)
+        if self.asked.times:
+            tried = ", ".join(it.name for it in edits[:1]) + f" and {len(edits) - 1} more" * (len(edits) > 1)
+            how = f"{len(functions) or 'all'} functions by {'answers' if by_answers else 'searches'}"
+            with self.printing:
+                print(f"time: {self.crate.name} {verdict.seconds:.0f} s, {how}: {tried or 'no edit'}", flush=True)
+        return verdict
+
+    def functions_of(self, edit):
+        """The functions that an edit is in, or that it names."""
+        return sorted({it for place in edit.places for it in self.named_at(place)})
+
+    def lists_of(self, edit):
+        """Lists of functions that refuse an edit or are likely to, in the order in which they are tried. No function stands for all."""
+        own = self.functions_of(edit)
+        if edit.is_of_functions and own:
+            return [own]
+        lists = [it for it in [own, *self.likely(edit)] if it]
+        return [it for number, it in enumerate(lists) if it not in lists[:number]] + [[]]
 
     def likely(self, edit):
         """Lists of functions that an edit of anything but a body is likely to be seen in, those that are checked soonest first."""
@@ -510,8 +654,7 @@ class Trial:
         users = sorted({it for name in constants for it in self.users_of(name)})
         laws = self.of_modules([["laws"]])
         beside = self.of_modules([["laws"], *(module_of(file) for file, _ in edit.lines if file.endswith(".rt"))])
-        lists = [users[:1], users] if users else [laws, beside]
-        return [it for number, it in enumerate(lists) if it and it not in lists[:number]]
+        return [users[:1], users] if users else [laws, beside]
 
     def users_of(self, constant):
         """The functions in whose bodies a constant is named."""
@@ -531,20 +674,33 @@ class Trial:
         of_module = [it for it in named if is_of(it, place)]
         return of_module or [it for it in named if all(owner in it.split("::")[-2] for owner in place.owner)] or named
 
-    def run_round(self, edits, kept):
-        """Tries edits together, then again those that are in doubt as long as that settles some, and the rest alone."""
-        left, tried = edits, None
-        while left and left != tried and (len(left) > 1 or left[0].goal and left[0].is_of_bodies):
-            verdict, tried = self.check(left, kept, True), left
-            for goal in verdict.strays(left):
+    def try_together(self, edits, kept):
+        """Tries edits of functions in rounds. What is in doubt goes into the next one, as long as a round settles anything."""
+        left, alone = edits, []
+        while left:
+            tried = tried_together(left)
+            verdict = self.timed(tried, kept, sorted({name for it in tried for name in self.functions_of(it)}), True)
+            for goal in verdict.strays(tried):
                 self.say(f"no edit: a function without one fails, {told(goal)}", False)
-            left = [it for it in left if not self.judge(it, verdict, False)]
-        for edit in left:
-            verdicts = [self.check([edit], kept)] if edit.is_of_bodies else (self.crate.check([edit], kept, it) for it in self.likely(edit))
-            if not any(self.judge(edit, it, True) for it in verdicts):
-                alone = self.crate.check([edit], kept)
-                if not self.judge(edit, alone, True):
-                    self.say(f"{edit.name}: {why_not(edit, alone)}", False)
+            still = [it for it in tried if not self.judge(it, verdict, False)]
+            again = [it for it in still if len(still) < len(tried) and self.is_in_doubt(it, verdict)]
+            alone += [it for it in still if it not in again]
+            left = [it for it in left if it not in tried] + again
+        for edit in alone:
+            self.try_alone(edit, kept)
+
+    def try_alone(self, edit, kept):
+        """Tries an edit with no other: by the answer to the goal that it names, then by searches, at last on the whole crate."""
+        lists = self.lists_of(edit)
+        if edit.goal and edit.places:
+            verdict = self.timed([edit], kept, lists[0], True)
+            if verdict.is_refused and (goal := verdict.refusal_of(edit, True)) and not self.may_be_of_another(edit, goal):
+                return self.say(f"{edit.name}: refused, {told(goal)}", True)
+        for functions in lists:
+            verdict = self.timed([edit], kept, functions)
+            if self.judge(edit, verdict, True):
+                return None
+        return self.say(f"{edit.name}: {why_not(edit, verdict)}", False)
 
 
 def lines_of_crates():
@@ -571,26 +727,26 @@ def kit_folder():
 
 
 def main():
-    asked = argparse.ArgumentParser(usage="wrong_bodies.py [--built FOLDER [--gate LOG]] [--jobs N] [--kept] [--only NAME,..] [CRATE..]")
-    asked.add_argument("--built", type=pathlib.Path)
+    usage = "wrong_bodies.py [--built FOLDER [--gate LOG]] [--jobs N] [--kept] [--times] [--only NAME,..] [CRATE..]"
+    asked = argparse.ArgumentParser(usage=usage)
+    asked.add_argument("--built", type=lambda folder: pathlib.Path(folder).resolve())
     asked.add_argument("--gate", type=lambda log: Gate(pathlib.Path(log)))
     asked.add_argument("--jobs", type=int, default=len(os.sched_getaffinity(0)))
     asked.add_argument("--kept", action="store_true")
-    asked.add_argument("--only", default="")
+    asked.add_argument("--times", action="store_true")
+    asked.add_argument("--only", type=lambda names: set(names.split(",")), default=set())
     asked.add_argument("crates", nargs="*")
     asked = asked.parse_args()
     uses = uses_of_crates()
     names = asked.crates or [it for it in uses if (ROOT / "crates" / it / "must-fail").is_dir()]
-    built = asked.built.resolve() if asked.built else ROOT
     if not asked.built:
         for it in dict.fromkeys(below for name in names for below in libraries_below(name, uses)):
             subprocess.run(["rt", "lib"], cwd=ROOT / "crates" / it, check=True, stdout=subprocess.DEVNULL)
     # those that take longest first, so that none is left alone at the end
-    length = lambda it: (it.count_rounds(), sum(map(len, it.texts.values())))
-    crates = sorted((Crate(it, uses, built, kit_folder()) for it in names), key=length, reverse=True)
+    length = lambda it: (len(edits_of(it.folder)), sum(map(len, it.texts.values())))
+    crates = sorted((Crate(it, uses, asked.built or ROOT, kit_folder()) for it in names), key=length, reverse=True)
     printing = threading.Lock()
-    only = set(filter(None, asked.only.split(",")))
-    trials = tried_in_turn(crates, lambda it: Trial(it, printing, only, asked.kept, asked.gate).run(), asked.jobs, asked.gate)
+    trials = tried_in_turn(crates, lambda it: Trial(it, printing, asked).run(), asked.jobs, asked.gate)
     refused, failed = sum(it.refused for it in trials), sum(it.failed for it in trials)
     print(f"{refused} refused, {failed} not")
     return 1 if failed or not refused else 0

@@ -16,7 +16,7 @@ class Checker {
 
   static async load(url) {
     const response = await fetch(url);
-    if (!response.ok) throw new Error(`there is no ${url}, which tools/wasm makes`);
+    if (!response.ok) throw new Error(`there is no ${url}, which the script wasm beside this makes`);
     const { instance } = await WebAssembly.instantiate(await response.arrayBuffer());
     return new Checker(instance.exports);
   }

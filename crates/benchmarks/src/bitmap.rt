@@ -11,7 +11,7 @@ ghost use Rattle.storage_bitmap.specs.Chunks.{IsChunkSize, bit_count};
 
 mod counted;
 
-use anyhow::{Result, bail};
+use crate::columns::{Fault, number};
 use counted::Counted;
 use std::alloc::Global;
 use storage_bitmap::bitmap::authenticated::{
@@ -24,10 +24,19 @@ use storage_merkle::merkle::{Bagging, MAX_LEAVES};
 
 type Digest = FixedBytes<32>;
 
-type Hasher = Counted<Standard<Sha256>>;
+/// The ordinary hasher, which counts what it hashes.
+pub type Hasher = Counted<Standard<Sha256>>;
+
+/// That of an authenticated bitmap whose peaks are folded in this direction, before it hashed anything.
+pub fn hasher(bagging: Bagging) -> Hasher {
+    Counted::new(Standard::new(bagging))
+}
 
 /// The bitmap of no bits, open to changes.
-fn empty<const N: usize>(alloc: Global, hasher: &Hasher) -> Result<UnmerkleizedBitMap<Digest, N>>
+fn empty<const N: usize>(
+    alloc: Global,
+    hasher: &Hasher,
+) -> Result<UnmerkleizedBitMap<Digest, N>, Fault>
     requires { IsChunkSize N }
 {
     let state = PrunedState {
@@ -36,7 +45,7 @@ fn empty<const N: usize>(alloc: Global, hasher: &Hasher) -> Result<UnmerkleizedB
     };
     match BitMap::init(alloc, hasher, state) {
         Ok(bitmap) => Ok(bitmap.into_dirty()),
-        Err(_) => bail!("no bitmap"),
+        Err(error) => Err(Fault::of_tree(&error)),
     }
 }
 
@@ -79,28 +88,28 @@ fn push_all<const N: usize>(bitmap: &mut UnmerkleizedBitMap<Digest, N>, count: u
 fn merkleized<const N: usize>(
     bitmap: UnmerkleizedBitMap<Digest, N>,
     hasher: &Hasher,
-) -> Result<MerkleizedBitMap<Digest, N>> {
+) -> Result<MerkleizedBitMap<Digest, N>, Fault> {
     match bitmap.merkleize(hasher) {
         Ok(bitmap) => Ok(bitmap),
-        Err(_) => bail!("no root"),
+        Err(_) => Err(Fault::Memory),
     }
 }
 
 /// The bitmap of `count` bits, of which each fourth one is set, with its root.
-fn pushed<const N: usize>(
+pub fn pushed<const N: usize>(
     alloc: Global,
     hasher: &Hasher,
     count: u64,
-) -> Result<MerkleizedBitMap<Digest, N>>
+) -> Result<MerkleizedBitMap<Digest, N>, Fault>
     requires { IsChunkSize N }
 {
     let mut bitmap = empty(alloc, hasher)?;
     let _root_of_none = hasher.take();
     if bitmap.len().saturating_add(count) > MAX_LEAVES {
-        bail!("too many bits");
+        return Err(Fault::Malformed);
     }
     if push_all(&mut bitmap, count).is_none() {
-        bail!("not pushed");
+        return Err(Fault::Memory);
     }
     merkleized(bitmap, hasher)
 }
@@ -110,14 +119,14 @@ fn turned<const N: usize>(
     bitmap: MerkleizedBitMap<Digest, N>,
     hasher: &Hasher,
     bit: u64,
-) -> Result<MerkleizedBitMap<Digest, N>> {
+) -> Result<MerkleizedBitMap<Digest, N>, Fault> {
     let mut bitmap = bitmap.into_dirty();
     if bit < bitmap.pruned_bits() || bit >= bitmap.len() {
-        bail!("no such bit");
+        return Err(Fault::Malformed);
     }
     let value = bitmap.get_bit(bit);
     if bitmap.set_bit(bit, !value).is_err() {
-        bail!("not turned");
+        return Err(Fault::Memory);
     }
     merkleized(bitmap, hasher)
 }
@@ -129,7 +138,7 @@ fn all_turned<const N: usize>(
     hasher: &Hasher,
     count: u64,
     turns: u64,
-) -> Result<(Digest, u64)> {
+) -> Result<(Digest, u64), Fault> {
     let mut most = 0;
     for turn in 0..turns {
         bitmap = turned(bitmap, hasher, count / turns * turn)?;
@@ -139,10 +148,10 @@ fn all_turned<const N: usize>(
 }
 
 /// The lines to print for chunks of `N` bytes, `count` bits and `turns` turned ones.
-fn report<const N: usize>(alloc: Global, count: u64, turns: u64) -> Result<String>
+fn report<const N: usize>(alloc: Global, count: u64, turns: u64) -> Result<String, Fault>
     requires { IsChunkSize N }
 {
-    let hasher = Counted::new(Standard::new(Bagging::ForwardFold));
+    let hasher = hasher(Bagging::ForwardFold);
     let bitmap = pushed::<N>(alloc, &hasher, count)?;
     let whole = hasher.take();
     let (root, most) = all_turned(bitmap, &hasher, count, turns)?;
@@ -150,23 +159,17 @@ fn report<const N: usize>(alloc: Global, count: u64, turns: u64) -> Result<Strin
     Ok(format!(in alloc; "{root}\nhashed for all: {whole}\nhashed for one bit: {most}")?)
 }
 
-/// The same for chunks of so many bytes as `size` says.
-fn of_size(alloc: Global, size: &str, count: u64, turns: u64) -> Result<String> {
-    match size {
+/// The lines to print for `words`: the size of a chunk, how many bits there are, and how many of them are turned.
+pub fn reply(alloc: Global, words: &[&str]) -> Result<String, Fault> {
+    let [size, count, turns] = words else {
+        return Err(Fault::Malformed);
+    };
+    let (count, turns) = (number(*count)?, number(*turns)?);
+    match *size {
         "1" => report::<1>(alloc, count, turns),
         "4" => report::<4>(alloc, count, turns),
         "16" => report::<16>(alloc, count, turns),
         "32" => report::<32>(alloc, count, turns),
-        _ => bail!("a chunk has 1, 4, 16 or 32 bytes"),
+        _ => Err(Fault::Malformed),
     }
-}
-
-/// The lines to print for `words`: the size of a chunk, how many bits there are, and how many of them are turned.
-pub fn reply(alloc: Global, words: &[&str]) -> Result<String> {
-    let [size, count, turns] = words else {
-        bail!("the size of a chunk, how many bits, and how many of them are turned");
-    };
-    let count = count.parse::<u64>()?;
-    let turns = turns.parse::<u64>()?;
-    of_size(alloc, *size, count, turns)
 }

@@ -4,7 +4,7 @@
 //!
 //! The answer is the value of the last key, or with `commit` the canonical root.
 
-use anyhow::{Result, bail};
+use crate::columns::Fault;
 use commonware_storage::codec::FixedBytes;
 use commonware_storage::db::Ordered;
 use commonware_storage::digest::Sha256;
@@ -21,50 +21,47 @@ fn key(index: u32) -> FixedBytes<4> {
     }
 }
 
-/// The database in which each of `count` keys has its number as its value.
-fn filled(alloc: Global, count: u32) -> Result<Database> {
-    let mut database = Database::new(alloc);
+/// Gives each of `count` keys its number as its value.
+fn fill(database: &mut Database, count: u32) -> Result<(), Fault> {
     for index in 0..count {
         if database.put(key(index), u64::from(index)).is_err() {
-            bail!("not put");
+            return Err(Fault::Memory);
         }
     }
-    Ok(database)
-}
-
-/// The value of the key number `index`.
-fn value(alloc: Global, database: &Database, index: u32) -> Result<String> {
-    match database.get(&key(index)) {
-        Some(value) => Ok(format!(in alloc; "{value}")?),
-        None => bail!("no value"),
-    }
+    Ok(())
 }
 
 /// The canonical root after a commit.
-fn root(alloc: Global, database: &mut Database) -> Result<String> {
+fn root(alloc: Global, database: &mut Database) -> Result<String, Fault> {
     if database.commit(None).is_err() {
-        bail!("not committed");
+        return Err(Fault::Memory);
     }
     match database.root() {
         Some(root) => Ok(hex::encode(alloc, root.bytes)?),
-        None => bail!("no root"),
+        None => Err(Fault::Malformed),
     }
 }
 
-/// The line to print for `count` keys.
-fn report(alloc: Global, work: &str, count: u32) -> Result<String> {
-    let mut database = filled(alloc, count)?;
-    match work {
-        "put" => value(alloc, &database, count.saturating_sub(1)),
-        "commit" => root(alloc, &mut database),
-        _ => bail!("put or commit"),
+/// The line to print of `database`, after `count` keys are put into it.
+fn told(alloc: Global, database: &mut Database, work: &str, count: u32) -> Result<String, Fault> {
+    fill(database, count)?;
+    if work == "commit" {
+        return root(alloc, database);
+    }
+    match database.get(&key(count.saturating_sub(1))) {
+        Some(value) => Ok(format!(in alloc; "{value}")?),
+        None => Err(Fault::Malformed),
     }
 }
 
 /// The line to print for `words`: what is done, and how many keys are put.
-pub fn reply(alloc: Global, words: &[&str]) -> Result<String> {
+pub fn reply(alloc: Global, words: &[&str]) -> Result<String, Fault> {
     let [work, count] = words else {
-        bail!("put or commit, and how many keys");
+        return Err(Fault::Malformed);
     };
-    report(alloc, *work, count.parse::<u32>()?)
+    let Ok(count) = count.parse::<u32>() else {
+        return Err(Fault::Malformed);
+    };
+    let mut database = Database::new(alloc);
+    told(alloc, &mut database, *work, count)
 }

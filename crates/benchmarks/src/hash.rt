@@ -3,7 +3,7 @@
 //! that length or filled up with zeros. The answer is the last digest. The hashes are SHA-256, but SHA-512 where `sha512` is the
 //! first word.
 
-use anyhow::{Result, bail};
+use crate::columns::{Fault, number};
 use std::alloc::Global;
 use storage_codec::digest::{Digest, Hasher, Sha256, Sha512};
 
@@ -21,7 +21,7 @@ fn hashed<H: Hasher>(
     first: H::Digest,
     count: u64,
     length: usize,
-) -> Result<H::Digest> {
+) -> Result<H::Digest, Fault> {
     let mut string = vec![in alloc; 0u8; length]?;
     let mut digest = first;
     for _ in 0..count {
@@ -31,23 +31,22 @@ fn hashed<H: Hasher>(
 }
 
 /// The last digest of all `pairs`, in hexadecimal.
-fn report<H: Hasher>(alloc: Global, pairs: &[&str]) -> Result<String> {
+fn report<H: Hasher>(alloc: Global, pairs: &[&str]) -> Result<String, Fault> {
     let mut digest = H::fill(0);
     for pair in pairs.chunks(2) {
         let [count, length] = pair else {
-            bail!("a count without a length");
+            return Err(Fault::Malformed);
         };
-        let count = count.parse::<u64>()?;
-        let length = length.parse::<usize>()?;
-        digest = hashed::<H>(alloc, digest, count, length)?;
+        let (count, length) = (number(*count)?, number(*length)?);
+        digest = hashed::<H>(alloc, digest, count, length as usize)?;
     }
     Ok(hex::encode(alloc, digest.bytes())?)
 }
 
 /// The line to print for `words`: the pairs, and before them the digest function if it is not SHA-256.
-pub fn reply(alloc: Global, words: &[&str]) -> Result<String> {
+pub fn reply(alloc: Global, words: &[&str]) -> Result<String, Fault> {
     match words {
-        [] => bail!("pairs of a count and a length"),
+        [] => Err(Fault::Malformed),
         ["sha512", pairs @ ..] => report::<Sha512>(alloc, pairs),
         pairs => report::<Sha256>(alloc, pairs),
     }

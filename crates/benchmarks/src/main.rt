@@ -1,31 +1,43 @@
-//! Measured work. Each line of standard input is one piece of it: the name of one of the modules, and the words that say more. The
-//! work is done before the next line is read; for each line the program prints what the work answers.
+//! Long work: what is measured, and checks of what is altered or said to be something else. Each line of standard input is one piece of
+//! it: the name of measured work and the words that say more, or the name of a row and a colon, and a case of it. The work is done before
+//! the next line is read; for each line the program prints what the work answers.
 #![tactic(auto)]
 
 mod bitmap;
-mod check;
+mod cases;
+mod columns;
 mod database;
 mod hash;
 mod snapshot;
 
-use anyhow::{Result, bail};
-use std::alloc::Global;
-use std::io::{self, BufRead, BufReader, BufWriter, Write};
+use columns::Fault;
+use std::alloc::{AllocError, Global};
+use std::io::{self, BufRead, BufReader, BufWriter, ErrorKind, Write};
 
-/// The lines to print for `line`, a line of the input.
-fn reply(alloc: Global, line: &str) -> Result<String> {
-    let words: Vec<&str> = line.split(' ').collect(alloc)?;
-    match words.as_slice() {
+/// What the work of `words` answers.
+fn answer(alloc: Global, words: &[&str]) -> Result<String, Fault> {
+    match words {
         ["hash", words @ ..] => hash::reply(alloc, words),
         ["bitmap", words @ ..] => bitmap::reply(alloc, words),
         ["snapshot", words @ ..] => snapshot::reply(alloc, words),
         ["database", words @ ..] => database::reply(alloc, words),
-        ["check", words @ ..] => check::reply(alloc, words),
-        _ => bail!("no such work"),
+        ["check", words @ ..] => cases::check(alloc, words),
+        [row, words @ ..] => cases::reply(alloc, *row, words),
+        [] => Err(Fault::Malformed),
     }
 }
 
-fn main(rt: HostRuntime) -> Result<()> {
+/// The lines to print for `line`, a line of the input.
+fn reply(alloc: Global, line: &str) -> io::Result<String> {
+    let words: Vec<&str> = line.split(' ').collect(alloc)?;
+    match answer(alloc, &words) {
+        Ok(answer) => Ok(answer),
+        Err(Fault::Malformed) => Err(io::Error::from(ErrorKind::InvalidInput)),
+        Err(Fault::Memory) => Err(io::Error::from(AllocError)),
+    }
+}
+
+fn main(rt: HostRuntime) -> io::Result<()> {
     let mut out = BufWriter::new(rt.alloc(), io::writer(&rt))?;
     for line in BufReader::new(rt.alloc(), rt.reader())?.lines(rt.alloc()) {
         let line = line?;
@@ -33,6 +45,5 @@ fn main(rt: HostRuntime) -> Result<()> {
         out.write_all(answer.as_bytes())?;
         out.write_all(b"\n")?;
     }
-    out.flush()?;
-    Ok(())
+    out.flush()
 }

@@ -4,7 +4,7 @@
 //!
 //! The answer is the canonical root, and with `prove` the bytes of the proof of the last operation.
 
-use anyhow::{Result, bail};
+use crate::columns::{Fault, number};
 use commonware_storage::bitmap::{Prunable, Readable};
 use commonware_storage::codec::Encode;
 use commonware_storage::digest::Sha512;
@@ -18,45 +18,30 @@ use std::alloc::Global;
 const LENGTH: usize = 18;
 
 /// The tree over `count` operations of `length` bytes: the number of each, and a byte that fills it up.
-fn tree(alloc: Global, count: u64, length: usize) -> Result<OperationTree<Family, Sha512>> {
+fn tree(alloc: Global, count: u64, length: usize) -> Result<OperationTree<Family, Sha512>, Fault> {
     let mut operation = vec![in alloc; 0xd2u8; length]?;
     let mut tree = OperationTree::new(alloc);
     for index in 0..count {
         let Some(number) = operation.first_chunk_mut::<8>() else {
-            bail!("an operation has at least 8 bytes");
+            return Err(Fault::Malformed);
         };
         *number = index.to_be_bytes();
         if tree.add(&operation).is_err() {
-            bail!("no tree");
+            return Err(Fault::Memory);
         }
     }
     Ok(tree)
 }
 
 /// `count` bits, of which two in three are set.
-fn bits(alloc: Global, count: u64) -> Result<Prunable<32>> {
+fn bits(alloc: Global, count: u64) -> Result<Prunable<32>, Fault> {
     let mut bits = Prunable::new(alloc);
     for index in 0..count {
-        if bits.len() >= MAX_LEAVES {
-            bail!("too many operations");
+        if bits.len() >= MAX_LEAVES || bits.push(index % 3 < 2).is_err() {
+            return Err(Fault::Memory);
         }
-        bits.push(index % 3 < 2)?;
     }
     Ok(bits)
-}
-
-/// The snapshot of `count` operations of `length` bytes, with the floor `floor`.
-fn snapshot(
-    alloc: Global,
-    count: u64,
-    length: usize,
-    floor: u64,
-) -> Result<Snapshot<Family, Sha512, 32>> {
-    let tree = tree(alloc, count, length)?;
-    match Snapshot::of_tree(alloc, tree, bits(alloc, count)?, Location::new(floor)) {
-        Ok(snapshot) => Ok(snapshot),
-        Err(_) => bail!("no snapshot"),
-    }
 }
 
 /// The snapshot's proof of the operation at `location`, in hexadecimal.
@@ -65,11 +50,10 @@ fn proof(
     snapshot: &Snapshot<Family, Sha512, 32>,
     floor: u64,
     location: u64,
-) -> Result<String> {
+) -> Result<String, Fault> {
     let leaves = Location::new(snapshot.status().len());
-    let plan = match ElementPlan::new(alloc, leaves, Location::new(location)) {
-        Ok(plan) => plan,
-        Err(_) => bail!("no such operation"),
+    let Ok(plan) = ElementPlan::new(alloc, leaves, Location::new(location)) else {
+        return Err(Fault::Malformed);
     };
     let proof = OperationProof::build::<Sha512, Prunable<32>, _>(
         alloc,
@@ -81,7 +65,7 @@ fn proof(
     );
     match proof {
         Ok(proof) => Ok(hex::encode(alloc, proof.encode(alloc)?)?),
-        Err(_) => bail!("no proof"),
+        Err(_) => Err(Fault::Malformed),
     }
 }
 
@@ -92,31 +76,34 @@ fn told(
     snapshot: &Snapshot<Family, Sha512, 32>,
     floor: u64,
     location: u64,
-) -> Result<String> {
+) -> Result<String, Fault> {
     let root = hex::encode(alloc, snapshot.root().bytes)?;
-    match work {
-        "root" => Ok(root),
-        "prove" => {
-            let proof = proof(alloc, snapshot, floor, location)?;
-            Ok(format!(in alloc; "{root}\n{proof}")?)
-        }
-        _ => bail!("root or prove"),
+    if work == "root" {
+        return Ok(root);
     }
+    let proof = proof(alloc, snapshot, floor, location)?;
+    Ok(format!(in alloc; "{root}\n{proof}")?)
 }
 
 /// The lines to print for `count` operations of `length` bytes.
-fn report(alloc: Global, work: &str, count: u64, length: usize) -> Result<String> {
+fn report(alloc: Global, work: &str, count: u64, length: usize) -> Result<String, Fault> {
     let floor = count / 2;
-    let snapshot = snapshot(alloc, count, length, floor)?;
-    told(alloc, work, &snapshot, floor, count.saturating_sub(1))
+    let bits = bits(alloc, count)?;
+    let tree = tree(alloc, count, length)?;
+    match Snapshot::of_tree(alloc, tree, bits, Location::new(floor)) {
+        Ok(snapshot) => told(alloc, work, &snapshot, floor, count.saturating_sub(1)),
+        Err(_) => Err(Fault::Memory),
+    }
 }
 
 /// The lines to print for `words`: what is made, of how many operations, and how many bytes each has if not `LENGTH`.
-pub fn reply(alloc: Global, words: &[&str]) -> Result<String> {
-    let (work, count, length) = match words {
-        [work, count] => (work, count, LENGTH),
-        [work, count, length] => (work, count, length.parse::<usize>()?),
-        _ => bail!("root or prove, how many operations, and their bytes"),
-    };
-    report(alloc, *work, count.parse::<u64>()?, length)
+pub fn reply(alloc: Global, words: &[&str]) -> Result<String, Fault> {
+    match words {
+        [work, count] => report(alloc, *work, number(*count)?, LENGTH),
+        [work, count, length] => {
+            let (count, length) = (number(*count)?, number(*length)?);
+            report(alloc, *work, count, length as usize)
+        }
+        _ => Err(Fault::Malformed),
+    }
 }

@@ -2,39 +2,32 @@
 
 ghost use Rattle.storage_bitmap.specs.Chunks.{IsChunkSize};
 
-use std::alloc::Global;
-use std::mem;
+use crate::stops::out_of_memory;
+use std::alloc::{AllocError, Global};
 use std::process::Abort;
-use std::test::Fail;
-use storage_codec::codec::{Encode, FixedBytes, U64};
+use storage_codec::codec::FixedBytes;
 use storage_codec::digest::{Digest, Hasher, Sha256, Sha512};
 use storage_db::db::{Error, Ordered};
-use storage_merkle::merkle::{Graftable, mmb, mmr};
+use storage_merkle::merkle::{Family, Graftable, mmb, mmr};
 use storage_ops::qmdb::any::operation::OperationCodec;
 use storage_ops::qmdb::any::operation::update::Ordered as Update;
 use storage_ops::qmdb::any::{FixedEncoding, VariableEncoding};
 use storage_ops::qmdb::operation::Key;
 
 /// A key or a value for each number, and for no other number below 2^32 the same one.
-trait Numbered: Sized {
+trait Numbered: PartialEq + Sized {
     /// That of `number`.
-    fn numbered(alloc: Global, number: u64) -> Result<Self, Fail>;
+    fn numbered(alloc: Global, number: u64) -> Result<Self, AllocError>;
 }
 
 impl Numbered for u64 {
-    fn numbered(_alloc: Global, number: u64) -> Result<u64, Fail> {
+    fn numbered(_alloc: Global, number: u64) -> Result<u64, AllocError> {
         Ok(number)
     }
 }
 
-impl Numbered for U64 {
-    fn numbered(_alloc: Global, number: u64) -> Result<U64, Fail> {
-        Ok(U64::new(number))
-    }
-}
-
 impl Numbered for FixedBytes<4> {
-    fn numbered(_alloc: Global, number: u64) -> Result<FixedBytes<4>, Fail> {
+    fn numbered(_alloc: Global, number: u64) -> Result<FixedBytes<4>, AllocError> {
         let [_, _, _, _, first, second, third, last] = number.to_be_bytes();
         Ok(FixedBytes {
             bytes: [first, second, third, last],
@@ -43,7 +36,7 @@ impl Numbered for FixedBytes<4> {
 }
 
 impl Numbered for Vec<u8> {
-    fn numbered(alloc: Global, number: u64) -> Result<Vec<u8>, Fail> {
+    fn numbered(alloc: Global, number: u64) -> Result<Vec<u8>, AllocError> {
         if number == 0 {
             return Ok(Vec::new(alloc));
         }
@@ -51,56 +44,35 @@ impl Numbered for Vec<u8> {
     }
 }
 
-/// Whether `value` is that of `number`, or both are none.
-fn is_of<T: Encode + Numbered + Drop>(
-    alloc: Global,
-    value: Option<&T>,
-    number: Option<u64>,
-) -> Result<bool, Fail> {
-    match (value, number) {
-        (Some(value), Some(number)) => {
-            let right = T::numbered(alloc, number)?.encode(alloc)?;
-            Ok(value.encode(alloc)? == right)
-        }
-        (None, None) => Ok(true),
-        _ => Ok(false),
-    }
+/// What a database answers.
+#[derive(Clone, Copy, Drop)]
+enum Told {
+    Yes,
+    No,
+    /// It is out of memory.
+    OutOfMemory,
+    /// It refuses what is right.
+    Refused,
 }
 
-/// How many keys there are at most.
-const KEYS: usize = 256;
+impl Told {
+    fn of(yes: bool) -> Told {
+        if yes { Told::Yes } else { Told::No }
+    }
+
+    fn of_error<F: Family>(error: &Error<F>) -> Told {
+        match error {
+            Error::Memory => Told::OutOfMemory,
+            _ => Told::Refused,
+        }
+    }
+}
 
 /// A plain map: at each key's number the number of its value, now and at the last commit.
 #[derive(Drop)]
 struct Plain {
-    now: Vec<Option<u64>>,
-    committed: Vec<Option<u64>>,
-}
-
-impl Plain {
-    /// No key has a value.
-    fn new(alloc: Global) -> Result<Plain, Fail> {
-        Ok(Plain {
-            now: vec![in alloc; None; KEYS]?,
-            committed: vec![in alloc; None; KEYS]?,
-        })
-    }
-
-    /// Gives the key with the number `key` a value, or none; that which it had.
-    fn set(&mut self, key: u64, value: Option<u64>) -> Option<u64> {
-        match self.now.get_mut(key as usize) {
-            Some(held) => mem::replace(held, value),
-            None => None,
-        }
-    }
-}
-
-/// What `values` have at the number `key`.
-fn at(values: &[Option<u64>], key: u64) -> Option<u64> {
-    match values.get(key as usize) {
-        Some(value) => *value,
-        None => None,
-    }
+    now: [Option<u64>; 256],
+    committed: [Option<u64>; 256],
 }
 
 /// The next of some numbers that look random, the high bits most.
@@ -112,6 +84,15 @@ fn next_number(number: u64) -> u64 {
 
 /// A database whose keys and values are those of numbers.
 trait ByNumber: Sized {
+    /// Its keys.
+    type Key: Numbered + Drop;
+
+    /// Its values.
+    type Value: Numbered + Drop;
+
+    /// Its canonical roots.
+    type Root: Digest;
+
     /// Whether its chunks have a size that a chunk may have.
     ghost is_sized: { Type 0 };
 
@@ -119,36 +100,44 @@ trait ByNumber: Sized {
     fn empty(alloc: Global) -> Self
         requires { Self.is_sized };
 
-    /// Gives the key of a number the value of another.
-    fn put_number(&mut self, alloc: Global, key: u64, value: u64) -> Result<(), Fail>;
+    /// Gives `key` the value `value`.
+    fn give(&mut self, key: Self::Key, value: Self::Value) -> Told;
 
-    /// Takes the key of a number away; whether it had a value.
-    fn delete_number(&mut self, alloc: Global, key: u64) -> Result<bool, Fail>;
+    /// Takes `key` away; whether it had a value.
+    fn take(&mut self, key: &Self::Key) -> Told;
 
-    /// Commits with the value of a number, or none.
-    fn commit_number(&mut self, alloc: Global, value: Option<u64>) -> Result<(), Fail>;
+    /// Commits with this value, or none.
+    fn end(&mut self, value: Option<Self::Value>) -> Told;
 
-    /// Whether the key of a number has this value now, and had that one at the last commit.
-    fn has_numbers(
+    /// The value of `key` now.
+    fn now(&self, key: &Self::Key) -> Option<&Self::Value>;
+
+    /// The value of `key` at the last commit.
+    fn then(&self, key: &Self::Key) -> Option<&Self::Value>;
+
+    /// The canonical root of the last commit.
+    fn last_root(&self) -> Option<Self::Root>;
+
+    /// Whether it answers rightly what value `key` had at the last commit: by that and a proof, which is accepted, or that it had
+    /// none.
+    fn proves_value(
         &self,
         alloc: Global,
-        key: u64,
-        now: Option<u64>,
-        committed: Option<u64>,
-    ) -> Result<bool, Fail>;
-
-    /// Whether it answers rightly what value the key of a number had at the last commit: by that of `number` and a proof, which is
-    /// accepted, or that it had none.
-    fn proves_value(&self, alloc: Global, key: u64, number: Option<u64>) -> Result<bool, Fail>
+        key: Self::Key,
+        right: Option<&Self::Value>,
+        root: &Self::Root,
+    ) -> Told
         requires { Self.is_sized };
 
-    /// Whether it answers rightly if the key of a number had no value at the last commit: by a proof, which is accepted, or that it
-    /// had one.
-    fn proves_absence(&self, alloc: Global, key: u64, is_absent: bool) -> Result<bool, Fail>
+    /// Whether it answers rightly if `key` had no value at the last commit: by a proof, which is accepted, or that it had one.
+    fn proves_absence(
+        &self,
+        alloc: Global,
+        key: &Self::Key,
+        is_absent: bool,
+        root: &Self::Root,
+    ) -> Told
         requires { Self.is_sized };
-
-    /// The bytes of the canonical root; none where there was no commit.
-    fn root_bytes(&self, alloc: Global) -> Result<Vec<u8>, Fail>;
 }
 
 impl<
@@ -161,290 +150,323 @@ impl<
 where
     V::Value: Numbered,
 {
+    type Key = K;
+
+    type Value = V::Value;
+
+    type Root = H::Digest;
+
     ghost is_sized = { IsChunkSize N };
 
     fn empty(alloc: Global) -> Self {
         Ordered::new(alloc)
     }
 
-    fn put_number(&mut self, alloc: Global, key: u64, value: u64) -> Result<(), Fail> {
-        self.put(K::numbered(alloc, key)?, V::Value::numbered(alloc, value)?)?;
-        Ok(())
+    fn give(&mut self, key: K, value: V::Value) -> Told {
+        match self.put(key, value) {
+            Ok(()) => Told::Yes,
+            Err(error) => Told::of_error(&error),
+        }
     }
 
-    fn delete_number(&mut self, alloc: Global, key: u64) -> Result<bool, Fail> {
-        Ok(self.delete(&K::numbered(alloc, key)?)?)
+    fn take(&mut self, key: &K) -> Told {
+        match self.delete(key) {
+            Ok(was) => Told::of(was),
+            Err(error) => Told::of_error(&error),
+        }
     }
 
-    fn commit_number(&mut self, alloc: Global, value: Option<u64>) -> Result<(), Fail> {
-        let value = match value {
-            Some(number) => Some(V::Value::numbered(alloc, number)?),
-            None => None,
-        };
-        self.commit(value)?;
-        Ok(())
+    fn end(&mut self, value: Option<V::Value>) -> Told {
+        match self.commit(value) {
+            Ok(()) => Told::Yes,
+            Err(error) => Told::of_error(&error),
+        }
     }
 
-    fn has_numbers(
+    fn now(&self, key: &K) -> Option<&V::Value> {
+        self.get(key)
+    }
+
+    fn then(&self, key: &K) -> Option<&V::Value> {
+        self.get_committed(key)
+    }
+
+    fn last_root(&self) -> Option<H::Digest> {
+        self.root()
+    }
+
+    fn proves_value(
         &self,
         alloc: Global,
-        key: u64,
-        now: Option<u64>,
-        committed: Option<u64>,
-    ) -> Result<bool, Fail> {
-        let key = K::numbered(alloc, key)?;
-        let is_now = is_of(alloc, self.get(&key), now)?;
-        Ok(is_now && is_of(alloc, self.get_committed(&key), committed)?)
-    }
-
-    fn proves_value(&self, alloc: Global, key: u64, number: Option<u64>) -> Result<bool, Fail> {
-        let Some(root) = self.root() else {
-            return Ok(false);
-        };
-        let key = K::numbered(alloc, key)?;
+        key: K,
+        right: Option<&V::Value>,
+        root: &H::Digest,
+    ) -> Told {
         match self.prove_value(&key) {
-            Ok((value, proof)) => {
-                let is_right = is_of(alloc, Some(&value), number)?;
-                Ok(is_right && proof.verify::<H, V>(alloc, key, value, &root)?)
+            Ok((found, proof)) => {
+                let is_right = is_same(Some(&found), right);
+                match proof.verify::<H, V>(alloc, key, found, root) {
+                    Ok(yes) => Told::of(yes && is_right),
+                    Err(_) => Told::OutOfMemory,
+                }
             }
-            Err(Error::Absent) => Ok(number.is_none()),
-            Err(refusal) => Err(refusal.into()),
+            Err(Error::Absent) => Told::of(right.is_none()),
+            Err(error) => Told::of_error(&error),
         }
     }
 
-    fn proves_absence(&self, alloc: Global, key: u64, is_absent: bool) -> Result<bool, Fail> {
-        let Some(root) = self.root() else {
-            return Ok(false);
-        };
-        let key = K::numbered(alloc, key)?;
-        match self.prove_absence(&key) {
-            Ok(proof) => Ok(is_absent && proof.verify::<H>(alloc, &key, &root)?),
-            Err(Error::Present) => Ok(!is_absent),
-            Err(refusal) => Err(refusal.into()),
+    fn proves_absence(&self, alloc: Global, key: &K, is_absent: bool, root: &H::Digest) -> Told {
+        match self.prove_absence(key) {
+            Ok(proof) => match proof.verify::<H>(alloc, key, root) {
+                Ok(yes) => Told::of(yes && is_absent),
+                Err(_) => Told::OutOfMemory,
+            },
+            Err(Error::Present) => Told::of(!is_absent),
+            Err(error) => Told::of_error(&error),
         }
     }
+}
 
-    fn root_bytes(&self, alloc: Global) -> Result<Vec<u8>, Fail> {
-        match self.root() {
-            Some(root) => Ok(Vec::from_slice(alloc, root.bytes())?),
-            None => Ok(Vec::new(alloc)),
-        }
+/// Whether two values are the same one, or both none.
+fn is_same<T: PartialEq>(left: Option<&T>, right: Option<&T>) -> bool {
+    match (left, right) {
+        (Some(left), Some(right)) => *left == *right,
+        (None, None) => true,
+        _ => false,
+    }
+}
+
+/// The key or the value of `number`.
+fn of_number<T: Numbered>(rt: &impl Abort, alloc: Global, number: u64) -> T {
+    match T::numbered(alloc, number) {
+        Ok(numbered) => numbered,
+        Err(_) => out_of_memory(rt),
+    }
+}
+
+/// The value of a number, where there is one.
+fn of_option<T: Numbered>(rt: &impl Abort, alloc: Global, number: Option<u64>) -> Option<T> {
+    match number {
+        Some(number) => Some(of_number(rt, alloc, number)),
+        None => None,
+    }
+}
+
+/// Ends the test where memory is refused to it, or where `told` is not what is right.
+fn see(rt: &impl Abort, told: Told, right: bool) {
+    match told {
+        Told::Yes => assert!(rt; right),
+        Told::No => assert!(rt; !right),
+        Told::OutOfMemory => out_of_memory(rt),
+        Told::Refused => panic!(rt; "refused"),
+    }
+}
+
+/// The database has what the map has at the number `key`, now and at the last commit.
+fn compare<D: ByNumber>(rt: &impl Abort, alloc: Global, database: &D, plain: &Plain, key: u8) {
+    let now = of_option::<D::Value>(rt, alloc, plain.now[key as usize]);
+    let then = of_option::<D::Value>(rt, alloc, plain.committed[key as usize]);
+    let key = of_number::<D::Key>(rt, alloc, u64::from(key));
+    assert!(rt; is_same(database.now(&key), now.as_ref()));
+    assert!(rt; is_same(database.then(&key), then.as_ref()));
+}
+
+/// A put or a deletion at the number `key`, as `draw` says: both answer alike.
+fn change<D: ByNumber>(
+    rt: &impl Abort,
+    alloc: Global,
+    database: &mut D,
+    plain: &mut Plain,
+    key: u8,
+    draw: u64,
+) {
+    let its_key = of_number::<D::Key>(rt, alloc, u64::from(key));
+    if (draw >> 33) % 2 == 0 {
+        let value = of_number::<D::Value>(rt, alloc, draw);
+        see(rt, database.give(its_key, value), true);
+        plain.now[key as usize] = Some(draw);
+    } else {
+        let was = plain.now[key as usize].is_some();
+        see(rt, database.take(&its_key), was);
+        plain.now[key as usize] = None;
     }
 }
 
 /// The database proves what the map had at the last commit at the number `key`.
 fn prove<D: ByNumber>(
-    rt: &(impl Abort + AllocGlobal),
+    rt: &impl Abort,
+    alloc: Global,
     database: &D,
     plain: &Plain,
-    key: u64,
-) -> Result<(), Fail>
+    key: u8,
+    root: &D::Root,
+)
     requires { D.is_sized }
 {
-    let value = at(&plain.committed, key);
-    assert!(rt; database.proves_value(rt.alloc(), key, value)?);
-    assert!(rt; database.proves_absence(rt.alloc(), key, value.is_none())?);
-    Ok(())
+    let value = of_option::<D::Value>(rt, alloc, plain.committed[key as usize]);
+    let key = of_number::<D::Key>(rt, alloc, u64::from(key));
+    see(
+        rt,
+        database.proves_absence(alloc, &key, value.is_none(), root),
+        true,
+    );
+    see(
+        rt,
+        database.proves_value(alloc, key, value.as_ref(), root),
+        true,
+    );
 }
 
-/// The database has what the map has at the number `key`, now and at the last commit.
-fn compare<D: ByNumber>(
-    rt: &(impl Abort + AllocGlobal),
+/// The database proves what the map had at the last commit at eight numbers from `first` on, around past `last`.
+fn prove_eight<D: ByNumber>(
+    rt: &impl Abort,
+    alloc: Global,
     database: &D,
     plain: &Plain,
-    key: u64,
-) -> Result<(), Fail> {
-    let (now, committed) = (at(&plain.now, key), at(&plain.committed, key));
-    assert!(rt; database.has_numbers(rt.alloc(), key, now, committed)?);
-    Ok(())
-}
-
-/// A put or a deletion at the number `key`, as `draw` says: both answer alike.
-fn change<D: ByNumber>(
-    rt: &(impl Abort + AllocGlobal),
-    database: &mut D,
-    plain: &mut Plain,
-    key: u64,
-    draw: u64,
-) -> Result<(), Fail> {
-    if (draw >> 33) % 2 == 0 {
-        database.put_number(rt.alloc(), key, draw)?;
-        plain.set(key, Some(draw));
-    } else {
-        let was = database.delete_number(rt.alloc(), key)?;
-        assert_eq!(rt; was, plain.set(key, None).is_some());
+    first: u8,
+    last: u8,
+)
+    requires { D.is_sized }
+{
+    let Some(root) = database.last_root() else {
+        panic!(rt; "no root");
+    };
+    for step in 0..8u8 {
+        prove(
+            rt,
+            alloc,
+            database,
+            plain,
+            first.wrapping_add(step) & last,
+            &root,
+        );
     }
-    Ok(())
 }
 
-/// A commit with the value of `draw`, or none.
-fn commit<D: ByNumber>(
+/// A commit with the value of `draw`, or none. Proofs are compared before and after it, and then all keys up to `last`.
+fn commit_and_compare<D: ByNumber>(
+    rt: &impl Abort,
     alloc: Global,
     database: &mut D,
     plain: &mut Plain,
+    last: u8,
     draw: u64,
-) -> Result<(), Fail> {
+)
+    requires { D.is_sized }
+{
+    let [_, before, after, ..] = draw.to_be_bytes();
+    prove_eight(rt, alloc, database, plain, before, last);
     let value = if (draw >> 33) % 2 == 0 {
         Some(draw)
     } else {
         None
     };
-    database.commit_number(alloc, value)?;
-    plain.committed = plain.now.clone()?;
-    Ok(())
-}
-
-/// The database proves what the map had at the last commit at eight numbers from `first` on, around past `last`.
-fn prove_eight<D: ByNumber>(
-    rt: &(impl Abort + AllocGlobal),
-    database: &D,
-    plain: &Plain,
-    first: u64,
-    last: u64,
-) -> Result<(), Fail>
-    requires { D.is_sized }
-{
-    for step in 0..8u64 {
-        prove(rt, database, plain, first.wrapping_add(step) & last)?;
-    }
-    Ok(())
-}
-
-/// The database has what the map has at each number up to `last`.
-fn compare_each<D: ByNumber>(
-    rt: &(impl Abort + AllocGlobal),
-    database: &D,
-    plain: &Plain,
-    last: u64,
-) -> Result<(), Fail> {
+    see(rt, database.end(of_option(rt, alloc, value)), true);
+    plain.committed = plain.now;
+    prove_eight(rt, alloc, database, plain, after, last);
     for key in 0..=last {
-        compare(rt, database, plain, key)?;
+        compare(rt, alloc, database, plain, key);
     }
-    Ok(())
-}
-
-/// A commit over the keys up to `last`. Proofs are asked for before and after it.
-fn commit_and_prove<D: ByNumber>(
-    rt: &(impl Abort + AllocGlobal),
-    database: &mut D,
-    plain: &mut Plain,
-    last: u64,
-    draw: u64,
-) -> Result<(), Fail>
-    requires { D.is_sized }
-{
-    prove_eight(rt, database, plain, draw >> 48, last)?;
-    commit(rt.alloc(), database, plain, draw)?;
-    prove_eight(rt, database, plain, draw >> 40, last)?;
-    compare_each(rt, database, plain, last)
 }
 
 /// The command after `count` others over the keys up to `last`, all of whose bits are set: a put or a deletion, or two in `count` times a
 /// commit. Two keys are compared after it.
 fn step<D: ByNumber>(
-    rt: &(impl Abort + AllocGlobal),
+    rt: &impl Abort,
+    alloc: Global,
     database: &mut D,
     plain: &mut Plain,
-    last: u64,
+    last: u8,
     count: u64,
     draw: u64,
-) -> Result<(), Fail>
+)
     requires { D.is_sized }
 {
-    let key = (draw >> 56) & last;
+    let [first, second, ..] = draw.to_be_bytes();
+    let key = first & last;
     match (draw >> 33).checked_rem(count) {
-        Some(0..2) => commit_and_prove(rt, database, plain, last, draw)?,
-        _ => change(rt, database, plain, key, draw)?,
+        Some(0..2) => commit_and_compare(rt, alloc, database, plain, last, draw),
+        _ => change(rt, alloc, database, plain, key, draw),
     }
-    compare(rt, database, plain, key)?;
-    compare(rt, database, plain, (draw >> 48) & last)
+    compare(rt, alloc, database, plain, key);
+    compare(rt, alloc, database, plain, second & last);
 }
 
-/// Gives both 2,500 commands, which `seed` settles.
-fn command<D: ByNumber>(
-    rt: &(impl Abort + AllocGlobal),
-    database: &mut D,
-    plain: &mut Plain,
-    seed: u64,
-    last: u64,
-) -> Result<(), Fail>
+/// A commit and 2,500 commands, which `seed` settles, of a database without operations, beside a plain map.
+fn run<D: ByNumber + Drop>(rt: &impl Abort, alloc: Global, seed: u64, last: u8)
     requires { D.is_sized }
 {
+    let mut plain = Plain {
+        now: [None; 256],
+        committed: [None; 256],
+    };
+    let mut database = D::empty(alloc);
+    see(rt, database.end(None), true);
     let mut draw = seed;
     for count in 1..2_501u64 {
         draw = next_number(draw);
-        step(rt, database, plain, last, count, draw)?;
+        step(rt, alloc, &mut database, &mut plain, last, count, draw);
     }
-    Ok(())
-}
-
-/// A commit and 2,500 commands of a database without operations, beside a plain map.
-fn run<D: ByNumber + Drop>(
-    rt: &(impl Abort + AllocGlobal),
-    seed: u64,
-    last: u64,
-) -> Result<(), Fail>
-    requires { D.is_sized }
-{
-    let mut plain = Plain::new(rt.alloc())?;
-    let mut database = D::empty(rt.alloc());
-    database.commit_number(rt.alloc(), None)?;
-    command(rt, &mut database, &mut plain, seed, last)
 }
 
 /// Four keys of one size over an MMR.
-fn few_keys_of_one_size(rt: &(impl Abort + AllocGlobal)) -> Result<(), Fail> {
-    run::<Ordered<mmr::Family, Sha256, U64, FixedEncoding<u64>, 1>>(rt, 78, 3)
+fn few_keys_of_one_size(rt: &impl Abort, alloc: Global) {
+    run::<Ordered<mmr::Family, Sha256, FixedBytes<4>, FixedEncoding<u64>, 1>>(rt, alloc, 78, 3);
 }
 
 /// 256 keys of any size over an MMR.
-fn many_keys_of_any_size(rt: &(impl Abort + AllocGlobal)) -> Result<(), Fail> {
-    run::<Ordered<mmr::Family, Sha512, Vec<u8>, VariableEncoding<Vec<u8>>, 2>>(rt, 346, 255)
+fn many_keys_of_any_size(rt: &impl Abort, alloc: Global) {
+    run::<Ordered<mmr::Family, Sha512, Vec<u8>, VariableEncoding<Vec<u8>>, 2>>(rt, alloc, 346, 255);
 }
 
 /// Four keys of any size over an MMB.
-fn few_keys_of_any_size(rt: &(impl Abort + AllocGlobal)) -> Result<(), Fail> {
-    run::<Ordered<mmb::Family, Sha256, Vec<u8>, VariableEncoding<Vec<u8>>, 1>>(rt, 213, 3)
+fn few_keys_of_any_size(rt: &impl Abort, alloc: Global) {
+    run::<Ordered<mmb::Family, Sha256, Vec<u8>, VariableEncoding<Vec<u8>>, 1>>(rt, alloc, 213, 3);
 }
 
 /// 256 keys of one size over an MMB.
-fn many_keys_of_one_size(rt: &(impl Abort + AllocGlobal)) -> Result<(), Fail> {
-    run::<Ordered<mmb::Family, Sha512, U64, FixedEncoding<u64>, 2>>(rt, 121, 255)
+fn many_keys_of_one_size(rt: &impl Abort, alloc: Global) {
+    run::<Ordered<mmb::Family, Sha512, FixedBytes<4>, FixedEncoding<u64>, 2>>(rt, alloc, 121, 255);
 }
 
 #[test]
-fn ten_thousand_commands(rt: HostRuntime) -> Result<(), Fail> {
-    few_keys_of_one_size(&rt)?;
-    many_keys_of_any_size(&rt)?;
-    few_keys_of_any_size(&rt)?;
-    many_keys_of_one_size(&rt)
+fn ten_thousand_commands(rt: HostRuntime) {
+    few_keys_of_one_size(&rt, rt.alloc());
+    many_keys_of_any_size(&rt, rt.alloc());
+    few_keys_of_any_size(&rt, rt.alloc());
+    many_keys_of_one_size(&rt, rt.alloc());
 }
 
-/// The bytes of the root of a commit with the value 1 after the keys 5 and 9 are put and committed and 9 is deleted.
-fn committed_root<D: ByNumber + Drop>(alloc: Global) -> Result<Vec<u8>, Fail>
+/// Puts the key and the value of numbers.
+fn put<D: ByNumber>(rt: &impl Abort, alloc: Global, database: &mut D, key: u64, value: u64) {
+    let value = of_number::<D::Value>(rt, alloc, value);
+    see(rt, database.give(of_number(rt, alloc, key), value), true);
+}
+
+/// The root of a commit with the value 1 after the keys 5 and 9 are put and committed and 9 is deleted.
+fn commit_with_value<D: ByNumber + Drop>(rt: &impl Abort, alloc: Global) -> Option<D::Root>
     requires { D.is_sized }
 {
     let mut database = D::empty(alloc);
-    database.commit_number(alloc, None)?;
-    database.put_number(alloc, 5, 7)?;
-    database.put_number(alloc, 9, 8)?;
-    database.commit_number(alloc, None)?;
-    database.delete_number(alloc, 9)?;
-    database.commit_number(alloc, Some(1))?;
-    database.root_bytes(alloc)
+    see(rt, database.end(None), true);
+    put(rt, alloc, &mut database, 5, 7);
+    put(rt, alloc, &mut database, 9, 8);
+    see(rt, database.end(None), true);
+    see(rt, database.take(&of_number(rt, alloc, 9)), true);
+    see(rt, database.end(Some(of_number(rt, alloc, 1))), true);
+    database.last_root()
 }
 
 // what is expected is from an independent program
 #[test]
-fn value_of_a_commit(rt: HostRuntime) -> Result<(), Fail> {
+fn value_of_a_commit(rt: HostRuntime) {
     let root = [
         0x37, 0xac, 0x85, 0xec, 0x76, 0x14, 0xc0, 0x48, 0x07, 0xf3, 0x50, 0xbf, 0xa6, 0x71, 0xba,
         0x16, 0x8e, 0xb6, 0x9a, 0xc1, 0xaa, 0xeb, 0x9d, 0x0a, 0xdc, 0xcf, 0x70, 0x5b, 0x99, 0x26,
         0x28, 0x93,
     ];
-    let found = committed_root::<
+    let found = commit_with_value::<
         Ordered<mmr::Family, Sha256, FixedBytes<4>, FixedEncoding<u64>, 1>,
-    >(rt.alloc())?;
-    assert!(rt; found.as_slice() == root.as_slice());
-    Ok(())
+    >(&rt, rt.alloc());
+    assert!(rt; found == Some(FixedBytes { bytes: root }));
 }

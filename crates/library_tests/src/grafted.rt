@@ -2,15 +2,14 @@
 
 ghost use Rattle.std.specs.Prelude.{◌≤◌};
 
-use crate::seen::{has_nodes, nodes_of};
-use std::alloc::Global;
-use std::test::Fail;
+use crate::stops::{out_of_memory, refused};
+use std::process::Abort;
 use storage_codec::codec::FixedBytes;
 use storage_codec::digest::{Hasher, Sha256};
 use storage_current::laws::combined::nodes_over_chunks_are_taken;
 use storage_current::qmdb::current::grafting::{GraftedHasher, GraftedTree};
 use storage_merkle::merkle::hasher::Standard;
-use storage_merkle::merkle::{Bagging, Error, Graftable, Location, mmb};
+use storage_merkle::merkle::{Bagging, Error, Graftable, Location, Position, mmb};
 
 type Digest = FixedBytes<32>;
 
@@ -21,9 +20,6 @@ const MANY: u64 = 1000;
 
 /// The height of a node over as many operations as a chunk of one byte has bits.
 const HEIGHT: u32 = 3;
-
-/// How many positions a tree over five chunks has.
-const POSITIONS: u64 = 8;
 
 /// Forgets the first `chunks` chunks of `tree`, which are over nodes of height `height`, once.
 fn prune_once<F: Graftable, H: Hasher>(
@@ -43,19 +39,24 @@ fn prune_once<F: Graftable, H: Hasher>(
 }
 
 /// Forgets the first `chunks` chunks of `tree`.
-fn prune(alloc: Global, tree: &mut Tree, chunks: u64) -> Result<(), Fail> {
-    let before = (tree.leaves(), tree.pruned_chunks());
-    let nodes = nodes_of(alloc, tree, POSITIONS)?;
+fn prune(rt: &impl Abort, tree: &mut Tree, chunks: u64) {
     if prune_once::<mmb::Family, Sha256>(tree, HEIGHT, chunks).is_ok() {
-        return Ok(());
+        return;
     }
-    if (tree.leaves(), tree.pruned_chunks()) != before || !has_nodes(tree, &nodes) {
-        return Err(Fail::new("a refused pruning pruned"));
+    if let Err(refusal) = prune_once::<mmb::Family, Sha256>(tree, HEIGHT, chunks) {
+        refused(rt, &refusal);
     }
-    match prune_once::<mmb::Family, Sha256>(tree, HEIGHT, chunks) {
-        Ok(()) => Ok(()),
-        Err(refusal) => Err(Fail::new(format_args!("error: {refusal:?}"))),
+}
+
+/// Whether the nodes of `tree` are these, by their positions.
+fn has_nodes(tree: &Tree, nodes: &[Option<Digest>]) -> bool {
+    let mut place = 0u64;
+    let mut same = true;
+    for node in nodes {
+        same = same && tree.get_node(Position::new(place)) == *node;
+        place = place.wrapping_add(1);
     }
+    same
 }
 
 /// The digest of a leaf.
@@ -65,13 +66,7 @@ fn leaf(byte: u8) -> Digest {
 
 // what is expected is from an independent program, which hashes each node with its position over the operations
 #[test]
-fn grafted_pruning_made_again(rt: HostRuntime) -> Result<(), Fail> {
-    let alloc = rt.alloc();
-    let mut leaves = Vec::new(alloc);
-    for byte in 1..6 {
-        leaves.push(leaf(byte))?;
-    }
-    let mut tree = Tree::new(alloc, leaves);
+fn grafted_pruning_made_again(rt: HostRuntime) {
     let first = FixedBytes {
         bytes: [
             0x40, 0x16, 0xb8, 0x4f, 0xbc, 0xb3, 0x41, 0x48, 0x0b, 0x06, 0x2b, 0x2d, 0x09, 0xdf,
@@ -95,10 +90,14 @@ fn grafted_pruning_made_again(rt: HostRuntime) -> Result<(), Fail> {
     };
     let [third, fourth, fifth] = [Some(leaf(3)), Some(leaf(4)), Some(leaf(5))];
 
-    prune(alloc, &mut tree, 2)?;
+    let Ok(leaves) = Vec::from_slice(rt.alloc(), &[1, 2, 3, 4, 5].map(leaf)) else {
+        out_of_memory(&rt)
+    };
+    let mut tree = Tree::new(rt.alloc(), leaves);
+    prune(&rt, &mut tree, 2);
     let kept = [None, None, Some(first), third, fourth, None, fifth, None];
     assert!(rt; has_nodes(&tree, &kept));
-    prune(alloc, &mut tree, 4)?;
+    prune(&rt, &mut tree, 4);
     let kept = [
         None,
         None,
@@ -110,9 +109,8 @@ fn grafted_pruning_made_again(rt: HostRuntime) -> Result<(), Fail> {
         None,
     ];
     assert!(rt; has_nodes(&tree, &kept));
-    prune(alloc, &mut tree, 5)?;
+    prune(&rt, &mut tree, 5);
     let kept = [None, None, None, None, None, None, fifth, Some(four)];
     assert!(rt; has_nodes(&tree, &kept));
-    assert_eq!(rt; tree.leaves(), Location::new(5));
-    Ok(())
+    assert!(rt; tree.leaves() == Location::new(5));
 }

@@ -7,8 +7,10 @@ mod bounds;
 #[cfg(test)]
 mod database;
 #[cfg(test)]
+mod definitions;
+#[cfg(test)]
 mod grafted;
 #[cfg(test)]
 mod refused;
 #[cfg(test)]
-mod seen;
+mod stops;

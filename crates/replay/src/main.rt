@@ -1,7 +1,6 @@
 //! Answers each line of the lists on standard input: a list's name and the columns of one case. A case that was worked by hand has
 //! its row's name and a colon before them. The other cases were made by an independent program that computes the definitions over
-//! whole lists; `stdout` has the answers. Shapes, roots, built proofs and checks of plain range proofs are also computed by the
-//! plain program of the definitions, and `differs` stands where it answers otherwise.
+//! whole lists; `stdout` has the answers.
 #![tactic(auto)]
 
 mod lists;

@@ -1,22 +1,21 @@
-//! Columns of a line, read and written.
+//! What stands in the columns of a line.
 
 use hex::{FromHex, FromHexError};
 use std::alloc::{AllocError, AllocFailed, Global};
-use std::fmt::Display;
+use storage_codec::codec::FixedBytes;
 use storage_codec::digest::Digest;
 use storage_codec::{NoMemory, codec};
-use thiserror::Error;
+use storage_merkle::merkle::{self, Bagging, Location, Position, Proof};
+use storage_ops::qmdb;
 
 /// Why a line has no answer.
-#[derive(Clone, Copy, Debug, PartialEq, Eq, Error)]
+#[derive(Clone, Copy)]
 pub enum Fault {
     /// The columns are not those of the list.
-    #[error("malformed")]
     Malformed,
-    /// The plain program of the definitions answers otherwise.
-    #[error("differs")]
+    /// Two calls that promise the same answer differently.
     Differs,
-    #[error("out of memory")]
+    /// Out of memory.
     Memory,
 }
 
@@ -38,79 +37,165 @@ impl From<NoMemory> for Fault {
     }
 }
 
+/// Where no case of the list is refused, a refusal says that the columns are other ones.
+impl From<codec::Error> for Fault {
+    fn from(error: codec::Error) -> Fault {
+        match error {
+            codec::Error::Memory => Fault::Memory,
+            _ => Fault::Malformed,
+        }
+    }
+}
+
+/// Why a call was refused.
+pub trait Refusal {
+    /// Why a line has no answer where no case of the list is refused: for want of memory, or its columns are other ones.
+    fn fault(&self) -> Fault;
+}
+
+impl<F> Refusal for merkle::Error<F> {
+    fn fault(&self) -> Fault {
+        match self {
+            merkle::Error::Memory => Fault::Memory,
+            _ => Fault::Malformed,
+        }
+    }
+}
+
+impl<F> Refusal for qmdb::Error<F> {
+    fn fault(&self) -> Fault {
+        match self {
+            qmdb::Error::Memory => Fault::Memory,
+            qmdb::Error::Merkle(error) => error.fault(),
+            _ => Fault::Malformed,
+        }
+    }
+}
+
+/// What a call gives that no case of the list refuses.
+pub fn or_fault<T, E: Refusal + Drop>(given: Result<T, E>) -> Result<T, Fault> {
+    match given {
+        Ok(value) => Ok(value),
+        Err(refusal) => Err(refusal.fault()),
+    }
+}
+
+/// The columns of a case, of which some are read already.
+#[derive(Drop)]
+pub struct Columns<'a> {
+    texts: &'a [&'a str],
+    next: usize,
+}
+
+impl<'a> Columns<'a> {
+    /// The next column.
+    pub fn text(&mut self) -> Result<&'a str, Fault> {
+        match self.texts.get(self.next) {
+            Some(text) => {
+                self.next = self.next.saturating_add(1);
+                Ok(*text)
+            }
+            None => Err(Fault::Malformed),
+        }
+    }
+}
+
+/// What stands in a column, or in some columns after one another.
+pub trait Column: Sized + Drop {
+    /// Reads it from the columns in front.
+    fn read(alloc: Global, columns: &mut Columns<'_>) -> Result<Self, Fault>;
+}
+
+/// Reads all columns of a case.
+pub fn parse<T: Column>(alloc: Global, columns: &[&str]) -> Result<T, Fault> {
+    let mut columns = Columns {
+        texts: columns,
+        next: 0,
+    };
+    let value = T::read(alloc, &mut columns)?;
+    if columns.next == columns.texts.len() {
+        Ok(value)
+    } else {
+        Err(Fault::Malformed)
+    }
+}
+
 /// A number.
-pub fn number(column: &str) -> Result<u64, Fault> {
-    column.parse::<u64>().map_err(|_| Fault::Malformed)
+pub fn number(text: &str) -> Result<u64, Fault> {
+    match text.parse::<u64>() {
+        Ok(number) => Ok(number),
+        Err(_) => Err(Fault::Malformed),
+    }
 }
 
 /// Bytes in hexadecimal; `-` is no bytes.
-pub fn bytes(alloc: Global, column: &str) -> Result<Vec<u8>, Fault> {
-    if column == "-" {
+pub fn bytes(alloc: Global, text: &str) -> Result<Vec<u8>, Fault> {
+    if text == "-" {
         return Ok(Vec::new(alloc));
     }
-    hex::decode(alloc, column).map_err(|error| match error {
-        FromHexError::OutOfMemory => Fault::Memory,
-        _ => Fault::Malformed,
-    })
+    match hex::decode(alloc, text) {
+        Ok(bytes) => Ok(bytes),
+        Err(FromHexError::OutOfMemory) => Err(Fault::Memory),
+        Err(_) => Err(Fault::Malformed),
+    }
 }
 
 /// `N` bytes in hexadecimal.
-pub fn array<const N: usize>(column: &str) -> Result<[u8; N], Fault> {
-    match <[u8; N] as FromHex>::from_hex(column) {
+pub fn array<const N: usize>(text: &str) -> Result<[u8; N], Fault> {
+    match <[u8; N] as FromHex>::from_hex(text) {
         Ok(bytes) => Ok(bytes),
         Err(_) => Err(Fault::Malformed),
     }
 }
 
 /// A digest in hexadecimal.
-pub fn digest<D: Digest>(alloc: Global, column: &str) -> Result<D, Fault> {
-    let bytes = bytes(alloc, column)?;
-    match D::decode(alloc, bytes.as_slice()) {
-        Ok(digest) => Ok(digest),
-        Err(codec::Error::Memory) => Err(Fault::Memory),
-        Err(_) => Err(Fault::Malformed),
-    }
+pub fn digest<D: Digest>(alloc: Global, text: &str) -> Result<D, Fault> {
+    let bytes = bytes(alloc, text)?;
+    Ok(D::decode(alloc, bytes.as_slice())?)
 }
 
-/// Digests with commas between them; `none` is none.
-pub fn digests<D: Digest>(alloc: Global, column: &str) -> Result<Vec<D>, Fault> {
-    digests_between(alloc, column, ',', "none")
-}
-
-/// Digests with slashes between them; `-` is none.
-pub fn inner_digests<D: Digest>(alloc: Global, column: &str) -> Result<Vec<D>, Fault> {
-    digests_between(alloc, column, '/', "-")
-}
-
-fn digests_between<D: Digest>(
+/// Digests with commas between them, where `none` is none, or with another separator, where `-` is none.
+pub fn digests_between<D: Digest>(
     alloc: Global,
-    column: &str,
+    text: &str,
     separator: char,
-    none: &str,
 ) -> Result<Vec<D>, Fault> {
     let mut digests = Vec::new(alloc);
-    if column != none {
-        for part in column.split(separator) {
+    if !is_none(text, separator) {
+        for part in text.split(separator) {
             digests.push(digest(alloc, part)?)?;
         }
     }
     Ok(digests)
 }
 
-/// The text of an answer to a check.
-pub fn verdict(alloc: Global, yes: bool) -> Result<String, Fault> {
-    Ok(String::from_str(alloc, if yes { "yes" } else { "no" })?)
-}
-
-/// Byte strings with commas between them; `none` is none.
-pub fn strings(alloc: Global, column: &str) -> Result<Vec<Vec<u8>>, Fault> {
-    let mut strings = Vec::new(alloc);
-    if column != "none" {
-        for part in column.split(',') {
-            strings.push(bytes(alloc, part)?)?;
+/// What stands between commas, where `none` is nothing, or between other separators, where `-` is nothing.
+pub fn parts_between<T: Column>(
+    alloc: Global,
+    text: &str,
+    separator: char,
+) -> Result<Vec<T>, Fault> {
+    let mut parts = Vec::new(alloc);
+    if !is_none(text, separator) {
+        for part in text.split(separator) {
+            parts.push(parse(alloc, &[part])?)?;
         }
     }
-    Ok(strings)
+    Ok(parts)
+}
+
+/// Whether a text stands for no parts with a separator between them.
+fn is_none(text: &str, separator: char) -> bool {
+    if separator == ',' {
+        text == "none"
+    } else {
+        text == "-"
+    }
+}
+
+/// What a text has before and after the first separator.
+pub fn halves(text: &str, separator: char) -> Result<(&str, &str), Fault> {
+    text.split_once(separator).ok_or(Fault::Malformed)
 }
 
 /// Each of some byte strings, as a slice of it.
@@ -129,168 +214,164 @@ pub fn places<T>(items: &[T], start: u64, end: u64) -> Result<&[T], Fault> {
         .ok_or(Fault::Malformed)
 }
 
-/// The text of a value.
-pub fn spelled<A: Display>(alloc: Global, first: &A) -> Result<String, Fault> {
-    Ok(format!(in alloc; "{first}")?)
-}
-
-/// The texts of two values with a blank between them.
-pub fn spaced_two<A: Display, B: Display>(
-    alloc: Global,
-    first: &A,
-    second: &B,
-) -> Result<String, Fault> {
-    Ok(format!(in alloc; "{first} {second}")?)
-}
-
-/// The texts of three values with blanks between them.
-pub fn spaced_three<A: Display, B: Display, C: Display>(
-    alloc: Global,
-    first: &A,
-    second: &B,
-    third: &C,
-) -> Result<String, Fault> {
-    Ok(format!(in alloc; "{first} {second} {third}")?)
-}
-
-/// The texts of four values with blanks between them.
-pub fn spaced_four<A: Display, B: Display, C: Display, D: Display>(
-    alloc: Global,
-    first: &A,
-    second: &B,
-    third: &C,
-    fourth: &D,
-) -> Result<String, Fault> {
-    Ok(format!(in alloc; "{first} {second} {third} {fourth}")?)
-}
-
-/// The texts of five values with blanks between them.
-pub fn spaced_five<A: Display, B: Display, C: Display, D: Display, E: Display>(
-    alloc: Global,
-    first: &A,
-    second: &B,
-    third: &C,
-    fourth: &D,
-    fifth: &E,
-) -> Result<String, Fault> {
-    Ok(format!(in alloc; "{first} {second} {third} {fourth} {fifth}")?)
-}
-
-/// The texts of numbers with another text between them.
-pub fn numbers_between(alloc: Global, separator: &str, numbers: &[u64]) -> Result<String, Fault> {
-    let mut text = String::new(alloc);
-    for number in numbers {
-        if !text.is_empty() {
-            text.push_str(separator)?;
-        }
-        write!(text, "{number}")?;
-    }
-    Ok(text)
-}
-
-/// A digest in hexadecimal; `-` is none.
-pub fn digest_or_dash<D: Digest>(alloc: Global, digest: Option<D>) -> Result<String, Fault> {
-    match digest {
-        Some(digest) => Ok(hex::encode(alloc, digest.bytes())?),
-        None => owned(alloc, "-"),
-    }
-}
-
-/// Texts with blanks between them.
-pub fn spaced(alloc: Global, texts: &[&str]) -> Result<String, Fault> {
-    Ok(texts.join(alloc, " ")?)
-}
-
-/// Texts with colons between them.
-pub fn coloned(alloc: Global, texts: &[&str]) -> Result<String, Fault> {
-    Ok(texts.join(alloc, ":")?)
-}
-
-/// A text of its own.
-pub fn owned(alloc: Global, text: &str) -> Result<String, Fault> {
-    Ok(String::from_str(alloc, text)?)
-}
-
-/// A text with `_` for each blank.
-pub fn unblanked(alloc: Global, text: &str) -> Result<String, Fault> {
-    let mut answer = String::new(alloc);
-    for character in text.chars() {
-        answer.push(if character == ' ' { '_' } else { character })?;
-    }
-    Ok(answer)
-}
-
-/// Parts with commas or slashes between them.
+/// A digest in hexadecimal.
 #[derive(Drop)]
-pub struct Series {
-    text: String,
-    separator: char,
+pub struct Hex<D>(pub D);
+
+/// Digests in hexadecimal with commas between them; `none` is none.
+#[derive(Drop)]
+pub struct Digests<D>(pub Vec<D>);
+
+/// What stands between commas; `none` is nothing.
+#[derive(Drop)]
+pub struct List<T>(pub Vec<T>);
+
+impl Column for u64 {
+    fn read(_alloc: Global, columns: &mut Columns<'_>) -> Result<u64, Fault> {
+        number(columns.text()?)
+    }
 }
 
-impl Series {
-    /// No parts yet; commas will stand between them.
-    pub fn new(alloc: Global) -> Self {
-        Series {
-            text: String::new(alloc),
-            separator: ',',
+impl Column for usize {
+    fn read(_alloc: Global, columns: &mut Columns<'_>) -> Result<usize, Fault> {
+        Ok(number(columns.text()?)? as usize)
+    }
+}
+
+impl Column for String {
+    fn read(alloc: Global, columns: &mut Columns<'_>) -> Result<String, Fault> {
+        Ok(String::from_str(alloc, columns.text()?)?)
+    }
+}
+
+impl<F> Column for Location<F> {
+    fn read(_alloc: Global, columns: &mut Columns<'_>) -> Result<Location<F>, Fault> {
+        Ok(Location::new(number(columns.text()?)?))
+    }
+}
+
+impl<F> Column for Position<F> {
+    fn read(_alloc: Global, columns: &mut Columns<'_>) -> Result<Position<F>, Fault> {
+        Ok(Position::new(number(columns.text()?)?))
+    }
+}
+
+impl Column for Bagging {
+    fn read(_alloc: Global, columns: &mut Columns<'_>) -> Result<Bagging, Fault> {
+        match columns.text()? {
+            "forward" => Ok(Bagging::ForwardFold),
+            "backward" => Ok(Bagging::BackwardFold),
+            _ => Err(Fault::Malformed),
         }
     }
+}
 
-    /// No parts yet; slashes will stand between them.
-    pub fn inner(alloc: Global) -> Self {
-        Series {
-            text: String::new(alloc),
-            separator: '/',
+/// Bytes in hexadecimal; `-` is no bytes.
+impl Column for Vec<u8> {
+    fn read(alloc: Global, columns: &mut Columns<'_>) -> Result<Vec<u8>, Fault> {
+        bytes(alloc, columns.text()?)
+    }
+}
+
+impl<const N: usize> Column for [u8; N] {
+    fn read(_alloc: Global, columns: &mut Columns<'_>) -> Result<[u8; N], Fault> {
+        array(columns.text()?)
+    }
+}
+
+/// A key.
+impl Column for FixedBytes<4> {
+    fn read(_alloc: Global, columns: &mut Columns<'_>) -> Result<FixedBytes<4>, Fault> {
+        Ok(FixedBytes {
+            bytes: array(columns.text()?)?,
+        })
+    }
+}
+
+impl<D: Digest> Column for Hex<D> {
+    fn read(alloc: Global, columns: &mut Columns<'_>) -> Result<Hex<D>, Fault> {
+        Ok(Hex(digest(alloc, columns.text()?)?))
+    }
+}
+
+impl<D: Digest> Column for Digests<D> {
+    fn read(alloc: Global, columns: &mut Columns<'_>) -> Result<Digests<D>, Fault> {
+        Ok(Digests(digests_between(alloc, columns.text()?, ',')?))
+    }
+}
+
+impl<T: Column> Column for List<T> {
+    fn read(alloc: Global, columns: &mut Columns<'_>) -> Result<List<T>, Fault> {
+        Ok(List(parts_between(alloc, columns.text()?, ',')?))
+    }
+}
+
+/// A column; `-` is none.
+impl<T: Column> Column for Option<T> {
+    fn read(alloc: Global, columns: &mut Columns<'_>) -> Result<Option<T>, Fault> {
+        match columns.text()? {
+            "-" => Ok(None),
+            text => Ok(Some(parse(alloc, &[text])?)),
         }
     }
+}
 
-    /// Adds a number at the end.
-    pub fn push(&mut self, number: u64) -> Result<(), AllocError> {
-        self.separate()?;
-        write!(self.text, "{number}")
+/// `leaves inactive digests`.
+impl<F, D: Digest> Column for Proof<F, D> {
+    fn read(alloc: Global, columns: &mut Columns<'_>) -> Result<Proof<F, D>, Fault> {
+        let (leaves, inactive_peaks, digests): (Location<F>, usize, Digests<D>) = Column::read(
+            alloc, columns,
+        )?;
+        Ok(Proof {
+            leaves,
+            inactive_peaks,
+            digests: digests.0,
+        })
     }
+}
 
-    /// Adds a text at the end.
-    pub fn push_text(&mut self, text: &str) -> Result<(), AllocError> {
-        self.separate()?;
-        self.text.push_str(text)
+impl<A: Column, B: Column> Column for (A, B) {
+    fn read(alloc: Global, columns: &mut Columns<'_>) -> Result<(A, B), Fault> {
+        let first = A::read(alloc, columns)?;
+        Ok((first, B::read(alloc, columns)?))
     }
+}
 
-    /// Adds a place and the digest there at the end; `-` stands for none.
-    pub fn push_digest<D: Digest>(
-        &mut self,
-        alloc: Global,
-        place: u64,
-        digest: Option<D>,
-    ) -> Result<(), Fault> {
-        let digest = digest_or_dash(alloc, digest)?;
-        Ok(self.push_at(place, digest.as_str())?)
+impl<A: Column, B: Column, C: Column> Column for (A, B, C) {
+    fn read(alloc: Global, columns: &mut Columns<'_>) -> Result<(A, B, C), Fault> {
+        let (first, second) = Column::read(alloc, columns)?;
+        Ok((first, second, C::read(alloc, columns)?))
     }
+}
 
-    /// Adds a place and the text there at the end.
-    pub fn push_at(&mut self, place: u64, text: &str) -> Result<(), AllocError> {
-        self.separate()?;
-        write!(self.text, "{place}:{text}")
+impl<A: Column, B: Column, C: Column, D: Column> Column for (A, B, C, D) {
+    fn read(alloc: Global, columns: &mut Columns<'_>) -> Result<(A, B, C, D), Fault> {
+        let (first, second, third) = Column::read(alloc, columns)?;
+        Ok((first, second, third, D::read(alloc, columns)?))
     }
+}
 
-    fn separate(&mut self) -> Result<(), AllocError> {
-        let separator = self.separator;
-        if !self.text.is_empty() {
-            self.text.push(separator)?;
-        }
-        Ok(())
+impl<A: Column, B: Column, C: Column, D: Column, E: Column> Column for (A, B, C, D, E) {
+    fn read(alloc: Global, columns: &mut Columns<'_>) -> Result<(A, B, C, D, E), Fault> {
+        let (first, second, third, fourth) = Column::read(alloc, columns)?;
+        Ok((first, second, third, fourth, E::read(alloc, columns)?))
     }
+}
 
-    /// The text; `none` where there are no parts.
-    pub fn finish(self) -> Result<String, AllocError> {
-        self.finish_or("none")
+impl<A: Column, B: Column, C: Column, D: Column, E: Column, F: Column> Column
+    for (A, B, C, D, E, F) {
+    fn read(alloc: Global, columns: &mut Columns<'_>) -> Result<(A, B, C, D, E, F), Fault> {
+        let (first, second, third) = Column::read(alloc, columns)?;
+        let (fourth, fifth, sixth) = Column::read(alloc, columns)?;
+        Ok((first, second, third, fourth, fifth, sixth))
     }
+}
 
-    /// The text, or another one where there are no parts.
-    pub fn finish_or(mut self, none: &str) -> Result<String, AllocError> {
-        if self.text.is_empty() {
-            self.text.push_str(none)?;
-        }
-        Ok(self.text)
+impl<A: Column, B: Column, C: Column, D: Column, E: Column, F: Column, G: Column> Column
+    for (A, B, C, D, E, F, G) {
+    fn read(alloc: Global, columns: &mut Columns<'_>) -> Result<(A, B, C, D, E, F, G), Fault> {
+        let (first, second, third) = Column::read(alloc, columns)?;
+        let (fourth, fifth, sixth, seventh) = Column::read(alloc, columns)?;
+        Ok((first, second, third, fourth, fifth, sixth, seventh))
     }
 }

@@ -1,11 +1,12 @@
 //! The names of refusals.
 
-use crate::columns::{Fault, owned, unblanked};
-use commonware_storage::qmdb;
+use crate::answers::{owned, unblanked};
+use crate::columns::Fault;
 use std::alloc::Global;
 use std::fmt::Display;
 use storage_codec::codec;
 use storage_merkle::merkle;
+use storage_ops::qmdb;
 
 /// A name and the number that goes with it.
 fn numbered<T: Display>(alloc: Global, name: &str, number: &T) -> Result<String, Fault> {
@@ -55,23 +56,6 @@ pub fn merkle_refusal<F>(alloc: Global, error: &merkle::Error<F>) -> Result<Stri
         merkle::Error::CompressedDigest(position) => numbered(alloc, "E12", position),
         merkle::Error::Source(fault) => numbered(alloc, "E13", fault),
         merkle::Error::Memory => Err(Fault::Memory),
-    }
-}
-
-/// The fault of a call over trees that no case of the list refuses: want of memory, or other columns than the list has.
-pub fn merkle_fault<F>(error: &merkle::Error<F>) -> Fault {
-    match error {
-        merkle::Error::Memory => Fault::Memory,
-        _ => Fault::Malformed,
-    }
-}
-
-/// The same of a call over a database.
-pub fn database_fault<F>(error: &qmdb::Error<F>) -> Fault {
-    match error {
-        qmdb::Error::Memory => Fault::Memory,
-        qmdb::Error::Merkle(error) => merkle_fault(error),
-        _ => Fault::Malformed,
     }
 }
 

@@ -1,38 +1,30 @@
 //! Operations that are no more than their bytes.
 
-use crate::columns::{Fault, bytes};
+use crate::columns::{Column, Columns, Fault};
 use std::alloc::Global;
+use std::convert::AsSlice;
 use storage_codec::NoMemory;
 use storage_codec::codec::{EncodeSize, Write};
 
 /// An operation that is written as these bytes.
 #[derive(Drop)]
 pub struct Unframed {
-    bytes: Vec<u8>,
+    pub bytes: Vec<u8>,
 }
 
-impl Unframed {
-    /// The operation of bytes.
-    pub fn new(bytes: Vec<u8>) -> Self {
-        Unframed { bytes }
-    }
-
-    /// The operation of bytes in hexadecimal.
-    pub fn parse(alloc: Global, column: &str) -> Result<Self, Fault> {
-        let bytes = bytes(alloc, column)?;
+impl Column for Unframed {
+    fn read(alloc: Global, columns: &mut Columns<'_>) -> Result<Unframed, Fault> {
+        let bytes = Column::read(alloc, columns)?;
         Ok(Unframed { bytes })
     }
 }
 
-/// Operations with commas between them; `none` is none.
-pub fn operations(alloc: Global, column: &str) -> Result<Vec<Unframed>, Fault> {
-    let mut operations = Vec::new(alloc);
-    if column != "none" {
-        for part in column.split(',') {
-            operations.push(Unframed::parse(alloc, part)?)?;
-        }
+impl AsSlice<u8> for Unframed {
+    ghost items = { λ operation. operation.bytes.items };
+
+    fn as_slice(&self) -> &[u8] {
+        self.bytes.as_slice()
     }
-    Ok(operations)
 }
 
 impl Write for Unframed {

@@ -1,5 +1,5 @@
 -- Digests that are read one after another.
-use Rattle.std.proofs.Common.{◌≡◌, ℕ, List, [], ◌∷◌, ◌++◌, map, Option, Some, inr, refl, ap, ap₂, ◌∙◌}
+use Rattle.std.proofs.Common.{◌≡◌, ℕ, List, [], ◌∷◌, ◌++◌, map, Option, Some, inr, refl, ap, ◌∙◌}
 use Rattle.storage_merkle.specs.Plans.{IsFirstAbsent}
 
 seam : {D : Type 0} (xs : List D) (d : D) (ys : List (Option D))

@@ -1,108 +1,287 @@
-//! A snapshot, and the proofs that are built from it.
+//! What a store and a log serve of a snapshot, as a caller gets it: a proof, with its operations and their chunks, or the refusal.
 
+ghost use Rattle.std.specs.Prelude.{◌+◌, ◌^◌, ◌<◌};
 ghost use Rattle.storage_bitmap.specs.Chunks.{IsChunkSize};
 
-use commonware_storage::bitmap::{Prunable, Readable};
+use crate::faulty::{Faulty, Log};
+use crate::kept::Kept;
+use crate::stores::{Call, Left, Told, Wanted};
+use crate::trees::{grafted_tree, operations_nodes, status_of};
+use commonware_storage::bitmap::{Prunable, Readable as _};
 use commonware_storage::digest::{Digest, Hasher};
-use commonware_storage::merkle::{ElementPlan, Graftable, Location, Position, RangePlan};
-use commonware_storage::qmdb::current::Snapshot;
-use commonware_storage::qmdb::current::proof::RangeProof;
+use commonware_storage::merkle::{self, Countable, Graftable, Location, Position, Storage as _};
+use commonware_storage::qmdb::Error;
+use commonware_storage::qmdb::current::Contiguous as _;
+use commonware_storage::qmdb::current::grafting::{self, Storage};
 use commonware_storage::qmdb::current::proof::constant::OperationProof;
+use commonware_storage::qmdb::current::proof::{RangeProof, RangeProofSpec};
+use replay_columns::answers::{Series, encoded, told};
 use replay_columns::columns::Fault;
-use replay_columns::digits::bits_of;
-use replay_columns::refusals::{database_fault, merkle_fault};
+use replay_columns::refusals::database_refusal;
 use std::alloc::Global;
 
-/// The snapshot of operations whose activity bits are digits.
-pub fn snapshot<F: Graftable, H: Hasher, const N: usize>(
-    alloc: Global,
-    operations: &[Vec<u8>],
-    bits: &str,
-    floor: u64,
-) -> Result<Snapshot<F, H, N>, Fault>
-    requires { IsChunkSize N }
-{
-    let bits = bits_of::<N>(alloc, bits)?;
-    match Snapshot::new(alloc, operations, bits, Location::new(floor)) {
-        Ok(snapshot) => Ok(snapshot),
-        Err(error) => Err(database_fault(&error)),
-    }
-}
+/// More failures than a case has.
+const MANY: u64 = 1000;
 
-/// The digests of a snapshot's grafted view, by position; none past its nodes.
-pub fn nodes_of<F: Graftable, H: Hasher, const N: usize>(
+/// What is told where the store has the digests of the grafted view.
+pub fn from_view<F: Graftable + Countable, H: Hasher, const N: usize>(
     alloc: Global,
-    snapshot: &Snapshot<F, H, N>,
-) -> Result<Vec<Option<H::Digest>>, Fault> {
+    kept: &Kept<F, H, N>,
+    call: &Call,
+    left: Left,
+) -> Result<Told, Fault> {
+    let status = status_of::<N>(alloc, kept.digits.as_str(), call.pruned)?;
     let mut nodes = Vec::new(alloc);
-    for position in 0..snapshot.status().len().saturating_mul(2) {
-        nodes.push(snapshot.get_node(Position::new(position)))?;
-    }
-    Ok(nodes)
+    nodes.extend_from_slice(&kept.nodes)?;
+    let size = call.size.unwrap_or(nodes.len() as u64);
+    let mut store = Faulty::new(nodes, size, call.lacks, left.nodes, left.codes.0);
+    let (floor, ops_root) = (kept.floor, kept.snapshot.ops_root());
+    let (text, log_failures) = told_by::<F, H, Faulty<H::Digest>, N>(
+        alloc,
+        call,
+        left,
+        &status,
+        floor,
+        ops_root,
+        &kept.nodes,
+        &mut store,
+    )?;
+    Ok(Told {
+        text,
+        log_failures,
+        calls: store.calls(),
+        failures: store.failed(),
+    })
 }
 
-/// The digest at a position.
-pub fn digest_at<F: Graftable, D: Digest>(nodes: &[Option<D>], position: Position<F>) -> Option<D> {
-    match nodes.get(position.as_u64() as usize) {
-        Some(node) => *node,
-        None => None,
-    }
-}
-
-/// The snapshot's proof of the operation at a location.
-pub fn operation_proof<F: Graftable, H: Hasher, const N: usize>(
+/// What is told where the store is a tree over the chunks, of which the first `pruned` are pruned or which has no nodes, and one over
+/// the operations.
+pub fn from_trees<F: Graftable + Countable, H: Hasher, const N: usize>(
     alloc: Global,
-    snapshot: &Snapshot<F, H, N>,
+    kept: &Kept<F, H, N>,
+    call: &Call,
+    pruned: Option<u64>,
+    left: Left,
+) -> Result<Told, Fault> {
+    let status = status_of::<N>(alloc, kept.digits.as_str(), call.pruned)?;
+    let grafted = grafted_tree(alloc, &kept.snapshot, pruned)?;
+    let nodes = operations_nodes::<F, H>(alloc, &kept.operations)?;
+    let size = nodes.len() as u64;
+    let mut store = Faulty::new(nodes, size, call.lacks, left.nodes, left.codes.0);
+    let mut both = Storage::<F, H, _, _>::new(&grafted, grafting::height::<N>(), &mut store);
+    let (floor, ops_root) = (kept.floor, kept.snapshot.ops_root());
+    let (text, log_failures) = told_by::<F, H, _, N>(
+        alloc,
+        call,
+        left,
+        &status,
+        floor,
+        ops_root,
+        &kept.nodes,
+        &mut both,
+    )?;
+    Ok(Told {
+        text,
+        log_failures,
+        calls: store.calls(),
+        failures: store.failed(),
+    })
+}
+
+/// What a store tells of a snapshot with these bits, this floor, this root of its operations and these nodes, and how often the log
+/// failed.
+fn told_by<
+    F: Graftable + Countable,
+    H: Hasher,
+    S: merkle::Storage<F, Digest = H::Digest>,
+    const N: usize,
+>(
+    alloc: Global,
+    call: &Call,
+    left: Left,
+    status: &Prunable<N>,
     floor: u64,
-    location: u64,
-) -> Result<OperationProof<F, H::Digest, N>, Fault>
-    requires { IsChunkSize N }
+    ops_root: H::Digest,
+    own: &[H::Digest],
+    store: &mut S,
+) -> Result<(String, u64), Fault>
+    requires chunk { IsChunkSize N }
+    requires fails { S.failed store.old + 1 < 2 ^ 64 }
 {
-    let leaves = Location::new(snapshot.status().len());
-    let plan = match ElementPlan::new(alloc, leaves, Location::new(location)) {
-        Ok(plan) => plan,
-        Err(error) => return Err(merkle_fault(&error)),
-    };
-    let nodes = nodes_of(alloc, snapshot)?;
-    let nodes = nodes.as_slice();
-    match OperationProof::build::<H, Prunable<N>, _>(
-        alloc,
-        snapshot.status(),
-        plan,
-        |position| digest_at(nodes, position),
-        Location::new(floor),
-        snapshot.ops_root(),
-    ) {
-        Ok(proof) => Ok(proof),
-        Err(error) => Err(database_fault(&error)),
+    match call.wanted {
+        Wanted::Nodes => Ok((nodes_told(alloc, own, store, left.codes.0)?, 0)),
+        Wanted::Operation(at) => {
+            let text = operation_told::<F, H, S, N>(alloc, status, store, floor, ops_root, at)?;
+            Ok((text, 0))
+        }
+        Wanted::Range(start, end) => {
+            let range = (start, end);
+            let text = range_told::<F, H, S, N>(alloc, status, store, floor, ops_root, range)?;
+            Ok((text, 0))
+        }
+        Wanted::WithOperations(start, most) => {
+            let log = (call.first, left.items, left.codes.1);
+            let range = (start, most);
+            with_operations_told::<F, H, S, N>(alloc, status, store, floor, ops_root, log, range)
+        }
     }
 }
 
-/// The snapshot's proof of the operations from `start` to before `end`.
-pub fn range_proof<F: Graftable, H: Hasher, const N: usize>(
+/// How many nodes a store has, where each read of them is answered as `own` says, and after them there is none; else the first
+/// position whose read fails, with this code, and how many do.
+fn nodes_told<F: Graftable, S: merkle::Storage<F>>(
     alloc: Global,
-    snapshot: &Snapshot<F, H, N>,
-    floor: u64,
-    start: u64,
-    end: u64,
-) -> Result<RangeProof<F, H::Digest>, Fault> {
-    let leaves = Location::new(snapshot.status().len());
-    let range = Location::new(start)..Location::new(end);
-    let plan = match RangePlan::new(alloc, leaves, range) {
-        Ok(plan) => plan,
-        Err(error) => return Err(merkle_fault(&error)),
-    };
-    let nodes = nodes_of(alloc, snapshot)?;
-    let nodes = nodes.as_slice();
-    match RangeProof::build::<H, Prunable<N>, _, N>(
-        alloc,
-        snapshot.status(),
-        plan,
-        |position| digest_at(nodes, position),
-        Location::new(floor),
-        snapshot.ops_root(),
-    ) {
-        Ok(proof) => Ok(proof),
-        Err(error) => Err(database_fault(&error)),
+    own: &[S::Digest],
+    store: &mut S,
+    code: u32,
+) -> Result<String, Fault> {
+    let nodes = store.size().as_u64();
+    let mut first = None;
+    for place in 0..nodes.saturating_add(1) {
+        let digest = own.get(place as usize).copied();
+        if !is_answered(store, Position::new(place), digest, code)? && first.is_none() {
+            first = Some(place);
+        }
     }
+    match first {
+        None => told(alloc, nodes),
+        Some(first) => Ok(format!(in alloc; "{first}:{}", store.failures())?),
+    }
+}
+
+/// Whether a store answers with the digest `own` at a position; else it tells its fault, with this code, and counts one.
+fn is_answered<F: Graftable, S: merkle::Storage<F>>(
+    store: &mut S,
+    position: Position<F>,
+    own: Option<S::Digest>,
+    fault: u32,
+) -> Result<bool, Fault> {
+    let before = store.failures();
+    if before > MANY {
+        return Err(Fault::Malformed);
+    }
+    let answer = store.get_node(position);
+    match (answer, store.failures() > before) {
+        (Ok(node), false) if node == own => Ok(true),
+        (Err(merkle::Error::Source(code)), true) if code == fault => Ok(false),
+        (Err(merkle::Error::Memory), false) => Err(Fault::Memory),
+        _ => Err(Fault::Differs),
+    }
+}
+
+/// The proof of the operation at a location from a store, or the refusal.
+fn operation_told<
+    F: Graftable + Countable,
+    H: Hasher,
+    S: merkle::Storage<F, Digest = H::Digest>,
+    const N: usize,
+>(
+    alloc: Global,
+    status: &Prunable<N>,
+    store: &mut S,
+    floor: u64,
+    ops_root: H::Digest,
+    location: u64,
+) -> Result<String, Fault>
+    requires chunk { IsChunkSize N }
+    requires fails { S.failed store.old + 1 < 2 ^ 64 }
+{
+    let answer = OperationProof::new::<H, Prunable<N>, S>(
+        alloc,
+        status,
+        store,
+        Location::new(floor),
+        Location::new(location),
+        ops_root,
+    );
+    match answer {
+        Ok(proof) => encoded(alloc, &proof),
+        Err(error) => database_refusal(alloc, &error),
+    }
+}
+
+/// The proof of the operations from `range.0` to before `range.1` from a store, or the refusal.
+fn range_told<
+    F: Graftable + Countable,
+    H: Hasher,
+    S: merkle::Storage<F, Digest = H::Digest>,
+    const N: usize,
+>(
+    alloc: Global,
+    status: &Prunable<N>,
+    store: &mut S,
+    floor: u64,
+    ops_root: H::Digest,
+    range: (u64, u64),
+) -> Result<String, Fault>
+    requires fails { S.failed store.old + 1 < 2 ^ 64 }
+{
+    let answer = RangeProof::new::<H, Prunable<N>, S, N>(
+        alloc,
+        status,
+        store,
+        Location::new(floor),
+        Location::new(range.0)..Location::new(range.1),
+        ops_root,
+    );
+    match answer {
+        Ok(proof) => encoded(alloc, &proof),
+        Err(error) => database_refusal(alloc, &error),
+    }
+}
+
+/// The proof of at most `range.1` operations from `range.0` on from a store, with these and their chunks, or the refusal; and how often
+/// the log failed, which begins at `log.0`, has `log.1` answers, and then fails with the code `log.2`.
+fn with_operations_told<
+    F: Graftable + Countable,
+    H: Hasher,
+    S: merkle::Storage<F, Digest = H::Digest>,
+    const N: usize,
+>(
+    alloc: Global,
+    status: &Prunable<N>,
+    store: &mut S,
+    floor: u64,
+    ops_root: H::Digest,
+    log: (u64, u64, u32),
+    range: (u64, u64),
+) -> Result<(String, u64), Fault>
+    requires fails { S.failed store.old + 1 < 2 ^ 64 }
+{
+    if range.1 < 1 {
+        return Err(Fault::Malformed);
+    }
+    let mut log = Log::new(log.0, status.len(), log.1, log.2);
+    let spec = RangeProofSpec {
+        start_loc: Location::new(range.0),
+        max_ops: range.1,
+        inactivity_floor: Location::new(floor),
+        ops_root,
+    };
+    let answer = RangeProof::new_with_ops::<H, Prunable<N>, _, S, N>(
+        alloc, status, store, &mut log, spec,
+    );
+    Ok((answer_told(alloc, &answer)?, log.failures()))
+}
+
+/// What a store and a log serve: a proof, operations and their chunks, or the refusal.
+type Answer<F, D, const N: usize> = Result<(RangeProof<F, D>, Vec<u64>, Vec<[u8; N]>), Error<F>>;
+
+fn answer_told<F: Graftable, D: Digest, const N: usize>(
+    alloc: Global,
+    answer: &Answer<F, D, N>,
+) -> Result<String, Fault> {
+    let (proof, items, chunks) = match answer {
+        Ok((proof, items, chunks)) => (encoded(alloc, proof)?, items, chunks),
+        Err(error) => return database_refusal(alloc, error),
+    };
+    let mut operations = Series::new(alloc);
+    for item in items {
+        operations.push(alloc, item)?;
+    }
+    let mut touched = Series::new(alloc);
+    for chunk in chunks {
+        touched.push(alloc, chunk)?;
+    }
+    told(alloc, (proof, operations.finish()?, touched.finish()?))
 }

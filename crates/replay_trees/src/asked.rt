@@ -1,7 +1,8 @@
 //! Lists on what operations say of themselves, on equal ones, and on the values of updates.
 
 use crate::spelling::{Ask, Spell};
-use replay_columns::columns::{Fault, verdict};
+use replay_columns::answers::told;
+use replay_columns::columns::Fault;
 use std::alloc::Global;
 use storage_codec::codec::{FixedBytes, U64};
 use storage_merkle::merkle::mmr;
@@ -44,7 +45,7 @@ where
         ("valued", [operation]) => parsed::<S>(alloc, *operation)?.valued(alloc),
         ("equal", [first, second]) => {
             let copy = parsed::<S>(alloc, *first)?.copied()?;
-            verdict(alloc, copy == parsed::<S>(alloc, *second)?)
+            told(alloc, copy == parsed::<S>(alloc, *second)?)
         }
         _ => Err(Fault::Malformed),
     }

@@ -1,24 +1,26 @@
-//! Lists on bitmaps with a root, whose first columns are the direction and the bytes of a chunk.
+//! Lists on bitmaps with a root. Of what the lists on calls are given, the first column is `calls`, which are made with commas between
+//! them on a bitmap that begins without bits.
 
 ghost use Rattle.std.specs.Prelude.{◌≤◌};
 ghost use Rattle.storage_bitmap.specs.Chunks.{IsChunkSize};
 
 mod histories;
-mod plain;
 mod read;
 mod verified;
 
-use replay_columns::columns::{Fault, bytes, digest, digests, number, verdict};
-use replay_columns::plain_proofs::{bagging, proof_of};
+use crate::stores::digests_of;
+use histories::{History, after, begun, bits_proved, called, kept, nodes};
+use replay_columns::answers::told;
+use replay_columns::columns::{Digests, Fault, Hex, List, parse};
 use replay_columns::refusals::merkle_refusal;
 use std::alloc::Global;
 use storage_bitmap::bitmap::authenticated::{BitMap, MerkleizedBitMap, PrunedState};
 use storage_codec::codec::FixedBytes;
 use storage_codec::digest::{Digest, Hasher};
 use storage_merkle::merkle::hasher::Standard;
-use storage_merkle::merkle::mmr;
+use storage_merkle::merkle::{Bagging, Proof, mmr};
 
-/// The answer of a list of that name, with the digests of `H`, which have `D` bytes.
+/// `bagging chunk ..`: the answer of a list of that name.
 pub fn answer<H: Hasher<Digest = FixedBytes<D>>, const D: usize>(
     alloc: Global,
     list: &str,
@@ -31,7 +33,8 @@ where
     let [direction, chunk_size, columns @ ..] = columns else {
         return Err(Fault::Malformed);
     };
-    let hasher = Standard::<H>::new(bagging(*direction)?);
+    let bagging: Bagging = parse(alloc, &[*direction])?;
+    let hasher = Standard::<H>::new(bagging);
     match *chunk_size {
         "1" => over::<H, D, 1>(alloc, &hasher, list, columns),
         "2" => over::<H, D, 2>(alloc, &hasher, list, columns),
@@ -52,20 +55,21 @@ where
     requires small { D ≤ 64 }
 {
     match list {
-        "bitmaps" => histories::bitmaps::<H, D, N>(alloc, hasher, columns),
-        "bitmaps_stages" => histories::bitmaps_stages::<H, D, N>(alloc, hasher, columns),
+        "bitmaps" => bitmaps::<H, D, N>(alloc, hasher, columns),
+        "bitmaps_stages" => bitmaps_stages::<H, D, N>(alloc, hasher, columns),
         "bitmaps_read" => read::bitmaps_read::<H, D, N>(alloc, hasher, columns),
         "bitmaps_served" => read::bitmaps_served::<H, D, N>(alloc, hasher, columns),
-        "bit_proofs" => plain::bit_proofs::<H, D, N>(alloc, hasher, columns),
+        "bit_proofs" => bit_proofs::<H, D, N>(alloc, hasher, columns),
         "bitmaps_verified" => verified::bitmaps_verified::<H, D, N>(alloc, hasher, columns),
-        "bitmaps_checks" => bitmaps_checks::<H, D, N>(alloc, hasher, columns),
+        "bitmaps_checks" => bitmaps_checks::<H, N>(alloc, hasher, columns),
         "bitmaps_init" => bitmaps_init::<H, D, N>(alloc, hasher, columns),
         _ => Err(Fault::Malformed),
     }
 }
 
-/// `leaves inactive digests chunk bit root label`: whether the proof is accepted. The label says how the case was made.
-fn bitmaps_checks<H: Hasher<Digest = FixedBytes<D>>, const D: usize, const N: usize>(
+/// `calls bits`: what stands after the calls: how many bits it has and how many of them are pruned, how many nodes, its last chunk and
+/// how many bits that has, its root, what is kept of the pruned chunks, the proofs of these bits, and the digests at all positions.
+fn bitmaps<H: Hasher<Digest = FixedBytes<D>>, const D: usize, const N: usize>(
     alloc: Global,
     hasher: &Standard<H>,
     columns: &[&str],
@@ -75,31 +79,103 @@ where
     requires chunk { IsChunkSize N }
     requires small { D ≤ 64 }
 {
-    let [leaves, inactive, nodes, chunk, bit, root, _] = columns else {
-        return Err(Fault::Malformed);
-    };
-    let bit = number(*bit)?;
-    let root = digest(alloc, *root)?;
-    let chunk = chunk_of::<N>(alloc, *chunk)?;
-    let proof = proof_of::<mmr::Family, FixedBytes<D>>(alloc, *leaves, *inactive, *nodes)?;
-    let yes = MerkleizedBitMap::verify_bit_inclusion(alloc, hasher, &proof, &chunk, bit, &root)?;
-    verdict(
-        alloc,
-        plain::agreed(alloc, hasher, &proof, &chunk, bit, &root, yes)?,
-    )
+    let (List(calls), List(bits)): (List<String>, List<u64>) = parse(alloc, columns)?;
+    let bitmap = after::<H, D, N>(alloc, hasher, &calls)?;
+    let proofs = bits_proved(alloc, hasher, &bitmap, &bits)?;
+    described(alloc, &bitmap, proofs)
 }
 
-/// A chunk in hexadecimal.
-fn chunk_of<const N: usize>(alloc: Global, column: &str) -> Result<[u8; N], Fault>
-    requires { IsChunkSize N }
+/// What stands in a bitmap, with proofs of some bits.
+fn described<D: Digest, const N: usize>(
+    alloc: Global,
+    bitmap: &MerkleizedBitMap<D, N>,
+    proofs: String,
+) -> Result<String, Fault> {
+    let lengths = (bitmap.len(), bitmap.pruned_bits(), bitmap.size());
+    let (chunk, count) = bitmap.last_chunk();
+    let last = (*chunk, count, Hex(bitmap.root()));
+    let kept = kept(alloc, bitmap)?;
+    let nodes = nodes(alloc, bitmap)?;
+    told(alloc, (lengths, last, (kept, proofs, nodes)))
+}
+
+/// `calls`: what stands after each call that leaves the bitmap with its root: how many bits it has and how many of them are
+/// pruned, how many nodes, its last chunk and how many bits that has, how many digests are kept of the pruned chunks, and which
+/// of the roots so far it has, in the order in which they came.
+fn bitmaps_stages<H: Hasher<Digest = FixedBytes<D>>, const D: usize, const N: usize>(
+    alloc: Global,
+    hasher: &Standard<H>,
+    columns: &[&str],
+) -> Result<String, Fault>
+where
+    FixedBytes<D>: Digest,
+    requires chunk { IsChunkSize N }
+    requires small { D ≤ 64 }
 {
-    let given = bytes(alloc, column)?;
-    if given.len() != N {
+    let List(calls): List<String> = parse(alloc, columns)?;
+    let mut history = History::new(alloc);
+    let mut stage = begun::<H, N>(alloc, hasher)?;
+    for call in &calls {
+        stage = called(alloc, hasher, stage, call.as_str())?;
+        history.note(alloc, &stage)?;
+    }
+    Ok(history.stages.finish()?)
+}
+
+/// `bits bit`: the root of these bits, and the digests of their proof of one of them, or the refusal.
+fn bit_proofs<H: Hasher<Digest = FixedBytes<D>>, const D: usize, const N: usize>(
+    alloc: Global,
+    hasher: &Standard<H>,
+    columns: &[&str],
+) -> Result<String, Fault>
+where
+    FixedBytes<D>: Digest,
+    requires chunk { IsChunkSize N }
+    requires small { D ≤ 64 }
+{
+    let (digits, bit): (String, u64) = parse(alloc, columns)?;
+    let calls = format!(in alloc; "d,p:{digits},m")?;
+    let List(calls): List<String> = parse(alloc, &[calls.as_str()])?;
+    let bitmap = after::<H, D, N>(alloc, hasher, &calls)?;
+    root_and_proof(alloc, hasher, &bitmap, bit)
+}
+
+/// The root of a bitmap, and the digests of its proof of a bit, or the refusal.
+fn root_and_proof<H: Hasher, const N: usize>(
+    alloc: Global,
+    hasher: &Standard<H>,
+    bitmap: &MerkleizedBitMap<H::Digest, N>,
+    bit: u64,
+) -> Result<String, Fault> {
+    if bit < bitmap.pruned_bits() {
         return Err(Fault::Malformed);
     }
-    let mut chunk = [0; N];
-    chunk.copy_from_slice(&given);
-    Ok(chunk)
+    let proof = match bitmap.proof(hasher, bit) {
+        Ok((proof, _)) => Ok(proof),
+        Err(error) => Err(error),
+    };
+    told(alloc, (Hex(bitmap.root()), digests_of(proof)))
+}
+
+/// `leaves inactive digests chunk bit root label`: whether the proof is accepted. The label says how the case was made.
+fn bitmaps_checks<H: Hasher, const N: usize>(
+    alloc: Global,
+    hasher: &Standard<H>,
+    columns: &[&str],
+) -> Result<String, Fault>
+    requires { IsChunkSize N }
+{
+    let (proof, chunk, bit, Hex(root), _): (
+        Proof<mmr::Family, H::Digest>,
+        [u8; N],
+        u64,
+        Hex<H::Digest>,
+        String,
+    ) = parse(alloc, columns)?;
+    told(
+        alloc,
+        MerkleizedBitMap::verify_bit_inclusion(alloc, hasher, &proof, &chunk, bit, &root)?,
+    )
 }
 
 /// `count digests`: how many bits the bitmap has that is restored from these, and its root, or the refusal.
@@ -113,24 +189,15 @@ where
     requires chunk { IsChunkSize N }
     requires small { D ≤ 64 }
 {
-    let [count, pinned] = columns else {
-        return Err(Fault::Malformed);
-    };
+    let (pruned_chunks, Digests(pinned)): (u64, Digests<FixedBytes<D>>) = parse(alloc, columns)?;
     let state = PrunedState {
-        pruned_chunks: number(*count)?,
-        pinned: digests(alloc, *pinned)?,
+        pruned_chunks,
+        pinned,
     };
-    match BitMap::init(alloc, hasher, state) {
-        Ok(bitmap) => length_and_root::<FixedBytes<D>, N>(alloc, &bitmap),
-        Err(error) => merkle_refusal(alloc, &error),
-    }
-}
-
-/// How many bits a bitmap has, and its root.
-fn length_and_root<D: Digest, const N: usize>(
-    alloc: Global,
-    bitmap: &MerkleizedBitMap<D, N>,
-) -> Result<String, Fault> {
+    let bitmap: MerkleizedBitMap<FixedBytes<D>, N> = match BitMap::init(alloc, hasher, state) {
+        Ok(bitmap) => bitmap,
+        Err(error) => return merkle_refusal(alloc, &error),
+    };
     let length = bitmap.len();
     let root = hex::encode(alloc, bitmap.root().bytes())?;
     Ok(format!(in alloc; "{length}:{root}")?)

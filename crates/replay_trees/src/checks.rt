@@ -1,126 +1,157 @@
-//! Lists on checks of one element, with how many digests they take, and of operations.
+//! Lists on checks of proofs of trees. Under the direction of databases those of pinned digests and of any locations are the checks
+//! of operations. A last column `label` says how the case was made.
 
-ghost use Rattle.std.specs.Prelude.{◌≡◌, ◌++◌, [], refl};
-ghost use Rattle.storage_merkle.specs.Calc.{be8};
-ghost use Rattle.storage_merkle.specs.Trees.{ungrafted};
-
-use commonware_storage::qmdb::verify::verify_proof;
-use replay_columns::columns::{Fault, bytes, digest, number, spaced_three, verdict};
-use replay_columns::plain_proofs::{bagging, proof_of};
-use replay_columns::unframed::operations;
+use crate::counting::Counting;
+use replay_columns::answers::told;
+use replay_columns::columns::{Digests, Fault, Hex, List, halves, parse};
+use replay_columns::unframed::Unframed;
 use std::alloc::Global;
 use std::cell::Cell;
-use storage_codec::digest::{self, Digest};
-use storage_merkle::merkle::hasher::{Hasher, Standard};
-use storage_merkle::merkle::{Bagging, Family, Location, Position};
+use storage_codec::digest::Hasher;
+use storage_merkle::merkle::hasher::Standard;
+use storage_merkle::merkle::{Bagging, Family, Location, Proof};
+use storage_ops::qmdb::verify::{verify_multi_proof, verify_proof, verify_proof_and_pinned_nodes};
 
-/// The ordinary hasher, with how many node digests and folds it was asked for.
-#[derive(Drop)]
-struct Counting<H> {
-    standard: Standard<H>,
-    nodes: Cell<u64>,
-    folds: Cell<u64>,
-}
-
-impl<H> Counting<H> {
-    fn new(bagging: Bagging) -> Self
-        ensures { result.standard.bagging ≡ bagging }
-    {
-        Counting {
-            standard: Standard::new(bagging),
-            nodes: Cell::new(0),
-            folds: Cell::new(0),
-        }
-    }
-
-    /// An answer, and how many node digests and folds were asked for.
-    fn told(&self, alloc: Global, yes: bool) -> Result<String, Fault> {
-        let accepted = verdict(alloc, yes)?;
-        let nodes = self.nodes.get();
-        let folds = self.folds.get();
-        spaced_three(alloc, &accepted, &nodes, &folds)
-    }
-}
-
-impl<F: Family, H: digest::Hasher> Hasher<F> for Counting<H> {
-    type Digest = H::Digest;
-
-    ghost hash_of = { H.hash_of };
-
-    ghost layout = { λ _. ungrafted F.shape };
-
-    ghost chunk = { λ _ _. [] };
-
-    ghost bagging = { λ s. s.standard.bagging };
-
-    ghost takes = { λ _ _. Unit {0} };
-
-    fn hash(&self, parts: &[&[u8]]) -> H::Digest {
-        if parts.len() == 2 && parts[0].len() == H::Digest::size() {
-            self.folds.set(self.folds.get().saturating_add(1));
-        }
-        H::hash(parts)
-    }
-
-    fn root_bagging(&self) -> Bagging {
-        Hasher::<F>::root_bagging(&self.standard)
-    }
-
-    fn node_digest(&self, position: Position<F>, left: &H::Digest, right: &H::Digest) -> H::Digest
-        ensures { H.Digest.text result
-            ≡ H.hash_of (be8 position ++ (H.Digest.text left.now ++ H.Digest.text right.now)) }
-    {
-        self.nodes.set(self.nodes.get().saturating_add(1));
-        self.standard.node_digest(position, left, right)
-    }
-
-    ghost sized = { H.sized };
-
-    ghost over = { λ _. refl };
+/// `bagging leaves inactive digests start elements root label`: whether the proof is accepted, and the root that it
+/// gives.
+pub fn plain_checks<F: Family, H: Hasher>(
+    alloc: Global,
+    columns: &[&str],
+) -> Result<String, Fault> {
+    let (bagging, proof, start, List(items), Hex(root), _): (
+        Bagging,
+        Proof<F, H::Digest>,
+        Location<F>,
+        List<Vec<u8>>,
+        Hex<H::Digest>,
+        String,
+    ) = parse(alloc, columns)?;
+    let hasher = Standard::<H>::new(bagging);
+    let yes = proof.verify_range_inclusion(alloc, &hasher, &items, start, &root)?;
+    let given = match proof.reconstruct_root(alloc, &hasher, &items, start) {
+        Ok(root) => Ok(Hex(root)),
+        Err(error) => Err(error),
+    };
+    told(alloc, (yes, given))
 }
 
 /// `bagging leaves inactive digests location element root label`: whether the proof of one element is accepted, and how many digests of
-/// nodes and how many folds the check takes. The label says how the case was made.
-pub fn element_checks<F: Family, H: digest::Hasher>(
+/// nodes and how many folds the check takes.
+pub fn element_checks<F: Family, H: Hasher>(
     alloc: Global,
     columns: &[&str],
 ) -> Result<String, Fault> {
-    let [
-        direction,
-        leaves,
-        inactive,
-        nodes,
-        location,
-        element,
-        root,
-        _,
-    ] = columns
-    else {
-        return Err(Fault::Malformed);
+    let (bagging, proof, location, element, Hex(root), _): (
+        Bagging,
+        Proof<F, H::Digest>,
+        Location<F>,
+        Vec<u8>,
+        Hex<H::Digest>,
+        String,
+    ) = parse(alloc, columns)?;
+    let hasher = Counting {
+        standard: Standard::<H>::new(bagging),
+        nodes: Cell::new(0),
+        folds: Cell::new(0),
     };
-    let bagging = bagging(*direction)?;
-    let location = Location::new(number(*location)?);
-    let root = digest(alloc, *root)?;
-    let proof = proof_of::<F, _>(alloc, *leaves, *inactive, *nodes)?;
-    let element = bytes(alloc, *element)?;
-    let hasher = Counting::<H>::new(bagging);
     let yes = proof.verify_element_inclusion(alloc, &hasher, &element, location, &root)?;
-    hasher.told(alloc, yes)
+    told(alloc, (yes, hasher.nodes.get(), hasher.folds.get()))
 }
 
-/// `leaves inactive digests start operations root label`: whether the proof of operations is accepted. The label says how the case was
-/// made.
-pub fn plain_operations<F: Family, H: digest::Hasher>(
+/// `leaves inactive digests start operations root label`: whether the proof of operations is accepted.
+pub fn plain_operations<F: Family, H: Hasher>(
     alloc: Global,
     columns: &[&str],
 ) -> Result<String, Fault> {
-    let [leaves, inactive, nodes, start, items, root, _] = columns else {
-        return Err(Fault::Malformed);
+    let (proof, start, List(operations), Hex(root), _): (
+        Proof<F, H::Digest>,
+        Location<F>,
+        List<Unframed>,
+        Hex<H::Digest>,
+        String,
+    ) = parse(alloc, columns)?;
+    told(
+        alloc,
+        verify_proof::<H, F, _>(alloc, &proof, start, &operations, &root)?,
+    )
+}
+
+/// `bagging leaves inactive digests start elements pinned root label`: whether the proof and the pinned digests are accepted.
+pub fn pinned_checks<F: Family, H: Hasher>(
+    alloc: Global,
+    columns: &[&str],
+) -> Result<String, Fault> {
+    let (bagging, proof, start, List(items), Digests(pinned), Hex(root), _): (
+        Bagging,
+        Proof<F, H::Digest>,
+        Location<F>,
+        List<Unframed>,
+        Digests<H::Digest>,
+        Hex<H::Digest>,
+        String,
+    ) = parse(alloc, columns)?;
+    let yes = if bagging == Bagging::BackwardFold {
+        verify_proof_and_pinned_nodes::<H, F, _>(alloc, &proof, start, &items, &pinned, &root)?
+    } else {
+        let hasher = Standard::<H>::new(bagging);
+        proof.verify_proof_and_pinned_nodes(alloc, &hasher, &items, start, &pinned, &root)?
     };
-    let start = Location::new(number(*start)?);
-    let root = digest(alloc, *root)?;
-    let proof = proof_of::<F, _>(alloc, *leaves, *inactive, *nodes)?;
-    let operations = operations(alloc, *items)?;
-    let yes = verify_proof::<H, F, _>(alloc, &proof, start, &operations, &root)?;
-    verdict(alloc, yes)
+    told(alloc, yes)
+}
+
+/// `bagging leaves inactive digests claims root label`: whether the proof is accepted. A claim is a location, a colon and an element;
+/// commas stand between them, and `none` is none.
+pub fn multi_checks<F: Family, H: Hasher>(
+    alloc: Global,
+    columns: &[&str],
+) -> Result<String, Fault> {
+    let (bagging, proof, claims, Hex(root), _): (
+        Bagging,
+        Proof<F, H::Digest>,
+        String,
+        Hex<H::Digest>,
+        String,
+    ) = parse(alloc, columns)?;
+    let yes = if bagging == Bagging::BackwardFold {
+        operations_shown::<F, H>(alloc, &proof, claims.as_str(), &root)?
+    } else {
+        let hasher = Standard::<H>::new(bagging);
+        elements_shown(alloc, &hasher, &proof, claims.as_str(), &root)?
+    };
+    told(alloc, yes)
+}
+
+/// Whether a proof is accepted for claims of operations.
+fn operations_shown<F: Family, H: Hasher>(
+    alloc: Global,
+    proof: &Proof<F, H::Digest>,
+    claims: &str,
+    root: &H::Digest,
+) -> Result<bool, Fault> {
+    let mut operations: Vec<(Location<F>, Unframed)> = Vec::new(alloc);
+    if claims != "none" {
+        for claim in claims.split(',') {
+            let (location, operation) = halves(claim, ':')?;
+            operations.push(parse(alloc, &[location, operation])?)?;
+        }
+    }
+    Ok(verify_multi_proof::<H, F, _>(alloc, proof, &operations, root)?)
+}
+
+/// Whether a proof is accepted for claims of elements.
+fn elements_shown<F: Family, H: Hasher>(
+    alloc: Global,
+    hasher: &Standard<H>,
+    proof: &Proof<F, H::Digest>,
+    claims: &str,
+    root: &H::Digest,
+) -> Result<bool, Fault> {
+    let mut elements: Vec<(Vec<u8>, Location<F>)> = Vec::new(alloc);
+    if claims != "none" {
+        for claim in claims.split(',') {
+            let (location, element) = halves(claim, ':')?;
+            elements.push(parse(alloc, &[element, location])?)?;
+        }
+    }
+    Ok(proof.verify_multi_inclusion(alloc, hasher, &elements, root)?)
 }

@@ -2,14 +2,15 @@
 
 ghost use Rattle.std.specs.Prelude.{◌≤◌};
 
-use commonware_storage::digest::{Digest, Hasher};
-use commonware_storage::laws::current::combined::nodes_over_chunks_are_taken;
-use commonware_storage::merkle::hasher::Standard;
-use commonware_storage::merkle::{Bagging, Graftable, Position};
-use commonware_storage::qmdb::current::grafting::{GraftedHasher, GraftedTree};
-use replay_columns::columns::{Fault, Series, digests, number, spaced_four};
+use replay_columns::answers::{Series, told};
+use replay_columns::columns::{Digests, Fault, Hex, List, parse};
 use replay_columns::refusals::merkle_refusal;
 use std::alloc::Global;
+use storage_codec::digest::{Digest, Hasher};
+use storage_current::laws::combined::nodes_over_chunks_are_taken;
+use storage_current::qmdb::current::grafting::{GraftedHasher, GraftedTree};
+use storage_merkle::merkle::hasher::Standard;
+use storage_merkle::merkle::{Bagging, Graftable, Position};
 
 /// More chunks than a case has.
 const MANY: u64 = 1000;
@@ -22,18 +23,18 @@ pub fn grafted_trees<F: Graftable, H: Hasher>(
     alloc: Global,
     columns: &[&str],
 ) -> Result<String, Fault> {
-    let [height, pruned, pinned, leaves, prunings] = columns else {
-        return Err(Fault::Malformed);
-    };
-    let height = number(*height)?;
+    let (height, pruned, Digests(pinned), Digests(leaves), List(prunings)): (
+        u64,
+        u64,
+        Digests<H::Digest>,
+        Digests<H::Digest>,
+        List<u64>,
+    ) = parse(alloc, columns)?;
     if height < 1 || height > 8 {
         return Err(Fault::Malformed);
     }
-    let pinned = digests::<H::Digest>(alloc, *pinned)?;
-    let leaves = digests::<H::Digest>(alloc, *leaves)?;
-    let made = GraftedTree::<F, _>::init(alloc, number(*pruned)?, &pinned, leaves);
-    match made {
-        Ok(tree) => pruned_to::<F, H>(alloc, tree, height as u32, *prunings),
+    match GraftedTree::<F, _>::init(alloc, pruned, &pinned, leaves) {
+        Ok(tree) => pruned_to::<F, H>(alloc, tree, height as u32, &prunings),
         Err(error) => merkle_refusal(alloc, &error),
     }
 }
@@ -43,49 +44,28 @@ fn pruned_to<F: Graftable, H: Hasher>(
     alloc: Global,
     mut tree: GraftedTree<F, H::Digest>,
     height: u32,
-    prunings: &str,
-) -> Result<String, Fault>
-    requires low { 1 ≤ height }
-    requires high { height ≤ 8 }
-{
-    let refusals = refusals::<F, H>(alloc, &mut tree, height, prunings)?;
-    left_of(alloc, &tree, refusals.as_str())
-}
-
-/// Prunes a tree; the places and names of the refusals.
-fn refusals<F: Graftable, H: Hasher>(
-    alloc: Global,
-    tree: &mut GraftedTree<F, H::Digest>,
-    height: u32,
-    prunings: &str,
+    prunings: &[u64],
 ) -> Result<String, Fault>
     requires low { 1 ≤ height }
     requires high { height ≤ 8 }
 {
     let mut refusals = Series::new(alloc);
-    if prunings != "none" {
-        for (place, chunks) in prunings.split(',').enumerate() {
-            if let Some(refusal) = pruned::<F, H>(alloc, tree, height, number(chunks)?)? {
-                refusals.push_at(place as u64, refusal.as_str())?;
-            }
+    let mut place: u64 = 0;
+    for chunks in prunings {
+        if let Some(refusal) = pruned::<F, H>(alloc, &mut tree, height, *chunks)? {
+            refusals.push_at(alloc, place, &refusal)?;
         }
+        place = place.saturating_add(1);
     }
-    Ok(refusals.finish()?)
-}
-
-/// What is left of a tree, after the refusals.
-fn left_of<F: Graftable, D: Digest>(
-    alloc: Global,
-    tree: &GraftedTree<F, D>,
-    refusals: &str,
-) -> Result<String, Fault> {
-    let nodes = nodes(alloc, tree)?;
-    spaced_four(
+    let nodes = nodes(alloc, &tree)?;
+    told(
         alloc,
-        &refusals,
-        &tree.leaves(),
-        &tree.pruned_chunks(),
-        &nodes,
+        (
+            refusals.finish()?,
+            tree.leaves(),
+            tree.pruned_chunks(),
+            nodes,
+        ),
     )
 }
 
@@ -121,7 +101,7 @@ fn nodes<F: Graftable, D: Digest>(
     }
     let mut nodes = Series::new(alloc);
     for place in 0..F::nodes_over(leaves) + 2 {
-        nodes.push_digest(alloc, place, tree.get_node(Position::new(place)))?;
+        nodes.push_at(alloc, place, &tree.get_node(Position::new(place)).map(Hex))?;
     }
     Ok(nodes.finish()?)
 }

@@ -1,15 +1,16 @@
 //! The list on proofs about keys as bytes. Keys have four bytes, and values are numbers.
 
 use bytes::Bytes;
-use commonware_storage::codec::{Decode, Encode, EncodeSize, FixedBytes, Read};
-use commonware_storage::digest::{Digest, Hasher};
-use commonware_storage::merkle::Graftable;
-use commonware_storage::qmdb::any::FixedEncoding;
-use commonware_storage::qmdb::current::ordered::{ExclusionProof, KeyValueProof};
-use commonware_storage::qmdb::current::proof::Chunk;
-use replay_columns::columns::{Fault, bytes as bytes_of, number, owned, spaced_two};
+use replay_columns::answers::{encoded, owned, told};
+use replay_columns::columns::{Fault, number, parse};
 use replay_columns::refusals::codec_refusal;
 use std::alloc::Global;
+use storage_codec::codec::{Decode, Encode, EncodeSize, Error, FixedBytes, Read};
+use storage_codec::digest::{Digest, Hasher};
+use storage_current::qmdb::current::ordered::{ExclusionProof, KeyValueProof};
+use storage_current::qmdb::current::proof::Chunk;
+use storage_merkle::merkle::Graftable;
+use storage_ops::qmdb::any::FixedEncoding;
 
 type Key = FixedBytes<4>;
 
@@ -42,44 +43,22 @@ pub fn key_proofs<F: Graftable, H: Hasher>(
     alloc: Global,
     columns: &[&str],
 ) -> Result<String, Fault> {
-    let [claim, reader, most, text] = columns else {
-        return Err(Fault::Malformed);
-    };
-    let most = number(*most)? as usize;
-    let input = bytes_of(alloc, *text)?;
-    if *reader == "array" {
-        return by_array::<F, H::Digest>(alloc, *claim, most, &input);
+    let (claim, reader, most, input): (String, String, usize, Vec<u8>) = parse(alloc, columns)?;
+    let (claim, input) = (claim.as_str(), input.as_slice());
+    if reader.as_str() == "array" {
+        return match claim {
+            "value" => read::<Value<F, H::Digest, [u8; 1]>>(alloc, input, &(most, ())),
+            _ => read::<Absence<F, H::Digest, [u8; 1]>>(alloc, input, &(most, (), ())),
+        };
     }
-    by_size::<F, H::Digest>(alloc, *claim, (number(*reader)? as usize, most), &input)
-}
-
-/// The answer of the readers whose chunk is an array.
-fn by_array<F: Graftable, D: Digest>(
-    alloc: Global,
-    claim: &str,
-    most: usize,
-    input: &[u8],
-) -> Result<String, Fault> {
+    let size = number(reader.as_str())? as usize;
     match claim {
-        "value" => read::<Value<F, D, [u8; 1]>>(alloc, input, &(most, ())),
-        _ => read::<Absence<F, D, [u8; 1]>>(alloc, input, &(most, (), ())),
+        "value" => read::<Value<F, H::Digest, Bytes>>(alloc, input, &((size, most), ())),
+        _ => read::<Absence<F, H::Digest, Bytes>>(alloc, input, &((size, most), (), ())),
     }
 }
 
-/// The answer of the readers whose chunk is shared bytes.
-fn by_size<F: Graftable, D: Digest>(
-    alloc: Global,
-    claim: &str,
-    proof: (usize, usize),
-    input: &[u8],
-) -> Result<String, Fault> {
-    match claim {
-        "value" => read::<Value<F, D, Bytes>>(alloc, input, &(proof, ())),
-        _ => read::<Absence<F, D, Bytes>>(alloc, input, &(proof, (), ())),
-    }
-}
-
-/// What is in front of the bytes, and what all of them are.
+/// What is in front of the bytes, and what all of them are: `same` for a proof that is written as they are.
 fn read<T: Read + EncodeSize + OwnCopy + PartialEq>(
     alloc: Global,
     input: &[u8],
@@ -87,47 +66,27 @@ fn read<T: Read + EncodeSize + OwnCopy + PartialEq>(
 ) -> Result<String, Fault> {
     let front = front::<T>(alloc, input, cfg)?;
     let whole = match T::decode_cfg(alloc, input, cfg) {
-        Ok(proof) => same(alloc, &proof, input)?,
+        Ok(proof) if proof.encode(alloc)?.as_slice() == input => owned(alloc, "same")?,
+        Ok(_) => return Err(Fault::Differs),
         Err(error) => codec_refusal(alloc, error)?,
     };
-    spaced_two(alloc, &front, &whole)
+    told(alloc, (front, whole))
 }
 
-/// `same` for a proof that is written as these bytes.
-fn same<T: EncodeSize>(alloc: Global, proof: &T, input: &[u8]) -> Result<String, Fault> {
-    if proof.encode(alloc)?.as_slice() != input {
-        return Err(Fault::Differs);
-    }
-    owned(alloc, "same")
-}
-
-/// The bytes of the proof in front, and how many are left; or the refusal.
+/// The bytes of a copy of the proof in front, which is equal, and how many are left; or the refusal.
 fn front<T: Read + EncodeSize + OwnCopy + PartialEq>(
     alloc: Global,
     mut input: &[u8],
     cfg: &T::Cfg,
-) -> Result<String, Fault> {
+) -> Result<Result<(String, usize), (Error, Option<usize>)>, Fault> {
     match T::read_cfg(alloc, &mut input, cfg) {
         Ok(proof) => {
-            let left = input.len();
-            let copy = written_copy(alloc, &proof)?;
-            spaced_two(alloc, &copy, &left)
+            let copy = proof.own_copy()?;
+            if copy != proof {
+                return Err(Fault::Differs);
+            }
+            Ok(Ok((encoded(alloc, &copy)?, input.len())))
         }
-        Err(error) => {
-            let refusal = codec_refusal(alloc, error)?;
-            spaced_two(alloc, &refusal, &"-")
-        }
+        Err(error) => Ok(Err((error, None))),
     }
-}
-
-/// The bytes of a copy, which is equal.
-fn written_copy<T: EncodeSize + OwnCopy + PartialEq + Drop>(
-    alloc: Global,
-    proof: &T,
-) -> Result<String, Fault> {
-    let copy = proof.own_copy()?;
-    if copy != *proof {
-        return Err(Fault::Differs);
-    }
-    Ok(hex::encode(alloc, copy.encode(alloc)?)?)
 }

@@ -3,21 +3,18 @@
 
 pub mod asked;
 pub mod bitmaps;
+pub mod both_chunks;
 pub mod checks;
-pub mod chunks;
 pub mod codecs;
+pub mod counting;
 pub mod errors;
 pub mod extracted;
 pub mod grafted_trees;
 pub mod key_proofs;
 pub mod mems;
-pub mod multi;
 pub mod operations;
 pub mod own;
-pub mod pinned;
 pub mod places;
-pub mod recomputed;
-pub mod required;
 pub mod spelling;
 pub mod stores;
 pub mod trees;

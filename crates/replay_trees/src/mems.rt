@@ -1,27 +1,24 @@
 //! Lists on trees in memory.
 
+use replay_columns::answers::{Series, told};
 use replay_columns::columns::{
-    Fault, Series, bytes, digest, digests, inner_digests, number, owned, spaced_four, spaced_two,
+    Digests, Fault, Hex, List, bytes, digest, digests_between, halves, number, parse,
 };
-use replay_columns::plain_proofs::bagging;
 use replay_columns::refusals::merkle_refusal;
 use std::alloc::Global;
 use storage_codec::digest::{Digest, Hasher};
 use storage_merkle::merkle::hasher::Standard;
 use storage_merkle::merkle::mem::Mem;
-use storage_merkle::merkle::{Family, Location, Position};
+use storage_merkle::merkle::{Bagging, Family, Location, Position};
 
 /// `bagging boundary digests`: how many nodes the tree has whose leaves before the boundary are forgotten, its root, and what
 /// adding a leaf of no bytes answers; or the refusal.
 pub fn mem_init<F: Family, H: Hasher>(alloc: Global, columns: &[&str]) -> Result<String, Fault> {
-    let [direction, boundary, pinned] = columns else {
-        return Err(Fault::Malformed);
-    };
-    let hasher = Standard::<H>::new(bagging(*direction)?);
-    let boundary = Location::<F>::new(number(*boundary)?);
-    let pinned = digests::<H::Digest>(alloc, *pinned)?;
+    let (bagging, boundary, Digests(pinned)): (Bagging, Location<F>, Digests<H::Digest>) = parse(
+        alloc, columns,
+    )?;
     match Mem::init(alloc, boundary, &pinned) {
-        Ok(tree) => begun(alloc, &hasher, tree),
+        Ok(tree) => begun(alloc, &Standard::<H>::new(bagging), tree),
         Err(error) => merkle_refusal(alloc, &error),
     }
 }
@@ -32,79 +29,46 @@ fn begun<F: Family, H: Hasher>(
     hasher: &Standard<H>,
     mut tree: Mem<F, H::Digest>,
 ) -> Result<String, Fault> {
-    let size = tree.size().as_u64();
-    match tree.root(hasher, 0) {
-        Ok(root) => {
-            let root = hex::encode(alloc, root.bytes())?;
-            let added = added(alloc, hasher, &mut tree)?;
-            Ok(format!(in alloc; "{size}:{root}:{added}")?)
-        }
-        Err(error) => merkle_refusal(alloc, &error),
-    }
-}
-
-/// What adding a leaf of no bytes answers.
-fn added<F: Family, H: Hasher>(
-    alloc: Global,
-    hasher: &Standard<H>,
-    tree: &mut Mem<F, H::Digest>,
-) -> Result<String, Fault> {
-    match tree.add(hasher, &[]) {
-        Ok(()) => owned(alloc, "ok"),
-        Err(error) => merkle_refusal(alloc, &error),
-    }
+    let size = tree.size();
+    let root = match tree.root(hasher, 0) {
+        Ok(root) => hex::encode(alloc, root.bytes())?,
+        Err(error) => return merkle_refusal(alloc, &error),
+    };
+    let added = match tree.add(hasher, &[]) {
+        Ok(()) => String::from_str(alloc, "ok")?,
+        Err(error) => merkle_refusal(alloc, &error)?,
+    };
+    Ok(format!(in alloc; "{size}:{root}:{added}")?)
 }
 
 /// `bagging calls`: the places of the refused calls on a tree in memory and their refusals, and what stands after the last call:
 /// how many leaves and nodes there are, the root with none of the peaks inactive, with one, and so on up to the refusal, and
 /// the digests at all positions and at the next two.
 pub fn mems<F: Family, H: Hasher>(alloc: Global, columns: &[&str]) -> Result<String, Fault> {
-    let [direction, calls] = columns else {
-        return Err(Fault::Malformed);
-    };
-    let hasher = Standard::<H>::new(bagging(*direction)?);
+    let (bagging, List(calls)): (Bagging, List<String>) = parse(alloc, columns)?;
+    let hasher = Standard::<H>::new(bagging);
     let mut tree = Mem::<F, _>::new(alloc);
-    let refusals = refusals(alloc, &hasher, &mut tree, *calls)?;
+    let refusals = refusals(alloc, &hasher, &mut tree, &calls)?;
     let grown = grown(alloc, &hasher, &tree)?;
-    spaced_two(alloc, &refusals, &grown)
+    told(alloc, (refusals, grown))
 }
 
-/// Makes calls with commas between them: the places of the refused ones and their refusals.
+/// Makes calls: the places of the refused ones and their refusals.
 fn refusals<F: Family, H: Hasher>(
     alloc: Global,
     hasher: &Standard<H>,
     tree: &mut Mem<F, H::Digest>,
-    calls: &str,
+    calls: &[String],
 ) -> Result<String, Fault> {
     let mut refusals = Series::new(alloc);
-    for (place, call) in calls.split(',').enumerate() {
-        if let Some(refusal) = called(alloc, hasher, tree, call)? {
-            refusals.push_at(place as u64, refusal.as_str())?;
+    let mut place: u64 = 0;
+    for call in calls {
+        if let Some(refusal) = called(alloc, hasher, tree, call.as_str())? {
+            refusals.push_at(alloc, place, &refusal)?;
         }
+        place = place.saturating_add(1);
     }
     Ok(refusals.finish()?)
-}
-
-/// How many leaves and nodes a tree has, its roots and its nodes.
-fn grown<F: Family, H: Hasher>(
-    alloc: Global,
-    hasher: &Standard<H>,
-    tree: &Mem<F, H::Digest>,
-) -> Result<String, Fault> {
-    let leaves = tree.leaves();
-    let size = tree.size();
-    let roots = roots(alloc, hasher, tree)?;
-    let nodes = nodes(alloc, tree)?;
-    spaced_four(alloc, &leaves, &size, &roots, &nodes)
-}
-
-/// The digests at all positions and at the next two.
-fn nodes<F: Family, D: Digest>(alloc: Global, tree: &Mem<F, D>) -> Result<String, Fault> {
-    let mut nodes = Series::new(alloc);
-    for place in 0..tree.size().as_u64().saturating_add(2) {
-        nodes.push_digest(alloc, place, tree.get_node(Position::new(place)))?;
-    }
-    Ok(nodes.finish()?)
 }
 
 /// Makes a call: `a:ELEMENT` adds a leaf, `u:LOCATION=DIGEST/..` changes leaves, `x:LOCATION` forgets those before it, and
@@ -115,7 +79,7 @@ fn called<F: Family, H: Hasher>(
     tree: &mut Mem<F, H::Digest>,
     call: &str,
 ) -> Result<Option<String>, Fault> {
-    let (verb, rest) = call.split_once(':').ok_or(Fault::Malformed)?;
+    let (verb, rest) = halves(call, ':')?;
     let answer = match verb {
         "a" => {
             let element = bytes(alloc, rest)?;
@@ -141,9 +105,9 @@ fn taken<F: Family, D: Digest>(
     tree: &mut Mem<F, D>,
     parts: &str,
 ) -> Result<Option<String>, Fault> {
-    let (boundary, pinned) = parts.split_once(':').ok_or(Fault::Malformed)?;
+    let (boundary, pinned) = halves(parts, ':')?;
     let boundary = Location::new(number(boundary)?);
-    let pinned = inner_digests(alloc, pinned)?;
+    let pinned: Vec<D> = digests_between(alloc, pinned, '/')?;
     match Mem::init(alloc, boundary, &pinned) {
         Ok(other) => {
             *tree = other;
@@ -159,14 +123,27 @@ fn updates<F: Family, D: Digest>(
     column: &str,
 ) -> Result<Vec<(Location<F>, D)>, Fault> {
     let mut updates = Vec::new(alloc);
-    if column == "-" {
-        return Ok(updates);
-    }
-    for part in column.split('/') {
-        let (location, written) = part.split_once('=').ok_or(Fault::Malformed)?;
-        updates.push((Location::new(number(location)?), digest(alloc, written)?))?;
+    if column != "-" {
+        for part in column.split('/') {
+            let (location, written) = halves(part, '=')?;
+            updates.push((Location::new(number(location)?), digest(alloc, written)?))?;
+        }
     }
     Ok(updates)
+}
+
+/// How many leaves and nodes a tree has, its roots, and the digests at all positions and at the next two.
+fn grown<F: Family, H: Hasher>(
+    alloc: Global,
+    hasher: &Standard<H>,
+    tree: &Mem<F, H::Digest>,
+) -> Result<String, Fault> {
+    let roots = roots(alloc, hasher, tree)?;
+    let mut nodes = Series::new(alloc);
+    for place in 0..tree.size().as_u64().saturating_add(2) {
+        nodes.push_at(alloc, place, &tree.get_node(Position::new(place)).map(Hex))?;
+    }
+    told(alloc, (tree.leaves(), tree.size(), roots, nodes.finish()?))
 }
 
 /// The roots with none of the peaks inactive, with one, and so on up to the refusal.
@@ -178,10 +155,9 @@ fn roots<F: Family, H: Hasher>(
     let mut roots = Series::new(alloc);
     for inactive in 0..=u64::BITS {
         match tree.root(hasher, inactive as usize) {
-            Ok(root) => roots.push_digest(alloc, inactive as u64, Some(root))?,
+            Ok(root) => roots.push_at(alloc, inactive as u64, &Hex(root))?,
             Err(error) => {
-                let refusal = merkle_refusal(alloc, &error)?;
-                roots.push_at(inactive as u64, refusal.as_str())?;
+                roots.push_at(alloc, inactive as u64, &error)?;
                 break;
             }
         }

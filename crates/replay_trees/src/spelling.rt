@@ -1,8 +1,7 @@
 //! How keys, values and operations are spelled in the lists.
 
-use replay_columns::columns::{
-    Fault, array, bytes, coloned, number, owned, spaced_three, spaced_two, spelled,
-};
+use replay_columns::answers::{owned, told};
+use replay_columns::columns::{Fault, array, bytes, halves, number};
 use std::alloc::Global;
 use storage_codec::codec::{FixedBytes, U64};
 use storage_merkle::merkle::{Location, mmr};
@@ -79,12 +78,12 @@ where
         let key = self.key.spell(alloc)?;
         let value = self.value.spell(alloc)?;
         let next_key = self.next_key.spell(alloc)?;
-        coloned(alloc, &[key.as_str(), value.as_str(), next_key.as_str()])
+        Ok(format!(in alloc; "{key}:{value}:{next_key}")?)
     }
 
     fn parse(alloc: Global, text: &str) -> Result<update::Ordered<K, V>, Fault> {
-        let (key, rest) = text.split_once(':').ok_or(Fault::Malformed)?;
-        let (value, next_key) = rest.split_once(':').ok_or(Fault::Malformed)?;
+        let (key, rest) = halves(text, ':')?;
+        let (value, next_key) = halves(rest, ':')?;
         Ok(update::Ordered {
             key: K::parse(alloc, key)?,
             value: V::Value::parse(alloc, value)?,
@@ -100,18 +99,19 @@ where
     fn spell(&self, alloc: Global) -> Result<String, Fault> {
         let key = self.0.spell(alloc)?;
         let value = self.1.spell(alloc)?;
-        coloned(alloc, &[key.as_str(), value.as_str()])
+        Ok(format!(in alloc; "{key}:{value}")?)
     }
 
     fn parse(alloc: Global, text: &str) -> Result<update::Unordered<K, V>, Fault> {
-        let (key, value) = text.split_once(':').ok_or(Fault::Malformed)?;
+        let (key, value) = halves(text, ':')?;
         Ok(update::Unordered(K::parse(alloc, key)?, V::Value::parse(alloc, value)?))
     }
 }
 
 /// A kind of operation, and what it is about.
 fn spell_kind<T: Spell>(alloc: Global, kind: &str, value: &T) -> Result<String, Fault> {
-    coloned(alloc, &[kind, value.spell(alloc)?.as_str()])
+    let value = value.spell(alloc)?;
+    Ok(format!(in alloc; "{kind}:{value}")?)
 }
 
 /// A commit with its value and its floor.
@@ -125,7 +125,7 @@ fn spell_commit<V: Spell>(alloc: Global, value: Option<&V>, floor: u64) -> Resul
 
 /// The value of a commit and its floor.
 fn parse_commit<V: Spell>(alloc: Global, text: &str) -> Result<(Option<V>, u64), Fault> {
-    let (value, floor) = text.split_once(':').ok_or(Fault::Malformed)?;
+    let (value, floor) = halves(text, ':')?;
     let floor = number(floor)?;
     match value {
         "none" => Ok((None, floor)),
@@ -149,7 +149,7 @@ where
     }
 
     fn parse(alloc: Global, text: &str) -> Result<Operation<mmr::Family, S>, Fault> {
-        let (kind, rest) = text.split_once(':').ok_or(Fault::Malformed)?;
+        let (kind, rest) = halves(text, ':')?;
         match kind {
             "delete" => Ok(Operation::Delete(S::Key::parse(alloc, rest)?)),
             "update" => Ok(Operation::Update(S::parse(alloc, rest)?)),
@@ -196,9 +196,9 @@ where
     }
 
     fn asked(self, alloc: Global) -> Result<String, Fault> {
-        let told = told(alloc, &self)?;
+        let described = described(alloc, &self)?;
         let given = spell_key(alloc, self.into_key().as_ref())?;
-        spaced_two(alloc, &told, &given)
+        told(alloc, (described, given))
     }
 
     fn valued(self, alloc: Global) -> Result<String, Fault> {
@@ -216,43 +216,32 @@ where
 {
     let lent = update.value().spell(alloc)?;
     let given = update.into_value().spell(alloc)?;
-    spaced_two(alloc, &lent, &given)
+    told(alloc, (lent, given))
 }
 
 /// What an operation is, its key and its floor; `-` for none.
-fn told<S: Update>(alloc: Global, operation: &Operation<mmr::Family, S>) -> Result<String, Fault>
+fn described<S: Update>(
+    alloc: Global,
+    operation: &Operation<mmr::Family, S>,
+) -> Result<String, Fault>
 where
     S::Key: Spell,
 {
-    let kinds = [
+    let [update, delete, commit] = [
         operation.is_update(),
         operation.is_delete(),
         operation.is_commit(),
-    ];
-    let kinds = digits(alloc, kinds)?;
+    ]
+    .map(u8::from);
+    let kinds = format!(in alloc; "{update}{delete}{commit}")?;
     let key = spell_key(alloc, operation.key())?;
-    let floor = spell_floor(alloc, operation.has_floor())?;
-    spaced_three(alloc, &kinds, &key, &floor)
-}
-
-/// A digit for each answer.
-fn digits(alloc: Global, answers: [bool; 3]) -> Result<String, Fault> {
-    let [first, second, third] = answers.map(u8::from);
-    Ok(format!(in alloc; "{first}{second}{third}")?)
+    told(alloc, (kinds, key, operation.has_floor()))
 }
 
 /// A key; `-` is none.
 fn spell_key<K: Spell>(alloc: Global, key: Option<&K>) -> Result<String, Fault> {
     match key {
         Some(key) => key.spell(alloc),
-        None => owned(alloc, "-"),
-    }
-}
-
-/// A floor; `-` is none.
-fn spell_floor(alloc: Global, floor: Option<Location<mmr::Family>>) -> Result<String, Fault> {
-    match floor {
-        Some(floor) => spelled(alloc, &floor),
         None => owned(alloc, "-"),
     }
 }

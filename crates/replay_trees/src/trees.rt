@@ -1,51 +1,21 @@
 //! Lists on the arithmetic of the tree families.
 
-ghost use Rattle.std.specs.Prelude.{◌≡◌, ℕ, ◌+◌, ◌*◌, ◌%◌, ◌^◌, ◌<◌, ◌≤◌};
-ghost use Rattle.storage_merkle.specs.Nodes.{IsNode, CoversSame};
+ghost use Rattle.std.specs.Prelude.{◌≡◌, ◌%◌, ◌^◌, ◌≤◌};
 ghost use Rattle.storage_merkle.specs.Shape.{size, max_leaves};
+ghost use Rattle.storage_bitmap.specs.Chunks.{IsChunkSize};
 
-use crate::{places, required};
-use commonware_storage::qmdb::current::grafting::{
-    graftable_chunks, grafted_to_ops_pos, ops_to_grafted_pos,
-};
-use reference::shape::Digits;
-use replay_columns::columns::{
-    Fault, Series, number, spaced_four, spaced_three, spaced_two, spelled,
-};
-use replay_columns::{plain, plain_proofs};
+use replay_columns::answers::{Series, told};
+use replay_columns::columns::{Fault, parse};
+use replay_columns::refusals::database_refusal;
 use std::alloc::Global;
+use storage_current::qmdb::current::grafting::{
+    aligned_inactive, exact_inactive, graftable_chunks, grafted_to_ops_pos, ops_to_grafted_pos,
+};
+use storage_current::qmdb::current::proof::required_chunks;
 use storage_merkle::merkle::family::{leaves_within, node_at, power};
-use storage_merkle::merkle::{Graftable, Location, MAX_LEAVES, Position, mmb, mmr};
-
-/// The answer of a list whose first column is the family.
-pub fn answer(alloc: Global, list: &str, columns: &[&str]) -> Result<String, Fault> {
-    let Some((family, columns)) = columns.split_first() else {
-        return Err(Fault::Malformed);
-    };
-    match *family {
-        "mmr" => over::<mmr::Family>(alloc, list, columns),
-        "mmb" => over::<mmb::Family>(alloc, list, columns),
-        _ => Err(Fault::Malformed),
-    }
-}
-
-fn over<F: Graftable + Digits>(
-    alloc: Global,
-    list: &str,
-    columns: &[&str],
-) -> Result<String, Fault> {
-    match list {
-        "families" => families::<F>(alloc, columns),
-        "sizes" => sizes::<F>(alloc, columns),
-        "nodes" => nodes::<F>(alloc, columns),
-        "graftable" => graftable::<F>(alloc, columns),
-        "maps" => maps::<F>(alloc, columns),
-        "elements" => plain_proofs::elements::<F>(alloc, columns),
-        "plans" => plain_proofs::plans::<F>(alloc, columns),
-        "required" => required::required::<F>(alloc, columns),
-        _ => places::answer::<F>(alloc, list, columns),
-    }
-}
+use storage_merkle::merkle::{
+    ElementPlan, Error, Family, Graftable, Location, MAX_LEAVES, Position, RangePlan,
+};
 
 /// The number of nodes over the most leaves.
 fn most_nodes<F: Graftable>() -> u64
@@ -55,87 +25,57 @@ fn most_nodes<F: Graftable>() -> u64
 }
 
 /// `leaves`: the number of nodes, the peaks' heights and positions, and the positions to pin.
-fn families<F: Graftable + Digits>(alloc: Global, columns: &[&str]) -> Result<String, Fault> {
-    let [leaves] = columns else {
-        return Err(Fault::Malformed);
-    };
-    let leaves = number(*leaves)?;
+pub fn families<F: Graftable>(alloc: Global, columns: &[&str]) -> Result<String, Fault> {
+    let leaves: u64 = parse(alloc, columns)?;
     if leaves > MAX_LEAVES {
         return Err(Fault::Malformed);
     }
-    let fast = told::<F>(alloc, leaves)?;
-    plain::agreed(fast, plain::families::<F>(alloc, leaves)?.as_str())
-}
-
-/// The number of nodes, the peaks' heights and positions, and the positions to pin.
-fn told<F: Graftable>(alloc: Global, leaves: u64) -> Result<String, Fault>
-    requires { leaves ≤ max_leaves }
-{
-    let nodes = F::nodes_over(leaves);
-    let peaks = peaks_told::<F>(alloc, leaves)?;
-    let pins = pins_told::<F>(alloc, leaves)?;
-    spaced_three(alloc, &nodes, &peaks, &pins)
+    let peaks = peaks::<F>(alloc, leaves)?;
+    let pins = pins::<F>(alloc, leaves)?;
+    told(alloc, (F::nodes_over(leaves), peaks, pins))
 }
 
 /// The peaks' heights and positions.
-fn peaks_told<F: Graftable>(alloc: Global, leaves: u64) -> Result<String, Fault>
+fn peaks<F: Graftable>(alloc: Global, leaves: u64) -> Result<(String, String), Fault>
     requires { leaves ≤ max_leaves }
 {
     let mut heights = Series::new(alloc);
     let mut positions = Series::new(alloc);
     for (position, height) in F::peaks(Position::new(F::nodes_over(leaves))) {
-        heights.push(height as u64)?;
-        positions.push(position.as_u64())?;
+        heights.push(alloc, &(height as u64))?;
+        positions.push(alloc, &position)?;
     }
-    let heights = heights.finish()?;
-    let positions = positions.finish()?;
-    spaced_two(alloc, &heights, &positions)
+    Ok((heights.finish()?, positions.finish()?))
 }
 
 /// The positions to pin.
-fn pins_told<F: Graftable>(alloc: Global, leaves: u64) -> Result<String, Fault>
+fn pins<F: Graftable>(alloc: Global, leaves: u64) -> Result<String, Fault>
     requires { leaves ≤ max_leaves }
 {
     let mut pins = Series::new(alloc);
     for position in F::nodes_to_pin(Location::new(leaves)) {
-        pins.push(position.as_u64())?;
+        pins.push(alloc, &position)?;
     }
     Ok(pins.finish()?)
 }
 
 /// `nodes`: of how many leaves this is the number of nodes.
-fn sizes<F: Graftable + Digits>(alloc: Global, columns: &[&str]) -> Result<String, Fault> {
-    let [nodes] = columns else {
-        return Err(Fault::Malformed);
-    };
-    let nodes = number(*nodes)?;
+pub fn sizes<F: Graftable>(alloc: Global, columns: &[&str]) -> Result<String, Fault> {
+    let nodes: u64 = parse(alloc, columns)?;
     if nodes > most_nodes::<F>() {
         return Err(Fault::Malformed);
     }
     let leaves = leaves_within::<F>(nodes);
-    let fast = if F::nodes_over(leaves) == nodes {
-        spelled(alloc, &leaves)?
-    } else {
-        String::from_str(alloc, "-")?
-    };
-    plain::agreed(fast, plain::sizes::<F>(alloc, nodes, leaves)?.as_str())
+    told(alloc, (F::nodes_over(leaves) == nodes).then_some(leaves))
 }
 
 /// `first_leaf height`: the position of this node, at how many leaves it comes, and its children.
-fn nodes<F: Graftable + Digits>(alloc: Global, columns: &[&str]) -> Result<String, Fault> {
-    let [first, height] = columns else {
-        return Err(Fault::Malformed);
-    };
-    let first = number(*first)?;
-    let height = number(*height)?;
+pub fn nodes<F: Graftable>(alloc: Global, columns: &[&str]) -> Result<String, Fault> {
+    let (first, height): (u64, u64) = parse(alloc, columns)?;
     if height > 61 || first > MAX_LEAVES || !first.is_multiple_of(1 << height) {
         return Err(Fault::Malformed);
     }
-    let fast = node::<F>(alloc, first, height as u32)?;
-    plain::agreed(
-        fast,
-        plain::nodes::<F>(alloc, first, height as u32)?.as_str(),
-    )
+    node::<F>(alloc, first, height as u32)
 }
 
 fn node<F: Graftable>(alloc: Global, first: u64, height: u32) -> Result<String, Fault>
@@ -148,41 +88,44 @@ fn node<F: Graftable>(alloc: Global, first: u64, height: u32) -> Result<String, 
         return Err(Fault::Malformed);
     }
     if height == 0 {
-        let position = position.as_u64();
-        let birth = F::birth(first, height);
-        return Ok(format!(in alloc; "{position} {birth} - -")?);
+        let none: Option<u64> = None;
+        return told(alloc, (position, F::birth(first, height), none, none));
     }
-    let birth = F::peak_birth_size(position, height);
     let (left, right) = F::children(position, height);
-    let position = position.as_u64();
-    let left = left.as_u64();
-    let right = right.as_u64();
-    spaced_four(alloc, &position, &birth, &left, &right)
+    told(
+        alloc,
+        (position, F::peak_birth_size(position, height), left, right),
+    )
+}
+
+/// `position`: the height of the node there, its children, its first leaf, and at how many leaves it comes; or `leaf`.
+pub fn around<F: Graftable>(alloc: Global, columns: &[&str]) -> Result<String, Fault> {
+    let position: Position<F> = parse(alloc, columns)?;
+    if position.as_u64() > most_nodes::<F>() {
+        return Err(Fault::Malformed);
+    }
+    let (_, height) = node_at::<F>(position.as_u64());
+    if height == 0 {
+        return Ok(String::from_str(alloc, "leaf")?);
+    }
+    let children = F::children(position, height);
+    let first = F::leftmost_leaf(position, height);
+    let birth = F::peak_birth_size(position, height);
+    told(alloc, (height as u64, children, first, birth))
 }
 
 /// `leaves height`: how many chunks are graftable.
-fn graftable<F: Graftable + Digits>(alloc: Global, columns: &[&str]) -> Result<String, Fault> {
-    let [leaves, height] = columns else {
-        return Err(Fault::Malformed);
-    };
-    let leaves = number(*leaves)?;
-    let height = number(*height)?;
+pub fn graftable<F: Graftable>(alloc: Global, columns: &[&str]) -> Result<String, Fault> {
+    let (leaves, height): (u64, u64) = parse(alloc, columns)?;
     if height < 1 || height > 62 {
         return Err(Fault::Malformed);
     }
-    let chunks = graftable_chunks::<F>(leaves, height as u32);
-    let fast = spelled(alloc, &chunks)?;
-    let plain = plain::graftable_chunks::<F>(alloc, leaves, height as u32)?;
-    plain::agreed(fast, plain.as_str())
+    told(alloc, graftable_chunks::<F>(leaves, height as u32))
 }
 
 /// `height position`: the operations position of a grafted one, and what that is mapped back to.
-fn maps<F: Graftable>(alloc: Global, columns: &[&str]) -> Result<String, Fault> {
-    let [height, position] = columns else {
-        return Err(Fault::Malformed);
-    };
-    let height = number(*height)?;
-    let position = number(*position)?;
+pub fn maps<F: Graftable>(alloc: Global, columns: &[&str]) -> Result<String, Fault> {
+    let (height, position): (u64, u64) = parse(alloc, columns)?;
     if height < 1 || height > 62 || position > most_nodes::<F>() {
         return Err(Fault::Malformed);
     }
@@ -208,5 +151,56 @@ fn map<F: Graftable>(alloc: Global, position: u64, height: u32) -> Result<String
     }
     let above = grafted_to_ops_pos::<F>(Position::new(position), height);
     let below = ops_to_grafted_pos::<F>(above, height);
-    spaced_two(alloc, &above, &below)
+    told(alloc, (above, below))
+}
+
+/// `leaves floor height`: how many leading peaks end at or before the floor, and how many up to the last that ends on a multiple of
+/// two to the height.
+pub fn inactive<F: Graftable>(alloc: Global, columns: &[&str]) -> Result<String, Fault> {
+    let (leaves, floor, height): (u64, u64, u64) = parse(alloc, columns)?;
+    if leaves > MAX_LEAVES || height > 62 {
+        return Err(Fault::Malformed);
+    }
+    let exact = exact_inactive::<F>(leaves, floor);
+    let aligned = aligned_inactive::<F>(leaves, floor, height as u32);
+    told(alloc, (exact, aligned))
+}
+
+/// `leaves location`: the positions that the plan of this location has, or its refusal.
+pub fn elements<F: Family>(alloc: Global, columns: &[&str]) -> Result<String, Fault> {
+    let (leaves, location): (Location<F>, Location<F>) = parse(alloc, columns)?;
+    let plan: Result<RangePlan<F>, Error<F>> = match ElementPlan::new(alloc, leaves, location) {
+        Ok(plan) => Ok(plan.into()),
+        Err(error) => Err(error),
+    };
+    told(alloc, plan)
+}
+
+/// `leaves start end`: the positions that the plan of this range has, or its refusal.
+pub fn plans<F: Family>(alloc: Global, columns: &[&str]) -> Result<String, Fault> {
+    let (leaves, start, end): (Location<F>, Location<F>, Location<F>) = parse(alloc, columns)?;
+    told(alloc, RangePlan::new(alloc, leaves, start..end))
+}
+
+/// `leaves bits pruned location`: the chunks that are read for a proof, of one operation or, where the location is `-`, of none; or
+/// the refusal.
+pub fn required<F: Graftable, const N: usize>(
+    alloc: Global,
+    columns: &[&str],
+) -> Result<String, Fault>
+    requires { IsChunkSize N }
+{
+    let (leaves, bits, pruned, location): (Location<F>, u64, u64, Option<Location<F>>) = parse(
+        alloc, columns,
+    )?;
+    match required_chunks::<F, N>(leaves, bits, pruned, location) {
+        Ok(chunks) => {
+            let mut series = Series::new(alloc);
+            for chunk in chunks {
+                series.push(alloc, &chunk)?;
+            }
+            Ok(series.finish()?)
+        }
+        Err(error) => database_refusal(alloc, &error),
+    }
 }

@@ -1,8 +1,8 @@
 //! Lists on values as bytes.
 
-use crate::spelling::Spell;
 use bytes::Bytes;
-use replay_columns::columns::{Fault, array, number, spaced_three, spaced_two};
+use replay_columns::answers::told;
+use replay_columns::columns::{Fault, array, bytes, number, parse};
 use std::alloc::Global;
 use storage_codec::codec::{
     Buf, Codec, Decode, Encode, EncodeSize, Error, FixedBytes, RangeCfg, Read, U64, UInt,
@@ -10,30 +10,29 @@ use storage_codec::codec::{
 
 /// `type value`: its bytes, and whether it is read again from them as a slice and as shared bytes.
 pub fn values(alloc: Global, columns: &[&str]) -> Result<String, Fault> {
-    let [kind, value] = columns else {
-        return Err(Fault::Malformed);
-    };
-    match *kind {
-        "bool" => through(alloc, &(*value == "true"), &()),
-        "u64" => through(alloc, &number(*value)?, &()),
-        "varint" => through(alloc, &UInt(number(*value)?), &()),
-        "key" => through(alloc, &U64::new(number(*value)?), &()),
-        _ => strings(alloc, *kind, *value),
+    let (kind, value): (String, String) = parse(alloc, columns)?;
+    let value = value.as_str();
+    match kind.as_str() {
+        "bool" => through(alloc, &(value == "true"), &()),
+        "u64" => through(alloc, &number(value)?, &()),
+        "varint" => through(alloc, &UInt(number(value)?), &()),
+        "key" => through(alloc, &U64::new(number(value)?), &()),
+        kind => strings(alloc, kind, value),
     }
 }
 
 fn strings(alloc: Global, kind: &str, value: &str) -> Result<String, Fault> {
     match kind {
         "fixed4" => {
-            let value: FixedBytes<4> = Spell::parse(alloc, value)?;
-            through(alloc, &value, &())
+            let bytes: [u8; 4] = array(value)?;
+            through(alloc, &FixedBytes { bytes }, &())
         }
         "optional" => {
-            let value: FixedBytes<4> = Spell::parse(alloc, value)?;
-            through(alloc, &Some(value), &())
+            let bytes: [u8; 4] = array(value)?;
+            through(alloc, &Some(FixedBytes { bytes }), &())
         }
         "two" => {
-            let value: Vec<u8> = Spell::parse(alloc, value)?;
+            let value = bytes(alloc, value)?;
             through(alloc, &value, &(RangeCfg { min: 2, max: 2 }, ()))
         }
         _ => Err(Fault::Malformed),
@@ -50,7 +49,7 @@ fn through<T: Codec + EncodeSize + PartialEq + Drop>(
     let shared = Bytes::copy_from_slice(alloc, &bytes)?;
     let from_shared = is_read(alloc, shared, cfg, value)?;
     let bytes = hex::encode(alloc, bytes.as_slice())?;
-    spaced_three(alloc, &bytes, &from_slice, &from_shared)
+    Ok(format!(in alloc; "{bytes} {from_slice} {from_shared}")?)
 }
 
 /// Whether the bytes are this value.
@@ -70,25 +69,15 @@ fn is_read<T: Read + PartialEq + Drop, B: Buf>(
 /// `bytes count`: the first `count` of five bytes, cut from the front of them as a slice and as shared bytes, each with how many are
 /// left.
 pub fn cuts(alloc: Global, columns: &[&str]) -> Result<String, Fault> {
-    let [text, count] = columns else {
-        return Err(Fault::Malformed);
-    };
-    let text: [u8; 5] = array(*text)?;
-    let count = number(*count)? as usize;
+    let (text, count): ([u8; 5], usize) = parse(alloc, columns)?;
     let from_slice = cut(alloc, text.as_slice(), count)?;
     let shared = Bytes::copy_from_slice(alloc, &text)?;
     let from_shared = cut(alloc, shared, count)?;
-    spaced_two(alloc, &from_slice, &from_shared)
+    told(alloc, (from_slice, from_shared))
 }
 
 fn cut<B: Buf>(alloc: Global, mut buf: B, count: usize) -> Result<String, Fault> {
-    match buf.cut(alloc, count) {
-        Ok(front) => {
-            let front = hex::encode(alloc, &front)?;
-            let left = buf.remaining();
-            spaced_two(alloc, &front, &left)
-        }
-        Err(Error::Memory) => Err(Fault::Memory),
-        Err(_) => Err(Fault::Malformed),
-    }
+    let front = buf.cut(alloc, count)?;
+    let front = hex::encode(alloc, &front)?;
+    told(alloc, (front, buf.remaining()))
 }

@@ -1,24 +1,23 @@
-//! Lists on the program and on checks from bytes.
+//! Lists on the program, databases that it runs among them, and on checks from bytes.
 
 use commonware_storage::digest::Hasher;
-use commonware_storage::merkle::{Graftable, Location, mmb, mmr};
-use replay_columns::columns::{
-    Fault, bytes, digest, number, owned, spaced, spaced_three, unblanked, verdict,
-};
+use commonware_storage::merkle::{Graftable, Location};
+use replay_columns::answers::{told, unblanked};
+use replay_columns::columns::{Fault, Hex, List, halves, parse};
 use replay_columns::shared::Given;
 use stateproof_cli::run;
 use std::alloc::Global;
 
 /// What a run wrote, and its status.
 #[derive(Drop)]
-pub(super) struct Outcome {
-    pub status: u8,
-    pub output: String,
-    pub errors: String,
+struct Outcome {
+    status: u8,
+    output: String,
+    errors: String,
 }
 
 /// A run over the words of a command line and an input. Want of memory is no outcome.
-pub(super) fn outcome_of(alloc: Global, words: &[String], input: &[u8]) -> Result<Outcome, Fault> {
+fn outcome_of(alloc: Global, words: &[String], input: &[u8]) -> Result<Outcome, Fault> {
     let mut output = Vec::new(alloc);
     let mut errors = Vec::new(alloc);
     let status = run(alloc, words, input, &mut output, &mut errors);
@@ -34,22 +33,11 @@ pub(super) fn outcome_of(alloc: Global, words: &[String], input: &[u8]) -> Resul
     })
 }
 
-/// The words of a command line, with commas between them; `-` is none.
-fn words_of(alloc: Global, line: &str) -> Result<Vec<String>, Fault> {
-    let mut words = Vec::new(alloc);
-    if line != "-" {
-        for word in line.split(',') {
-            words.push(owned(alloc, word)?)?;
-        }
-    }
-    Ok(words)
-}
-
-/// The same words, each as a string of its own.
-pub(super) fn owned_words(alloc: Global, line: &[&str]) -> Result<Vec<String>, Fault> {
+/// Words, each as a string of its own.
+fn owned_words(alloc: Global, line: &[&str]) -> Result<Vec<String>, Fault> {
     let mut words = Vec::new(alloc);
     for word in line {
-        words.push(owned(alloc, *word)?)?;
+        words.push(String::from_str(alloc, *word)?)?;
     }
     Ok(words)
 }
@@ -64,38 +52,43 @@ fn output_of(alloc: Global, line: &[&str], input: &str) -> Result<String, Fault>
     unended(alloc, outcome.output.as_str())
 }
 
-/// `words input`: the status of a run over words with commas between them, `-` for none, and what it writes to its output and as
+/// `words input`: the status of a run over words with commas between them, `none` for none, and what it writes to its output and as
 /// its error, each `-` for nothing.
 pub fn runs(alloc: Global, columns: &[&str]) -> Result<String, Fault> {
-    let [line, input] = columns else {
-        return Err(Fault::Malformed);
-    };
-    let words = words_of(alloc, *line)?;
-    let input = bytes(alloc, *input)?;
-    told(alloc, &outcome_of(alloc, &words, &input)?)
-}
-
-/// The columns of an outcome.
-fn told(alloc: Global, outcome: &Outcome) -> Result<String, Fault> {
+    let (List(words), input): (List<String>, Vec<u8>) = parse(alloc, columns)?;
+    let outcome = outcome_of(alloc, &words, &input)?;
     let output = column(alloc, outcome.output.as_str())?;
     let errors = column(alloc, outcome.errors.as_str())?;
-    let status = outcome.status;
-    spaced_three(alloc, &status, &output, &errors)
+    told(alloc, (outcome.status as usize, output, errors))
 }
 
-/// The lines of a text as a column; `-` is none.
-fn column(alloc: Global, text: &str) -> Result<String, Fault> {
+/// `family chunk script`: the status of a run of `db` over the bytes of the script, and what it writes to its output and as its
+/// error, in hexadecimal.
+pub fn db(alloc: Global, columns: &[&str]) -> Result<String, Fault> {
+    let (family, chunk, script): (String, String, Vec<u8>) = parse(alloc, columns)?;
+    let words = owned_words(alloc, &["db", family.as_str(), chunk.as_str()])?;
+    let outcome = outcome_of(alloc, &words, &script)?;
+    let output = outcome.output.into_bytes();
+    told(
+        alloc,
+        (outcome.status as usize, output, outcome.errors.into_bytes()),
+    )
+}
+
+/// The lines of a text as a column; none for no text.
+fn column(alloc: Global, text: &str) -> Result<Option<String>, Fault> {
     if text.is_empty() {
-        return owned(alloc, "-");
+        return Ok(None);
     }
-    unblanked(alloc, unended(alloc, text)?.as_str())
+    let line = unended(alloc, text)?;
+    Ok(Some(unblanked(alloc, line.as_str())?))
 }
 
 /// The lines of a text with a blank in place of the feed between two of them.
 fn unended(alloc: Global, text: &str) -> Result<String, Fault> {
     let mut answer = String::new(alloc);
-    for (index, line) in text.split_terminator('\n').enumerate() {
-        if index > 0 {
+    for line in text.split_terminator('\n') {
+        if !answer.is_empty() {
             answer.push(' ')?;
         }
         answer.push_str(line)?;
@@ -106,78 +99,70 @@ fn unended(alloc: Global, text: &str) -> Result<String, Fault> {
 /// `family chunk floor location operations`: the root as `root` writes it, root and proof as `prove` writes them, and what
 /// `check` answers for them. An operation is its bit, a colon and its bytes.
 pub fn program(alloc: Global, columns: &[&str]) -> Result<String, Fault> {
-    let [family, chunk, floor, location, operations] = columns else {
-        return Err(Fault::Malformed);
-    };
-    let input = lines(alloc, *operations)?;
-    let line = ["root", *family, *chunk, *floor];
+    let (family, chunk, floor, location, operations): (String, String, String, String, String) =
+        parse(alloc, columns)?;
+    let input = lines(alloc, operations.as_str())?;
+    let line = ["root", family.as_str(), chunk.as_str(), floor.as_str()];
     let root = output_of(alloc, &line, input.as_str())?;
-    let line = ["prove", *family, *chunk, *floor, *location];
+    let line = [
+        "prove",
+        family.as_str(),
+        chunk.as_str(),
+        floor.as_str(),
+        location.as_str(),
+    ];
     let made = output_of(alloc, &line, input.as_str())?;
-    let claim = claim(alloc, *operations, *location, made.as_str())?;
-    let line = ["check", *family, *chunk, root.as_str(), *location];
+    let claim = claim(alloc, operations.as_str(), location.as_str(), made.as_str())?;
+    let line = [
+        "check",
+        family.as_str(),
+        chunk.as_str(),
+        root.as_str(),
+        location.as_str(),
+    ];
     let answer = output_of(alloc, &line, claim.as_str())?;
-    spaced(alloc, &[root.as_str(), made.as_str(), answer.as_str()])
+    told(alloc, (root, made, answer))
 }
 
 /// The lines to check: the operation at a location, and the proof behind the root that `prove` wrote.
 fn claim(alloc: Global, operations: &str, location: &str, made: &str) -> Result<String, Fault> {
-    let claimed = claimed(operations, number(location)?)?;
+    let location: usize = parse(alloc, &[location])?;
+    let operation = operations.split(',').nth(location).ok_or(Fault::Malformed)?;
+    let (_, claimed) = halves(operation, ':')?;
     let proof = made.split_once(' ').map_or("", |(_, proof)| proof);
     Ok(format!(in alloc; "{claimed}\n{proof}\n")?)
-}
-
-/// The bit of an operation, and its bytes.
-fn parts(operation: &str) -> Result<(&str, &str), Fault> {
-    operation.split_once(':').ok_or(Fault::Malformed)
 }
 
 /// A line for each operation.
 fn lines(alloc: Global, operations: &str) -> Result<String, Fault> {
     let mut lines = String::new(alloc);
     for operation in operations.split(',') {
-        let (bit, bytes) = parts(operation)?;
-        lines.push_str(bit)?;
-        lines.push(' ')?;
-        lines.push_str(bytes)?;
-        lines.push('\n')?;
+        let (bit, bytes) = halves(operation, ':')?;
+        writeln!(lines, "{bit} {bytes}")?;
     }
     Ok(lines)
 }
 
-/// The bytes of the operation at a location.
-fn claimed(operations: &str, location: u64) -> Result<&str, Fault> {
-    let operation = operations
-        .split(',')
-        .nth(location as usize)
-        .ok_or(Fault::Malformed)?;
-    Ok(parts(operation)?.1)
-}
-
-/// `family chunk location operation proof root label`: what a client answers, by both calls. The label says how the case was made.
-pub fn program_checks<H: Hasher>(alloc: Global, columns: &[&str]) -> Result<String, Fault> {
-    let [family, rest @ ..] = columns else {
-        return Err(Fault::Malformed);
-    };
-    match *family {
-        "mmr" => checked::<mmr::Family, H>(alloc, rest),
-        "mmb" => checked::<mmb::Family, H>(alloc, rest),
-        _ => Err(Fault::Malformed),
-    }
-}
-
-fn checked<F: Graftable, H: Hasher>(alloc: Global, columns: &[&str]) -> Result<String, Fault> {
-    let [chunk, location, operation, proof, root, _] = columns else {
-        return Err(Fault::Malformed);
-    };
-    let loc = Location::<F>::new(number(*location)?);
-    let operation = bytes(alloc, *operation)?;
-    let proof = bytes(alloc, *proof)?;
+/// `chunk location operation proof root label`: what a client answers, by both calls. The label says how the case was made.
+pub fn program_checks<F: Graftable, H: Hasher>(
+    alloc: Global,
+    columns: &[&str],
+) -> Result<String, Fault> {
+    let (chunk_size, loc, operation, proof, Hex(root), _): (
+        usize,
+        Location<F>,
+        Vec<u8>,
+        Vec<u8>,
+        Hex<H::Digest>,
+        String,
+    ) = parse(alloc, columns)?;
     let given = Given {
-        proof: proof.as_slice(),
-        chunk_size: number(*chunk)? as usize,
-        root: digest::<H::Digest>(alloc, *root)?,
+        proof,
+        chunk_size,
+        root,
     };
-    let yes = given.shows_operation::<F, H>(alloc, loc, &operation)?;
-    verdict(alloc, yes)
+    told(
+        alloc,
+        given.shows_operation::<F, H>(alloc, loc, &operation)?,
+    )
 }

@@ -4,11 +4,8 @@ ghost use Rattle.std.specs.Prelude.{◌≤◌};
 ghost use Rattle.storage_bitmap.specs.Chunks.{IsChunkSize};
 
 use crate::bitmaps::histories::after;
-use crate::chunks::chunks;
-use crate::own::positions;
-use crate::stores::series;
-use replay_columns::columns::{Fault, Series, digest_or_dash, number, spaced_three};
-use replay_columns::refusals::{merkle_fault, merkle_refusal};
+use replay_columns::answers::{Series, told};
+use replay_columns::columns::{Digests, Fault, Hex, List, or_fault, parse};
 use std::alloc::Global;
 use storage_bitmap::bitmap::Readable;
 use storage_bitmap::bitmap::authenticated::{MerkleizedBitMap, UnmerkleizedBitMap};
@@ -29,76 +26,62 @@ where
     requires chunk { IsChunkSize N }
     requires small { D ≤ 64 }
 {
-    let [calls, bits] = columns else {
-        return Err(Fault::Malformed);
-    };
-    let bitmap = after::<H, D, N>(alloc, hasher, *calls)?;
-    let size = MerkleizedBitMap::<FixedBytes<D>, N>::chunk_size_bits();
-    let (bits, chunks) = read_of(alloc, &bitmap, *bits)?;
+    let (List(calls), List(bits)): (List<String>, List<u64>) = parse(alloc, columns)?;
+    let bitmap = after::<H, D, N>(alloc, hasher, &calls)?;
+    let bits = bits_told(alloc, &bitmap, &bits)?;
+    let chunks = by_chunk::<N, MerkleizedBitMap<FixedBytes<D>, N>>(alloc, &bitmap)?;
     let opened = by_chunk::<N, UnmerkleizedBitMap<FixedBytes<D>, N>>(alloc, &bitmap.into_dirty())?;
     if opened.as_str() != chunks.as_str() {
         return Err(Fault::Differs);
     }
-    spaced_three(alloc, &size, &bits, &chunks)
-}
-
-/// Bits of a bitmap with their values and their chunks, and what is read of it by the chunk.
-fn read_of<D: Digest, const N: usize>(
-    alloc: Global,
-    bitmap: &MerkleizedBitMap<D, N>,
-    bits: &str,
-) -> Result<(String, String), Fault>
-    requires { IsChunkSize N }
-{
-    let bits = bits_told(alloc, bitmap, bits)?;
-    let chunks = by_chunk::<N, MerkleizedBitMap<D, N>>(alloc, bitmap)?;
-    Ok((bits, chunks))
+    let size = MerkleizedBitMap::<FixedBytes<D>, N>::chunk_size_bits();
+    told(alloc, (size, bits, chunks))
 }
 
 /// How many bits there are, how many chunks of them are pruned, and those that are left.
 fn by_chunk<const N: usize, R: Readable<N>>(alloc: Global, bits: &R) -> Result<String, Fault>
     requires { IsChunkSize N }
 {
-    let length = bits.len();
-    let pruned = bits.pruned_chunks();
-    let chunks = chunks::<N, R>(alloc, bits)?;
-    spaced_three(alloc, &length, &pruned, &chunks)
+    let chunks = chunks_left::<N, R>(alloc, bits)?;
+    told(alloc, (bits.len(), bits.pruned_chunks(), chunks))
 }
 
-/// Bits with their values and their chunks.
-fn bits_told<D: Digest, const N: usize>(
-    alloc: Global,
-    bitmap: &MerkleizedBitMap<D, N>,
-    bits: &str,
-) -> Result<String, Fault>
+/// The chunks that are left.
+fn chunks_left<const N: usize, R: Readable<N>>(alloc: Global, bits: &R) -> Result<String, Fault>
     requires { IsChunkSize N }
 {
     let mut series = Series::new(alloc);
-    for bit in bits.split(',') {
-        series.push_text(bit_told(alloc, bitmap, number(bit)?)?.as_str())?;
+    let count = bits.len().div_ceil(8 * N as u64) as usize;
+    for index in bits.pruned_chunks()..count {
+        series.push(alloc, &bits.get_chunk(index))?;
     }
     Ok(series.finish()?)
 }
 
-/// A bit with its value, as its chunk has it, and its chunk.
-fn bit_told<D: Digest, const N: usize>(
+/// Bits with their values, as their chunks have them, and their chunks.
+fn bits_told<D: Digest, const N: usize>(
     alloc: Global,
     bitmap: &MerkleizedBitMap<D, N>,
-    bit: u64,
+    bits: &[u64],
 ) -> Result<String, Fault>
     requires { IsChunkSize N }
 {
-    if bit < bitmap.pruned_bits() || bit >= bitmap.len() {
-        return Err(Fault::Malformed);
+    let mut series = Series::new(alloc);
+    for bit in bits {
+        let bit = *bit;
+        if bit < bitmap.pruned_bits() || bit >= bitmap.len() {
+            return Err(Fault::Malformed);
+        }
+        let chunk = bitmap.get_chunk_containing(bit);
+        let value = MerkleizedBitMap::<D, N>::get_bit_from_chunk(chunk, bit);
+        if bitmap.get_bit(bit) != value {
+            return Err(Fault::Differs);
+        }
+        let value = u8::from(value);
+        let chunk = hex::encode(alloc, *chunk)?;
+        series.push_at(alloc, bit, &format!(in alloc; "{value}:{chunk}")?)?;
     }
-    let chunk = bitmap.get_chunk_containing(bit);
-    let value = MerkleizedBitMap::<D, N>::get_bit_from_chunk(chunk, bit);
-    if bitmap.get_bit(bit) != value {
-        return Err(Fault::Differs);
-    }
-    let value = u8::from(value);
-    let chunk = hex::encode(alloc, *chunk)?;
-    Ok(format!(in alloc; "{bit}:{value}:{chunk}")?)
+    Ok(series.finish()?)
 }
 
 /// `calls positions`: of the bitmap after the calls, as a store of the nodes of its tree, how many nodes it has, the digests at
@@ -113,11 +96,10 @@ where
     requires chunk { IsChunkSize N }
     requires small { D ≤ 64 }
 {
-    let [calls, places] = columns else {
-        return Err(Fault::Malformed);
-    };
-    let positions = positions(alloc, *places)?;
-    let mut bitmap = after::<H, D, N>(alloc, hasher, *calls)?;
+    let (List(calls), List(positions)): (List<String>, List<Position<mmr::Family>>) = parse(
+        alloc, columns,
+    )?;
+    let mut bitmap = after::<H, D, N>(alloc, hasher, &calls)?;
     nodes_told(alloc, &mut bitmap, &positions)
 }
 
@@ -127,28 +109,15 @@ fn nodes_told<D: Digest, const N: usize>(
     bitmap: &mut MerkleizedBitMap<D, N>,
     positions: &[Position<mmr::Family>],
 ) -> Result<String, Fault> {
-    let each = each_node(alloc, bitmap, positions)?;
+    let mut each = Series::new(alloc);
+    for position in positions {
+        let node = or_fault(Storage::<mmr::Family>::get_node(bitmap, *position))?;
+        each.push(alloc, &node.map(Hex))?;
+    }
     let size = Storage::<mmr::Family>::size(bitmap);
     let all = match Storage::<mmr::Family>::get_nodes(bitmap, alloc, positions) {
-        Ok(digests) => series(alloc, &digests)?,
-        Err(error) => merkle_refusal(alloc, &error)?,
+        Ok(digests) => Ok(Digests(digests)),
+        Err(error) => Err(error),
     };
-    spaced_three(alloc, &size, &each, &all)
-}
-
-/// The digests that a bitmap serves at positions, asked for one by one; a dash for none.
-fn each_node<D: Digest, const N: usize>(
-    alloc: Global,
-    bitmap: &mut MerkleizedBitMap<D, N>,
-    positions: &[Position<mmr::Family>],
-) -> Result<String, Fault> {
-    let mut series = Series::new(alloc);
-    for position in positions {
-        let node = match Storage::<mmr::Family>::get_node(bitmap, *position) {
-            Ok(node) => node,
-            Err(error) => return Err(merkle_fault(&error)),
-        };
-        series.push_text(digest_or_dash(alloc, node)?.as_str())?;
-    }
-    Ok(series.finish()?)
+    told(alloc, (size, each.finish()?, all))
 }

@@ -4,8 +4,8 @@ ghost use Rattle.std.specs.Prelude.{◌≤◌};
 ghost use Rattle.storage_bitmap.specs.Chunks.{IsChunkSize};
 
 use crate::bitmaps::histories::after;
-use replay_columns::columns::{Fault, Series, number};
-use replay_columns::refusals::merkle_refusal;
+use replay_columns::answers::Series;
+use replay_columns::columns::{Fault, List, or_fault, parse, parts_between};
 use std::alloc::Global;
 use storage_bitmap::bitmap::authenticated::MerkleizedBitMap;
 use storage_codec::codec::FixedBytes;
@@ -26,78 +26,39 @@ where
     requires chunk { IsChunkSize N }
     requires small { D ≤ 64 }
 {
-    let [calls, claims] = columns else {
-        return Err(Fault::Malformed);
-    };
-    let bitmap = after::<H, D, N>(alloc, hasher, *calls)?;
-    each_accepted(alloc, hasher, &bitmap, *claims)
-}
-
-/// The same of a bitmap.
-fn each_accepted<H: Hasher<Digest = FixedBytes<D>>, const D: usize, const N: usize>(
-    alloc: Global,
-    hasher: &Standard<H>,
-    bitmap: &MerkleizedBitMap<FixedBytes<D>, N>,
-    claims: &str,
-) -> Result<String, Fault>
-where
-    FixedBytes<D>: Digest,
-    requires chunk { IsChunkSize N }
-    requires small { D ≤ 64 }
-{
+    let (List(calls), List(claims)): (List<String>, List<String>) = parse(alloc, columns)?;
+    let bitmap = after::<H, D, N>(alloc, hasher, &calls)?;
     let mut answers = Series::new(alloc);
-    for claim in claims.split(',') {
-        answers.push_text(accepted(alloc, hasher, bitmap, claim)?.as_str())?;
+    for claim in &claims {
+        let numbers: Vec<u64> = parts_between(alloc, claim.as_str(), ':')?;
+        answers.push(alloc, &accepted(alloc, hasher, &bitmap, &numbers)?)?;
     }
     Ok(answers.finish()?)
 }
 
-/// The five numbers of a claim.
-fn five_numbers(alloc: Global, claim: &str) -> Result<[u64; 5], Fault> {
-    let parts: Vec<&str> = claim.split(':').collect(alloc)?;
-    five_of(&parts)
-}
-
-fn five_of(parts: &[&str]) -> Result<[u64; 5], Fault> {
-    match parts {
-        [first, second, third, fourth, fifth] => Ok([
-            number(*first)?,
-            number(*second)?,
-            number(*third)?,
-            number(*fourth)?,
-            number(*fifth)?,
-        ]),
-        _ => Err(Fault::Malformed),
-    }
-}
-
 /// The numbers of leaves with which a claim is accepted.
-fn accepted<H: Hasher<Digest = FixedBytes<D>>, const D: usize, const N: usize>(
+fn accepted<H: Hasher, const N: usize>(
     alloc: Global,
     hasher: &Standard<H>,
-    bitmap: &MerkleizedBitMap<FixedBytes<D>, N>,
-    claim: &str,
+    bitmap: &MerkleizedBitMap<H::Digest, N>,
+    claim: &[u64],
 ) -> Result<String, Fault>
-where
-    FixedBytes<D>: Digest,
-    requires chunk { IsChunkSize N }
-    requires small { D ≤ 64 }
+    requires { IsChunkSize N }
 {
-    let [bit, claimed, inactive, first, last] = five_numbers(alloc, claim)?;
-    if bit < bitmap.pruned_bits() {
+    let [bit, claimed, inactive, first, last] = claim else {
+        return Err(Fault::Malformed);
+    };
+    if *bit < bitmap.pruned_bits() {
         return Err(Fault::Malformed);
     }
-    let (mut proof, chunk) = match bitmap.proof(hasher, bit) {
-        Ok(proof) => proof,
-        Err(error) => return merkle_refusal(alloc, &error),
-    };
-    proof.inactive_peaks = inactive as usize;
+    let (mut proof, chunk) = or_fault(bitmap.proof(hasher, *bit))?;
+    proof.inactive_peaks = *inactive as usize;
     let root = bitmap.root();
     let mut numbers = Series::inner(alloc);
-    for leaves in first..=last {
+    for leaves in *first..=*last {
         proof.leaves = Location::new(leaves);
-        if MerkleizedBitMap::verify_bit_inclusion(alloc, hasher, &proof, &chunk, claimed, &root)? {
-            numbers.push(leaves)?;
+        if MerkleizedBitMap::verify_bit_inclusion(alloc, hasher, &proof, &chunk, *claimed, &root)? {
+            numbers.push(alloc, &leaves)?;
         }
     }
     Ok(numbers.finish_or("-")?)

@@ -1,4 +1,4 @@
-use Rattle.std.proofs.Common.{ℕ, Some, None, eqb, if◌then◌else◌}
+use Rattle.std.proofs.Common.{ℕ, None, eqb, if◌then◌else◌}
 use Rattle.std.specs.List.{slice_get}
 use Rattle.replay_snapshots.proofs.Reading.{read_more, absent_later}
 use Rattle.replay_snapshots.proofs.faulty.Faulty.look_up_all.Goals as goal

@@ -1,4 +1,4 @@
-use Rattle.std.proofs.Common.{◌≡◌, ◌++◌, ℕ, List, length, map, Option, Some, None, eqb, if◌then◌else◌}
+use Rattle.std.proofs.Common.{◌≡◌, ◌++◌, ℕ, length, map, Some, None, eqb, if◌then◌else◌}
 use Rattle.std.specs.List.{slice_get}
 use Rattle.storage_merkle.specs.Plans.{IsFirstAbsent}
 use Rattle.replay_snapshots.proofs.faulty.Faulty.look_up_all.Given as goal

@@ -1,4 +1,4 @@
-use Rattle.std.proofs.Common.{arith, ◌≡◌, ℕ, ◌<◌, ◌⊎◌, List, [], ◌∷◌, length, Option, inl, inr, refl, subst, None, eqb, if◌then◌else◌}
+use Rattle.std.proofs.Common.{arith, ◌≡◌, ℕ, ◌<◌, ◌⊎◌, List, [], ◌∷◌, length, Option, inl, inr, subst, None, eqb, if◌then◌else◌}
 use Rattle.std.specs.List.{slice_get}
 use Rattle.storage_merkle.specs.Plans.{IsFirstAbsent, IsFirstFault}
 use Rattle.storage_merkle.specs.declared.merkle.error.Error.TheVariants.{ElementPruned, Memory}

@@ -1,0 +1,239 @@
+#!/usr/bin/env python3
+"""Tests the library for C, from C, over what `rt lib` built of the crate light_c.
+
+    crates/light_c/tests/interface.py [--built TREE] [--kept FOLDER] [--calls N] [--seed S]
+
+With --built the crate is built here, over the libraries that a gate left in TREE. With --kept what is built stays in FOLDER. Each of
+these is a part:
+
+1. The header compiles alone, as C11 and as C++17, with all warnings.
+2. Its functions are those that the sources export, and those whose names the archive has; its numbers are the sources' constants.
+3. All cases of the lists `program_checks`, `ranges_checks`, `key_values` and `exclusions` of `replay` are answered from C as they say.
+4. N hostile calls over each digest function (200,000 where nothing is said), under the address sanitizer of the caller:
+   hostile.c says which.
+5. The examples.
+
+A part that fails says why. The last line is 'N passed, M failed'; the status is 0 where none failed, and 77 where there is no gcc.
+"""
+import argparse
+import pathlib
+import re
+import shutil
+import subprocess
+import sys
+import tempfile
+
+HERE = pathlib.Path(__file__).resolve().parent
+ROOT = HERE.parent.parent.parent
+sys.path.append(str(ROOT / "tools"))
+
+import c_library
+from cases import cases_of
+
+HEADER = ROOT / "include/gawerunoa.h"
+SOURCES = ROOT / "crates/light_c/src"
+NOT_RUN = 77
+WARNINGS = ["-Wall", "-Wextra", "-Wpedantic", "-Wconversion", "-Wshadow", "-Werror"]
+LANGUAGES = [("gcc", "c", "c11"), ("g++", "c++", "c++17")]
+FAMILIES = {"mmr": 0, "mmb": 1}
+HASHES = {"sha256": 0, "sha512": 1}
+ANSWERS = {"yes": 1, "no": 0}
+KEYS = ("key_values", "exclusions")
+
+# what the calls about keys begin with, by the encoding of operations, and by whether keys, and values, are vectors
+FORMS = {
+    ("ordered-fixed", False, False): "fixed_",
+    ("ordered-variable", False, False): "sized_",
+    ("ordered-variable", False, True): "",
+    ("ordered-variable", True, False): "string_sized_",
+    ("ordered-variable", True, True): "string_",
+}
+SIZES = {"fixed4": "4", "u64": "8"}
+
+# the right proofs that hostile calls are made of: the call, the list of the case, and the case's strings
+RIGHT = [
+    ("operation", "program_checks", ["root", "proof", "operation"]),
+    *((f"{form}value", "key_values", ["root", "proof", "key", "value"]) for form in FORMS.values()),
+    *((f"{form}absence", "exclusions", ["root", "proof", "key"]) for form in FORMS.values()),
+]
+# what such a case must have, where it has it
+RIGHT_OVER = {"chunk": "1", "location": "3"}
+
+
+def run(*words, text=None):
+    """What a command printed, or why it failed."""
+    ended = subprocess.run(list(map(str, words)), input=text, text=True, stdout=subprocess.PIPE, stderr=subprocess.STDOUT)
+    if ended.returncode:
+        raise AssertionError(f"{words[0]} ended with {ended.returncode}: {ended.stdout[-2000:]}")
+    return ended.stdout
+
+
+def same(what, first, second):
+    if first != second:
+        raise AssertionError(f"{what}: {first} and {second}")
+
+
+def compiles(folder):
+    """The header alone, in each language whose compiler is there."""
+    for compiler, language, standard in LANGUAGES:
+        if shutil.which(compiler):
+            run(compiler, f"-std={standard}", *WARNINGS, "-fsyntax-only", "-x", language, HEADER)
+
+
+def names(folder):
+    """The functions and the numbers of the header."""
+    header = HEADER.read_text()
+    sources = "\n".join(path.read_text() for path in sorted(SOURCES.rglob("*.rt")))
+    declared = sorted(re.findall(r"^int32_t (gawerunoa_\w+)\(", header, re.M))
+    same("functions of the header and of the sources", declared, sorted(re.findall(r'extern "C" fn (\w+)', sources)))
+    symbols = run("nm", "--defined-only", "--extern-only", "--format=posix", folder / "libgawerunoa.a")
+    same("functions of the header and of the archive", declared, sorted(re.findall(r"^(\w+) T ", symbols, re.M)))
+    numbers = {name: int(value) for name, value in re.findall(r"GAWERUNOA_(\w+) = (-?\d+)", header)}
+    constants = {name: int(value) for name, value in re.findall(r"pub const (\w+): [ui]32 = (-?\d+);", sources)}
+    same("numbers of the header and of the sources", numbers, constants)
+
+
+def bytes_or_none(text):
+    return text or "-"
+
+
+def strings(texts):
+    if texts == [""]:
+        raise AssertionError("a list of one empty string has no word of its own")
+    return ",".join(texts) or "-"
+
+
+def hash_of(case):
+    """The number of a case's digest function."""
+    return HASHES[case.get("hash", "sha256")]
+
+
+def types_of(case):
+    """The types of the keys and of the values of a case, and what the calls about it begin with."""
+    shape, key, value = case["type"].split("/")
+    form = (shape, *(kind.startswith("vec:") for kind in (key, value)))
+    if form not in FORMS or not all(kind in SIZES or kind.startswith("vec:") for kind in (key, value)):
+        raise AssertionError(f"no call has the type {case['type']}")
+    return key, value, FORMS[form]
+
+
+def bytes_of(kind, written):
+    """The bytes of a key or a value: those that are written, but of a vector not the byte before them, which is its length."""
+    if kind in SIZES:
+        same("the size of a string that is written", SIZES[kind], str(len(written) // 2))
+        return written
+    same("the length of a vector that is written", int(written[:2], 16), len(written) // 2 - 1)
+    return written[2:]
+
+
+def strings_of(case):
+    """The key of a case about a key, and its value where it has one."""
+    key, value, _ = types_of(case)
+    return {part: bytes_of(kind, case[part]) for part, kind in (("key", key), ("value", value)) if part in case}
+
+
+def lengths(kind):
+    """What a call is told of the values of a type, or of keys that are vectors: their size, or the least and the greatest length."""
+    return [SIZES[kind]] if kind in SIZES else kind.removeprefix("vec:").split(":")
+
+
+def question(name, hash_, case):
+    """The line for answers.c that asks what a case asks."""
+    head = f"{FAMILIES[case['family']]} {hash_} {case['chunk']}"
+    proof, root = bytes_or_none(case["proof"]), case["root"]
+    if name == "program_checks":
+        return f"operation {head} {case['location']} {proof} {bytes_or_none(case['operation'])} {root}"
+    if name in KEYS:
+        key, value, form = types_of(case)
+        told = lengths(key) if form.startswith("string_") else []
+        call = "value" if name == "key_values" else "absence"
+        told += lengths(value) if call == "absence" else []
+        return " ".join([form + call, head, *told, proof, *map(bytes_or_none, strings_of(case).values()), root])
+    lists = f"{strings(case['operations'])} {strings(case['chunks'])}"
+    return f"range {head} {case['most']} {case['start']} {proof} {lists} {root}"
+
+
+def answers(folder):
+    """The cases of four lists."""
+    program = folder / "answers"
+    sanitizer = ["-fsanitize=address,undefined", "-fno-sanitize-recover=all", "-g"]
+    source = [HERE / "answers.c", folder / "libgawerunoa.a"]
+    run("gcc", "-std=c11", *WARNINGS, *sanitizer, f"-I{HEADER.parent}", *source, "-o", program)
+    for name in ("program_checks", "ranges_checks", *KEYS):
+        cases = cases_of(name)
+        asked = [question(name, hash_of(case), case["in"]) for case in cases]
+        said = run(program, text="".join(f"{line}\n" for line in asked)).split()
+        same(f"{name}: how many cases and answers", len(cases), len(said))
+        for answer, line, case in zip(said, asked, cases):
+            same(f"{name}: {line}", int(answer), ANSWERS[case["out"]])
+        longer = sum(map(hash_of, cases))
+        print(f"interface: {name}: all {len(cases)} cases answered from C, {longer} over SHA-512", flush=True)
+
+
+def hostile(folder, calls, seed):
+    """Calls that nobody means."""
+    program = folder / "hostile"
+    sanitizer = ["-fsanitize=address,undefined", "-fno-sanitize-recover=all", "-g", "-O1"]
+    source = [HERE / "hostile.c", folder / "libgawerunoa.a"]
+    run("gcc", "-std=c11", *WARNINGS, *sanitizer, f"-I{HEADER.parent}", *source, "-o", program)
+    for name, hash_ in HASHES.items():
+        seen = run(program, calls, seed, right_proof(folder, hash_), hash_)
+        print(f"interface: {calls} hostile calls, {name}, answers and how often: {', '.join(seen.splitlines())}", flush=True)
+
+
+def right_proof(folder, hash_):
+    """A folder with the files of right proofs over a digest function: cases of `replay` that are answered yes."""
+    room = folder / f"proof{hash_}"
+    room.mkdir(exist_ok=True)
+    for call, name, parts in RIGHT:
+        asked = ((hash_of(case), case["out"], case["in"]) for case in cases_of(name))
+        found = (case for hashed, out, case in asked if (hashed, out) == (hash_, "yes"))
+        strings = next(filter(None, (right_strings(call, name, hash_, case, parts) for case in found)))
+        for part, string in strings.items():
+            (room / f"{call}_{part}.bin").write_bytes(string)
+    return room
+
+
+def right_strings(call, name, hash_, case, parts):
+    """The strings of a case by their names, and its family as a byte, where it asks this call, and none of the strings is empty."""
+    if question(name, hash_, case).split()[0] != call or any(case.get(part, it) != it for part, it in RIGHT_OVER.items()):
+        return None
+    given = case | (strings_of(case) if name in KEYS else {})
+    found = {"family": bytes([FAMILIES[case["family"]]]), **{part: bytes.fromhex(given[part]) for part in parts}}
+    return found if all(found.values()) else None
+
+
+def main():
+    words = argparse.ArgumentParser(usage="interface.py [--built TREE] [--kept FOLDER] [--calls N] [--seed S]")
+    words.add_argument("--built", type=pathlib.Path)
+    words.add_argument("--kept", type=pathlib.Path)
+    words.add_argument("--calls", type=int, default=200_000)
+    words.add_argument("--seed", type=int, default=1)
+    given = words.parse_args()
+    if not shutil.which("gcc"):
+        print("interface: there is no gcc: not run")
+        return NOT_RUN
+    failed = 0
+    with tempfile.TemporaryDirectory() as work:
+        folder = given.kept or pathlib.Path(work)
+        c_library.make(folder, given.built)
+        parts = [
+            ("the header compiles", lambda: compiles(folder)),
+            ("its names and numbers", lambda: names(folder)),
+            ("the cases of four lists", lambda: answers(folder)),
+            ("hostile calls", lambda: hostile(folder, given.calls, given.seed)),
+            ("the examples", lambda: print(run(ROOT / "examples/run", folder), end="")),
+        ]
+        for name, part in parts:
+            try:
+                part()
+                print(f"interface: {name}: passed", flush=True)
+            except AssertionError as error:
+                failed += 1
+                print(f"interface: {name}: failed: {error}", flush=True)
+    print(f"{len(parts) - failed} passed, {failed} failed")
+    return int(failed > 0)
+
+
+if __name__ == "__main__":
+    sys.exit(main())

@@ -1,0 +1,121 @@
+//! The list on proofs over a chunk that is an array and over one that is shared bytes. Chunks have one byte.
+
+use bytes::Bytes;
+use replay_columns::answers::told;
+use replay_columns::columns::{Fault, Hex, List, bytes, halves, parse};
+use replay_columns::refusals::codec_refusal;
+use replay_columns::shared::agreed;
+use replay_columns::unframed::Unframed;
+use std::alloc::Global;
+use storage_codec::codec::{Buf, Decode, Read, Write};
+use storage_codec::digest::{DigestOf, Hasher};
+use storage_current::qmdb::current::proof::{RangeProof, operation};
+use storage_merkle::merkle::{Graftable, Location};
+
+type Operation<F, H, C> = operation::Proof<F, DigestOf<H>, C>;
+
+/// `chunk kind proof claim root`: whether the proof is accepted, read over a chunk that is an array and over one that is
+/// shared bytes. The claim, with slashes between its parts, is the operation for `operation`, and for `range` start, operations and
+/// chunks. At most 128 digests are read.
+pub fn both_chunks<F: Graftable, H: Hasher>(
+    alloc: Global,
+    columns: &[&str],
+) -> Result<String, Fault> {
+    let (size, kind, proof, claim, Hex(root)): (u64, String, Vec<u8>, String, Hex<H::Digest>) =
+        parse(alloc, columns)?;
+    let (proof, claim) = (proof.as_slice(), claim.as_str());
+    let yes = match (size, kind.as_str()) {
+        (1, "operation") => operation_shown::<F, H>(alloc, proof, claim, &root)?,
+        (1, "range") => range_shown::<F, H>(alloc, proof, claim, &root)?,
+        _ => return Err(Fault::Malformed),
+    };
+    told(alloc, yes)
+}
+
+/// The value that bytes are, which is written as these bytes, or the name of the refusal.
+fn read<T: Read + Write, B: Buf>(
+    alloc: Global,
+    buf: B,
+    given: &[u8],
+    cfg: &T::Cfg,
+) -> Result<Result<T, String>, Fault> {
+    match T::decode_cfg(alloc, buf, cfg) {
+        Ok(value) => {
+            let mut written = Vec::new(alloc);
+            value.write(&mut written)?;
+            if written.as_slice() != given {
+                return Err(Fault::Differs);
+            }
+            Ok(Ok(value))
+        }
+        Err(error) => Ok(Err(codec_refusal(alloc, error)?)),
+    }
+}
+
+/// Whether a proof is accepted, read by either of two types, or refused by both alike.
+fn same(one: Result<bool, String>, other: Result<bool, String>) -> Result<bool, Fault> {
+    if one == other {
+        Ok(one.unwrap_or(false))
+    } else {
+        Err(Fault::Differs)
+    }
+}
+
+fn operation_shown<F: Graftable, H: Hasher>(
+    alloc: Global,
+    proof: &[u8],
+    operation: &str,
+    root: &H::Digest,
+) -> Result<bool, Fault> {
+    let operation = bytes(alloc, operation)?;
+    let buffer = Bytes::copy_from_slice(alloc, proof)?;
+    let one = match read::<Operation<F, H, [u8; 1]>, _>(alloc, proof, proof, &128)? {
+        Ok(proof) => Ok(proof.verify_encoded::<H>(alloc, &operation, root)?),
+        Err(refusal) => Err(refusal),
+    };
+    let other = match read::<Operation<F, H, Bytes>, _>(alloc, buffer, proof, &(1, 128))? {
+        Ok(proof) => Ok(proof.verify_encoded::<H>(alloc, &operation, root)?),
+        Err(refusal) => Err(refusal),
+    };
+    same(one, other)
+}
+
+fn range_shown<F: Graftable, H: Hasher>(
+    alloc: Global,
+    proof: &[u8],
+    claim: &str,
+    root: &H::Digest,
+) -> Result<bool, Fault> {
+    let (start, claim) = halves(claim, '/')?;
+    let (operations, chunks) = halves(claim, '/')?;
+    let (start, List(operations), List(arrays)): (Location<F>, List<Unframed>, List<[u8; 1]>) =
+        parse(alloc, &[start, operations, chunks])?;
+    let shared = cut_chunks(alloc, &arrays)?;
+    let Ok(proof) = read::<RangeProof<F, H::Digest>, &[u8]>(alloc, proof, proof, &128)? else {
+        return Ok(false);
+    };
+    let yes = proof.verify::<H, _, 1>(alloc, start, &operations, &arrays, root)?;
+    let other = proof.verify_with_chunk_size::<H, _, Bytes>(
+        alloc,
+        start,
+        &operations,
+        &shared,
+        1,
+        root,
+    )?;
+    agreed(yes, other)
+}
+
+/// The same chunks, cut from one buffer of shared bytes.
+fn cut_chunks(alloc: Global, chunks: &[[u8; 1]]) -> Result<Vec<Bytes>, Fault> {
+    let mut joined = Vec::new(alloc);
+    for chunk in chunks {
+        joined.extend_from_slice(chunk)?;
+    }
+    let mut buffer = Bytes::copy_from_slice(alloc, &joined)?;
+    let mut cut = Vec::new(alloc);
+    for _ in 0..chunks.len() {
+        cut.push(buffer.cut(alloc, 1)?)?;
+    }
+    Ok(cut)
+}
