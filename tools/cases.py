@@ -33,7 +33,9 @@ import subprocess
 import sys
 
 import definitions
-from definitions import KEY, MAX_LEAVES, MMB, MMR, VALUE, Check, Digests, Snapshot, Tree, be8, told
+import forgeries
+from definitions import KEY, MAX_LEAVES, MMB, MMR, Check, Digests, Tree, be8, told
+from forgeries import operation, snapshot
 
 ROOT = pathlib.Path(__file__).resolve().parent.parent
 FOLDER = ROOT / "conformance"
@@ -303,17 +305,6 @@ AS_THEY_ARE = ("parts", "served", "combined_views", "combined_ranges", "each_ope
 SWEPT = {"each_operation": (1, 7, 8, 9, 11, 16, 17, 18, 32, 33), "each_range": (1, 7, 8, 9, 11, 17)}
 
 
-def operation(location):
-    """The update of key 2l to value l, with the next key 2l + 2, of the location l, filled up to the size of a commit."""
-    return b"\xd2" + (2 * location).to_bytes(KEY, "big") + location.to_bytes(VALUE, "big") + (2 * location + 2).to_bytes(KEY, "big") + b"\0"
-
-
-def snapshot(digests, family, leaves, active, floor=0):
-    """The snapshot of such operations, with chunks of one byte, of which one operation is active."""
-    bits = "".join("01"[it == active] for it in range(leaves))
-    return Snapshot(digests, family, [operation(it) for it in range(leaves)], bits, floor, 1)
-
-
 def filled_proofs(digests):
     """One location of the greatest trees: each digest has bytes of one kind."""
     for row, family, direction, past in (
@@ -467,16 +458,18 @@ def case_of(line):
 
 
 def is_made(line):
-    """Whether a worked case is one of those made here: over SHA-512, and those of digests of one byte."""
+    """Whether a worked case is one of those made here: over SHA-512, those of digests of one byte, and forged proofs."""
     row, hash, name, *_ = case_of(line)
-    return name in definitions.LISTS and (hash == OTHER_HASH or row == "filled_digests")
+    return row == forgeries.ROW or name in definitions.LISTS and (hash == OTHER_HASH or row == "filled_digests")
 
 
 def lines_made(kept, proofs, names):
     """The lines of the cases made here of lists of these names, and their answers, by row."""
     kept = [(row, name, *columns) for row, hash, name, *columns in map(case_of, kept) if hash == "sha256"]
     sha256, sha512 = Digests("sha256"), Digests(OTHER_HASH)
-    asked = [("", sha256, it) for it in of_bytes(sha256)] + [(f"{OTHER_HASH} ", sha512, it) for it in made(sha512, kept, proofs)]
+    forged = lambda digests: [(forgeries.ROW, *it) for it in forgeries.forgeries(digests)]
+    asked = [("", sha256, it) for it in [*of_bytes(sha256), *forged(sha256)]]
+    asked += [(f"{OTHER_HASH} ", sha512, it) for it in [*made(sha512, kept, proofs), *forged(sha512)]]
     rows = collections.defaultdict(list)
     for hash, digests, (row, name, *columns) in asked:
         if name in names:
@@ -490,7 +483,7 @@ def wrong_worked(pairs):
     """The first worked case over SHA-256 whose answer is not that of the definitions, if there is one."""
     for line, asked in pairs:
         _, hash, name, *columns = case_of(line)
-        if name in definitions.LISTS and definitions.answer(Digests(hash), name, columns) != asked.rstrip("\n"):
+        if name in definitions.ANSWERED and definitions.answer(Digests(hash), name, columns) != asked.rstrip("\n"):
             return line
     return None
 

@@ -3,8 +3,10 @@
 Nothing here is made for speed, and nothing is taken from the sources of the crates. A node is the pair of its first leaf and its
 height, a range that of its first location and the one past its last; docs/DEFINITIONS.md and docs/FORMAT.md say the same in words.
 
-Below them each function of LISTS answers a case of the list of `replay` with its name, from its columns, over a digest function.
+Below them each function of CHECKS and LISTS answers a case of the list of `replay` with its name, from its columns, over a digest
+function. tools/forgeries.py changes the text of this file to leave out comparisons: each stands where it can be taken out alone.
 """
+import collections
 import functools
 import hashlib
 
@@ -149,12 +151,12 @@ def root_of(digests, family, direction, leaves, count, inactive, active):
 def sites(family, direction, leaves, inactive, locations):
     """What the digests of a range proof are of: nodes that are folded from the left or from the right, in the order of the proof."""
     peaks = family.peaks(leaves)
-    before = [it for it in peaks if end_of(it) <= locations[0]]
-    past = [it for it in peaks if it[0] > locations[-1]]
+    before = [it for it in peaks if end_of(it) <= locations.start]
+    past = [it for it in peaks if it[0] >= locations.stop]
     fixed = peaks[:inactive] if direction == "backward" else peaks
     told = [("left", [it for it in before if it in fixed])] + [("left", [it]) for it in before if it not in fixed]
     told += [("left", [it]) for it in past if it in fixed] + [("right", [it for it in past if it not in fixed])]
-    inside = [it for peak in peaks if holds(peak, locations) for it in without(peak, locations)]
+    inside = [it for peak in peaks if peak not in before + past for it in without(peak, locations)]
     told += [("left", [it]) for it in sorted(inside, key=family.position)]
     return [(way, nodes) for way, nodes in told if nodes]
 
@@ -166,9 +168,9 @@ class Check:
         """The tree has the elements that are claimed in the places from `start` on, and its chunks."""
         self.tree, self.hashed, self.root = tree, 0, None
         family, claimed = tree.family, range(start, start + len(tree.elements))
-        fits = leaves <= MAX_LEAVES and claimed and claimed[-1] < leaves and inactive <= len(family.heights(leaves))
-        told = sites(family, direction, leaves, inactive, claimed) if fits else []
-        if not fits or len(told) != len(proof):
+        fits = [leaves <= MAX_LEAVES, claimed.start < claimed.stop, claimed.stop <= leaves, inactive <= len(family.heights(leaves))]
+        told = sites(family, direction, leaves, inactive, claimed) if all(fits) else []
+        if not all(fits) or len(told) != len(proof):
             self.folds = 0
             return
         self.start, self.given = start, {tuple(nodes): it for (_, nodes), it in zip(told, proof)}
@@ -216,11 +218,15 @@ class Snapshot:
         """The digests of the pending and of the partial chunk, each where it is there."""
         return [None if it is None else self.digests.of(self.chunks[it]) for it in self.slots]
 
-    def range_part(self, start, end):
-        """The own proof of a range as bytes."""
+    def range_proof(self, start, end):
+        """The own proof of a range."""
         count = self.inactive(self.width)
         proof = self.view.range_proof("backward", count, start, end)
-        return range_part(self.family, self.leaves, count, proof, *self.slot_digests(), self.ops_root)
+        return RangeProof(self.leaves, count, proof, *self.slot_digests(), self.ops_root)
+
+    def range_part(self, start, end):
+        """The own proof of a range as bytes."""
+        return range_part(self.family, *self.range_proof(start, end))
 
     def operation_proof(self, location):
         return varint(location) + self.chunks[location // self.width] + self.range_part(location, location + 1)
@@ -257,6 +263,71 @@ def range_part(family, leaves, inactive, proof, pending, partial, ops_root):
     return counts + b"".join(proof) + b"".join(b"\1" + it if it else b"\0" for it in slots) + ops_root
 
 
+RangeProof = collections.namedtuple("RangeProof", "leaves inactive proof pending partial ops_root")
+
+
+def current_root(digests, family, size, proof, start, operations, chunks):
+    """The canonical root that the check of a range gives; none where a part does not fit."""
+    width, height = 8 * size, (8 * size).bit_length() - 1
+    places = range(start // width, (start + len(operations) - 1) // width + 1)
+    if len(chunks) != len(places):
+        return None
+    if any(len(it) != size for it in chunks):
+        return None
+    given, (pending, partial) = dict(enumerate(chunks, places.start)), slots_of(family, proof.leaves, width)
+    if (pending is None) != (proof.pending is None) or (partial is None) != (proof.partial is None):
+        return None
+    if pending in given and digests.of(given[pending]) != proof.pending:
+        return None
+    if partial in given and digests.of(given[partial]) != proof.partial:
+        return None
+    grafted = {it: given[it] for it in given if it < graftable(family, proof.leaves, height)}
+    tree = Tree(digests, family, operations, height, grafted)
+    root = Check(tree, "backward", proof.leaves, proof.inactive, proof.proof, start).root
+    return root and canonical(digests, proof.leaves % width, proof.ops_root, root, proof.pending, proof.partial)
+
+
+def is_active(digests, family, location, chunk, proof, operation, root):
+    """Whether an operation proof is accepted: the bit of its location is set, and the check of that range gives the root."""
+    bit = location % (8 * len(chunk))
+    if not chunk[bit // 8] >> bit % 8 & 1:
+        return False
+    return current_root(digests, family, len(chunk), proof, location, [operation], [chunk]) == root
+
+
+def excludes(key, start, next_key):
+    """Whether the update of a key that names the next one excludes a key: another one of its span, around past the greatest."""
+    if key == start:
+        return False
+    return start <= key < next_key if start < next_key else start <= key or key < next_key
+
+
+def lengths_of(kind):
+    """The least and the greatest number of bytes of a type, without their number where that is written: `u64`, `fixed4`, `vec:0:9`."""
+    ends = kind.replace("u64", "fixed8").removeprefix("fixed").removeprefix("vec:").split(":")
+    return int(ends[0]), int(ends[-1])
+
+
+class Types:
+    """How an ordered database writes operations, by its encoding and the types of its keys and values."""
+
+    def __init__(self, text):
+        encoding, self.key, self.value = text.split("/")
+        self.fixed, self.value_size = encoding == "ordered-fixed", lengths_of(self.value)[1]
+
+    def filled(self, operation):
+        """An operation with zeros up to the size of all, where they have one."""
+        size = max(1 + 2 * lengths_of(self.key)[1], 10) + self.value_size
+        return operation.ljust(size, b"\0") if self.fixed else operation
+
+    def update(self, key, value, next_key):
+        return self.filled(b"\xd2" + key + value + next_key)
+
+    def commit(self, value, floor):
+        none = bytes(1 + self.value_size if self.fixed else 1)
+        return self.filled(b"\xd3" + (b"\1" + value if value else none) + (be8(floor) if self.fixed else varint(floor)))
+
+
 class Bits:
     """A list of bits with a root, with chunks of some bytes."""
 
@@ -278,9 +349,8 @@ class Bits:
 
 
 MMR, MMB = Family("mmr"), Family("mmb")
-SIZE_REFUSED = "C6(current_proof|invalid_bitmap_chunk_size)"
-# The bytes of a key, of an ordered update of fixed size and of a value.
-KEY, UPDATE, VALUE = 4, 16, 8
+# The bytes of a key and of a value of `ordered-fixed/fixed4/u64`.
+KEY, VALUE = 4, 8
 
 
 class Refused(Exception):
@@ -291,9 +361,14 @@ def family_of(name):
     return {"mmr": MMR, "mmb": MMB}[name]
 
 
+def data(text):
+    """The bytes of a column; `-` is none."""
+    return bytes.fromhex(text.replace("-", ""))
+
+
 def strings(text, between=",", none="none"):
     """The byte strings of a column; `-` is no bytes."""
-    return [] if text == none else [bytes.fromhex(it.replace("-", "")) for it in text.split(between)]
+    return [] if text == none else [data(it) for it in text.split(between)]
 
 
 def numbers(text, between=","):
@@ -372,10 +447,10 @@ def verifiers(digests, family, height, start, chunks, graftable, position, left,
 
 
 class Reader:
-    """Bytes that are read from the front."""
+    """Bytes that are read from the front, and are a proof over a family with chunks of some bytes."""
 
-    def __init__(self, text, digests):
-        self.left, self.digests = bytes.fromhex(text.replace("-", "")), digests
+    def __init__(self, text, digests, family=MMR, size=1):
+        self.left, self.digests, self.family, self.size = data(text), digests, family, size
 
     def take(self, count):
         if len(self.left) < count:
@@ -400,44 +475,61 @@ class Reader:
             raise Refused("C6(location|past_the_limit)")
         return number
 
-    def option(self, size):
+    def option(self, read, *given):
         byte = self.take(1)[0]
         if byte > 1:
             raise Refused("C2")
-        return self.take(size) if byte else None
+        return read(*given) if byte else None
 
-    def pending(self, family):
-        return self.option(self.digests.size) if family is MMB else None
+    def pending(self):
+        return self.option(self.take, self.digests.size) if self.family is MMB else None
 
-    def operation_proof(self, family, size, most):
-        """Location, chunk, leaves, inactive peaks, digests, both slots, operations root."""
-        if size & (size - 1) or not 1 <= size <= 2**59:
-            raise Refused(SIZE_REFUSED)
-        heads = [self.location(), self.take(size), self.location(), self.varint()]
-        count = self.varint()
+    def end(self):
+        if self.left:
+            raise Refused(f"C7({len(self.left)})")
+
+    def chunk_size(self):
+        if self.size & (self.size - 1) or not 1 <= self.size <= 2**59:
+            raise Refused("C6(current_proof|invalid_bitmap_chunk_size)")
+
+    def range_proof(self, most):
+        leaves, inactive, count, size = self.location(), self.varint(), self.varint(), self.digests.size
         if count > most:
             raise Refused(f"C5({count})")
-        proof = [self.take(self.digests.size) for _ in range(count)]
-        slots = [self.pending(family), self.option(self.digests.size)]
-        return *heads, proof, *slots, self.take(self.digests.size)
+        proof = [self.take(size) for _ in range(count)]
+        return RangeProof(leaves, inactive, proof, self.pending(), self.option(self.take, size), self.take(size))
 
-    def key_proof(self, family, claim, size, most):
-        tag = self.take(1)[0] if claim == "absence" else None
-        if tag is not None and tag > 1:
+    def operation_proof(self, most=128):
+        """Location, chunk and range proof."""
+        self.chunk_size()
+        return self.location(), self.take(self.size), self.range_proof(most)
+
+    def part(self, kind):
+        """A key or a value of a type: as it is written, and without its length."""
+        before, (least, most) = self.left, lengths_of(kind)
+        count = self.varint() if kind.startswith("vec") else most
+        if not least <= count <= most:
+            raise Refused(f"C5({count})")
+        content = self.take(count)
+        return before[: len(before) - len(self.left)], content
+
+    def key_proof(self, claim, types, most=128):
+        """An operation proof and the next key, or one and the update or the value of a commit, each as it is written."""
+        if claim == "value":
+            return self.operation_proof(most), [self.part(types.key)]
+        tag = self.take(1)[0]
+        if tag > 1:
             raise Refused(f"C3({tag})")
-        self.operation_proof(family, size, most)
-        if tag is None:
-            self.take(KEY)
-        elif tag == 0:
-            self.take(UPDATE)
-        else:
-            self.option(VALUE)
+        proof = self.operation_proof(most)
+        if tag == 0:
+            return proof, [self.part(it) for it in (types.key, types.value, types.key)]
+        return proof, self.option(self.part, types.value)
 
 
 def key_proofs(digests, family, claim, reader, most, text):
-    read = Reader(text, digests)
+    read = Reader(text, digests, family_of(family), 1 if reader == "array" else int(reader))
     try:
-        read.key_proof(family_of(family), claim, 1 if reader == "array" else int(reader), int(most))
+        read.key_proof(claim, Types("ordered-fixed/fixed4/u64"), int(most))
     except Refused as refused:
         return f"{refused} - {refused}"
     left = len(read.left)
@@ -445,28 +537,107 @@ def key_proofs(digests, family, claim, reader, most, text):
 
 
 def operation_checks(digests, family, size, leaves, operation, proof, root, _):
-    read = Reader(proof, digests)
-    location, chunk, own_leaves, *rest = read.operation_proof(family_of(family), int(size), 128)
-    if read.left:
-        raise Refused(f"C7({len(read.left)})")
-    leaves = own_leaves if leaves == "-" else int(leaves)
-    tree = Tree(digests, family_of(family), [bytes.fromhex(operation)])
-    return verdict(leaves <= MAX_LEAVES and current_root(tree, location, chunk, leaves, *rest) == bytes.fromhex(root))
+    read = Reader(proof, digests, family_of(family), int(size))
+    location, chunk, parts = read.operation_proof()
+    read.end()
+    parts = parts if leaves == "-" else parts._replace(leaves=int(leaves))
+    return verdict(is_active(digests, family_of(family), location, chunk, parts, data(operation), data(root)))
 
 
-def current_root(tree, location, chunk, leaves, inactive, proof, pending, partial, ops_root):
-    """The canonical root that the check of an operation proof gives; none where a part does not fit, or the bit is clear."""
-    width, bit = 8 * len(chunk), location % (8 * len(chunk))
-    height, slots = width.bit_length() - 1, slots_of(tree.family, leaves, width)
-    if not chunk[bit // 8] >> bit % 8 & 1 or [it is None for it in slots] != [it is None for it in (pending, partial)]:
-        return None
-    place = location // width
-    if any(slot == place and tree.digests.of(chunk) != it for slot, it in zip(slots, (pending, partial))):
-        return None
-    if place < graftable(tree.family, leaves, height):
-        tree.height, tree.chunks = height, {place: chunk}
-    root = Check(tree, "backward", leaves, inactive, proof, location).root
-    return root and canonical(tree.digests, leaves % width, ops_root, root, pending, partial)
+def of_client(shows):
+    """The list of what a client answers where a function says whether a proof shows a claim: no too where bytes are refused."""
+    @functools.wraps(shows)
+    def answer(digests, family, size, *columns):
+        try:
+            return verdict(shows(digests, family_of(family), int(size), *columns))
+        except Refused:
+            return "no"
+    return answer
+
+
+def shows_operation(digests, family, size, proof, location, operation, root):
+    """Whether bytes show an operation at a location, or at the proof's own where that is none."""
+    read = Reader(proof, digests, family, size)
+    own, chunk, parts = read.operation_proof()
+    read.end()
+    if location not in (own, None):
+        return False
+    return is_active(digests, family, own, chunk, parts, data(operation), data(root))
+
+
+def shows_range(digests, family, size, most, proof, start, operations, chunks, root):
+    read = Reader(proof, digests, family, size)
+    read.chunk_size()
+    parts = read.range_proof(most)
+    read.end()
+    return current_root(digests, family, size, parts, int(start), strings(operations), strings(chunks)) == data(root)
+
+
+def claimed(kind, text):
+    """A claimed key or value without its length: of bytes that are one whole value. A vector that is claimed may have any length."""
+    read = Reader(text, None)
+    _, content = read.part(f"vec:0:{2**64 - 1}" if kind.startswith("vec") else kind)
+    read.end()
+    return content
+
+
+def shows_value(digests, family, size, kind, proof, key, value, root):
+    types, read = Types(kind), Reader(proof, digests, family, size)
+    claimed(types.key, key), claimed(types.value, value)
+    (location, chunk, parts), shown = read.key_proof("value", types)
+    read.end()
+    operation = types.update(data(key), data(value), shown[0][0])
+    return is_active(digests, family, location, chunk, parts, operation, data(root))
+
+
+def shows_absence(digests, family, size, kind, proof, key, root):
+    types, read = Types(kind), Reader(proof, digests, family, size)
+    key = claimed(types.key, key)
+    (location, chunk, parts), shown = read.key_proof("absence", types)
+    read.end()
+    if isinstance(shown, list):
+        (start, own_key), (value, _), (next_key, own_next) = shown
+        if not excludes(key, own_key, own_next):
+            return False
+        operation = types.update(start, value, next_key)
+    else:
+        operation = types.commit(shown and shown[0], location)
+    return is_active(digests, family, location, chunk, parts, operation, data(root))
+
+
+@of_client
+def program_checks(digests, family, size, location, operation, proof, root, _):
+    return shows_operation(digests, family, size, proof, int(location), operation, root)
+
+
+@of_client
+def ranges_checks(digests, family, size, most, start, operations, chunks, proof, root, _):
+    return shows_range(digests, family, size, int(most), proof, start, operations, chunks, root)
+
+
+@of_client
+def both_chunks(digests, family, size, kind, proof, claim, root):
+    if kind == "operation":
+        return shows_operation(digests, family, size, proof, None, claim, root)
+    return shows_range(digests, family, size, 128, proof, *claim.split("/"), root)
+
+
+@of_client
+def key_values(digests, family, size, kind, proof, key, value, root, _):
+    return shows_value(digests, family, size, kind, proof, key, value, root)
+
+
+@of_client
+def exclusions(digests, family, size, kind, proof, key, root, _):
+    return shows_absence(digests, family, size, kind, proof, key, root)
+
+
+@of_client
+def golden_keys(digests, family, size, root, key, value, proof):
+    kind = "ordered-fixed/fixed4/u64"
+    if value == "absent":
+        return shows_absence(digests, family, size, kind, proof, key, root)
+    return shows_value(digests, family, size, kind, proof, key, be8(int(value)).hex(), root)
 
 
 def slots(digests, family, digest):
@@ -476,8 +647,8 @@ def slots(digests, family, digest):
 
 
 def slots_read(digests, family, text):
-    read = Reader(text, digests)
-    digest = read.pending(family_of(family))
+    read = Reader(text, digests, family_of(family))
+    digest = read.pending()
     return f"{digest.hex() if digest else '-'} {len(read.left)}"
 
 
@@ -549,15 +720,20 @@ def bitmaps_served(digests, direction, size, calls, positions):
     return f"{MMR.size(tree.leaves)} {one_by_one} {at_once}"
 
 
+# The lists on checks of proofs over chunks, and others.
+CHECKS = {it.__name__: it for it in (
+    program_checks, operation_checks, both_chunks, ranges_checks, key_values, exclusions, golden_keys,
+)}
 LISTS = {it.__name__: it for it in (
     element_checks, plain_operations, parts, served, built, mem_init, verifiers, key_proofs, operation_checks, slots,
     slots_read, filled, combined_views, combined_ranges, each_operation, each_range, bit_proofs, bitmaps_read, bitmaps_served,
 )}
+ANSWERED = CHECKS | LISTS
 
 
 def answer(digests, name, columns):
     """The answer of a case of a list."""
     try:
-        return LISTS[name](digests, *columns)
+        return ANSWERED[name](digests, *columns)
     except Refused as refused:
         return str(refused)

@@ -8,7 +8,8 @@ these is a part:
 
 1. The header compiles alone, as C11 and as C++17, with all warnings.
 2. Its functions are those that the sources export, and those whose names the archive has; its numbers are the sources' constants.
-3. All cases of the lists `program_checks`, `ranges_checks`, `key_values` and `exclusions` of `replay` are answered from C as they say.
+3. All cases of the lists `program_checks`, `ranges_checks`, `key_values` and `exclusions` of `replay` are answered from C as they say,
+   but for those that claim bytes that are no key or no value as it is written: a call is given the bytes of a vector alone.
 4. N hostile calls over each digest function (200,000 where nothing is said), under the address sanitizer of the caller:
    hostile.c says which.
 5. The examples.
@@ -132,6 +133,14 @@ def strings_of(case):
     return {part: bytes_of(kind, case[part]) for part, kind in (("key", key), ("value", value)) if part in case}
 
 
+def is_whole(case):
+    """Whether what is claimed of a key is one whole key, and one whole value where the case has one."""
+    try:
+        return bool(strings_of(case))
+    except AssertionError:
+        return False
+
+
 def lengths(kind):
     """What a call is told of the values of a type, or of keys that are vectors: their size, or the least and the greatest length."""
     return [SIZES[kind]] if kind in SIZES else kind.removeprefix("vec:").split(":")
@@ -160,7 +169,7 @@ def answers(folder):
     source = [HERE / "answers.c", folder / "libgawerunoa.a"]
     run("gcc", "-std=c11", *WARNINGS, *sanitizer, f"-I{HEADER.parent}", *source, "-o", program)
     for name in ("program_checks", "ranges_checks", *KEYS):
-        cases = cases_of(name)
+        cases = [it for it in cases_of(name) if name not in KEYS or is_whole(it["in"])]
         asked = [question(name, hash_of(case), case["in"]) for case in cases]
         said = run(program, text="".join(f"{line}\n" for line in asked)).split()
         same(f"{name}: how many cases and answers", len(cases), len(said))

@@ -1,6 +1,6 @@
 //! Lists on checks of the values of keys, and that keys have none.
 
-use commonware_storage::codec::{Decode, FixedBytes, RangeCfg, Read, Small, U64};
+use commonware_storage::codec::{Decode, Error, FixedBytes, RangeCfg, Read, Small, U64};
 use commonware_storage::digest::Hasher;
 use commonware_storage::merkle::Graftable;
 use commonware_storage::qmdb::any::{FixedEncoding, VariableEncoding, VariableValue};
@@ -19,8 +19,8 @@ struct Case<D> {
 }
 
 /// `type proof key value root label` for `key_values`, the same without a value for `exclusions`, and `root key value proof` for
-/// `golden_keys`, whose keys have four bytes and whose values are numbers or `absent`: whether the proof is accepted. The label says
-/// how the case was made.
+/// `golden_keys`, whose keys have four bytes and whose values are numbers or `absent`: whether the proof is accepted. It is not where
+/// the claimed bytes are not one whole key or value of the type. The label says how the case was made.
 pub fn answer<F: Graftable, H: Hasher>(
     alloc: Global,
     list: &str,
@@ -115,16 +115,29 @@ fn lengths(kind: &str) -> Result<(RangeCfg, ()), Fault> {
     Ok((lengths, ()))
 }
 
+/// The key or value that claimed bytes are; none where they are not one whole of its type.
+fn claimed<T: Read>(alloc: Global, bytes: &[u8], cfg: &T::Cfg) -> Result<Option<T>, Fault> {
+    match T::decode_cfg(alloc, bytes, cfg) {
+        Ok(value) => Ok(Some(value)),
+        Err(Error::Memory) => Err(Fault::Memory),
+        Err(_) => Ok(None),
+    }
+}
+
 fn fixed<F: Graftable, H: Hasher, K: Key + Small + Read<Cfg = ()>>(
     alloc: Global,
     case: &Case<H::Digest>,
 ) -> Result<bool, Fault> {
     let given = &case.given;
-    let key = K::decode_cfg(alloc, case.key.as_slice(), &())?;
+    let Some(key) = claimed::<K>(alloc, &case.key, &())? else {
+        return Ok(false);
+    };
     let Some(bytes) = &case.value else {
         return given.shows_absence::<F, H, K, FixedEncoding<u64>>(alloc, &((), ()), &key);
     };
-    let value = u64::decode_cfg(alloc, bytes.as_slice(), &())?;
+    let Some(value) = claimed::<u64>(alloc, bytes, &())? else {
+        return Ok(false);
+    };
     let again = K::decode_cfg(alloc, case.key.as_slice(), &())?;
     given.shows_value::<F, H, K, FixedEncoding<u64>>(alloc, &(), (key, value), (again, value))
 }
@@ -137,11 +150,15 @@ fn variable<F: Graftable, H: Hasher, K: Key, V: VariableValue>(
     case: &Case<H::Digest>,
 ) -> Result<bool, Fault> {
     let given = &case.given;
-    let key = K::decode_cfg(alloc, case.key.as_slice(), own.0)?;
+    let Some(key) = claimed::<K>(alloc, &case.key, own.0)? else {
+        return Ok(false);
+    };
     let Some(bytes) = &case.value else {
         return given.shows_absence::<F, H, K, VariableEncoding<V>>(alloc, cfgs, &key);
     };
-    let value = V::decode_cfg(alloc, bytes.as_slice(), own.1)?;
+    let Some(value) = claimed::<V>(alloc, bytes, own.1)? else {
+        return Ok(false);
+    };
     let again = (
         K::decode_cfg(alloc, case.key.as_slice(), own.0)?,
         V::decode_cfg(alloc, bytes.as_slice(), own.1)?,
