@@ -1,4 +1,8 @@
-"""Answers the cases of conformance/ by the verifier: `cases.py CASES.json ..`, files or folders, and prints those that differ."""
+"""Answers cases by the verifier: `cases.py CASES.json ..`, files that `tools/cases.py json` makes, or folders of them.
+
+The cases are those on the checks of operations, ranges and keys. Each that the verifier answers otherwise is printed; the last line is
+'N passed, M failed', of cases.
+"""
 import json
 import sys
 from pathlib import Path
@@ -41,14 +45,15 @@ def answer(name, case):
     return check_value(db, root, proof, data(claim[0]), data(claim[1]) if "type" in given else be8(int(claim[1])))
 
 def main(paths):
-    """Answer the cases of files and folders, and print those whose answers differ."""
+    """Answer the cases of files and folders, and print those that are answered otherwise."""
     files = [file for path in map(Path, paths) for file in (sorted(path.glob("*.json")) if path.is_dir() else [path])]
     lists = [head for head in map(json.loads, map(Path.read_text, files)) if head.get("list") in LISTS]
     cases = [(head["list"], case) for head in lists for case in head["cases"]]
     differ = [(name, case) for name, case in cases if answer(name, case) != (case["out"] == "yes")]
     for name, case in differ:
         print(name, case["out"], case["comment"], json.dumps(case["in"])[:100])
-    print(f"{len(cases)} cases, {len(differ)} differ")
+    print(f"{len(cases) - len(differ)} passed, {len(differ)} failed")
+    return int(not cases or bool(differ))
 
 if __name__ == "__main__":
-    main(sys.argv[1:])
+    sys.exit(main(sys.argv[1:]))

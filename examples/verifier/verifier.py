@@ -87,8 +87,8 @@ class Reader:
         return self.varint(2**62), self.take(self.db.chunk_size), self.range_proof(128)
 
 def typed(db, kind, text):
-    """A claimed key or value as it is compared; refused where the text is not just one."""
-    written, content = Reader(db, text).part(kind)
+    """A claimed key or value as it is compared; refused where the text is not just one. Vectors may have any length here."""
+    written, content = Reader(db, text).part(f"vec:0:{2**64 - 1}" if kind.startswith("vec") else kind)
     require(written == text)
     return content
 
