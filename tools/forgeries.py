@@ -18,7 +18,7 @@ import types
 
 import definitions
 from definitions import KEY, MAX_LEAVES, MMB, MMR, VALUE, Check, RangeProof, Snapshot, Tree, Types, be8, canonical, graftable
-from definitions import range_part, root_of, slots_of, told, varint
+from definitions import end_of, halves, range_part, root_of, slots_of, told, varint
 
 ROW = "one_rule_less"
 # Each rule that is left out is shown by so many lines of each kind.
@@ -88,6 +88,11 @@ def set_bits(digests):
         whole = snapshot(digests, family, leaves, active)
         chunk = bytes([whole.chunks[location // 8][0] | 1 << location % 8])
         yield from claims(label, whole, location, whole.range_proof(location, location + 1), chunk=chunk)
+    # a range that touches both
+    whole = snapshot(digests, MMB, 18, 9)
+    claimed, parts = [operation(it) for it in range(9, 18)], whole.range_proof(9, 18)
+    for label, chunks in (("own", "0200"), ("bit-set-in-the-pending-chunk", "0600"), ("bit-set-in-the-partial-chunk", "0201")):
+        yield range_claim(label, whole, 9, claimed, [bytes([it]) for it in bytes.fromhex(chunks)], parts)
 
 
 def clear_bits(digests):
@@ -123,11 +128,25 @@ def past_the_leaves(digests):
         yield range_claim("past-the-last-number", whole, start, operations, [b"\xff"], whole.range_proof(start, start + count))
 
 
+def split_at(node, place):
+    """The greatest nodes inside a node on either side of a place."""
+    if place <= node[0] or end_of(node) <= place:
+        return [node]
+    return [it for half in halves(node) for it in split_at(half, place)]
+
+
 def no_operations(digests):
-    """No operations, and a chunk that is not the snapshot's, under a peak that is not opened."""
+    """No operations, with a chunk that is not the snapshot's under a peak that is not opened, or its own under one that is."""
     for family, leaves, start, chunks in ((MMR, 16, 3, [b"\xff"]), (MMB, 19, 12, [b"\xff"]), (MMR, 16, 8, [])):
         whole = snapshot(digests, family, leaves, 2)
         yield range_claim("no-operations", whole, start, [], chunks, whole.range_proof(start, start))
+    for family, leaves, start in ((MMR, 16, 3), (MMR, 11, 9), (MMB, 19, 12)):
+        whole = snapshot(digests, family, leaves, start)
+        peak = next(it for it in family.peaks(leaves) if it[0] < start < end_of(it))
+        inside = [whole.view.node(it) for it in sorted(split_at(peak, start), key=family.position)]
+        own = whole.range_proof(start, start)
+        parts = own._replace(proof=[*own.proof[:-1], *inside])
+        yield range_claim("no-operations", whole, start, [], [whole.chunks[start // 8]], parts)
 
 
 def other_chunks(digests):
