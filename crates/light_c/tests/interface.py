@@ -9,7 +9,7 @@ these is a part:
 1. The header compiles alone, as C11 and as C++17, with all warnings.
 2. Its functions are those that the sources export, and those whose names the archive has; its numbers are the sources' constants.
 3. All cases of the lists `program_checks`, `ranges_checks`, `key_values` and `exclusions` of `replay` are answered from C as they say,
-   but for those that claim bytes that are no key or no value as it is written: a call is given the bytes of a vector alone.
+   but for claimed bytes that are no whole key or value as it is written: a call is given the bytes of a vector alone.
 4. N hostile calls over each digest function (200,000 where nothing is said), under the address sanitizer of the caller:
    hostile.c says which.
 5. The examples.
