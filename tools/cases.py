@@ -19,8 +19,8 @@ fault. The last line is 'N passed, M failed', of lists and of faults.
 the first line their names, made by an independent program that computes the definitions over whole lists. A line of stdin is the name of
 a list and the columns that are given, a line of stdout the columns that are asked for. The cases over SHA-512 come last, with that word
 before the list's name. Lines of stdin that begin with the name of a worked row and a colon are kept with their answers, before the lists;
-but those over SHA-512 of the lists that tools/definitions.py answers are made anew, after the others of their rows. Lists that
-conformance/lists.json does not have are left out.
+but those over SHA-512 of LISTS of tools/definitions.py are made anew, after the others of their rows, and so are those of the row that
+tools/forgeries.py makes. Lists that conformance/lists.json does not have are left out.
 """
 import collections
 import functools
