@@ -3,7 +3,7 @@
 
     tools/cases.py json [FOLDER]
     tools/cases.py check [PROGRAM]
-    tools/cases.py replay LISTS [CRATE]
+    tools/cases.py replay [LISTS]
 
 `json` makes FOLDER/NAME.json for each list of crates/replay/stdin and crates/replay/stdout, for other implementations of the formats, with
 their schema; FOLDER is dist/conformance if none is named. It wants Python alone. What each list asks, its columns and their kinds, and
@@ -11,16 +11,16 @@ what rows and labels mean stands in conformance/lists.json: a line whose list is
 that is not of the column's kind, is an error, and nothing is made.
 
 `check` makes no file. It sees that each file that would be made meets conformance/schema.json and gives back the lines that it was made
-of, that the samples in conformance/ are what would be made, that docs/CONFORMANCE.md names the lists, and that PROGRAM, where one is
-named, as crates/replay/out/replay, answers the lines as the cases say. A list that is described and has no line is told, and is no
-fault. The last line is 'N passed, M failed', of lists and of faults.
+of, that the samples in conformance/ are what would be made, that docs/CONFORMANCE.md names the lists, that `replay` would change no
+worked row, and that PROGRAM, where one is named, as crates/replay/out/replay, answers the lines as the cases say. A list that is described
+and has no line is told, and is no fault. The last line is 'N passed, M failed', of lists and of faults.
 
-`replay` makes crates/replay/stdin and crates/replay/stdout. LISTS is a folder of lists, one case a line, columns with blanks between them,
-the first line their names, made by an independent program that computes the definitions over whole lists. A line of stdin is the name of
-a list and the columns that are given, a line of stdout the columns that are asked for. The cases over SHA-512 come last, with that word
-before the list's name. Lines of stdin that begin with the name of a worked row and a colon are kept with their answers, before the lists;
-but those over SHA-512 of LISTS of tools/definitions.py are made anew, after the others of their rows, and so are those of the row that
-tools/forgeries.py makes. Lists that conformance/lists.json does not have are left out.
+`replay` makes crates/replay/stdin and crates/replay/stdout: the worked rows alone without LISTS. LISTS is a folder of lists, one case a
+line, columns with blanks between them, the first line their names, made by an independent program that computes the definitions over
+whole lists. A line of stdin is the name of a list and the columns that are given, a line of stdout the columns that are asked for. The
+cases over SHA-512 come last, with that word before the list's name. Lines of stdin that begin with the name of a worked row and a colon are
+kept with their answers, before the lists; but those over SHA-512 of LISTS of tools/definitions.py are made anew, after the others of their
+rows, and so are those of the row that tools/forgeries.py makes. Lists that conformance/lists.json does not have are left out.
 """
 import collections
 import functools
@@ -281,6 +281,9 @@ def wrong_files(made):
             yield f"{path.relative_to(ROOT)} is not what tools/cases.py makes"
     for name in sorted({path.removesuffix(".json") for path in made} - named_lists()):
         yield f"docs/CONFORMANCE.md does not name the list {name}"
+    worked, listed = worked_and_listed()
+    for line, _ in sorted({*worked} ^ {*with_made(worked, listed)})[:3]:
+        yield f"tools/cases.py replay would change a worked row: {line[:100]}"
 
 
 def named_lists():
@@ -617,25 +620,28 @@ def cases(lists):
         yield "ranges_extracted", given, asked
 
 
-def worked(crate):
-    """The lines of stdin that begin with the name of a row, which ends with a colon, and their answers."""
-    with (crate / "stdin").open() as stdin, (crate / "stdout").open() as stdout:
-        return [pair for pair in zip(stdin, stdout) if pair[0].split(" ", 1)[0].endswith(":")]
+def worked_and_listed():
+    """The lines of stdin that begin with the name of a row, which ends with a colon, and the others, with their answers."""
+    parts = [], []
+    for line, answer in replayed():
+        parts["row" not in parts_of(line)[0]].append((f"{line}\n", f"{answer}\n"))
+    return parts
 
 
-def key_proofs(lists):
-    """The proofs about keys of the MMR with chunks of one byte, and what they claim."""
-    rows = [it[1:] for it in lists.rows("golden_keys")]
-    claims = {proof: value for family, chunk, _, _, value, proof in rows if (family, chunk) == ("mmr", "1")}
+def key_proofs(listed):
+    """The proofs about keys of the MMR with chunks of one byte over SHA-512, and what they claim."""
+    heads = f"{OTHER_HASH} golden_keys mmr 1 "
+    rows = [line.removeprefix(heads).split() for line, _ in listed if line.startswith(heads)]
+    claims = {proof: value for _, _, value, proof in rows}
     return [("absence" if value == "absent" else "value", bytes.fromhex(proof)) for proof, value in claims.items()]
 
 
-def with_sha512(pairs, proofs, names):
-    """The worked cases and their answers, with those over SHA-512 that are made from the definitions."""
+def with_made(pairs, listed):
+    """The worked cases and their answers, with those that are made from the definitions."""
     kept = [it for it in pairs if not is_made(it[0])]
     if wrong := wrong_worked(kept):
         raise Wrong(f"not the answer of the definitions: {wrong[:100]}")
-    made = lines_made([it[0] for it in kept], proofs, names)
+    made = lines_made([it[0] for it in kept], key_proofs(listed), described()["lists"].keys())
     rows = {row: [*cases] for row, cases in itertools.groupby(kept, lambda it: it[0].partition(":")[0])}
     order = [*rows]
     for row in made.keys() - rows.keys():
@@ -644,26 +650,32 @@ def with_sha512(pairs, proofs, names):
     return [it for row in order for it in [*rows.get(row, []), *made.get(row, [])]]
 
 
-def make_replay(folder, crate=REPLAY):
-    """Makes the lines of `replay` and their answers."""
+def listed_in(folder):
+    """The lines of a folder's lists, and their answers."""
     names = described()["lists"].keys()
-    pairs = with_sha512(worked(crate), key_proofs(Lists(folder, OTHER_HASH)), names)
     for hash, before in (("sha256", []), (OTHER_HASH, [OTHER_HASH])):
         for name, columns, answers in cases(Lists(folder, hash)):
             if name in names:
-                pairs.append((" ".join([*before, name, *columns]) + "\n", " ".join(answers) + "\n"))
-    (crate / "stdin").write_text("".join(line for line, _ in pairs))
-    (crate / "stdout").write_text("".join(answer for _, answer in pairs))
+                yield " ".join([*before, name, *columns]) + "\n", " ".join(answers) + "\n"
 
 
-COMMANDS = {"json": (make_json, 0, 1), "check": (check, 0, 1), "replay": (make_replay, 1, 2)}
+def make_replay(folder=None):
+    """Makes the lines of `replay` and their answers."""
+    worked, listed = worked_and_listed()
+    listed = [*listed_in(folder)] if folder else listed
+    pairs = [*with_made(worked, listed), *listed]
+    (REPLAY / "stdin").write_text("".join(line for line, _ in pairs))
+    (REPLAY / "stdout").write_text("".join(answer for _, answer in pairs))
+
+
+COMMANDS = {"json": (make_json, 0, 1), "check": (check, 0, 1), "replay": (make_replay, 0, 1)}
 
 
 def main():
     command, *words = sys.argv[1:] or [""]
     call, least, most = COMMANDS.get(command, (None, 0, 0))
     if call is None or not least <= len(words) <= most:
-        sys.exit("usage: tools/cases.py json [FOLDER] | check [PROGRAM] | replay LISTS [CRATE]")
+        sys.exit("usage: tools/cases.py json [FOLDER] | check [PROGRAM] | replay [LISTS]")
     try:
         return call(*(pathlib.Path(it).resolve() for it in words))
     except Wrong as wrong:
