@@ -1,13 +1,15 @@
 //! Laws of operations, each as the contract of a function with an empty body.
 
-ghost use Rattle.std.specs.Prelude.{◌≡◌, ◌&&◌};
+ghost use Rattle.std.specs.Prelude.{◌≡◌, ◌&&◌, true};
 ghost use Rattle.storage_merkle.specs.Equality.{AnswersAs, EqualAsSeen, EqualToItself};
 ghost use Rattle.storage_ops.specs.Equality.{operation_eq};
 ghost use Rattle.storage_ops.specs.Operations.{OperationView, operation_map, parts};
 
 use crate::qmdb::any::operation::update::{Ordered, Unordered};
 use crate::qmdb::any::operation::{Operation, OperationCodec, Update};
-use crate::qmdb::any::value::ValueEncoding;
+use crate::qmdb::any::value::{
+    FixedEncoding, FixedValue, ValueEncoding, VariableEncoding, VariableValue,
+};
 use crate::qmdb::operation::Key;
 use storage_codec::codec::{FixedBytes, Read, U64};
 use storage_merkle::merkle::Family;
@@ -82,4 +84,12 @@ pub fn equal_keys_and_values<const N: usize>()
     ensures integer_keys { EqualAsSeen ⟦<U64 as PartialEq>⟧.eq ⟦<U64 as Read>⟧.view }
     ensures vectors { EqualAsSeen ⟦<Vec<u8> as PartialEq>⟧.eq ⟦<Vec<u8> as Read>⟧.view }
     ensures integers { EqualAsSeen ⟦<u64 as PartialEq>⟧.eq ⟦<u64 as Read>⟧.view }
+{}
+
+/// An encoding has no parts, so any two of one type are equal.
+pub fn equal_value_encodings<V: FixedValue, W: VariableValue>()
+    ensures fixed { AnswersAs ⟦<FixedEncoding<V> as PartialEq>⟧.eq (λ _ _. true) }
+    ensures variable { AnswersAs ⟦<VariableEncoding<W> as PartialEq>⟧.eq (λ _ _. true) }
+    ensures fixed_exact { EqualToItself ⟦<FixedEncoding<V> as PartialEq>⟧.eq }
+    ensures variable_exact { EqualToItself ⟦<VariableEncoding<W> as PartialEq>⟧.eq }
 {}
