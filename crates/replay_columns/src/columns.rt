@@ -5,7 +5,7 @@ use std::alloc::{AllocError, AllocFailed, Global};
 use storage_codec::codec::FixedBytes;
 use storage_codec::digest::Digest;
 use storage_codec::{NoMemory, codec};
-use storage_merkle::merkle::{self, Bagging, Location, Position, Proof};
+use storage_merkle::merkle::{self, Bagging, Family, Location, Position, Proof};
 use storage_ops::qmdb;
 
 /// Why a line has no answer.
@@ -316,12 +316,15 @@ impl<T: Column> Column for Option<T> {
     }
 }
 
-/// `leaves inactive digests`.
-impl<F, D: Digest> Column for Proof<F, D> {
+/// `leaves inactive digests`; `0 0 none` is the default proof.
+impl<F: Family, D: Digest> Column for Proof<F, D> {
     fn read(alloc: Global, columns: &mut Columns<'_>) -> Result<Proof<F, D>, Fault> {
         let (leaves, inactive_peaks, digests): (Location<F>, usize, Digests<D>) = Column::read(
             alloc, columns,
         )?;
+        if leaves.as_u64() == 0 && inactive_peaks == 0 && digests.0.is_empty() {
+            return Ok(Proof::default(alloc));
+        }
         Ok(Proof {
             leaves,
             inactive_peaks,
