@@ -227,6 +227,8 @@ impl Contiguous for Log {
 
     ghost failed = { λ s. s.failures };
 
+    ghost may_fail = { λ s _ code. code ≡ s.code };
+
     fn failures(&self) -> u64 {
         self.failures
     }

@@ -10,7 +10,7 @@ use Rattle.std.proofs.lemmas.List.Elements.{All-nil, All-cons, All-head, All-tai
 use Rattle.std.proofs.lemmas.List.Sorted.{searched}
 use Rattle.std.proofs.lemmas.Result.{IfErr-weaker}
 use Rattle.storage_codec.specs.Digests.{HashFunction}
-use Rattle.storage_merkle.specs.Plans.{PlanOf, planned, IsFirstAbsent}
+use Rattle.storage_merkle.specs.Plans.{PlanOf, planned, IsFirstAbsent, IsFirstFault}
 use Rattle.storage_bitmap.specs.Chunks.{Retained}
 use Rattle.storage_ops.specs.declared.qmdb.error.Error.{Error}
 use Rattle.storage_ops.specs.declared.qmdb.error.Error.TheVariants.{Merkle}
@@ -107,14 +107,14 @@ module _ {D : Type 0} (answers : ℕ → Option D → Type 0) (node : ℕ → Op
   pub are_answered : AreAnswered (held_at node) g.shape plan
   are_answered = subst (All (λ p. (d : D) × held_at node p (Some d))) are (all_held node ps ds same)
 
-  pub not_read : {F : Type 0} (error : Error F) → IsNotBuilt answers g plan status error
-      → IsNotRead node g plan status error
-  not_read error (inl a) =
+  pub not_read : {F : Type 0} (may_fail : ℕ → ℕ → Type 0) (error : Error F) → IsNotBuilt answers g plan status error
+      → IsNotRead node may_fail g plan status error
+  not_read may_fail error (inl a) =
       let each : All (Tells answers node) ps =
       All-weaker (Contains ps) (Tells answers node) (λ p has x ans. told p x has ans) ps (All-contains_itself ps) in
       absurd (none_absent answers node ps ds same each a.0 (subst (λ xs. IsFirstAbsent answers xs a.0) (sym are) a.1))
-  not_read error (inr (inl b)) = inr (inr (inl (are_answered, b.1, b.2)))
-  not_read error (inr (inr m)) = inr (inr (inr m))
+  not_read may_fail error (inr (inl b)) = inr (inr (inl (are_answered, b.1, b.2)))
+  not_read may_fail error (inr (inr m)) = inr (inr (inr m))
 
   pub parts_told : (text : D → List ℕ) (h : HashFunction) (floor : ℕ) (ops_root : List ℕ) (s : Snapshot)
       → ArePartsOf text (held_at node) h g plan status floor ops_root s
@@ -160,23 +160,30 @@ pub fault_of : {X Y F : Type 0} (e : Refusal F) → (code : ℕ) × (err_of {X =
 fault_of e f = (f.0, ap (λ x. Err (Merkle x)) (let g : e ≡ tree.Source f.0 = (let h = f.1 in cc) in g))
 
 -- why a store did not read positions, as it is passed on
-pub unread : {F D : Type 0} (node : ℕ → Option D) (ps qs : List ℕ) (e : Refusal F) → qs ≡ ps → (e ≡ tree.Memory → ⊥)
+pub unread : {X F D : Type 0} (node : ℕ → Option D) (may_fail : ℕ → ℕ → Type 0) (ps qs : List ℕ) (e : Refusal F)
+    → qs ≡ ps → (e ≡ tree.Memory → ⊥)
+    → ((code : ℕ) → err_of {X = X} e ≡ Err (tree.Source code) → IsFirstFault (λ q a. a ≡ node q) may_fail qs code)
     → ((p : ℕ) × (e ≡ tree.ElementPruned p) × IsFirstAbsent (λ q a. a ≡ node q) qs p)
     ⊎ (((code : ℕ) × (e ≡ tree.Source code)) ⊎ (e ≡ tree.Memory))
-    → IsUnread (held_at node) ps (Merkle e)
-unread node ps qs e are never (inl a) =
+    → IsUnread (held_at node) may_fail ps (Merkle e)
+unread node may_fail ps qs e are never fault (inl a) =
     inr (inl (a.0, subst (λ xs. IsFirstAbsent (held_at node) xs a.0) are a.2, ap Merkle a.1))
-unread node ps qs e are never (inr (inl s)) = inl (s.0, ap Merkle s.1)
-unread node ps qs e are never (inr (inr m)) = absurd (never m)
+unread node may_fail ps qs e are never fault (inr (inl s)) =
+    inl (
+      s.0,
+      subst (λ xs. IsFirstFault (held_at node) may_fail xs s.0) are (fault s.0 (ap Err s.1)),
+      ap Merkle s.1,
+    )
+unread node may_fail ps qs e are never fault (inr (inr m)) = absurd (never m)
 
 -- what was not read is not made into a proof
-pub unread_not_read : {F D : Type 0} (node : ℕ → Option D) (g : Grafting) (plan : PlanOf) (status : Retained)
-    (error : Error F)
-    → IsUnread (held_at node) (planned g.shape plan.leaves plan.start plan.end) error
-    → IsNotRead node g plan status error
-unread_not_read node g plan status error (inl s) = inl s
-unread_not_read node g plan status error (inr (inl a)) = inr (inl a)
-unread_not_read node g plan status error (inr (inr m)) = inr (inr (inr m))
+pub unread_not_read : {F D : Type 0} (node : ℕ → Option D) (may_fail : ℕ → ℕ → Type 0) (g : Grafting) (plan : PlanOf)
+    (status : Retained) (error : Error F)
+    → IsUnread (held_at node) may_fail (planned g.shape plan.leaves plan.start plan.end) error
+    → IsNotRead node may_fail g plan status error
+unread_not_read node may_fail g plan status error (inl s) = inl s
+unread_not_read node may_fail g plan status error (inr (inl a)) = inr (inl a)
+unread_not_read node may_fail g plan status error (inr (inr m)) = inr (inr (inr m))
 
 pub on_ok : {X E : Type 0} (r : Result X E) (P : Type 0) → P → OnOk r P
 on_ok (Ok x) P p = p
@@ -188,12 +195,13 @@ pub why_from : {X F D : Type 0} (answers : ℕ → Option D → Type 0) (r : Res
     → IfOk r (λ x. (s : Snapshot) → ArePartsOf text answers h g plan status floor ops_root s
     → held x ≡ own_range_proof h g s plan.start plan.end)
     → IfErr r (IsNotBuilt answers g plan status)
-    → (node : ℕ → Option D) (ps : List ℕ) (ds : List D) → ps ≡ planned g.shape plan.leaves plan.start plan.end
+    → (node : ℕ → Option D) (may_fail : ℕ → ℕ → Type 0) (ps : List ℕ) (ds : List D)
+    → ps ≡ planned g.shape plan.leaves plan.start plan.end
     → map Some ds ≡ map node ps → AreTold answers node ps
-    → IfErr r (IsNotRead node g plan status)
-why_from answers r text h g plan status floor ops_root held own why node ps ds are same told =
-    IfErr-weaker r (IsNotBuilt answers g plan status) (IsNotRead node g plan status)
-    (λ error w. not_read answers node g plan status ps ds are same told error w) why
+    → IfErr r (IsNotRead node may_fail g plan status)
+why_from answers r text h g plan status floor ops_root held own why node may_fail ps ds are same told =
+    IfErr-weaker r (IsNotBuilt answers g plan status) (IsNotRead node may_fail g plan status)
+    (λ error w. not_read answers node g plan status ps ds are same told may_fail error w) why
 
 pub on_ok_both : {X E : Type 0} (r : Result X E) {A B C : Type 0} → OnOk r A → OnOk r B → (A → B → C) → OnOk r C
 on_ok_both (Ok x) a b f = f a b

@@ -74,15 +74,15 @@ same_count S L m n e =
     ]
 
 module _ {D : Type 0} (nodes : ℕ) (node : ℕ → Option D) (g : Grafting) (low high : ℕ) (status : Retained) where
-  pub made_why : {F : Type 0} (n : ℕ) (plan : PlanOf) (error : Error F) → size g.shape n ≡ nodes
+  pub made_why : {F : Type 0} (may_fail : ℕ → ℕ → Type 0) (n : ℕ) (plan : PlanOf) (error : Error F) → size g.shape n ≡ nodes
       → refusal F n low high ≡ None → plan ≡ plan_over n low high
-      → IsNotRead node g plan status error → IsNotMade nodes node g low high status error
-  made_why n plan error count planned is why =
-      inr (inl (n, count, inr (planned, subst (λ p. IsNotRead node g p status error) is why)))
+      → IsNotRead node may_fail g plan status error → IsNotMade nodes node may_fail g low high status error
+  made_why may_fail n plan error count planned is why =
+      inr (inl (n, count, inr (planned, subst (λ p. IsNotRead node may_fail g p status error) is why)))
 
-  pub refused_why : {F : Type 0} (n : ℕ) (e : Refusal F) → size g.shape n ≡ nodes → refusal F n low high ≡ Some e
-      → IsNotMade nodes node g low high status (Merkle e)
-  refused_why n e count refused = inr (inl (n, count, inl (e, refused, refl)))
+  pub refused_why : {F : Type 0} (may_fail : ℕ → ℕ → Type 0) (n : ℕ) (e : Refusal F) → size g.shape n ≡ nodes → refusal F n low high ≡ Some e
+      → IsNotMade nodes node may_fail g low high status (Merkle e)
+  refused_why may_fail n e count refused = inr (inl (n, count, inl (e, refused, refl)))
 
   pub servable : (F : Type 0) (n : ℕ) (plan : PlanOf) → size g.shape n ≡ nodes → refusal F n low high ≡ None
       → plan ≡ plan_over n low high

@@ -1,6 +1,6 @@
 -- Ranges of operations and their chunks, as they are served.
 use Rattle.std.proofs.Common.{◌≡◌, ℕ, zero, suc, ◌+◌, ◌-◌, ◌*◌, ◌/◌, ◌<◌, ◌≤◌, ◌^◌, List, [], ◌∷◌, ◌++◌, length, map, min, get_or, Bool, Err, refl, sym, ap, ◌∙◌, subst, arith}
-use Rattle.std.specs.List.{All, range_with_len}
+use Rattle.std.specs.List.{All, Contains, range_with_len}
 use Rattle.std.proofs.lemmas.List.FromFn.{length-range_with_len, get_or-range_with_len, length-map-range_with_len, get_or-map-range_with_len}
 use Rattle.std.proofs.lemmas.Nat.{pow_pos}
 use Rattle.std.proofs.Math.Nat.{le-div_iff_mul-le}
@@ -8,8 +8,9 @@ use Rattle.storage_merkle.specs.Laws.Multiples.{pow_order}
 use Rattle.storage_merkle.specs.Shape.{Shape}
 use Rattle.storage_bitmap.specs.Chunks.{Retained, IsChunkSize, IsRest, chunk, chunks_from}
 use Rattle.storage_ops.specs.declared.qmdb.error.Error.{Error}
+use Rattle.storage_ops.specs.declared.qmdb.error.Error.TheVariants.{Log}
 use Rattle.storage_current.specs.Laws.Grafting.{height_of_power}
-use Rattle.storage_current.specs.Served.{HoldsRange, IsLogFault, Counts}
+use Rattle.storage_current.specs.Served.{HoldsRange, IsFailedLog, IsLogFault, Counts}
 use Rattle.storage_current.specs.Snapshots.{Grafting, Snapshot, Holds, height, first_chunk}
 use Rattle.storage_current.proofs.Fetching.{counts_as}
 use Rattle.storage_current.proofs.Heights.{halves_power, eight_powers}
@@ -121,6 +122,22 @@ end_after start most count some within = omega arith
 
 pub end_within : (start most count : ℕ) → min (start + most) count ≤ count
 end_within start most count = omega arith
+
+-- a fault of the log at asked locations is one in their range
+pub failed_within : {F : Type 0} (may_fail : ℕ → ℕ → Type 0) (low high code : ℕ) (ls : List ℕ)
+    → ls ≡ range_with_len low (high - low) → (l : ℕ) × Contains ls l × may_fail l code
+    → IsFailedLog {F = F} may_fail low high (Log code)
+failed_within may_fail low high code ls are at =
+    let has = subst (λ xs. Contains xs at.0) are at.1 in
+    let less : has.0 < high - low = omega (arith, has.1, length-range_with_len low (high - low)) in
+    let is : at.0 ≡ low + has.0 =
+    sym has.2 ∙ get_or-range_with_len low (high - low) has.0 _ less in
+    (code, (at.0, omega (arith, is), omega (arith, is, less), at.2), refl)
+
+pub fault_moved : {F : Type 0} (may_fail : ℕ → ℕ → Type 0) (a b low high : ℕ) (error : Error F) → a ≡ low → b ≡ high
+    → IsFailedLog may_fail a b error → IsFailedLog may_fail low high error
+fault_moved may_fail a b low high error x y f =
+    subst (λ v. IsFailedLog may_fail low v error) y (subst (λ u. IsFailedLog may_fail u b error) x f)
 
 pub log_counts_moved : {X Y F : Type 0} (error : Error F) (before after : ℕ)
     → Counts (IsLogFault {X = X} (Err error)) before after → Counts (IsLogFault {X = Y} (Err error)) before after

@@ -4,7 +4,7 @@ use Rattle.storage_codec.specs.Digests.{HashFunction}
 use Rattle.storage_merkle.specs.declared.merkle.error.Error.{Error as Refusal}
 use Rattle.storage_merkle.specs.declared.merkle.error.Error.TheVariants as tree
 use Rattle.storage_merkle.specs.Shape.{size}
-use Rattle.storage_merkle.specs.Plans.{PlanOf, refusal, IsFirstAbsent}
+use Rattle.storage_merkle.specs.Plans.{PlanOf, refusal, planned, IsFirstAbsent, IsFirstFault}
 use Rattle.storage_bitmap.specs.Chunks.{Retained, bit_count}
 use Rattle.storage_ops.specs.declared.qmdb.error.Error.{Error}
 use Rattle.storage_ops.specs.declared.qmdb.error.Error.TheVariants.{Merkle, OperationPruned, Log, Memory}
@@ -12,7 +12,7 @@ use Rattle.storage_current.specs.BuiltProofs.{ArePartsOf, AreAnswered, AreBitsOf
 use Rattle.storage_current.specs.KeptSnapshots.{IsCorrupted}
 use Rattle.storage_current.specs.Snapshots.{Grafting, Snapshot, first_chunk}
 
--- the answer is a fault of the store, or of the log
+-- the answer is a fault of the store, or of the log, whatever its code
 abbrev pub IsStoreFault : {X F : Type 0} → Result X (Error F) → Type 0
 IsStoreFault result = (code : ℕ) × (result ≡ Err (Merkle (tree.Source code)))
 
@@ -37,17 +37,32 @@ plan_over n low high = record { leaves = n; start = low; end = high }
 abbrev pub held_at : {D : Type 0} → (ℕ → Option D) → ℕ → Option D → Type 0
 held_at node p answer = answer ≡ node p
 
--- why the digests at positions are not read: a fault, the first position without one, or want of memory
-abbrev pub IsUnread : {F D : Type 0} → (ℕ → Option D → Type 0) → List ℕ → Error F → Type 0
-IsUnread held positions error =
-    ((code : ℕ) × (error ≡ Merkle (tree.Source code)))
+-- a store failed as it may at the first of the positions that is absent or may fail
+abbrev pub IsFailedRead : {F D : Type 0} → (ℕ → Option D → Type 0) → (ℕ → ℕ → Type 0) → List ℕ → Error F → Type 0
+IsFailedRead held may_fail positions error =
+    (code : ℕ) × IsFirstFault held may_fail positions code × (error ≡ Merkle (tree.Source code))
+
+-- why the digests at positions are not read: a fault there, the first position without one, or want of memory
+abbrev pub IsUnread : {F D : Type 0} → (ℕ → Option D → Type 0) → (ℕ → ℕ → Type 0) → List ℕ → Error F → Type 0
+IsUnread held may_fail positions error =
+    IsFailedRead held may_fail positions error
     ⊎ ((p : ℕ) × IsFirstAbsent held positions p × (error ≡ Merkle (tree.ElementPruned p)))
     ⊎ (error ≡ Memory)
 
 -- why no proof of a planned range is read from a store: the first reason that holds, else want of memory
-abbrev pub IsNotRead : {F D : Type 0} → (ℕ → Option D) → Grafting → PlanOf → Retained → Error F → Type 0
-IsNotRead node g plan status error =
-    ((code : ℕ) × (error ≡ Merkle (tree.Source code))) ⊎ IsNotBuilt (held_at node) g plan status error
+abbrev pub IsNotRead : {F D : Type 0} → (ℕ → Option D) → (ℕ → ℕ → Type 0) → Grafting → PlanOf → Retained → Error F → Type 0
+IsNotRead node may_fail g plan status error =
+    IsFailedRead (held_at node) may_fail (planned g.shape plan.leaves plan.start plan.end) error
+    ⊎ IsNotBuilt (held_at node) g plan status error
+
+-- why no proof of the leaves from low to before high is made: the first reason that holds, else want of memory
+abbrev pub IsNotMade : {F D : Type 0} → (nodes : ℕ) (node : ℕ → Option D) (may_fail : ℕ → ℕ → Type 0) → Grafting
+    → (low high : ℕ) → Retained → Error F → Type 0
+IsNotMade {F} nodes node may_fail g low high status error =
+    (((n : ℕ) → size g.shape n ≡ nodes → ⊥) × IsNoTree error)
+    ⊎ ((n : ℕ) × (size g.shape n ≡ nodes) × (((e : Refusal F) × (refusal F n low high ≡ Some e) × (error ≡ Merkle e))
+    ⊎ (refusal F n low high ≡ None) × IsNotRead node may_fail g (plan_over n low high) status error))
+    ⊎ (error ≡ Memory)
 
 module _ {D : Type 0} (nodes : ℕ) (node : ℕ → Option D) (g : Grafting) (low high : ℕ) (status : Retained) where
   -- a store with so many nodes has what a proof of the leaves from low to before high is made from
@@ -57,14 +72,6 @@ module _ {D : Type 0} (nodes : ℕ) (node : ℕ → Option D) (g : Grafting) (lo
     pub planned : refusal F leaves low high ≡ None
     pub answered : AreAnswered (held_at node) g.shape (plan_over leaves low high)
     pub bits : AreBitsOf g leaves status
-
-  -- why no proof is made: the first reason that holds, else want of memory
-  abbrev pub IsNotMade : {F : Type 0} → Error F → Type 0
-  IsNotMade {F} error =
-      (((n : ℕ) → size g.shape n ≡ nodes → ⊥) × IsNoTree error)
-      ⊎ ((n : ℕ) × (size g.shape n ≡ nodes) × (((e : Refusal F) × (refusal F n low high ≡ Some e) × (error ≡ Merkle e))
-      ⊎ (refusal F n low high ≡ None) × IsNotRead node g (plan_over n low high) status error))
-      ⊎ (error ≡ Memory)
 
   -- the store is a snapshot's, and the other parts are its own
   pub record AreServedOf (bytes_of : D → List ℕ) (h : HashFunction) (floor : ℕ) (ops_root : List ℕ)
@@ -93,16 +100,24 @@ IsGone g start status error =
 abbrev pub HoldsRange : (first past low high : ℕ) → Type 0
 HoldsRange first past low high = (first ≤ low) × (high ≤ past)
 
+-- a read of some location from low to before high may fail with the code
+abbrev pub MayFailWithin : (may_fail : ℕ → ℕ → Type 0) (low high code : ℕ) → Type 0
+MayFailWithin may_fail low high code = (l : ℕ) × (low ≤ l) × (l < high) × may_fail l code
+
+-- a log failed as it may in that range
+abbrev pub IsFailedLog : {F : Type 0} → (may_fail : ℕ → ℕ → Type 0) (low high : ℕ) → Error F → Type 0
+IsFailedLog may_fail low high error = (code : ℕ) × MayFailWithin may_fail low high code × (error ≡ Log code)
+
 -- why no proof with its operations is made from a store and a log: the first reason that holds, else want of memory
-abbrev pub IsNotAnswered : {F D : Type 0} → (nodes : ℕ) (node : ℕ → Option D) (first past : ℕ) → Grafting
-    → (start high : ℕ) → Retained → Error F → Type 0
-IsNotAnswered {F} nodes node first past g start high status error =
+abbrev pub IsNotAnswered : {F D : Type 0} → (nodes : ℕ) (node : ℕ → Option D) (may_fail : ℕ → ℕ → Type 0)
+    → (first past : ℕ) (log_may_fail : ℕ → ℕ → Type 0) → Grafting → (start high : ℕ) → Retained → Error F → Type 0
+IsNotAnswered {F} nodes node may_fail first past log_may_fail g start high status error =
     IsGone g start status error
-    ⊎ (IsKept g start status × IsNotMade nodes node g start high status error)
+    ⊎ (IsKept g start status × IsNotMade nodes node may_fail g start high status error)
     ⊎ (IsKept g start status × IsServable nodes node g start high status F × (HoldsRange first past start high → ⊥)
     × IsCorrupted error)
     ⊎ (IsKept g start status × IsServable nodes node g start high status F × HoldsRange first past start high
-    × ((code : ℕ) × (error ≡ Log code)))
+    × IsFailedLog log_may_fail start high error)
     ⊎ (error ≡ Memory)
 
 -- a store and a log have what a proof with its operations is made from

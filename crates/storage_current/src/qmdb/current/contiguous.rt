@@ -1,7 +1,7 @@
 //! Logs of operations, which may fail.
 
 ghost use Rattle.std.specs.Prelude.{◌≡◌, ℕ, ◌+◌, ◌<◌, ◌≤◌, ◌^◌, ◌⊎◌, ◌↔◌, List, map, IfOk, Err};
-ghost use Rattle.std.specs.List.{All};
+ghost use Rattle.std.specs.List.{All, Contains};
 
 use std::alloc::Global;
 use std::ops::Range;
@@ -37,6 +37,9 @@ pub trait Contiguous {
     /// How often the log has failed.
     ghost failed: { Self → ℕ };
 
+    /// Whether a read at each location may fail, with each code.
+    ghost may_fail: { Self → ℕ → ℕ → Type 0 };
+
     /// How often a read has failed.
     fn failures(&self) -> u64
         ensures { result ≡ failed self.now };
@@ -50,11 +53,14 @@ pub trait Contiguous {
     ///
     /// # Errors
     ///
-    /// `Fault` where the log failed, just where its count of failures grew, by one; `Memory`.
+    /// `Fault` where the log failed, with a code that a read of one of `locations` may fail with, just where its count of
+    /// failures grew, by one; `Memory`.
     fn read_many(&mut self, alloc: Global, locations: &[u64]) -> Result<Vec<Self::Item>, LogError>
         requires count { failed self.old + 1 < 2 ^ 64 }
         requires within { All (λ l. (first self.old ≤ l) × (l < past self.old)) locations.now }
         ensures items { IfOk result (λ v. map text v.items ≡ map (item self.old) locations.now) }
+        ensures fault { (code : ℕ) → result ≡ Err (LogError.Fault code)
+            → (l : ℕ) × Contains locations.now l × may_fail self.old l code }
         ensures told { ((code : ℕ) × (result ≡ Err (LogError.Fault code)))
             ↔ (failed self.new ≡ failed self.old + 1) }
         ensures once { (failed self.new ≡ failed self.old)

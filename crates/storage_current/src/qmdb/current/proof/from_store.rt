@@ -25,7 +25,7 @@ impl<F: Graftable, D: Digest> RangeProof<F, D> {
     ///
     /// The first of: `DataCorrupted` of the tree where no tree has as many nodes as the store; those of `RangePlan::new`;
     /// `ElementPruned` of the first planned position, ascending, where it has no digest; those of `build`. `Source` where
-    /// the store failed, just where its count of failures grew, by one.
+    /// the store failed, with its code, just where its count of failures grew, by one.
     pub fn new<H: Hasher<Digest = D>, R: Readable<N>, S: Storage<F, Digest = D>, const N: usize>(
         alloc: Global,
         status: &R,
@@ -46,8 +46,8 @@ impl<F: Graftable, D: Digest> RangeProof<F, D> {
             OnOk result (IsServable (S.nodes storage.old)
             (S.node storage.old) g range.start range.end (R.retained status.now) F) }
         ensures why { let g = grafting_of F.shape N in
-            IfErr result (IsNotMade (S.nodes storage.old)
-            (S.node storage.old) g range.start range.end (R.retained status.now)) }
+            IfErr result (IsNotMade (S.nodes storage.old) (S.node storage.old)
+            (S.may_fail storage.old) g range.start range.end (R.retained status.now)) }
         ensures failures { Counts (IsStoreFault result) (S.failed storage.old)
             (S.failed storage.new) }
         ensures same_size { S.nodes storage.new ≡ S.nodes storage.old }
@@ -92,7 +92,8 @@ impl<F: Graftable, D: Digest> RangeProof<F, D> {
         ensures bits { let g = grafting_of F.shape N in
             OnOk result (AreBitsOf g plan.leaves (R.retained status.now)) }
         ensures why { let g = grafting_of F.shape N in
-            IfErr result (IsNotRead (S.node storage.old) g plan (R.retained status.now)) }
+            IfErr result (IsNotRead (S.node storage.old)
+            (S.may_fail storage.old) g plan (R.retained status.now)) }
         ensures failures { Counts (IsStoreFault result) (S.failed storage.old)
             (S.failed storage.new) }
         ensures same_size { S.nodes storage.new ≡ S.nodes storage.old }

@@ -26,8 +26,8 @@ impl<F: Family, D: Digest> Fetched<F, D> {
     ///
     /// # Errors
     ///
-    /// `Source` where the store failed, just where its count of failures grew, by one; `ElementPruned` of the first
-    /// planned position, ascending, where it has no digest; `Memory`.
+    /// `Source` where the store failed, with its code, just where its count of failures grew, by one; `ElementPruned` of
+    /// the first planned position, ascending, where it has no digest; `Memory`.
     pub(crate) fn read<S: Storage<F, Digest = D>>(
         alloc: Global,
         storage: &mut S,
@@ -39,7 +39,7 @@ impl<F: Family, D: Digest> Fetched<F, D> {
         ensures rising { IfOk result (λ f. IsStrictlyIncreasing f.positions.items) }
         ensures digests { IfOk result (λ f.
             map Some f.digests.items ≡ map (S.node storage.old) f.positions.items) }
-        ensures why { IfErr result (IsUnread (held_at (S.node storage.old))
+        ensures why { IfErr result (IsUnread (held_at (S.node storage.old)) (S.may_fail storage.old)
             (planned F.shape plan.now.leaves plan.now.start plan.now.end)) }
         ensures failures { Counts (IsStoreFault result) (S.failed storage.old)
             (S.failed storage.new) }

@@ -3,9 +3,8 @@
 ghost use Rattle.std.specs.Prelude.{◌≡◌, ℕ, ◌+◌, ◌-◌, ◌*◌, ◌/◌, ◌%◌, ◌<◌, ◌≤◌, ◌^◌, ◌⊎◌, [], map, get_or, IfOk, IfErr, OnOk};
 ghost use Rattle.std.specs.List.{range_with_len};
 ghost use Rattle.storage_bitmap.specs.Chunks.{IsChunkSize, bit_count, chunks_from};
-ghost use Rattle.storage_ops.specs.declared.qmdb.error.Error.TheVariants.{Log};
 ghost use Rattle.storage_current.specs.Held.{range_proof_of};
-ghost use Rattle.storage_current.specs.Served.{AreServedOf, Counts, HoldsRange, IsAnswerable, IsGone, IsKept, IsLogFault, IsNotAnswered, IsStoreFault, end_of};
+ghost use Rattle.storage_current.specs.Served.{AreServedOf, Counts, HoldsRange, IsAnswerable, IsFailedLog, IsGone, IsKept, IsLogFault, IsNotAnswered, IsStoreFault, end_of};
 ghost use Rattle.storage_current.specs.Snapshots.{Holds, Snapshot as SnapshotOf, own_range_proof, grafting_of};
 
 use crate::qmdb::current::proof::RangeProof;
@@ -39,7 +38,7 @@ impl<F: Graftable, D: Digest> RangeProof<F, D> {
     ///
     /// The first of: `RangeOutOfBounds(start_loc)` where it is at or past the number of bits; `OperationPruned(start_loc)`
     /// where its chunk is pruned; those of [`new`](Self::new); `DataCorrupted` where the log does not hold the range; `Log`
-    /// where the log failed, just where its count of failures grew, by one.
+    /// where the log failed, with its code, just where its count of failures grew, by one.
     pub fn new_with_ops<
         H: Hasher<Digest = D>,
         R: Readable<N>,
@@ -76,8 +75,9 @@ impl<F: Graftable, D: Digest> RangeProof<F, D> {
             (L.past log.old) g spec.start_loc high (R.retained status.now) F) }
         ensures why { let g = grafting_of F.shape N in
             let high = end_of spec.start_loc spec.max_ops (bit_count N (R.retained status.now)) in
-            IfErr result (IsNotAnswered (S.nodes storage.old) (S.node storage.old) (L.first log.old)
-            (L.past log.old) g spec.start_loc high (R.retained status.now)) }
+            IfErr result (IsNotAnswered (S.nodes storage.old) (S.node storage.old)
+            (S.may_fail storage.old) (L.first log.old) (L.past log.old) (L.may_fail log.old)
+            g spec.start_loc high (R.retained status.now)) }
         ensures store_failures { Counts (IsStoreFault result) (S.failed storage.old)
             (S.failed storage.new) }
         ensures log_failures { Counts (IsLogFault result) (L.failed log.old) (L.failed log.new) }
@@ -174,7 +174,7 @@ fn touched_chunks<R: Readable<N>, const N: usize>(
 ///
 /// # Errors
 ///
-/// `Log` where the log failed, just where its count of failures grew, by one; `Memory`.
+/// `Log` where the log failed, with its code, just where its count of failures grew, by one; `Memory`.
 fn read_range<F, L: Contiguous>(
     alloc: Global,
     log: &mut L,
@@ -186,7 +186,8 @@ fn read_range<F, L: Contiguous>(
     requires within { HoldsRange (L.first log.old) (L.past log.old) start end }
     ensures items { IfOk result (λ v.
         map L.text v.items ≡ map (L.item log.old) (range_with_len start (end - start))) }
-    ensures why { IfErr result (λ e. ((code : ℕ) × (e ≡ Log code)) ⊎ (e ≡ Error.Memory)) }
+    ensures why { IfErr result (λ e.
+        IsFailedLog (L.may_fail log.old) start end e ⊎ (e ≡ Error.Memory)) }
     ensures failures { Counts (IsLogFault result) (L.failed log.old) (L.failed log.new) }
     ensures same_first { L.first log.new ≡ L.first log.old }
     ensures same_past { L.past log.new ≡ L.past log.old }

@@ -48,8 +48,8 @@ impl<F: Graftable, D: Digest, const N: usize> Proof<F, D, [u8; N]> {
         ensures why { let g = grafting_of F.shape N in
             IfErr result (λ error. ((first_chunk g loc < (R.retained status.now).pruned)
             × (error ≡ Error.OperationPruned loc)) ⊎ (((R.retained status.now).pruned
-            ≤ first_chunk g loc) × IsNotMade (S.nodes storage.old) (S.node storage.old) g loc
-            (loc + 1) (R.retained status.now) error)) }
+            ≤ first_chunk g loc) × IsNotMade (S.nodes storage.old) (S.node storage.old)
+            (S.may_fail storage.old) g loc (loc + 1) (R.retained status.now) error)) }
         ensures failures { Counts (IsStoreFault result) (S.failed storage.old)
             (S.failed storage.new) }
         ensures same_size { S.nodes storage.new ≡ S.nodes storage.old }

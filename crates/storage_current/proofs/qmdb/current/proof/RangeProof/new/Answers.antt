@@ -28,7 +28,8 @@ returns-clause-why g c =
     let G : Grafting = record { shape = g.F.Family.shape; bytes = g.row.N } in
     let node = g.S.Storage.node c.args.storage.now in
     let plan = planned_ok _ c.in-Ok-new.plan _ c.in-Ok-new.ensures in
-    IfErr-weaker c.read.result (IsNotRead node G c.in-Ok-new.plan (g.R.Readable.retained c.args.status.now)) _
+    let may_fail = g.S.Storage.may_fail c.args.storage.now in
+    IfErr-weaker c.read.result (IsNotRead node may_fail G c.in-Ok-new.plan (g.R.Readable.retained c.args.status.now)) _
     (λ error w. made_why (g.S.Storage.nodes c.args.storage.now) node G c.args.range.start c.args.range.end
-    (g.R.Readable.retained c.args.status.now) c.in-Ok.leaves c.in-Ok-new.plan error c.in-Ok.ensures.tree plan.0
+    (g.R.Readable.retained c.args.status.now) may_fail c.in-Ok.leaves c.in-Ok-new.plan error c.in-Ok.ensures.tree plan.0
     plan.1 w) c.read.ensures.why

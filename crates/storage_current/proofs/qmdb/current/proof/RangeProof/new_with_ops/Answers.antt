@@ -5,7 +5,7 @@ use Rattle.storage_current.specs.Held.{range_proof_of}
 use Rattle.storage_current.specs.Served.{AreServedOf, HoldsRange, IsNotMade, IsServable, end_of}
 use Rattle.storage_current.specs.Snapshots.{Grafting, own_range_proof}
 use Rattle.storage_current.proofs.Making.{same_count}
-use Rattle.storage_current.proofs.Serving.{end_after, end_within, holds_range, log_counts_moved, power_of_size, range_moved, touched_moved}
+use Rattle.storage_current.proofs.Serving.{end_after, end_within, fault_moved, holds_range, log_counts_moved, power_of_size, range_moved, touched_moved}
 use Rattle.storage_current.proofs.qmdb.current.proof.RangeProof.new_with_ops.Goals as goal
 
 pub returns-in-Err-new-clause-why : goal.returns-in-Err-new-clause-why
@@ -15,8 +15,8 @@ returns-in-Err-new-clause-why g c =
     inr (inl (
       c.in-Ok.ensures.kept,
       subst (λ h.
-          IsNotMade (g.S.Storage.nodes c.args.storage.now) (g.S.Storage.node c.args.storage.now) G c.args.spec.start_loc h
-          (g.R.Readable.retained c.args.status.now) error) c.in-Ok.ensures.end c.in-Err-new.ensures.why,
+          IsNotMade (g.S.Storage.nodes c.args.storage.now) (g.S.Storage.node c.args.storage.now)
+          (g.S.Storage.may_fail c.args.storage.now) G c.args.spec.start_loc h (g.R.Readable.retained c.args.status.now) error) c.in-Ok.ensures.end c.in-Err-new.ensures.why,
     ))
 
 pub touched_chunks-requires : goal.touched_chunks-requires
@@ -95,7 +95,9 @@ returns-in-Err-read_range-clause-why g c =
     let holds = subst (λ h. HoldsRange (g.L.Contiguous.first c.args.log.now)
     (g.L.Contiguous.past c.args.log.now) start h) end (low, past) in
     elim c.in-Err-read_range.ensures.why [
-      | inl fault ↦ inr (inr (inr (inl (c.in-Ok.ensures.kept, made, holds, fault))))
+      | inl fault ↦
+          let moved = fault_moved _ _ _ _ _ _ c.as_u64-4.ensures (c.as_u64-5.ensures ∙ end) fault in
+          inr (inr (inr (inl (c.in-Ok.ensures.kept, made, holds, moved))))
       | inr memory ↦ inr (inr (inr (inr memory)))
     ]
 

@@ -10,7 +10,7 @@ use Rattle.storage_current.proofs.qmdb.current.proof.RangeProof.read.Goals as go
 pub returns-in-Err-clause-why : goal.returns-in-Err-clause-why
 returns-in-Err-clause-why g c =
     let G : Grafting = record { shape = g.F.Family.shape; bytes = g.row.N } in
-    unread_not_read (g.S.Storage.node c.args.storage.now) G c.args.plan
+    unread_not_read (g.S.Storage.node c.args.storage.now) (g.S.Storage.may_fail c.args.storage.now) G c.args.plan
     (g.R.Readable.retained c.args.status.now) c.in-Err.error c.in-Err.ensures.why
 
 pub returns-clause-own : goal.returns-clause-own
@@ -40,6 +40,6 @@ returns-clause-why g c =
     let f = c.in-Ok.ensures in
     why_from _ c.build.result g.D.Digest.text g.H.Hasher.hash_of G c.args.plan
     (g.R.Readable.retained c.args.status.now) c.args.floor (g.D.Digest.text c.args.ops_root)
-    (range_proof_of g.D.Digest.text) c.build.ensures.own c.build.ensures.why node c.in-Ok.fetched.positions.items
-    c.in-Ok.fetched.digests.items f.positions f.digests (λ p a has ans.
+    (range_proof_of g.D.Digest.text) c.build.ensures.own c.build.ensures.why node
+    (g.S.Storage.may_fail c.args.storage.now) c.in-Ok.fetched.positions.items c.in-Ok.fetched.digests.items f.positions f.digests (λ p a has ans.
     (let e : (n : ℕ → Option g.row.D.Denot) → IsStrictlyIncreasing c.in-Ok.fetched.positions.items → map Some c.in-Ok.fetched.digests.items ≡ map n c.in-Ok.fetched.positions.items → Contains c.in-Ok.fetched.positions.items p → a ≡ n p = search rules in e node f.rising f.digests has))

@@ -46,7 +46,8 @@ returns-in_default g c =
         rw (← index, ← c.pruned_chunks-pruned.ensures.value) c.if-chunk-pruned.false,
         refused_why
             (g.S.Storage.nodes c.args.storage.now) (g.S.Storage.node c.args.storage.now) G c.args.loc (c.args.loc + 1)
-            (g.R.Readable.retained c.args.status.now) c.in-Ok.leaves c.in-Err-new.error c.in-Ok.ensures.tree refused,
+            (g.R.Readable.retained c.args.status.now) (g.S.Storage.may_fail c.args.storage.now) c.in-Ok.leaves
+            c.in-Err-new.error c.in-Ok.ensures.tree refused,
       );
       failures = counts_none _ no_fault;
       same_size = refl;
@@ -114,7 +115,8 @@ returns-in-Err-read-clause-why g c =
     inr (
       rw (← index, ← c.pruned_chunks-pruned.ensures.value) c.if-chunk-pruned.false,
       made_why (g.S.Storage.nodes c.args.storage.now) (g.S.Storage.node c.args.storage.now) G c.args.loc
-          (c.args.loc + 1) (g.R.Readable.retained c.args.status.now) c.in-Ok.leaves c.into.result c.in-Err-read.error
+          (c.args.loc + 1) (g.R.Readable.retained c.args.status.now) (g.S.Storage.may_fail c.args.storage.now)
+          c.in-Ok.leaves c.into.result c.in-Err-read.error
           c.in-Ok.ensures.tree plan.0 (c.into.ensures.value ∙ plan.1) c.in-Err-read.ensures.why,
     )
 
