@@ -115,6 +115,15 @@ trait ByNumber: Sized {
     /// The value of `key` at the last commit.
     fn then(&self, key: &Self::Key) -> Option<&Self::Value>;
 
+    /// How many keys have a value now.
+    fn count(&self) -> usize;
+
+    /// The floor of the last commit.
+    fn last_floor(&self) -> Option<u64>;
+
+    /// The value of the last commit.
+    fn last_value(&self) -> Option<&Self::Value>;
+
     /// The canonical root of the last commit.
     fn last_root(&self) -> Option<Self::Root>;
 
@@ -189,6 +198,21 @@ where
 
     fn then(&self, key: &K) -> Option<&V::Value> {
         self.get_committed(key)
+    }
+
+    fn count(&self) -> usize {
+        self.len()
+    }
+
+    fn last_floor(&self) -> Option<u64> {
+        match self.floor() {
+            Some(floor) => Some(floor.as_u64()),
+            None => None,
+        }
+    }
+
+    fn last_value(&self) -> Option<&V::Value> {
+        self.metadata()
     }
 
     fn last_root(&self) -> Option<H::Digest> {
@@ -443,18 +467,88 @@ fn put<D: ByNumber>(rt: &impl Abort, alloc: Global, database: &mut D, key: u64, 
     see(rt, database.give(of_number(rt, alloc, key), value), true);
 }
 
-/// The root of a commit with the value 1 after the keys 5 and 9 are put and committed and 9 is deleted.
-fn commit_with_value<D: ByNumber + Drop>(rt: &impl Abort, alloc: Global) -> Option<D::Root>
+/// So many keys have a value, and the last commit has this floor and this value.
+fn tells<D: ByNumber>(
+    rt: &impl Abort,
+    alloc: Global,
+    database: &D,
+    count: usize,
+    floor: Option<u64>,
+    value: Option<u64>,
+) {
+    let value = of_option::<D::Value>(rt, alloc, value);
+    assert!(rt; database.count() == count);
+    assert!(rt; is_same(database.last_floor().as_ref(), floor.as_ref()));
+    assert!(rt; is_same(database.last_value(), value.as_ref()));
+}
+
+/// A database without operations in which the keys 5 and 9 are put and committed.
+fn two_keys<D: ByNumber + Drop>(rt: &impl Abort, alloc: Global) -> D
     requires { D.is_sized }
 {
     let mut database = D::empty(alloc);
+    tells(rt, alloc, &database, 0, None, None);
     see(rt, database.end(None), true);
+    tells(rt, alloc, &database, 0, Some(0), None);
     put(rt, alloc, &mut database, 5, 7);
     put(rt, alloc, &mut database, 9, 8);
     see(rt, database.end(None), true);
+    tells(rt, alloc, &database, 2, Some(2), None);
+    database
+}
+
+/// And then 9 is deleted, and the value 1 committed.
+fn one_key_deleted<D: ByNumber + Drop>(rt: &impl Abort, alloc: Global) -> D
+    requires { D.is_sized }
+{
+    let mut database = two_keys::<D>(rt, alloc);
     see(rt, database.take(&of_number(rt, alloc, 9)), true);
+    see(rt, database.take(&of_number(rt, alloc, 9)), false);
     see(rt, database.end(Some(of_number(rt, alloc, 1))), true);
-    database.last_root()
+    tells(rt, alloc, &database, 1, Some(6), Some(1));
+    database
+}
+
+/// The root of the commit with the value 1.
+fn root_with_value<D: ByNumber + Drop>(rt: &impl Abort, alloc: Global) -> Option<D::Root>
+    requires { D.is_sized }
+{
+    one_key_deleted::<D>(rt, alloc).last_root()
+}
+
+/// The key 5 has the value of `now`, and had that of `then` at the last commit.
+fn five_has<D: ByNumber>(
+    rt: &impl Abort,
+    alloc: Global,
+    database: &D,
+    now: Option<u64>,
+    then: Option<u64>,
+) {
+    let five = of_number::<D::Key>(rt, alloc, 5);
+    let now = of_option::<D::Value>(rt, alloc, now);
+    let then = of_option::<D::Value>(rt, alloc, then);
+    assert!(rt; is_same(database.now(&five), now.as_ref()));
+    assert!(rt; is_same(database.then(&five), then.as_ref()));
+}
+
+/// The last key, 5, is deleted: until the next commit it has the value 7 at the last one.
+fn emptied<D: ByNumber + Drop>(rt: &impl Abort, alloc: Global)
+    requires { D.is_sized }
+{
+    let mut database = one_key_deleted::<D>(rt, alloc);
+    five_has(rt, alloc, &database, Some(7), Some(7));
+    see(rt, database.take(&of_number(rt, alloc, 5)), true);
+    five_has(rt, alloc, &database, None, Some(7));
+    see(rt, database.end(None), true);
+    five_has(rt, alloc, &database, None, None);
+    tells(rt, alloc, &database, 0, Some(9), None);
+}
+
+#[test]
+fn database_emptied(rt: HostRuntime) {
+    let alloc = rt.alloc();
+    emptied::<Ordered<mmr::Family, Sha256, FixedBytes<4>, FixedEncoding<u64>, 1>>(&rt, alloc);
+    emptied::<Ordered<mmb::Family, Sha256, FixedBytes<4>, FixedEncoding<u64>, 1>>(&rt, alloc);
 }
 
 // what is expected is from an independent program
@@ -465,7 +559,7 @@ fn value_of_a_commit(rt: HostRuntime) {
         0x16, 0x8e, 0xb6, 0x9a, 0xc1, 0xaa, 0xeb, 0x9d, 0x0a, 0xdc, 0xcf, 0x70, 0x5b, 0x99, 0x26,
         0x28, 0x93,
     ];
-    let found = commit_with_value::<
+    let found = root_with_value::<
         Ordered<mmr::Family, Sha256, FixedBytes<4>, FixedEncoding<u64>, 1>,
     >(&rt, rt.alloc());
     assert!(rt; found == Some(FixedBytes { bytes: root }));

@@ -4,15 +4,15 @@ use Rattle.storage_codec.specs.Digests.{HashFunction}
 use Rattle.storage_ops.specs.Operations as operation
 use Rattle.storage_current.specs.CurrentProofs.{IsActiveCurrent}
 use Rattle.storage_current.specs.CurrentSoundness.{OwnOperationProofsAreAccepted}
-use Rattle.storage_current.specs.KeyProofs.{Exclusion, KeyValue, Commit, IsExcluded}
+use Rattle.storage_current.specs.KeyProofs.{Exclusion, KeyValue, Commit, Allows, IsExcluded, proof_in, shown_text}
 use Rattle.storage_current.specs.Keys.{Keyed, update_text, commit_text, before, in_span}
 use Rattle.storage_current.specs.Snapshots.{Grafting, IsGrafting, Snapshot, IsSnapshot, IsActive, OperationProof, canonical_root, own_operation_proof}
 use Rattle.storage_db.specs.declared.db.active.Active.{Active}
 use Rattle.storage_db.specs.Keyed.{IsKeyed}
 use Rattle.storage_db.specs.Rings.{next_key, previous}
 use Rattle.storage_db.specs.Databases.{Committed, Database, active_at, least_location}
-use Rattle.storage_db.specs.Shown.{IsAbsenceProof, absence_by}
-use Rattle.storage_db.specs.Promises.{AreAccepted}
+use Rattle.storage_db.specs.Shown.{IsValueProof, IsAbsenceProof, absence_by}
+use Rattle.storage_db.specs.Promises.{AreAccepted, IsOwnProof}
 use Rattle.storage_db.proofs.Cases.{by_bool, clash, not_true, somes}
 use Rattle.storage_db.proofs.Entries.{Sorted, hit, lookup_alike}
 use Rattle.storage_db.proofs.Neighbours.{neither, before_left, before_right, before_trans, not_itself}
@@ -169,14 +169,33 @@ module _ {K W : Type 0} (e : Keyed K W) (is : IsKeyed e) where
 
     module _ (h : HashFunction) (g : Grafting) (grafting : IsGrafting g) (whole_is : IsSnapshot s)
         (own : OwnOperationProofsAreAccepted) where
-      accepted : (location : ℕ) (text : List ℕ) (proof : OperationProof) → IsActive s location text
-          → proof ≡ own_operation_proof h g s location → IsActiveCurrent h g proof text (canonical_root h g s)
-      accepted location text proof active is_own =
-          subst (λ (x : OperationProof). IsActiveCurrent h g x text (canonical_root h g s)) (sym is_own)
-          (own h g grafting s whole_is location text active)
+      owned : (location : ℕ) (text : List ℕ) (proof : OperationProof) → IsActive s location text
+          → proof ≡ own_operation_proof h g s location → IsOwnProof h g s proof text
+      owned location text proof active is_own =
+          let place : location ≡ proof.location = sym (ap (λ (x : OperationProof). x.location) is_own) in
+          record {
+            own = is_own ∙ ap (own_operation_proof h g s) place;
+            active = subst (λ (l : ℕ). IsActive s l text) place active;
+          }
+
+      accepted : (proof : OperationProof) (text : List ℕ) → IsOwnProof h g s proof text
+          → IsActiveCurrent h g proof text (canonical_root h g s)
+      accepted proof text shown =
+          subst (λ (x : OperationProof). IsActiveCurrent h g x text (canonical_root h g s)) (sym shown.own)
+          (own h g grafting s whole_is proof.location text shown.active)
+
+      value_of : (key : K) (value : W) (next : K) (proof : OperationProof)
+          → IsValueProof e h g commit_of key value next proof → IsOwnProof h g s proof (update_text e key value next)
+      value_of key value next proof shown = owned shown.active.location (update_text e key value next) proof
+          (update_active key shown.active shown.there key value next refl shown.value_is shown.next_is) shown.own
+
+      -- the proof of an absence is the snapshot's own of an active operation, which excludes the key
+      record IsShown (key : K) (x : Exclusion (K × W × K) W) : Type 0 where
+        allowed : Allows e x key
+        is_own : IsOwnProof h g s (proof_in x) (shown_text e x)
 
       absence_of : (key : K) (x : Exclusion (K × W × K) W) → IsAbsenceProof e h g commit_of key x
-          → (o : Option (K × Active W)) → previous e.cmp d.entries key ≡ o → IsExcluded e h g x key (canonical_root h g s)
+          → (o : Option (K × Active W)) → previous e.cmp d.entries key ≡ o → IsShown key x
       absence_of key (KeyValue proof u) absence (Some p) at =
           let shown : KeyValue proof (e.key u.0, e.value u.1, e.key u.2) ≡ absence_by e h g commit_of (Some p)
           = absence.own ∙ ap (absence_by e h g commit_of) at in
@@ -189,7 +208,7 @@ module _ {K W : Type 0} (e : Keyed K W) (is : IsKeyed e) where
               spanned = span_alike p.0 u.0 (next_key e.cmp d.entries p.0) u.2 key (sym alike.key) (sym alike.next)
                   ∙ spanned d.entries placed.sorted key absence.absent p before_it;
             };
-            accepted = accepted p.1.location (update_text e u.0 u.1 u.2) proof
+            is_own = owned p.1.location (update_text e u.0 u.1 u.2) proof
                 (update_active p.0 p.1 before_it.there u.0 u.1 u.2 alike.key alike.value alike.next) alike.proof;
           }
       absence_of key (Commit proof v) absence None at =
@@ -209,7 +228,7 @@ module _ {K W : Type 0} (e : Keyed K W) (is : IsKeyed e) where
           ∙ ap (λ (l : ℕ). text (option_map e.value v) l) floor_is in
           record {
             allowed = tt;
-            accepted = accepted (length s.operations - 1) (commit_text e v proof.location) proof
+            is_own = owned (length s.operations - 1) (commit_text e v proof.location) proof
                 (subst (λ (t : List ℕ). IsActive s (length s.operations - 1) t) written
                 (commit_active e is d placed ring metadata few)) alike.0;
           }
@@ -222,9 +241,17 @@ module _ {K W : Type 0} (e : Keyed K W) (is : IsKeyed e) where
           = sym (absence.own ∙ ap (absence_by e h g commit_of) at) in
           absurd (no_kind _ _ _ _ shown)
 
+      absence : (key : K) (x : Exclusion (K × W × K) W) → IsAbsenceProof e h g commit_of key x → IsShown key x
+      absence key x shown = absence_of key x shown (previous e.cmp d.entries key) refl
+
       pub are_accepted : AreAccepted e h g commit_of
       are_accepted = record {
-        values = λ key value next proof shown. accepted shown.active.location (update_text e key value next) proof
-            (update_active key shown.active shown.there key value next refl shown.value_is shown.next_is) shown.own;
-        absences = λ key x shown. absence_of key x shown (previous e.cmp d.entries key) refl;
+        values = λ key value next proof shown. accepted proof (update_text e key value next)
+            (value_of key value next proof shown);
+        absences = λ key x shown. record {
+          allowed = (absence key x shown).allowed;
+          accepted = accepted (proof_in x) (shown_text e x) (absence key x shown).is_own;
+        };
+        own_values = value_of;
+        own_absences = λ key x shown. (absence key x shown).is_own;
       }

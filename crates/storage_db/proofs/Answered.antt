@@ -8,6 +8,7 @@ use Rattle.storage_db.specs.Databases.{Committed, Command, empty, run, no_maps, 
 use Rattle.storage_db.specs.Keyed.{IsKeyed}
 use Rattle.storage_db.specs.Promises.{IsSnapshotOf, AreTrueOf}
 use Rattle.storage_db.proofs.Cases.{by_option}
+use Rattle.storage_db.proofs.Said.{AreSaid}
 use Rattle.storage_db.proofs.Lists.{Committed_is, each_list}
 
 module _ {K W : Type 0} (e : Keyed K W) where
@@ -42,15 +43,15 @@ module _ {K W : Type 0} (e : Keyed K W) where
       ];
     }
 
-  last_true : (keyed : IsKeyed e) (h : HashFunction) (g : Grafting) (map : K → Option W) (last : Option (Committed K W))
-      → MatchOption last ((key : K) → map key ≡ None) (Committed_is e keyed map)
+  last_true : (keyed : IsKeyed e) (said : AreSaid e) (h : HashFunction) (g : Grafting) (map : K → Option W) (last : Option (Committed K W))
+      → MatchOption last ((key : K) → map key ≡ None) (Committed_is e keyed said map)
       → MatchOption last (Unit {0}) (λ (c : Committed K W). AreTrueOf e h g c.snapshot map)
-  last_true keyed h g map None kept = tt
-  last_true keyed h g map (Some last) kept = are_true last.snapshot map kept.0 h g
+  last_true keyed said h g map None kept = tt
+  last_true keyed said h g map (Some last) kept = are_true last.snapshot map kept.0 h g
 
-  pub each_true : IsKeyed e → (h : HashFunction) (g : Grafting) (commands : List (Command K W))
+  pub each_true : IsKeyed e → AreSaid e → (h : HashFunction) (g : Grafting) (commands : List (Command K W))
       → MatchOption (run e empty commands).last (Unit {0})
       (λ (c : Committed K W). AreTrueOf e h g c.snapshot (maps_after e empty no_maps commands).committed)
-  each_true keyed h g commands =
-      last_true keyed h g (maps_after e empty no_maps commands).committed (run e empty commands).last
-      (each_list e keyed commands).committed
+  each_true keyed said h g commands =
+      last_true keyed said h g (maps_after e empty no_maps commands).committed (run e empty commands).last
+      (each_list e keyed said commands).committed

@@ -11,22 +11,22 @@ use Rattle.storage_db.specs.declared.db.active.Active.{Active}
 use Rattle.storage_db.specs.declared.db.log.Log.{Log}
 use Rattle.storage_db.specs.Databases.{Committed, Database, least_location, commit}
 use Rattle.storage_db.specs.Logs.{cleared_at}
-use Rattle.storage_db.specs.Parts.{texts, database_of}
+use Rattle.storage_db.specs.Parts.{texts, database_of, kept_of}
 use Rattle.storage_db.specs.Kept.{KeptDatabase, KeptCommit, IsCopy, Keeps}
 use Rattle.storage_db.proofs.Changing.{same_database}
-use Rattle.storage_db.proofs.Keeping.{kept_of, same_kept, committed_of}
+use Rattle.storage_db.proofs.Keeping.{same_kept, committed_of}
 use Rattle.storage_db.proofs.Told.{no_more}
 
-module _ {K W : Type 0} (e : Keyed K W) (h : HashFunction) (g : Grafting) where
+module _ {K W Y : Type 0} (e : Keyed K W) (seen : W → Y) (h : HashFunction) (g : Grafting) where
   module _ (log room after : Log) (m : List (K × Active W)) (last : Option (KeptCommit K W)) (old : KeptDatabase K W)
       (is : kept_of log m last ≡ old) (operations : room.operations.items ≡ log.operations.items)
       (bits : room.bits.items ≡ log.bits.items) (metadata : Option W) (floor : ℕ) (bytes : Vec ℕ) (text : List ℕ)
       (before : Option ℕ) (c : KeptCommit K W) where
-    keeps_with_room : (d : Database K W) → Keeps e h g old d → Keeps e h g (kept_of room m last) d
+    keeps_with_room : (d : Database K W) → Keeps e seen h g old d → Keeps e seen h g (kept_of room m last) d
     keeps_with_room d keeps =
         let same : kept_of room m last ≡ old
         = same_kept log room m m last (λ l. same_database log room operations bits m l) ∙ is in
-        subst (λ (k : KeptDatabase K W). Keeps e h g k d) (sym same) keeps
+        subst (λ (k : KeptDatabase K W). Keeps e seen h g k d) (sym same) keeps
 
     abbrev snapshot_with : List ℕ → ℕ → Snapshot
     snapshot_with t f = record {
@@ -43,14 +43,14 @@ module _ {K W : Type 0} (e : Keyed K W) (h : HashFunction) (g : Grafting) where
         → after.operations.items ≡ room.operations.items ++ bytes ∷ []
         → after.bits.items ≡ cleared_at before room.bits.items ++ true ∷ []
         → c.metadata ≡ metadata → c.floor ≡ floor → c.count ≡ length room.operations.items + 1
-        → AllZip (IsCopy e) m c.entries → IsKeptWith text floor → (d : Database K W) → Keeps e h g old d
+        → AllZip (IsCopy e seen) m c.entries → IsKeptWith text floor → (d : Database K W) → Keeps e seen h g old d
         → (nat_lt (2 ^ 62) (length (commit e d metadata).operations) ≡ false)
-        × Keeps e h g (kept_of after m (Some c)) (commit e d metadata)
+        × Keeps e seen h g (kept_of after m (Some c)) (commit e d metadata)
     committed_with floor_is written text_is before_is appended set metadata_is kept_floor count copies kept d keeps =
         let least : ℕ = least_location m (length room.operations.items) in
         let whole : IsKeptWith bytes.items least
         = subst (λ (t : List ℕ). IsKeptWith t least) text_is (subst (λ (f : ℕ). IsKeptWith text f) floor_is kept) in
-        committed_of e h g room after m last d (keeps_with_room d keeps) metadata c
+        committed_of e seen h g room after m last d (keeps_with_room d keeps) metadata c
         bytes before (written ∙ ap (commit_text e metadata) floor_is) before_is appended set metadata_is
         (kept_floor ∙ floor_is) count copies whole.0 whole.1 (no_more after)
 

@@ -9,7 +9,7 @@ use Rattle.storage_ops.specs.Operations as operation
 use Rattle.storage_current.specs.Keys.{Keyed, update_text, commit_text, Adjoin, HasKey, IsWellFormed}
 use Rattle.storage_current.specs.Snapshots.{Snapshot, IsSnapshot, IsActive}
 use Rattle.storage_db.specs.declared.db.active.Active.{Active}
-use Rattle.storage_db.specs.Databases.{Committed, Database, without_commit, least_location, active_at, value_at, commit}
+use Rattle.storage_db.specs.Databases.{Committed, Database, without_commit, least_location, active_at, value_at}
 use Rattle.storage_db.specs.Promises.{IsSnapshotOf}
 use Rattle.storage_db.proofs.Cases.{by_bool, by_option, somes, some_not_none}
 use Rattle.storage_db.specs.Keyed.{IsKeyed}
@@ -17,6 +17,7 @@ use Rattle.storage_db.proofs.Entries.{found, past, lookup_alike}
 use Rattle.storage_db.proofs.Neighbours.{fewer}
 use Rattle.storage_db.proofs.Nexts.{Has}
 use Rattle.storage_db.proofs.Appends.{IsNot, IsCleared, none_cleared, one_cleared, IsAppended, appended}
+use Rattle.storage_db.proofs.Said.{commit_said}
 use Rattle.storage_db.proofs.Placing.{here, commit_place, IsCommitAt, Named, IsCommit, Placed, one_operation}
 
 lower : (a b c : ℕ) → a ≤ min b c → a ≤ b
@@ -226,7 +227,7 @@ module _ {K W : Type 0} (e : Keyed K W) (is : IsKeyed e) where
     -- ---- the database after it
 
     abbrev done_ : Database K W
-    done_ = commit e d metadata
+    done_ = commit_said e d metadata
 
     made_here : IsAppended (here d) (here done_) text true (commit_place d.last)
     made_here = made_with 0

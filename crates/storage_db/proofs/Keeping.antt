@@ -14,19 +14,11 @@ use Rattle.storage_db.specs.declared.db.error.Error.{Error}
 use Rattle.storage_db.specs.declared.db.log.Log.{Log}
 use Rattle.storage_db.specs.Databases.{Committed, Database, without_commit, least_location, commit}
 use Rattle.storage_db.specs.Logs.{IsTooMany, cleared_at}
-use Rattle.storage_db.specs.Parts.{texts, database_of}
+use Rattle.storage_db.specs.Parts.{texts, database_of, kept_of}
 use Rattle.storage_db.specs.Kept.{KeptDatabase, KeptCommit, IsCopy, Keeps, KeepsCommit}
 use Rattle.storage_db.proofs.Changing.{same_parts, texts_more, count_of_texts}
 
 module _ {K W : Type 0} where
-  abbrev pub kept_of : Log → List (K × Active W) → Option (KeptCommit K W) → KeptDatabase K W
-  kept_of log entries last = record {
-    operations = texts log;
-    bits = log.bits.items;
-    entries = entries;
-    last = last;
-  }
-
   -- a log and active keys that are as they were
   pub same_kept : (log after : Log) (m n : List (K × Active W)) (last : Option (KeptCommit K W))
       → ((l : Option (Committed K W)) → database_of after n l ≡ database_of log m l)
@@ -39,26 +31,26 @@ module _ {K W : Type 0} where
         last = last;
       }) (same None)
 
-module _ {K W : Type 0} (e : Keyed K W) (h : HashFunction) (g : Grafting) where
+module _ {K W Y : Type 0} (e : Keyed K W) (seen : W → Y) (h : HashFunction) (g : Grafting) where
   -- the database itself is what is kept and its last commit
   same_database_of : (log : Log) (m : List (K × Active W)) (last : Option (KeptCommit K W)) (d : Database K W)
-      → Keeps e h g (kept_of log m last) d → database_of log m d.last ≡ d
+      → Keeps e seen h g (kept_of log m last) d → database_of log m d.last ≡ d
   same_database_of log m last d keeps = same_parts _ _ _ _ _ _ d.last keeps.operations keeps.bits keeps.entries
 
   -- a command that only changes the log and the active keys
   module _ (step : Database K W → Database K W) (log after : Log) (m n : List (K × Active W)) (last : Option (KeptCommit K W))
-      (d : Database K W) (keeps : Keeps e h g (kept_of log m last) d) where
+      (d : Database K W) (keeps : Keeps e seen h g (kept_of log m last) d) where
     pub done_of : ((l : Option (Committed K W)) → database_of after n l ≡ step (database_of log m l))
         → length after.operations.items ≤ 2 ^ 62
-        → (nat_lt (2 ^ 62) (length (step d).operations) ≡ false) × Keeps e h g (kept_of after n last) (step d)
+        → (nat_lt (2 ^ 62) (length (step d).operations) ≡ false) × Keeps e seen h g (kept_of after n last) (step d)
     done_of steps few =
         let whole : database_of after n d.last ≡ step d = steps d.last ∙ ap step (same_database_of log m last d keeps) in
         let count : length after.operations.items ≡ length (step d).operations
         = sym (length-map _ _) ∙ ap (λ (x : Database K W). length x.operations) whole in
-        let now : Keeps e h g (kept_of after n last) (database_of after n d.last)
+        let now : Keeps e seen h g (kept_of after n last) (database_of after n d.last)
         = record { operations = refl; bits = refl; entries = refl; last = keeps.last } in (
           le-ltb _ _ (subst (λ (x : ℕ). x ≤ 2 ^ 62) count few),
-          subst (λ (x : Database K W). Keeps e h g (kept_of after n last) x) whole now,
+          subst (λ (x : Database K W). Keeps e seen h g (kept_of after n last) x) whole now,
         )
 
     pub refused_of : {F : Type 0} (error : Error F)
@@ -74,18 +66,18 @@ module _ {K W : Type 0} (e : Keyed K W) (h : HashFunction) (g : Grafting) where
   -- the same of what a call answers
   module _ (step : Database K W → Database K W) (log after : Log) (m n : List (K × Active W)) (last : Option (KeptCommit K W))
       (old : KeptDatabase K W) (is : kept_of log m last ≡ old) where
-    keeps_inside : (d : Database K W) → Keeps e h g old d → Keeps e h g (kept_of log m last) d
-    keeps_inside d keeps = subst (λ (k : KeptDatabase K W). Keeps e h g k d) (sym is) keeps
+    keeps_inside : (d : Database K W) → Keeps e seen h g old d → Keeps e seen h g (kept_of log m last) d
+    keeps_inside d keeps = subst (λ (k : KeptDatabase K W). Keeps e seen h g k d) (sym is) keeps
 
     pub done_from : ((l : Option (Committed K W)) → database_of after n l ≡ step (database_of log m l))
-        → length after.operations.items ≤ 2 ^ 62 → (d : Database K W) → Keeps e h g old d
-        → (nat_lt (2 ^ 62) (length (step d).operations) ≡ false) × Keeps e h g (kept_of after n last) (step d)
+        → length after.operations.items ≤ 2 ^ 62 → (d : Database K W) → Keeps e seen h g old d
+        → (nat_lt (2 ^ 62) (length (step d).operations) ≡ false) × Keeps e seen h g (kept_of after n last) (step d)
     done_from steps few d keeps = done_of step log after m n last d (keeps_inside d keeps) steps few
 
     pub refused_from : {F : Type 0} (error : Error F)
         → ((l : Option (Committed K W)) → IsTooMany (length log.operations.items) (length (step (database_of log m l)).operations)
         error)
-        → (d : Database K W) → Keeps e h g old d
+        → (d : Database K W) → Keeps e seen h g old d
         → IsTooMany (length d.operations) (length (step d).operations) error
     refused_from error too_many d keeps = refused_of step log after m n last d (keeps_inside d keeps) error too_many
 
@@ -96,15 +88,15 @@ module _ {K W : Type 0} (e : Keyed K W) (h : HashFunction) (g : Grafting) where
     pub done_ok : {T E : Type 0} (r : Result T E)
         → OnOk r ((l : Option (Committed K W)) → database_of after n l ≡ step (database_of log m l))
         → length after.operations.items ≤ 2 ^ 62
-        → OnOk r ((d : Database K W) → Keeps e h g old d
-        → (nat_lt (2 ^ 62) (length (step d).operations) ≡ false) × Keeps e h g (kept_of after n last) (step d))
+        → OnOk r ((d : Database K W) → Keeps e seen h g old d
+        → (nat_lt (2 ^ 62) (length (step d).operations) ≡ false) × Keeps e seen h g (kept_of after n last) (step d))
     done_ok (Ok x) steps few = done_from steps few
     done_ok (Err y) steps few = tt
 
     pub refused_err : {T F : Type 0} (r : Result T (Error F))
         → IfErr r (λ error. (l : Option (Committed K W))
         → IsTooMany (length log.operations.items) (length (step (database_of log m l)).operations) error)
-        → IfErr r (λ error. (d : Database K W) → Keeps e h g old d
+        → IfErr r (λ error. (d : Database K W) → Keeps e seen h g old d
         → IsTooMany (length d.operations) (length (step d).operations) error)
     refused_err (Ok x) why = tt
     refused_err (Err y) why = refused_from y why
@@ -117,7 +109,7 @@ module _ {K W : Type 0} (e : Keyed K W) (h : HashFunction) (g : Grafting) where
 
   -- the bit of the commit before is cleared
   cleared_is : (o : Option (Committed K W)) (l : Option (KeptCommit K W))
-      → MatchOption o (l ≡ None) (λ commit. IsSomeAnd l (λ c. KeepsCommit e h g c commit)) → (bits : List Bool)
+      → MatchOption o (l ≡ None) (λ commit. IsSomeAnd l (λ c. KeepsCommit e seen h g c commit)) → (bits : List Bool)
       → cleared_at (option_map (λ (c : KeptCommit K W). c.count - 1) l) bits ≡ without_commit o bits
   cleared_is None l keeps bits =
       ap (λ (x : Option (KeptCommit K W)). cleared_at (option_map (λ (c : KeptCommit K W). c.count - 1) x) bits) keeps
@@ -126,7 +118,7 @@ module _ {K W : Type 0} (e : Keyed K W) (h : HashFunction) (g : Grafting) where
 
   -- a commit of these operations and active keys
   module _ (log after : Log) (m : List (K × Active W)) (last : Option (KeptCommit K W)) (d : Database K W)
-      (keeps : Keeps e h g (kept_of log m last) d) (metadata : Option W) (c : KeptCommit K W) (bytes : Vec ℕ)
+      (keeps : Keeps e seen h g (kept_of log m last) d) (metadata : Option W) (c : KeptCommit K W) (bytes : Vec ℕ)
       (before : Option ℕ) where
     abbrev floor_of : ℕ
     floor_of = least_location m (length log.operations.items)
@@ -143,10 +135,10 @@ module _ {K W : Type 0} (e : Keyed K W) (h : HashFunction) (g : Grafting) where
         → after.operations.items ≡ log.operations.items ++ bytes ∷ []
         → after.bits.items ≡ cleared_at before log.bits.items ++ true ∷ []
         → c.metadata ≡ metadata → c.floor ≡ floor_of → c.count ≡ length log.operations.items + 1
-        → AllZip (IsCopy e) m c.entries → IsSnapshot snapshot_of → StandsForSnapshot h g c.snapshot snapshot_of
+        → AllZip (IsCopy e seen) m c.entries → IsSnapshot snapshot_of → StandsForSnapshot h g c.snapshot snapshot_of
         → length after.operations.items ≤ 2 ^ 62
         → (nat_lt (2 ^ 62) (length (commit e d metadata).operations) ≡ false)
-        × Keeps e h g (kept_of after m (Some c)) (commit e d metadata)
+        × Keeps e seen h g (kept_of after m (Some c)) (commit e d metadata)
     committed_of written before_is operations bits metadata_is floor_is count_is copies whole stands few =
         let d0 : Database K W = database_of log m d.last in
         let same : d0 ≡ d = same_database_of log m last d keeps in
@@ -170,7 +162,7 @@ module _ {K W : Type 0} (e : Keyed K W) (h : HashFunction) (g : Grafting) where
         ∙ sym (length-append (texts log) (commit_text e metadata floor ∷ [])) in
         let count : length after.operations.items ≡ length (commit e d0 metadata).operations
         = count_of_texts after ∙ ap (λ (l : List (List ℕ)). length l) (texts_more log after bytes operations ∙ all) in
-        let now : Keeps e h g (kept_of after m (Some c)) (commit e d0 metadata)
+        let now : Keeps e seen h g (kept_of after m (Some c)) (commit e d0 metadata)
         = record {
           operations = texts_more log after bytes operations ∙ all;
           bits = bits ∙ cleared;
@@ -185,7 +177,7 @@ module _ {K W : Type 0} (e : Keyed K W) (h : HashFunction) (g : Grafting) where
           };
         } in
         let P : Database K W → Type 0 = λ x. (nat_lt (2 ^ 62) (length (commit e x metadata).operations) ≡ false)
-        × Keeps e h g (kept_of after m (Some c)) (commit e x metadata) in
+        × Keeps e seen h g (kept_of after m (Some c)) (commit e x metadata) in
         subst P same (le-ltb _ _ (subst (λ (x : ℕ). x ≤ 2 ^ 62) count few), now)
 
 -- what holds in any case holds after a refusal

@@ -8,6 +8,7 @@ pub mod Nexts
 pub mod Changing
 pub mod Keeping
 pub mod Told
+pub mod Made
 pub mod Commits
 pub mod Following
 pub mod Copies
@@ -16,6 +17,7 @@ pub mod Planned
 pub mod Shown
 pub mod Appends
 pub mod Placing
+pub mod Said
 pub mod Committing
 pub mod Steps
 pub mod Accepted

@@ -6,16 +6,17 @@ use Rattle.storage_codec.specs.Digests.{HashFunction}
 use Rattle.storage_current.specs.CurrentSoundness.{OwnOperationProofsAreAccepted}
 use Rattle.storage_current.specs.Keys.{Keyed, commit_text}
 use Rattle.storage_current.specs.Snapshots.{Grafting, IsGrafting}
-use Rattle.storage_db.specs.Databases.{Committed, Database, empty, Command, Put, Delete, Commit, least_location, value_at, put, delete, commit, done, is_full, run, Maps, no_maps, changed, maps_after}
+use Rattle.storage_db.specs.Databases.{Committed, Database, empty, Command, Put, Delete, Commit, least_location, value_at, delete, commit, done, is_full, run, Maps, no_maps, changed, maps_after}
 use Rattle.storage_db.specs.Promises.{IsSnapshotOf, AreAccepted}
 use Rattle.storage_db.proofs.Cases.{by_bool, clash, some_not_none}
 use Rattle.storage_db.specs.Keyed.{IsKeyed}
 use Rattle.storage_db.proofs.Placing.{Placed}
 use Rattle.storage_db.proofs.Committing.{Ring, is_snapshot_of, commit_placed, commit_ring}
+use Rattle.storage_db.proofs.Said.{AreSaid, put_said}
 use Rattle.storage_db.proofs.Accepted.{are_accepted}
 use Rattle.storage_db.proofs.Steps.{put_placed, put_ring, put_last, put_value, delete_placed, delete_ring, delete_last, delete_value}
 
-module _ {K W : Type 0} (e : Keyed K W) (is : IsKeyed e) where
+module _ {K W : Type 0} (e : Keyed K W) (is : IsKeyed e) (said : AreSaid e) where
   -- each active key has its update, and these form a ring
   pub record Kept (d : Database K W) : Type 0 where
     pub placed : Placed e is d
@@ -62,35 +63,37 @@ module _ {K W : Type 0} (e : Keyed K W) (is : IsKeyed e) where
 
   done_kept : (d : Database K W) → Kept d → (command : Command K W) → length (done e d command).operations ≤ 2 ^ 62
       → Kept (done e d command)
-  done_kept d kept (Put k v) few = record {
+  done_kept d kept (Put k v) few = subst Kept (sym (said.put_is d k v)) (record {
     placed = put_placed e is d kept.placed kept.ring k v;
     ring = put_ring e is d kept.placed kept.ring k v;
-  }
+  })
   done_kept d kept (Delete k) few = record {
     placed = delete_placed e is d kept.placed kept.ring k;
     ring = delete_ring e is d kept.placed kept.ring k;
   }
   done_kept d kept (Commit metadata) few =
       let more : length d.operations + 1 ≤ 2 ^ 62 = one_more d metadata few in
-      record {
+      subst Kept (sym (said.commit_is d metadata)) (record {
         placed = commit_placed e is d kept.placed kept.ring metadata more;
         ring = commit_ring e is d kept.placed kept.ring metadata more;
-      }
+      })
 
   done_agrees : (d : Database K W) → Kept d → (m : Maps K W) → Agrees d m → (command : Command K W)
       → length (done e d command).operations ≤ 2 ^ 62 → Agrees (done e d command) (changed e m command)
-  done_agrees d kept m agrees (Put k v) few = record {
-    now = λ q. put_value e is d kept.placed kept.ring k v q ∙ set_same (is_eq (e.cmp k q)) (Some v) _ _ (agrees.now q);
-    committed = stays d (put e d k v) (put_last e is d kept.placed kept.ring k v) m.committed agrees.committed;
-  }
+  done_agrees d kept m agrees (Put k v) few =
+      subst (λ (c : Database K W). Agrees c (changed e m (Put k v))) (sym (said.put_is d k v)) (record {
+        now = λ q. put_value e is d kept.placed kept.ring k v q ∙ set_same (is_eq (e.cmp k q)) (Some v) _ _ (agrees.now q);
+        committed = stays d (put_said e d k v) (put_last e is d kept.placed kept.ring k v) m.committed agrees.committed;
+      })
   done_agrees d kept m agrees (Delete k) few = record {
     now = λ q. delete_value e is d kept.placed kept.ring k q ∙ set_same (is_eq (e.cmp k q)) None _ _ (agrees.now q);
     committed = stays d (delete e d k) (delete_last e is d kept.placed kept.ring k) m.committed agrees.committed;
   }
-  done_agrees d kept m agrees (Commit metadata) few = record {
-    now = agrees.now;
-    committed = (is_snapshot_of e is d kept.placed kept.ring metadata (one_more d metadata few) m.now agrees.now, agrees.now);
-  }
+  done_agrees d kept m agrees (Commit metadata) few =
+      subst (λ (c : Database K W). Agrees c (changed e m (Commit metadata))) (sym (said.commit_is d metadata)) (record {
+        now = agrees.now;
+        committed = (is_snapshot_of e is d kept.placed kept.ring metadata (one_more d metadata few) m.now agrees.now, agrees.now);
+      })
 
   all_kept : (commands : List (Command K W)) (d : Database K W) (m : Maps K W) → Kept d → Agrees d m
       → Agrees (run e d commands) (maps_after e d m commands)
@@ -121,13 +124,14 @@ module _ {K W : Type 0} (e : Keyed K W) (is : IsKeyed e) where
     done_accepts : (d : Database K W) → Kept d → Accepts d → (command : Command K W)
         → length (done e d command).operations ≤ 2 ^ 62 → Accepts (done e d command)
     done_accepts d kept accepts (Put k v) few =
-        accepts_stays d (put e d k v) (put_last e is d kept.placed kept.ring k v) accepts
+        subst Accepts (sym (said.put_is d k v))
+        (accepts_stays d (put_said e d k v) (put_last e is d kept.placed kept.ring k v) accepts)
     done_accepts d kept accepts (Delete k) few =
         accepts_stays d (delete e d k) (delete_last e is d kept.placed kept.ring k) accepts
     done_accepts d kept accepts (Commit metadata) few =
         let more : length d.operations + 1 ≤ 2 ^ 62 = one_more d metadata few in
-        are_accepted e is d kept.placed kept.ring metadata more h g grafting
-        (is_snapshot_of e is d kept.placed kept.ring metadata more (λ key. value_at e d.entries key) (λ key. refl)).snapshot own
+        subst Accepts (sym (said.commit_is d metadata)) (are_accepted e is d kept.placed kept.ring metadata more h g grafting
+        (is_snapshot_of e is d kept.placed kept.ring metadata more (λ key. value_at e d.entries key) (λ key. refl)).snapshot own)
 
     all_accepts : (commands : List (Command K W)) (d : Database K W) → Kept d → Accepts d → Accepts (run e d commands)
     all_accepts [] d kept accepts = accepts

@@ -3,7 +3,7 @@ use Rattle.std.proofs.Common.{◌≡◌, ◌⊎◌, Bool, true, false, cond, Lis
 use Rattle.storage_current.specs.Keys.{Keyed, Adjoin}
 use Rattle.storage_db.specs.declared.db.active.Active.{Active}
 use Rattle.storage_db.specs.Rings.{next_key, previous}
-use Rattle.storage_db.specs.Databases.{Database, active_at, value_at, updated, relinked, removed, put, delete}
+use Rattle.storage_db.specs.Databases.{Database, active_at, value_at, updated, relinked, removed, delete}
 use Rattle.storage_db.proofs.Cases.{by_bool, by_option, clash, cond_yes, cond_no, equal_of}
 use Rattle.storage_db.specs.Keyed.{IsKeyed}
 use Rattle.storage_db.proofs.Entries.{lookup_alike, lookup-insert, lookup-remove}
@@ -11,6 +11,7 @@ use Rattle.storage_db.proofs.Neighbours.{fewer, adjoin_alike, first_half, second
 use Rattle.storage_db.proofs.Nexts.{Has, has_alike, Other, next_is, IsPrevious, previous_some, previous_none}
 use Rattle.storage_db.proofs.Placing.{Placed, updated_other, updated_has, has_updated, named_updated, updated_placed, removed_other, has_removed, removed_has, named_removed, removed_placed}
 use Rattle.storage_db.proofs.Committing.{Ring}
+use Rattle.storage_db.proofs.Said.{put_said}
 
 map_cond : {A B : Type 0} (f : A → B) (b : Bool) (o p : Option A)
     → option_map f (cond b o p) ≡ cond b (option_map f o) (option_map f p)
@@ -158,7 +159,7 @@ module _ {K W : Type 0} (e : Keyed K W) (is : IsKeyed e) where
       by_put : (P : Database K W → Type 0) → (Has e is d.entries k → P after)
           → ((Has e is d.entries k → ⊥) → ((x : K) → Other e is d.entries k x → ⊥) → P after)
           → ((Has e is d.entries k → ⊥) → (p : K × Active W) → IsPrevious e is d.entries placed.sorted k p
-          → P (updated e after p.0 p.1.value k)) → P (put e d k v)
+          → P (updated e after p.0 p.1.value k)) → P (put_said e d k v)
       by_put P active first more =
           let linked : Database K W = relinked e after (previous e.cmp d.entries k) k in
           let Q : Bool → Type 0 = λ b. P (cond b after linked) in
@@ -173,17 +174,17 @@ module _ {K W : Type 0} (e : Keyed K W) (is : IsKeyed e) where
           (λ p at. subst (λ (o : Option (K × Active W)). P (relinked e after o k)) (sym at)
           (more none p (previous_some e is d.entries placed.sorted k p at)))))
 
-      pub put_placed : Placed e is (put e d k v)
+      pub put_placed : Placed e is (put_said e d k v)
       put_placed = by_put (λ c. Placed e is c) (λ has. after_placed) (λ none alone. after_placed)
           (λ none p last. updated_placed e is after after_placed p.0 p.1.value k)
 
-      pub put_ring : Ring e is (put e d k v)
+      pub put_ring : Ring e is (put_said e d k v)
       put_ring = by_put (λ c. Ring e is c) ring_active (λ none alone. ring_first alone) ring_both
 
-      pub put_last : (put e d k v).last ≡ d.last
+      pub put_last : (put_said e d k v).last ≡ d.last
       put_last = by_put (λ c. c.last ≡ d.last) (λ has. refl) (λ none alone. refl) (λ none p last. refl)
 
-      pub put_value : (q : K) → value_at e (put e d k v).entries q
+      pub put_value : (q : K) → value_at e (put_said e d k v).entries q
           ≡ cond (is_eq (e.cmp k q)) (Some v) (value_at e d.entries q)
       put_value q = by_put
           (λ c. value_at e c.entries q ≡ cond (is_eq (e.cmp k q)) (Some v) (value_at e d.entries q))

@@ -8,7 +8,7 @@ use Rattle.storage_current.specs.Snapshots.{Grafting, IsSnapshot}
 use Rattle.storage_db.specs.declared.db.active.Active.{Active}
 use Rattle.storage_db.specs.declared.db.error.Error.{Error}
 use Rattle.storage_db.specs.declared.db.error.Error.TheVariants.{Full, Memory}
-use Rattle.storage_db.specs.Databases.{Committed, Database, Command, done, is_full}
+use Rattle.storage_db.specs.Databases.{Committed, Database, Command, empty, done, is_full, run}
 
 -- what is kept of the last commit: its value and its floor, how many operations there are up to it, copies of the active keys
 -- as they were, and the snapshot
@@ -26,11 +26,12 @@ pub record KeptDatabase (K W : Type 0) : Type 0 where
   pub entries : List (K × Active W)
   pub last : Option (KeptCommit K W)
 
-module _ {K W : Type 0} (e : Keyed K W) where
-  -- the second is written as the first, and is at the same location
+module _ {K W Y : Type 0} (e : Keyed K W) (seen : W → Y) where
+  -- the second is written as the first and at the same location, and what is seen of its value is the same
   pub record IsCopy (entry copy : K × Active W) : Type 0 where
     pub key : e.key copy.0 ≡ e.key entry.0
     pub value : e.value copy.1.value ≡ e.value entry.1.value
+    pub seen_value : seen copy.1.value ≡ seen entry.1.value
     pub location : copy.1.location ≡ entry.1.location
 
   module _ (h : HashFunction) (g : Grafting) where
@@ -49,6 +50,10 @@ module _ {K W : Type 0} (e : Keyed K W) where
       pub bits : kept.bits ≡ d.bits
       pub entries : kept.entries ≡ d.entries
       pub last : MatchOption d.last (kept.last ≡ None) (λ commit. IsSomeAnd kept.last (λ c. KeepsCommit c commit))
+
+    -- Some list of commands, given to the empty database, leaves it.
+    abbrev pub IsMade : KeptDatabase K W → Type 0
+    IsMade kept = (commands : List (Command K W)) × Keeps kept (run e empty commands)
 
     -- The command is not one too many, and leaves what it gives.
     abbrev pub IsDone : KeptDatabase K W → KeptDatabase K W → Command K W → Type 0

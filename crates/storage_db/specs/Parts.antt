@@ -4,6 +4,7 @@ use Rattle.std.specs.Map.{lookup, set_value}
 use Rattle.storage_db.specs.declared.db.active.Active.{Active}
 use Rattle.storage_db.specs.declared.db.log.Log.{Log}
 use Rattle.storage_db.specs.Databases.{Committed, Database}
+use Rattle.storage_db.specs.Kept.{KeptCommit, KeptDatabase}
 
 -- what the operations of a log are written as
 abbrev pub texts : Log → List (List ℕ)
@@ -12,6 +13,15 @@ texts log = map (λ v. v.items) log.operations.items
 -- the database of a log and active keys, with this last commit
 abbrev pub database_of : {K W : Type 0} → Log → List (K × Active W) → Option (Committed K W) → Database K W
 database_of log entries last = record {
+  operations = texts log;
+  bits = log.bits.items;
+  entries = entries;
+  last = last;
+}
+
+-- what a database in memory keeps, of its log, its active keys and its last commit
+abbrev pub kept_of : {K W : Type 0} → Log → List (K × Active W) → Option (KeptCommit K W) → KeptDatabase K W
+kept_of log entries last = record {
   operations = texts log;
   bits = log.bits.items;
   entries = entries;

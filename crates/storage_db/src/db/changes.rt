@@ -156,7 +156,7 @@ pub(crate) fn put_commit<
     ensures ok { let e = keyed_by K.text V.Value.text V.operation_text K.cmp in
         IfOk result (λ c. (last : Option (KeptCommit K V.Value))
         → before ≡ option_map (λ k. k.count - 1) last
-        → IsDone e H.hash_of (grafting_of F.shape N) (record {
+        → IsDone e V.Value.view H.hash_of (grafting_of F.shape N) (record {
           operations = texts log.old;
           bits = log.old.bits.items;
           entries = active.now.entries;

@@ -88,7 +88,7 @@ impl<F: Graftable, H: Hasher, K: Key, V: OperationCodec<F, Update<K, V>>, const 
         ensures floor { IfOk result (λ c. c.floor ≡ floor) }
         ensures count { IfOk result (λ c. c.count ≡ length log.now.operations.items + 1) }
         ensures entries { let e = keyed_by K.text V.Value.text V.operation_text K.cmp in
-            IfOk result (λ c. AllZip (IsCopy e) active.now.entries c.entries) }
+            IfOk result (λ c. AllZip (IsCopy e V.Value.view) active.now.entries c.entries) }
         ensures snapshot { let s : SnapshotOf = record {
           operations = texts log.now ++ bytes.now ∷ [];
           bits = cleared_at before log.now.bits.items ++ true ∷ [];
@@ -119,6 +119,20 @@ impl<F: Graftable, H: Hasher, K: Key, V: OperationCodec<F, Update<K, V>>, const 
         self.length - 1
     }
 
+    /// The floor of the commit.
+    pub(crate) fn floor(&self) -> Location<F>
+        ensures { result ≡ self.now.floor }
+    {
+        self.floor
+    }
+
+    /// The value of the commit; none where it has none.
+    pub(crate) fn metadata(&self) -> Option<&V::Value>
+        ensures { option_map (λ v. v.now) result ≡ self.now.metadata }
+    {
+        self.metadata.as_ref()
+    }
+
     /// The snapshot of the operations up to the commit.
     pub(crate) fn snapshot(&self) -> &Snapshot<F, H, N>
         ensures { result.now ≡ self.now.snapshot }
@@ -146,7 +160,7 @@ impl<F: Graftable, H: Hasher, K: Key, V: OperationCodec<F, Update<K, V>>, const 
         ensures { let e = keyed_by K.text V.Value.text V.operation_text K.cmp in
             let g = grafting_of F.shape N in
             IfOk result (λ proof. (commit : Committed K V.Value)
-            → KeepsCommit e H.hash_of g self.now commit
+            → KeepsCommit e V.Value.view H.hash_of g self.now commit
             → operation_proof_of H.Digest.text (λ c. c) proof
             ≡ own_operation_proof H.hash_of g commit.snapshot location) }
     {
@@ -164,12 +178,16 @@ impl<F: Graftable, H: Hasher, K: Key, V: OperationCodec<F, Update<K, V>>, const 
         ensures own { let e = keyed_by K.text V.Value.text V.operation_text K.cmp in
             let g = grafting_of F.shape N in
             IfOk result (λ r. (commit : Committed K V.Value)
-            → KeepsCommit e H.hash_of g self.now commit
+            → KeepsCommit e V.Value.view H.hash_of g self.now commit
             → IsValueProof e H.hash_of g commit key.now r.0 r.1.next_key
             (operation_proof_of H.Digest.text (λ c. c) r.1.proof)) }
+        ensures value { let e = keyed_by K.text V.Value.text V.operation_text K.cmp in
+            IfOk result (λ r. (commit : Committed K V.Value)
+            → KeepsCommit e V.Value.view H.hash_of (grafting_of F.shape N) self.now commit
+            → option_map V.Value.view (value_at e commit.entries key.now) ≡ Some (V.Value.view r.0)) }
         ensures why { let e = keyed_by K.text V.Value.text V.operation_text K.cmp in
             IfErr result (λ error. (commit : Committed K V.Value)
-            → KeepsCommit e H.hash_of (grafting_of F.shape N) self.now commit
+            → KeepsCommit e V.Value.view H.hash_of (grafting_of F.shape N) self.now commit
             → MatchOption (active_at e commit.entries key.now) (error ≡ Error.Absent)
             (λ _. error ≡ Error.Memory)) }
     {
@@ -192,12 +210,12 @@ impl<F: Graftable, H: Hasher, K: Key, V: OperationCodec<F, Update<K, V>>, const 
         ensures own { let e = keyed_by K.text V.Value.text V.operation_text K.cmp in
             let g = grafting_of F.shape N in
             IfOk result (λ x. (commit : Committed K V.Value)
-            → KeepsCommit e H.hash_of g self.now commit
+            → KeepsCommit e V.Value.view H.hash_of g self.now commit
             → IsAbsenceProof e H.hash_of g commit key.now
             (exclusion_of H.Digest.text (λ c. c) x)) }
         ensures why { let e = keyed_by K.text V.Value.text V.operation_text K.cmp in
             IfErr result (λ error. (commit : Committed K V.Value)
-            → KeepsCommit e H.hash_of (grafting_of F.shape N) self.now commit
+            → KeepsCommit e V.Value.view H.hash_of (grafting_of F.shape N) self.now commit
             → MatchOption (active_at e commit.entries key.now) (error ≡ Error.Memory)
             (λ _. error ≡ Error.Present)) }
     {
@@ -222,8 +240,8 @@ impl<F: Graftable, H: Hasher, K: Key, V: OperationCodec<F, Update<K, V>>, const 
         ensures { let e = keyed_by K.text V.Value.text V.operation_text K.cmp in
             let g = grafting_of F.shape N in
             IfOk result (λ x. (commit : Committed K V.Value)
-            → KeepsCommit e H.hash_of g self.now commit
-            → (c : K × Active V.Value) → IsCopy e c (start.now, entry.now)
+            → KeepsCommit e V.Value.view H.hash_of g self.now commit
+            → (c : K × Active V.Value) → IsCopy e V.Value.view c (start.now, entry.now)
             → exclusion_seen e.key e.value (exclusion_of H.Digest.text (λ b. b) x)
             ≡ absence_by e H.hash_of g commit (Some c)) }
     {
@@ -245,7 +263,7 @@ impl<F: Graftable, H: Hasher, K: Key, V: OperationCodec<F, Update<K, V>>, const 
         ensures { let e = keyed_by K.text V.Value.text V.operation_text K.cmp in
             let g = grafting_of F.shape N in
             IfOk result (λ x. (commit : Committed K V.Value)
-            → KeepsCommit e H.hash_of g self.now commit
+            → KeepsCommit e V.Value.view H.hash_of g self.now commit
             → exclusion_seen e.key e.value (exclusion_of H.Digest.text (λ b. b) x)
             ≡ absence_by e H.hash_of g commit None) }
     {

@@ -1,6 +1,6 @@
 //! The ordered database.
 
-ghost use Rattle.std.specs.Prelude.{◌≡◌, ◌-◌, Option, None, option_map, option_and_then, is_some, IfOk, IfErr, IsSomeAnd, MatchOption, OnOk, OnErr};
+ghost use Rattle.std.specs.Prelude.{◌≡◌, ◌-◌, Option, None, Some, true, length, option_map, option_and_then, is_some, IfOk, IfErr, IsSomeAnd, MatchOption, OnOk, OnErr};
 ghost use Rattle.storage_bitmap.specs.Chunks.{IsChunkSize};
 ghost use Rattle.storage_current.specs.Held.{operation_proof_of};
 ghost use Rattle.storage_current.specs.HeldKeys.{exclusion_of};
@@ -8,7 +8,7 @@ ghost use Rattle.storage_current.specs.Keys.{keyed_by};
 ghost use Rattle.storage_current.specs.KeptSnapshots.{StandsForSnapshot};
 ghost use Rattle.storage_current.specs.Snapshots.{canonical_root, grafting_of};
 ghost use Rattle.storage_db.specs.Databases.{Committed, Database, Put, Delete, Commit as Committing, active_at, empty, value_at};
-ghost use Rattle.storage_db.specs.Kept.{IsDone, IsCommandRefused, Keeps};
+ghost use Rattle.storage_db.specs.Kept.{IsDone, IsCommandRefused, IsMade, Keeps};
 ghost use Rattle.storage_db.specs.Shown.{IsAbsenceProof, IsValueProof};
 
 use crate::db::Error;
@@ -23,10 +23,9 @@ use std::marker::Model;
 use storage_codec::digest::Hasher;
 use storage_current::qmdb::current::Snapshot;
 use storage_current::qmdb::current::ordered::constant::{ExclusionProof, KeyValueProof};
-use storage_merkle::merkle::Graftable;
+use storage_merkle::merkle::{Graftable, Location};
 use storage_ops::qmdb::any::operation::OperationCodec;
 use storage_ops::qmdb::any::operation::update::Ordered as Update;
-use storage_ops::qmdb::any::value::ValueEncoding;
 use storage_ops::qmdb::operation::Key;
 
 /// A map of keys to values that proves what it has committed. It keeps its operations as they are written, a bit for each
@@ -35,29 +34,34 @@ use storage_ops::qmdb::operation::Key;
 /// `F` is the family of the trees, `H` the digest function, `V` the encoding of the values, `N` the bytes of a chunk of
 /// bits. After each refusal the database is as it was.
 #[derive(Drop)]
-pub struct Ordered<F: Graftable, H: Hasher, K: Key, V: ValueEncoding, const N: usize> {
+pub struct Ordered<
+    F: Graftable,
+    H: Hasher,
+    K: Key,
+    V: OperationCodec<F, Update<K, V>>,
+    const N: usize,
+> {
     alloc: Global,
     log: Log,
     active: BTreeMap<K, Active<V::Value>>,
     last: Option<Commit<F, H, K, V, N>>,
 }
 
-impl<F: Graftable, H: Hasher, K: Key, V: ValueEncoding, const N: usize> Model
+impl<F: Graftable, H: Hasher, K: Key, V: OperationCodec<F, Update<K, V>>, const N: usize> Model
     for Ordered<F, H, K, V, N> {
     ghost use Rattle.storage_bitmap.specs.Chunks.{IsChunkSize};
-    ghost use Rattle.storage_db.specs.Kept.{KeptDatabase};
-    ghost use Rattle.storage_db.specs.Parts.{texts};
+    ghost use Rattle.storage_current.specs.Keys.{keyed_by};
+    ghost use Rattle.storage_current.specs.Snapshots.{grafting_of};
+    ghost use Rattle.storage_db.specs.Kept.{IsMade, KeptDatabase};
+    ghost use Rattle.storage_db.specs.Parts.{kept_of};
 
     ghost Value = { KeptDatabase K V.Value };
 
-    ghost view = { λ s. record {
-      operations = texts s.log;
-      bits = s.log.bits.items;
-      entries = s.active.entries;
-      last = s.last;
-    } };
+    ghost view = { λ s. kept_of s.log s.active.entries s.last };
 
-    ghost invariant = { λ s. IsChunkSize N };
+    ghost invariant = { λ s. IsChunkSize N × IsMade
+        (keyed_by K.text V.Value.text V.operation_text K.cmp) V.Value.view H.hash_of
+        (grafting_of F.shape N) (kept_of s.log s.active.entries s.last) };
 }
 
 impl<F: Graftable, H: Hasher, K: Key, V: OperationCodec<F, Update<K, V>>, const N: usize> Ordered<
@@ -71,7 +75,7 @@ impl<F: Graftable, H: Hasher, K: Key, V: OperationCodec<F, Update<K, V>>, const 
     pub fn new(alloc: Global) -> Self
         requires { IsChunkSize N }
         ensures { let e = keyed_by K.text V.Value.text V.operation_text K.cmp in
-            Keeps e H.hash_of (grafting_of F.shape N) result empty }
+            Keeps e V.Value.view H.hash_of (grafting_of F.shape N) result empty }
     {
         Ordered {
             alloc,
@@ -88,10 +92,10 @@ impl<F: Graftable, H: Hasher, K: Key, V: OperationCodec<F, Update<K, V>>, const 
     /// The first of: `Full` where the operations with the one or two that are appended would pass 2^62; `Memory`.
     pub fn put(&mut self, key: K, value: V::Value) -> Result<(), Error<F>>
         ensures ok { let e = keyed_by K.text V.Value.text V.operation_text K.cmp in OnOk result
-            (IsDone e H.hash_of (grafting_of F.shape N) self.old self.new (Put key value)) }
+            (IsDone e V.Value.view H.hash_of (grafting_of F.shape N) self.old self.new (Put key value)) }
         ensures err { OnErr result (self.new ≡ self.old) }
         ensures why { let e = keyed_by K.text V.Value.text V.operation_text K.cmp in IfErr result
-            (IsCommandRefused e H.hash_of (grafting_of F.shape N) self.old (Put key value)) }
+            (IsCommandRefused e V.Value.view H.hash_of (grafting_of F.shape N) self.old (Put key value)) }
     {
         if self.active.contains_key(&key) {
             put_active::<F, K, V>(self.alloc, &mut self.log, &mut self.active, key, value)
@@ -100,21 +104,25 @@ impl<F: Graftable, H: Hasher, K: Key, V: OperationCodec<F, Update<K, V>>, const 
         }
     }
 
-    /// Takes `key` out. Whether it had a value; where it had none nothing changes.
+    /// Takes `key` out. Whether it had a value; where it had none nothing changes, and nothing is refused.
     ///
     /// # Errors
     ///
-    /// The first of: `Full` where the operations with the one or two that are appended would pass 2^62; `Memory`.
+    /// Where the key has a value, the first of: `Full` where the operations with the one or two that are appended would pass 2^62; `Memory`.
     pub fn delete(&mut self, key: &K) -> Result<bool, Error<F>>
         ensures ok { let e = keyed_by K.text V.Value.text V.operation_text K.cmp in OnOk result
-            (IsDone e H.hash_of (grafting_of F.shape N) self.old self.new (Delete key.now)) }
+            (IsDone e V.Value.view H.hash_of (grafting_of F.shape N) self.old self.new (Delete key.now)) }
         ensures answer { let e = keyed_by K.text V.Value.text V.operation_text K.cmp in
             IfOk result (λ was. (d : Database K V.Value)
-            → Keeps e H.hash_of (grafting_of F.shape N) self.old d
+            → Keeps e V.Value.view H.hash_of (grafting_of F.shape N) self.old d
             → was ≡ is_some (active_at e d.entries key.now)) }
+        ensures active { let e = keyed_by K.text V.Value.text V.operation_text K.cmp in
+            OnErr result ((d : Database K V.Value)
+            → Keeps e V.Value.view H.hash_of (grafting_of F.shape N) self.old d
+            → is_some (active_at e d.entries key.now) ≡ true) }
         ensures err { OnErr result (self.new ≡ self.old) }
         ensures why { let e = keyed_by K.text V.Value.text V.operation_text K.cmp in IfErr result
-            (IsCommandRefused e H.hash_of (grafting_of F.shape N) self.old (Delete key.now)) }
+            (IsCommandRefused e V.Value.view H.hash_of (grafting_of F.shape N) self.old (Delete key.now)) }
     {
         if !self.active.contains_key(key) {
             return Ok(false);
@@ -131,10 +139,10 @@ impl<F: Graftable, H: Hasher, K: Key, V: OperationCodec<F, Update<K, V>>, const 
     /// The first of: `Full` where there are 2^62 operations already; `Memory`.
     pub fn commit(&mut self, metadata: Option<V::Value>) -> Result<(), Error<F>>
         ensures ok { let e = keyed_by K.text V.Value.text V.operation_text K.cmp in OnOk result
-            (IsDone e H.hash_of (grafting_of F.shape N) self.old self.new (Committing metadata)) }
+            (IsDone e V.Value.view H.hash_of (grafting_of F.shape N) self.old self.new (Committing metadata)) }
         ensures err { OnErr result (self.new ≡ self.old) }
         ensures why { let e = keyed_by K.text V.Value.text V.operation_text K.cmp in IfErr result
-            (IsCommandRefused e H.hash_of (grafting_of F.shape N) self.old (Committing metadata)) }
+            (IsCommandRefused e V.Value.view H.hash_of (grafting_of F.shape N) self.old (Committing metadata)) }
     {
         let before = self.last_location();
         let commit = put_commit(self.alloc, &mut self.log, &self.active, before, metadata)?;
@@ -145,7 +153,7 @@ impl<F: Graftable, H: Hasher, K: Key, V: OperationCodec<F, Update<K, V>>, const 
     /// The value that `key` has now; none where it has none. Takes no memory.
     pub fn get(&self, key: &K) -> Option<&V::Value>
         ensures { let e = keyed_by K.text V.Value.text V.operation_text K.cmp in
-            (d : Database K V.Value) → Keeps e H.hash_of (grafting_of F.shape N) self.now d
+            (d : Database K V.Value) → Keeps e V.Value.view H.hash_of (grafting_of F.shape N) self.now d
             → option_map (λ v. v.now) result ≡ value_at e d.entries key.now }
     {
         match self.active.get(key) {
@@ -154,10 +162,25 @@ impl<F: Graftable, H: Hasher, K: Key, V: OperationCodec<F, Update<K, V>>, const 
         }
     }
 
+    /// How many keys have a value now. Takes no memory.
+    pub fn len(&self) -> usize
+        ensures { let e = keyed_by K.text V.Value.text V.operation_text K.cmp in
+            (d : Database K V.Value)
+            → Keeps e V.Value.view H.hash_of (grafting_of F.shape N) self.now d
+            → result ≡ length d.entries }
+    {
+        self.active.len()
+    }
+
     /// The value that `key` had at the last commit; none where it had none, and before the first commit. Takes no memory.
     pub fn get_committed(&self, key: &K) -> Option<&V::Value>
-        ensures { let e = keyed_by K.text V.Value.text V.operation_text K.cmp in
-            (d : Database K V.Value) → Keeps e H.hash_of (grafting_of F.shape N) self.now d
+        ensures value { let e = keyed_by K.text V.Value.text V.operation_text K.cmp in
+            (d : Database K V.Value)
+            → Keeps e V.Value.view H.hash_of (grafting_of F.shape N) self.now d
+            → option_map (λ v. V.Value.view v.now) result ≡ option_map V.Value.view
+            (option_and_then (λ commit. value_at e commit.entries key.now) d.last) }
+        ensures text { let e = keyed_by K.text V.Value.text V.operation_text K.cmp in
+            (d : Database K V.Value) → Keeps e V.Value.view H.hash_of (grafting_of F.shape N) self.now d
             → option_map (λ v. V.Value.text v.now) result ≡ option_map V.Value.text
             (option_and_then (λ commit. value_at e commit.entries key.now) d.last) }
     {
@@ -168,11 +191,39 @@ impl<F: Graftable, H: Hasher, K: Key, V: OperationCodec<F, Update<K, V>>, const 
         }
     }
 
+    /// The floor of the last commit: the least location of an active update at that commit, or the commit's own where no key was
+    /// active; none before the first commit. Takes no memory.
+    pub fn floor(&self) -> Option<Location<F>>
+        ensures { let e = keyed_by K.text V.Value.text V.operation_text K.cmp in
+            (d : Database K V.Value)
+            → Keeps e V.Value.view H.hash_of (grafting_of F.shape N) self.now d
+            → result ≡ option_map (λ commit. commit.snapshot.floor) d.last }
+    {
+        match &self.last {
+            Some(last) => Some(last.floor()),
+            None => None,
+        }
+    }
+
+    /// The value of the last commit; none where it has none, and before the first commit. Takes no memory.
+    pub fn metadata(&self) -> Option<&V::Value>
+        ensures { let e = keyed_by K.text V.Value.text V.operation_text K.cmp in
+            (d : Database K V.Value)
+            → Keeps e V.Value.view H.hash_of (grafting_of F.shape N) self.now d
+            → option_map (λ v. v.now) result
+            ≡ option_and_then (λ commit. commit.metadata) d.last }
+    {
+        match &self.last {
+            Some(last) => last.metadata(),
+            None => None,
+        }
+    }
+
     /// The canonical root of the last commit's snapshot; none before the first commit. Takes no memory.
     pub fn root(&self) -> Option<H::Digest>
         ensures { let e = keyed_by K.text V.Value.text V.operation_text K.cmp in
             let g = grafting_of F.shape N in
-            (d : Database K V.Value) → Keeps e H.hash_of g self.now d
+            (d : Database K V.Value) → Keeps e V.Value.view H.hash_of g self.now d
             → option_map H.Digest.text result
             ≡ option_map (λ commit. canonical_root H.hash_of g commit.snapshot) d.last }
     {
@@ -186,7 +237,7 @@ impl<F: Graftable, H: Hasher, K: Key, V: OperationCodec<F, Update<K, V>>, const 
     pub fn snapshot(&self) -> Option<&Snapshot<F, H, N>>
         ensures { let e = keyed_by K.text V.Value.text V.operation_text K.cmp in
             let g = grafting_of F.shape N in
-            (d : Database K V.Value) → Keeps e H.hash_of g self.now d
+            (d : Database K V.Value) → Keeps e V.Value.view H.hash_of g self.now d
             → MatchOption d.last (result ≡ None) (λ commit. IsSomeAnd result
             (λ kept. StandsForSnapshot H.hash_of g kept.now commit.snapshot)) }
     {
@@ -207,12 +258,17 @@ impl<F: Graftable, H: Hasher, K: Key, V: OperationCodec<F, Update<K, V>>, const 
     ) -> Result<(V::Value, KeyValueProof<F, K, H::Digest, N>), Error<F>>
         ensures own { let e = keyed_by K.text V.Value.text V.operation_text K.cmp in
             let g = grafting_of F.shape N in
-            IfOk result (λ r. (d : Database K V.Value) → Keeps e H.hash_of g self.now d
+            IfOk result (λ r. (d : Database K V.Value) → Keeps e V.Value.view H.hash_of g self.now d
             → IsSomeAnd d.last (λ commit. IsValueProof e H.hash_of g commit key.now r.0
             r.1.next_key (operation_proof_of H.Digest.text (λ c. c) r.1.proof))) }
+        ensures value { let e = keyed_by K.text V.Value.text V.operation_text K.cmp in
+            IfOk result (λ r. (d : Database K V.Value)
+            → Keeps e V.Value.view H.hash_of (grafting_of F.shape N) self.now d
+            → IsSomeAnd d.last (λ commit. option_map V.Value.view
+            (value_at e commit.entries key.now) ≡ Some (V.Value.view r.0))) }
         ensures why { let e = keyed_by K.text V.Value.text V.operation_text K.cmp in
             IfErr result (λ error. (d : Database K V.Value)
-            → Keeps e H.hash_of (grafting_of F.shape N) self.now d
+            → Keeps e V.Value.view H.hash_of (grafting_of F.shape N) self.now d
             → MatchOption d.last (error ≡ Error.NotCommitted) (λ commit.
             MatchOption (active_at e commit.entries key.now) (error ≡ Error.Absent)
             (λ _. error ≡ Error.Memory))) }
@@ -232,12 +288,12 @@ impl<F: Graftable, H: Hasher, K: Key, V: OperationCodec<F, Update<K, V>>, const 
     pub fn prove_absence(&self, key: &K) -> Result<ExclusionProof<F, K, V, H::Digest, N>, Error<F>>
         ensures own { let e = keyed_by K.text V.Value.text V.operation_text K.cmp in
             let g = grafting_of F.shape N in
-            IfOk result (λ x. (d : Database K V.Value) → Keeps e H.hash_of g self.now d
+            IfOk result (λ x. (d : Database K V.Value) → Keeps e V.Value.view H.hash_of g self.now d
             → IsSomeAnd d.last (λ commit. IsAbsenceProof e H.hash_of g commit key.now
             (exclusion_of H.Digest.text (λ c. c) x))) }
         ensures why { let e = keyed_by K.text V.Value.text V.operation_text K.cmp in
             IfErr result (λ error. (d : Database K V.Value)
-            → Keeps e H.hash_of (grafting_of F.shape N) self.now d
+            → Keeps e V.Value.view H.hash_of (grafting_of F.shape N) self.now d
             → MatchOption d.last (error ≡ Error.NotCommitted) (λ commit.
             MatchOption (active_at e commit.entries key.now) (error ≡ Error.Memory)
             (λ _. error ≡ Error.Present))) }
@@ -246,6 +302,15 @@ impl<F: Graftable, H: Hasher, K: Key, V: OperationCodec<F, Update<K, V>>, const 
             Some(last) => last.prove_absence(self.alloc, key),
             None => Err(Error::NotCommitted),
         }
+    }
+
+    /// Some list of commands leaves what the database keeps.
+    pub(crate) fn is_made(&self)
+        ensures size { IsChunkSize N }
+        ensures made { let e = keyed_by K.text V.Value.text V.operation_text K.cmp in
+            IsMade e V.Value.view H.hash_of (grafting_of F.shape N) self.now }
+    {
+        let _ = &self.log;
     }
 
     /// Where the last commit stands; none before the first commit.

@@ -2,7 +2,8 @@ use Rattle.std.proofs.Common.{◌≡◌, length, refl, ap, ◌∙◌, arith}
 use Rattle.storage_current.specs.Keys.{Keyed, keyed_by}
 use Rattle.storage_current.specs.Snapshots.{grafting_of}
 use Rattle.storage_db.specs.Databases.{commit, least_location}
-use Rattle.storage_db.proofs.Keeping.{kept_of, on_err}
+use Rattle.storage_db.specs.Parts.{kept_of}
+use Rattle.storage_db.proofs.Keeping.{on_err}
 use Rattle.storage_db.proofs.Commits.{committed_with, commit_count}
 use Rattle.storage_db.proofs.Changing.{same_database, no_room, no_memory}
 use Rattle.storage_db.proofs.db.changes.put_commit.Goals as goal
@@ -15,7 +16,7 @@ returns-clause-ok g c = λ last before_is d keeps.
     let room = c.make_room.new.self in
     let floor_is : c.new-floor.result ≡ least_location entries (length room.operations.items)
     = c.new-floor.ensures ∙ c.least_location.ensures ∙ ap (least_location entries) c.len.ensures.count in
-    committed_with e g.H.Hasher.hash_of (grafting_of g.F.Family.shape g.row.N) c.args.log.now room c.append_commit.new.self
+    committed_with e g.V.Value.Read.view g.H.Hasher.hash_of (grafting_of g.F.Family.shape g.row.N) c.args.log.now room c.append_commit.new.self
     entries last (kept_of c.args.log.now entries last) refl c.in_ok-make_room.ensures.operations c.in_ok-make_room.ensures.bits
     c.args.metadata c.new-floor.result c.in_ok-bytes.bytes c.deref.result.now c.args.before c.in_ok-commit.commit floor_is
     c.in_ok-bytes.ensures c.deref.ensures.value before_is c.append_commit.ensures.operations c.append_commit.ensures.bits

@@ -9,7 +9,7 @@ pub returns : goal.returns
 returns g c = λ commit keeps.
     let h = g.H.Hasher.hash_of in
     let gr = grafting_of g.F.Family.shape g.row.N in
-    shown_by_commit (keyed_by g.K.Write.text g.V.Value.Write.text g.V.OperationCodec.operation_text g.K.Ord.cmp) h gr _ _
+    shown_by_commit (keyed_by g.K.Write.text g.V.Value.Write.text g.V.OperationCodec.operation_text g.K.Ord.cmp) g.V.Value.Read.view h gr _ _
     c.self.view_is commit keeps c.in_ok-metadata.metadata
     (operation_proof_of g.H.Digest.Digest.text (λ bytes. bytes) c.in_ok-proof.proof) c.in_ok-metadata.ensures
     (c.in_ok-proof.ensures commit keeps ∙ ap (λ (l : ℕ). own_operation_proof h gr commit.snapshot l) c.location.ensures)

@@ -6,7 +6,7 @@ use Rattle.storage_db.proofs.db.commit.Commit.absence_by_update.Goals as goal
 
 pub returns : goal.returns
 returns g c = λ commit keeps entry copy.
-    shown_by_update (keyed_by g.K.Write.text g.V.Value.Write.text g.V.OperationCodec.operation_text g.K.Ord.cmp)
+    shown_by_update (keyed_by g.K.Write.text g.V.Value.Write.text g.V.OperationCodec.operation_text g.K.Ord.cmp) g.V.Value.Read.view
     c.operations_settle_keys.ensures g.H.Hasher.hash_of (grafting_of g.F.Family.shape g.row.N) _ _ c.self.view_is commit keeps
     c.args.start.now c.args.entry.now entry copy c.in_ok-clone.field-0 c.in_ok-clone-2.field-0 c.in_ok-next_or_own.field-0
     (operation_proof_of g.H.Digest.Digest.text (λ bytes. bytes) c.in_ok-proof.proof)

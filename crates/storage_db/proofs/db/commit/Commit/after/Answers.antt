@@ -11,10 +11,12 @@ use Rattle.storage_db.proofs.db.commit.Commit.after.Goals as goal
 
 pub returns-clause-entries : goal.returns-clause-entries
 returns-clause-entries g c =
-    zip_imply _ (IsCopy (keyed_by g.K.Write.text g.V.Value.Write.text g.V.OperationCodec.operation_text g.K.Ord.cmp))
+    zip_imply _ (IsCopy (keyed_by g.K.Write.text g.V.Value.Write.text g.V.OperationCodec.operation_text g.K.Ord.cmp)
+    g.V.Value.Read.view)
     (λ x y cloned. record {
       key = (g.met.K.Key.clones x.0 y.0 cloned.0).1;
       value = (g.met.V.ValueEncoding.clones x.1.value y.1.value cloned.1.0).1;
+      seen_value = (g.met.V.ValueEncoding.clones x.1.value y.1.value cloned.1.0).0;
       location = cloned.1.1;
     }) c.args.active.now.entries c.in_ok-active.active.entries c.in_ok-active.ensures.cases
 

@@ -12,6 +12,6 @@ returns g c =
     let h = g.H.Hasher.hash_of in
     let gr = grafting_of g.F.Family.shape g.row.N in
     if_ok _ _ c.own_proof.result (λ proof own commit keeps.
-    let inside = keeps_inside e h gr _ _ c.self.view_is commit keeps in
+    let inside = keeps_inside e g.V.Value.Read.view h gr _ _ c.self.view_is commit keeps in
     own commit.snapshot inside.whole inside.snapshot (c.new-leaves.ensures ∙ inside.count) inside.floor
     ∙ ap (λ (l : ℕ). own_operation_proof h gr commit.snapshot l) c.new-location.ensures) c.own_proof.ensures

@@ -1,17 +1,18 @@
 use Rattle.std.proofs.Common.{sym, ◌∙◌, rules}
 use Rattle.storage_current.specs.Keys.{Keyed, keyed_by}
 use Rattle.storage_current.specs.Snapshots.{grafting_of}
-use Rattle.storage_db.specs.Databases.{delete}
+use Rattle.storage_db.specs.Databases.{Delete, delete}
 use Rattle.storage_db.proofs.Cases.{err_and}
 use Rattle.storage_db.proofs.Keeping.{done_from, refused_from, kept_from, on_err}
-use Rattle.storage_db.proofs.Told.{nothing_deleted}
+use Rattle.storage_db.proofs.Made.{made_by}
+use Rattle.storage_db.proofs.Told.{nothing_deleted, still_held}
 use Rattle.storage_db.proofs.db.ordered.Ordered.delete.Goals as goal
 
 pub returns-then-not-contains_key-clause-ok : goal.returns-then-not-contains_key-clause-ok
 returns-then-not-contains_key-clause-ok g c =
     let e : Keyed g.row.K.Denot g.row.V-Value.Denot
     = keyed_by g.K.Write.text g.V.Value.Write.text g.V.OperationCodec.operation_text g.K.Ord.cmp in
-    nothing_deleted e g.H.Hasher.hash_of (grafting_of g.F.Family.shape g.row.N) c.self.inside.log
+    nothing_deleted e g.V.Value.Read.view g.H.Hasher.hash_of (grafting_of g.F.Family.shape g.row.N) c.self.inside.log
     c.self.inside.active.entries c.self.inside.last c.args.self.now c.self.view_is c.args.key.now
     (sym c.contains_key.ensures ∙ c.if-not-contains_key.true)
 
@@ -19,7 +20,7 @@ pub returns-clause-ok : goal.returns-clause-ok
 returns-clause-ok g c =
     let e : Keyed g.row.K.Denot g.row.V-Value.Denot
     = keyed_by g.K.Write.text g.V.Value.Write.text g.V.OperationCodec.operation_text g.K.Ord.cmp in
-    done_from e g.H.Hasher.hash_of (grafting_of g.F.Family.shape g.row.N) (λ x. delete e x c.args.key.now)
+    done_from e g.V.Value.Read.view g.H.Hasher.hash_of (grafting_of g.F.Family.shape g.row.N) (λ x. delete e x c.args.key.now)
     c.self.inside.log c.remove.new.log c.self.inside.active.entries c.remove.new.active.entries c.self.inside.last
     c.args.self.now c.self.view_is c.in_ok-remove.ensures.ok c.remove.ensures.few
 
@@ -28,7 +29,7 @@ returns-in_err-remove-clause-err g c =
     let e : Keyed g.row.K.Denot g.row.V-Value.Denot
     = keyed_by g.K.Write.text g.V.Value.Write.text g.V.OperationCodec.operation_text g.K.Ord.cmp in
     on_err c.from_residual.result
-    (kept_from e g.H.Hasher.hash_of (grafting_of g.F.Family.shape g.row.N) (λ x. delete e x c.args.key.now)
+    (kept_from e g.V.Value.Read.view g.H.Hasher.hash_of (grafting_of g.F.Family.shape g.row.N) (λ x. delete e x c.args.key.now)
     c.self.inside.log c.remove.new.log c.self.inside.active.entries c.remove.new.active.entries c.self.inside.last
     c.args.self.now c.self.view_is c.in_err-remove.ensures.err)
 
@@ -37,7 +38,7 @@ returns-in_err-remove-clause-why g c =
     let e : Keyed g.row.K.Denot g.row.V-Value.Denot
     = keyed_by g.K.Write.text g.V.Value.Write.text g.V.OperationCodec.operation_text g.K.Ord.cmp in
     let why = c.in_err-remove.ensures.why in
-    err_and _ _ c.from_residual.result (λ error same. refused_from e g.H.Hasher.hash_of
+    err_and _ _ c.from_residual.result (λ error same. refused_from e g.V.Value.Read.view g.H.Hasher.hash_of
     (grafting_of g.F.Family.shape g.row.N) (λ x. delete e x c.args.key.now) c.self.inside.log c.remove.new.log
     c.self.inside.active.entries c.remove.new.active.entries c.self.inside.last c.args.self.now c.self.view_is error
     (λ last. same ∙ why last)) c.from_residual.ensures.1
@@ -45,8 +46,25 @@ returns-in_err-remove-clause-why g c =
 pub returns-then-not-contains_key-clause-answer : goal.returns-then-not-contains_key-clause-answer
 returns-then-not-contains_key-clause-answer g c = search rules
 
+pub returns-in_err-remove-clause-active : goal.returns-in_err-remove-clause-active
+returns-in_err-remove-clause-active g c =
+    let e : Keyed g.row.K.Denot g.row.V-Value.Denot
+    = keyed_by g.K.Write.text g.V.Value.Write.text g.V.OperationCodec.operation_text g.K.Ord.cmp in
+    on_err c.from_residual.result (still_held e g.V.Value.Read.view g.H.Hasher.hash_of (grafting_of g.F.Family.shape g.row.N) _ _
+    c.self.view_is c.args.key.now (sym c.contains_key.ensures ∙ c.if-not-contains_key.false))
+
 pub invariant_of-self : goal.invariant_of-self
-invariant_of-self g c = c.self.invariant
+invariant_of-self g c =
+    let e : Keyed g.row.K.Denot g.row.V-Value.Denot
+    = keyed_by g.K.Write.text g.V.Value.Write.text g.V.OperationCodec.operation_text g.K.Ord.cmp in
+    (c.self.invariant.0, made_by e g.V.Value.Read.view g.H.Hasher.hash_of (grafting_of g.F.Family.shape g.row.N)
+    (Delete c.args.key.now) c.self.inside.log c.remove.new.log c.self.inside.active.entries c.remove.new.active.entries
+    c.self.inside.last c.remove.result c.remove.ensures.ok c.remove.ensures.few c.remove.ensures.err c.self.invariant.1)
 
 pub invariant_of-self-2 : goal.invariant_of-self-2
-invariant_of-self-2 g c = c.self.invariant
+invariant_of-self-2 g c =
+    let e : Keyed g.row.K.Denot g.row.V-Value.Denot
+    = keyed_by g.K.Write.text g.V.Value.Write.text g.V.OperationCodec.operation_text g.K.Ord.cmp in
+    (c.self.invariant.0, made_by e g.V.Value.Read.view g.H.Hasher.hash_of (grafting_of g.F.Family.shape g.row.N)
+    (Delete c.args.key.now) c.self.inside.log c.remove.new.log c.self.inside.active.entries c.remove.new.active.entries
+    c.self.inside.last c.remove.result c.remove.ensures.ok c.remove.ensures.few c.remove.ensures.err c.self.invariant.1)

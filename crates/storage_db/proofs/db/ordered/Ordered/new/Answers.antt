@@ -1,5 +1,8 @@
-use Rattle.std.proofs.Common.{rules}
+use Rattle.std.proofs.Common.{[], rules}
 use Rattle.storage_db.proofs.db.ordered.Ordered.new.Goals as goal
 
 pub returns : goal.returns
 returns g c = search rules
+
+pub invariant_of-result : goal.invariant_of-result
+invariant_of-result g c = (c.requires, ([], search rules))

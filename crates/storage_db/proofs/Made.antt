@@ -1,0 +1,62 @@
+-- Databases in memory that commands left, and one command more.
+use Rattle.std.proofs.Common.{◌≡◌, ℕ, ◌≤◌, ◌^◌, false, List, [], ◌∷◌, ◌++◌, length, cond, Option, refl, sym, ◌∙◌, subst}
+use Rattle.std.specs.Prelude.{Result, Ok, Err, OnOk, OnErr}
+use Rattle.storage_codec.specs.Digests.{HashFunction}
+use Rattle.storage_current.specs.Keys.{Keyed}
+use Rattle.storage_current.specs.Snapshots.{Grafting}
+use Rattle.storage_db.specs.declared.db.active.Active.{Active}
+use Rattle.storage_db.specs.declared.db.log.Log.{Log}
+use Rattle.storage_db.specs.Databases.{Committed, Database, Command, empty, done, is_full, run, Maps, no_maps, changed, maps_after}
+use Rattle.storage_db.specs.Kept.{KeptDatabase, KeptCommit, Keeps, IsMade, IsDone}
+use Rattle.storage_db.specs.Parts.{database_of, kept_of}
+use Rattle.storage_db.specs.Promises.{EachCallIsKept}
+use Rattle.storage_db.proofs.Cases.{cond_no}
+use Rattle.storage_db.proofs.Keeping.{same_kept, done_from}
+
+module _ {K W : Type 0} (e : Keyed K W) where
+  run_more : (commands : List (Command K W)) (command : Command K W) (d : Database K W)
+      → run e d (commands ++ command ∷ [])
+      ≡ cond (is_full e (run e d commands) command) (run e d commands) (done e (run e d commands) command)
+  run_more [] command d = refl
+  run_more (c ∷ commands) command d = run_more commands command (cond (is_full e d c) d (done e d c))
+
+  maps_more : (commands : List (Command K W)) (command : Command K W) (d : Database K W) (m : Maps K W)
+      → maps_after e d m (commands ++ command ∷ [])
+      ≡ cond (is_full e (run e d commands) command) (maps_after e d m commands)
+      (changed e (maps_after e d m commands) command)
+  maps_more [] command d m = refl
+  maps_more (c ∷ commands) command d m = maps_more commands command (cond (is_full e d c) d (done e d c))
+      (cond (is_full e d c) m (changed e m c))
+
+module _ {K W Y : Type 0} (e : Keyed K W) (seen : W → Y) (h : HashFunction) (g : Grafting) where
+  pub each_call : EachCallIsKept e seen h g
+  each_call old new command is_done commands keeps =
+      let next = is_done (run e empty commands) keeps in (
+        subst (λ (x : Database K W). Keeps e seen h g new x)
+            (sym (run_more e commands command empty ∙ cond_no _ _ _ next.0)) next.1,
+        maps_more e commands command empty no_maps ∙ cond_no _ _ _ next.0,
+      )
+
+  pub made_more : (old new : KeptDatabase K W) (command : Command K W) → IsDone e seen h g old new command
+      → IsMade e seen h g old → IsMade e seen h g new
+  made_more old new command is_done made =
+      (made.0 ++ command ∷ [], (each_call old new command is_done made.0 made.1).0)
+
+  -- a command that is refused
+  pub made_still : (log after : Log) (m n : List (K × Active W)) (last : Option (KeptCommit K W))
+      → ((l : Option (Committed K W)) → database_of after n l ≡ database_of log m l)
+      → IsMade e seen h g (kept_of log m last) → IsMade e seen h g (kept_of after n last)
+  made_still log after m n last same made =
+      subst (λ (k : KeptDatabase K W). IsMade e seen h g k) (sym (same_kept log after m n last same)) made
+
+  -- a command that only changes the log and the active keys, or is refused
+  pub made_by : (command : Command K W) (log after : Log) (m n : List (K × Active W)) (last : Option (KeptCommit K W))
+      → {T E : Type 0} (r : Result T E)
+      → OnOk r ((l : Option (Committed K W)) → database_of after n l ≡ done e (database_of log m l) command)
+      → length after.operations.items ≤ 2 ^ 62
+      → OnErr r ((l : Option (Committed K W)) → database_of after n l ≡ database_of log m l)
+      → IsMade e seen h g (kept_of log m last) → IsMade e seen h g (kept_of after n last)
+  made_by command log after m n last (Ok x) steps few same made =
+      made_more (kept_of log m last) (kept_of after n last) command
+      (done_from e seen h g (λ d. done e d command) log after m n last (kept_of log m last) refl steps few) made
+  made_by command log after m n last (Err y) steps few same made = made_still log after m n last same made
