@@ -31,8 +31,8 @@ def called(*words, folder=None):
         raise SystemExit(f"{words[0]} ended with {ran.returncode}: {ran.stdout[-3000:]}")
 
 
-def keeping_toolchain(kit, work):
-    """The kit's folder of compilers by links, but that its clang leaves the LLVM module that it is given in the folder `work`."""
+def toolchain_with(kit, work, first):
+    """The kit's folder of compilers by links, in the folder `work`, but that its clang runs a line of the shell first."""
     folder = pathlib.Path(work, "toolchain")
     (folder / "bin").mkdir(parents=True)
     (folder / "lib").symlink_to(kit / "toolchain/lib")
@@ -40,10 +40,14 @@ def keeping_toolchain(kit, work):
         if it.name != "clang":
             (folder / "bin" / it.name).symlink_to(it)
     clang = folder / "bin/clang"
-    keep = f'for it; do case "$it" in *.bc) cp "$it" {shlex.quote(str(pathlib.Path(work, LLVM)))} ;; esac; done'
-    clang.write_text(f'#!/bin/sh\n{keep}\nexec {shlex.quote(str(kit))}/toolchain/bin/clang "$@"\n')
+    clang.write_text(f'#!/bin/sh\n{first}\nexec {shlex.quote(str(kit))}/toolchain/bin/clang "$@"\n')
     clang.chmod(0o755)
     return folder
+
+
+def module_kept(module):
+    """The line of the shell that keeps the LLVM module which clang is given."""
+    return f'for it; do case "$it" in *.bc) cp "$it" {shlex.quote(str(module))} ;; esac; done'
 
 
 def archive_over(built, kit, work):
@@ -51,7 +55,7 @@ def archive_over(built, kit, work):
     crate = Crate(CRATE, uses_of_crates(), built.resolve(), kit)
     archive = pathlib.Path(work, f"lib{CRATE}.a")
     rattle, _, *words = crate.command
-    words += ["--toolchain", keeping_toolchain(kit, work), "--backend", "llvm"]
+    words += ["--toolchain", toolchain_with(kit, work, module_kept(pathlib.Path(work, LLVM))), "--backend", "llvm"]
     called(rattle, "build", *words, "-o", archive, folder=crate.folder)
     return archive
 

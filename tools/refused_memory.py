@@ -6,19 +6,20 @@
 Takes what `rt ci` left: the tests of each crate that has some, and the programs `stateproof`, `replay` and `benchmarks`; or of
 the named crates alone. A case is a test, a command of `stateproof`, a line for `replay`, or for `benchmarks` the shortest line of each
 kind of its rows. Of the lines for `replay` that are of a worked row, which begin with its name and a colon, all of each list are taken where they
-are at most LINES_OF_ROW, else LINES of them and those that ALSO names; of the others LINES of each list. A case is run once with all
-memory that it asks for, and must give the right answer. Then each of its requests for memory is refused in turn: once alone, and once
-with all that come after it. Such a run must give the right answer too, or name want of memory, and write nothing else.
+are at most LINES_OF_ROW or the row is one of WHOLE, else LINES of them and those that ALSO names; of the others LINES of each list. A case
+is run once with all memory that it asks for, and must give the right answer. Then each of its requests for memory is refused in turn: once
+alone, and once with all that come after it. Such a run must give the right answer too, or name want of memory, and write nothing else.
 
-So each request is refused of a test or a line of a worked row that makes at most EACH_OF_ROW, and of any other case that makes at
-most EACH. Where they are more the first EACH are refused, and SPREAD of the others, spread evenly up to the last; the line of the crate
-says of how many cases. The last line is 'N cases, M refusals, F faults'. A fault has a line of its own. The status is 0 where there is
-no fault, 1 where there is one, and 77 where nothing could be refused here, since there is no C compiler or a program is not given the
-shim.
+So each request is refused of a line of a row of WHOLE, of a test or a line of another worked row that makes at most EACH_OF_ROW, and of any
+other case that makes at most EACH. Where they are more the first EACH are refused, and SPREAD of the others, spread evenly up to the last;
+a line says of how many cases of which rows and lists. The last line is 'N cases, M refusals, F faults'. A fault has a line of its own.
+The status is 0 where there is no fault, 1 where there is one, and 77 where nothing could be refused here, since there is no C compiler or
+a program is not given the shim.
 """
 import collections
 import concurrent.futures
 import functools
+import itertools
 import os
 import pathlib
 import re
@@ -37,6 +38,8 @@ EACH_OF_ROW = 1500
 SPREAD = 50
 LINES = 8
 LINES_OF_ROW = 24
+# Rows of which each line is taken, and each request of a line is refused.
+WHOLE = {"altered_and_truncated:", "mmb_zero_chunks:"}
 # Further lines of rows with more than so many: a bitmap of 20 bits.
 ALSO = {"bitmap_every_length:": re.compile(r",p:[01]{20},")}
 # The word before the list of a line whose digests are not those of SHA-256.
@@ -58,9 +61,9 @@ Ending = collections.namedtuple("Ending", "status output errors requests")
 Case = collections.namedtuple("Case", "name words given right is_want each", defaults=[EACH])
 
 
-def built(crate, end=""):
-    """What `rt ci` built of a crate: the program, or with the end `_tests` its tests."""
-    path = ROOT / f"crates/{crate}/out/{crate}{end}"
+def built(tree, crate, end=""):
+    """What `rt ci` built of a crate in a tree: the program, or with the end `_tests` its tests."""
+    path = tree / f"crates/{crate}/out/{crate}{end}"
     if not path.is_file():
         raise SystemExit(f"crates/{crate} is not built: run rt ci first")
     return path
@@ -95,9 +98,9 @@ def is_want_of_test(ending):
     return ending.status == -6 and bool(is_named and STOPPED.fullmatch(ending.output))
 
 
-def tests(shim, crate):
+def tests(shim, tree, crate):
     """A case for each test of a crate."""
-    program = built(crate, "_tests")
+    program = built(tree, crate, "_tests")
     listed = ended(shim, [program, "--list"]).output.splitlines()
     names = [line[: -len(": test")] for line in listed if line.endswith(": test")]
     if listed[-1:] != [f"tests: {len(names)}"]:
@@ -116,23 +119,23 @@ STEPS = ["put 00000005 7", "put 00000009 8", "absence 00000007", "commit", "valu
 STEPS += ["delete 00000009", "delete 00000005", "commit", "absence 00000005", "value 00000005"]
 
 
-def commands(shim):
+def commands(shim, tree):
     """Roots, proofs, checks and databases of `stateproof`, over both families and both chunk sizes."""
-    program = built("stateproof")
-    for tree in [f"{family} {size}" for family in ("mmr", "mmb") for size in (1, 32)]:
-        proved = ended(shim, [program, "prove", *tree.split(), "0", "7"], OPERATIONS).output
+    program = built(tree, "stateproof")
+    for family, size in itertools.product(("mmr", "mmb"), ("1", "32")):
+        proved = ended(shim, [program, "prove", family, size, "0", "7"], OPERATIONS).output
         root, proof = proved.split()
-        family, size = tree.split()
+        shape = f"{family} {size}"
         steps = "".join(f"{it}\n" for it in STEPS)
         for line, given, right in [
-            (f"root {tree} 0", OPERATIONS, (0, f"{root}\n", "")),
-            (f"prove {tree} 0 7", OPERATIONS, (0, proved, "")),
-            (f"check {tree} {root} 7", f"{'ab' * 8}\n{proof}\n", (0, "yes\n", "")),
-            (f"check {tree} {root} 7", f"{'ab' * 9}\n{proof}\n", (1, "no\n", "")),
-            (f"check {tree} {root} 7", f"{'ab' * 8}\n{proof}0\n", (2, "", "stateproof: line 2\n")),
-            (f"root {tree} 12", OPERATIONS, (2, "", "stateproof: range\n")),
-            (f"db {tree}", steps, (0, database.answers(family, int(size), STEPS), "")),
-            (f"db {tree}", f"{steps}puts\n", (2, "", f"stateproof: line {len(STEPS) + 1}\n")),
+            (f"root {shape} 0", OPERATIONS, (0, f"{root}\n", "")),
+            (f"prove {shape} 0 7", OPERATIONS, (0, proved, "")),
+            (f"check {shape} {root} 7", f"{'ab' * 8}\n{proof}\n", (0, "yes\n", "")),
+            (f"check {shape} {root} 7", f"{'ab' * 9}\n{proof}\n", (1, "no\n", "")),
+            (f"check {shape} {root} 7", f"{'ab' * 8}\n{proof}0\n", (2, "", "stateproof: line 2\n")),
+            (f"root {shape} 12", OPERATIONS, (2, "", "stateproof: range\n")),
+            (f"db {shape}", steps, (0, database.answers(family, int(size), STEPS), "")),
+            (f"db {shape}", f"{steps}puts\n", (2, "", f"stateproof: line {len(STEPS) + 1}\n")),
         ]:
             yield Case(line, [program, *line.split()], given, right, is_want_of_command)
 
@@ -157,7 +160,7 @@ def sampled():
     for given, answer in zip((folder / "stdin").open(), (folder / "stdout").open()):
         lists[list_of(given), f" {OTHER_HASH} " in f" {given}"].append((given, answer))
     for ((row, _), _), cases in lists.items():
-        if row and len(cases) <= LINES_OF_ROW:
+        if row and (len(cases) <= LINES_OF_ROW or row in WHOLE):
             yield from cases
             continue
         step = -(-len(cases) // (LINES - 1))
@@ -165,11 +168,12 @@ def sampled():
         yield from dict.fromkeys([*cases[::step], max(cases, key=lambda it: len(it[0])), *named])
 
 
-def lines():
+def lines(tree):
     """A case for each of these lines."""
     for given, answer in sampled():
-        each = EACH_OF_ROW if list_of(given)[0] else EACH
-        yield Case(given.strip(), [built("replay")], given, (0, answer, ""), is_want_of_line, each)
+        row, _ = list_of(given)
+        each = LAST if row in WHOLE else EACH_OF_ROW if row else EACH
+        yield Case(given.strip(), [built(tree, "replay")], given, (0, answer, ""), is_want_of_line, each)
 
 
 def shortest_lines():
@@ -186,10 +190,10 @@ def shortest_lines():
     return kinds
 
 
-def shortest_checks():
+def shortest_checks(tree):
     """A case for each of these lines."""
     for given, answer in shortest_lines().values():
-        yield Case(given.strip(), [built("benchmarks")], given, (0, answer, ""), is_want_of_line)
+        yield Case(given.strip(), [built(tree, "benchmarks")], given, (0, answer, ""), is_want_of_line)
 
 
 def refused(requests, each):
@@ -207,12 +211,12 @@ def fault(case, ending, first):
 
 
 def sweep(shim, case):
-    """How many requests a case makes, how many refusals there were, how many of them ended in want of memory, the faults, and whether
-    not each request was refused."""
+    """How many requests a case makes, how many refusals there were, how many of them ended in want of memory, the faults, and what the
+    case is of where not each request was refused."""
     whole = ended(shim, case.words, case.given)
     wrong = fault(case, whole, 0)
     if wrong:
-        return 0, 0, 0, [f"{case.name[:100]}: nothing refused: {wrong}"], False
+        return 0, 0, 0, [f"{case.name[:100]}: nothing refused: {wrong}"], None
     wants, faults, places = 0, [], refused(whole.requests, case.each)
     for first in places:
         for last, what in ((first, "refused"), (LAST, "and all later ones refused")):
@@ -221,40 +225,50 @@ def sweep(shim, case):
             wrong = fault(case, ending, first)
             if wrong:
                 faults.append(f"{case.name[:100]}: request {first} {what}: {wrong}")
-    return whole.requests, 2 * len(places), wants, faults, len(places) < whole.requests
+    return whole.requests, 2 * len(places), wants, faults, kind_of(case) if len(places) < whole.requests else None
+
+
+def kind_of(case):
+    """The row and the list of a line, or the first word of a command, or a test."""
+    return " ".join(filter(None, list_of(case.name)))
 
 
 def told(crate, swept):
-    """The line of a crate: its cases, requests, refusals and answers."""
+    """The lines of a crate: its cases, requests, refusals and answers, and of which cases not each request was refused."""
     requests, refusals, wants = (sum(column) for column in list(zip(*swept))[:3])
-    cut = sum(it[4] for it in swept)
-    some = f" (of {cut} cases not each request)" if cut else ""
-    return f"{crate}: {len(swept)} cases, {requests} requests, {refusals} refusals{some}: {wants} wanted memory"
+    cut = collections.Counter(it[4] for it in swept if it[4])
+    some = f"{crate}: not each request of {', '.join(f'{count} of {it}' for it, count in sorted(cut.items()))}"
+    return [f"{crate}: {len(swept)} cases, {requests} requests, {refusals} refusals: {wants} wanted memory", *[some][: len(cut)]]
 
 
-def cases_of(shim, crate):
-    """All cases of a crate."""
+def cases_of(shim, tree, crate):
+    """All cases of a crate, of what is built of it in a tree."""
     if crate == "stateproof":
-        return [*commands(shim)]
+        return [*commands(shim, tree)]
     if crate == "replay":
-        return [*lines()]
+        return [*lines(tree)]
     if crate == "benchmarks":
-        return [*shortest_checks()]
+        return [*shortest_checks(tree)]
     sources = (ROOT / f"crates/{crate}/src").rglob("*.rt")
-    return [*tests(shim, crate)] if any("#[test]" in it.read_text() for it in sources) else []
+    return [*tests(shim, tree, crate)] if any("#[test]" in it.read_text() for it in sources) else []
 
 
-def made_shim(room):
-    """The shim that refuses memory, built in a folder; None where it can't be built, or where a program runs without it."""
+def compiled_shim(room):
+    """The shim that refuses memory, built in a folder."""
     shim = pathlib.Path(room, "refuse_memory.so")
     flags = ["-std=gnu11", "-O2", "-Wall", "-Wextra", "-shared", "-fPIC"]
-    words = [os.environ.get("CC", "cc"), *flags, "-o", shim, ROOT / "tools/refuse_memory.c", "-ldl"]
+    subprocess.run([os.environ.get("CC", "cc"), *flags, "-o", shim, ROOT / "tools/refuse_memory.c", "-ldl"], check=True)
+    return shim
+
+
+def made_shim(room, tree):
+    """The same; None where it can't be built, or where the tree's program runs without it."""
     try:
-        subprocess.run(words, check=True)
+        shim = compiled_shim(room)
     except (OSError, subprocess.CalledProcessError) as error:
         print(f"nothing is refused: {error}")
         return None
-    if ended(shim, [built("stateproof"), "root", "mmr", "1", "0"], OPERATIONS).requests:
+    if ended(shim, [built(tree, "stateproof"), "root", "mmr", "1", "0"], OPERATIONS).requests:
         return shim
     print("nothing is refused: the shim saw no request for memory")
     return None
@@ -266,18 +280,18 @@ def main():
     # two for each processor, since a process that ends is waited for
     workers = 2 * len(os.sched_getaffinity(0))
     with tempfile.TemporaryDirectory() as room, concurrent.futures.ProcessPoolExecutor(workers) as pool:
-        shim = made_shim(room)
+        shim = made_shim(room, ROOT)
         if shim is None:
             return NOT_RUN
         for crate in sys.argv[1:] or sorted(it.name for it in (ROOT / "crates").iterdir()):
-            cases = cases_of(shim, crate)
+            cases = cases_of(shim, ROOT, crate)
             if not cases:
                 continue
             swept = [*pool.map(functools.partial(sweep, shim), cases)]
             faults = [fault for it in swept for fault in it[3]]
             if not any(it[0] for it in swept):
                 faults.append("no request for memory was seen")
-            print("\n".join([told(crate, swept), *(f"FAULT {crate} {it}" for it in faults)]), flush=True)
+            print("\n".join([*told(crate, swept), *(f"FAULT {crate} {it}" for it in faults)]), flush=True)
             total = [total[0] + len(cases), total[1] + sum(it[1] for it in swept), total[2] + len(faults)]
     print("{} cases, {} refusals, {} faults".format(*total))
     return 1 if total[2] else 0
