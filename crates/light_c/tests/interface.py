@@ -10,9 +10,11 @@ these is a part:
 2. Its functions are those that the sources export, and those whose names the archive has; its numbers are the sources' constants.
 3. All cases of the lists `program_checks`, `ranges_checks`, `key_values` and `exclusions` of `replay` are answered from C as they say,
    but for claimed bytes that are no whole key or value as it is written: a call is given the bytes of a vector alone.
-4. N hostile calls over each digest function (200,000 where nothing is said), under the address sanitizer of the caller:
+4. Two cases of each call over each digest function, with each request for memory refused in turn, alone and with all later ones: the
+   answer is the right one or -1, and of each call -1 at least once.
+5. N hostile calls over each digest function (200,000 where nothing is said), under the address sanitizer of the caller:
    hostile.c says which.
-5. The examples.
+6. The examples.
 
 A part that fails says why. The last line is 'N passed, M failed'; the status is 0 where none failed, and 77 where there is no gcc.
 """
@@ -29,6 +31,7 @@ ROOT = HERE.parent.parent.parent
 sys.path.append(str(ROOT / "tools"))
 
 import c_library
+import refused_memory
 from cases import cases_of
 
 HEADER = ROOT / "include/gawerunoa.h"
@@ -40,6 +43,9 @@ FAMILIES = {"mmr": 0, "mmb": 1}
 HASHES = {"sha256": 0, "sha512": 1}
 ANSWERS = {"yes": 1, "no": 0}
 KEYS = ("key_values", "exclusions")
+LISTS = ("program_checks", "ranges_checks", *KEYS)
+# how answers.c ends where it lacks memory for the strings of a line
+CALLER_LACKS_MEMORY = 4
 
 # what the calls about keys begin with, by the encoding of operations, and by whether keys, and values, are vectors
 FORMS = {
@@ -57,6 +63,7 @@ RIGHT = [
     *((f"{form}value", "key_values", ["root", "proof", "key", "value"]) for form in FORMS.values()),
     *((f"{form}absence", "exclusions", ["root", "proof", "key"]) for form in FORMS.values()),
 ]
+CALLS = [*(it[0] for it in RIGHT), "range"]
 # what such a case must have, where it has it
 RIGHT_OVER = {"chunk": "1", "location": "3"}
 
@@ -162,13 +169,17 @@ def question(name, hash_, case):
     return f"range {head} {case['most']} {case['start']} {proof} {lists} {root}"
 
 
+def answering(folder, name, *flags):
+    """The program that answers lines from C."""
+    source = [HERE / "answers.c", folder / "libgawerunoa.a"]
+    run("gcc", "-std=c11", *WARNINGS, *flags, f"-I{HEADER.parent}", *source, "-o", folder / name)
+    return folder / name
+
+
 def answers(folder):
     """The cases of four lists."""
-    program = folder / "answers"
-    sanitizer = ["-fsanitize=address,undefined", "-fno-sanitize-recover=all", "-g"]
-    source = [HERE / "answers.c", folder / "libgawerunoa.a"]
-    run("gcc", "-std=c11", *WARNINGS, *sanitizer, f"-I{HEADER.parent}", *source, "-o", program)
-    for name in ("program_checks", "ranges_checks", *KEYS):
+    program = answering(folder, "answers", "-fsanitize=address,undefined", "-fno-sanitize-recover=all", "-g")
+    for name in LISTS:
         cases = [it for it in cases_of(name) if name not in KEYS or is_whole(it["in"])]
         asked = [question(name, hash_of(case), case["in"]) for case in cases]
         said = run(program, text="".join(f"{line}\n" for line in asked)).split()
@@ -177,6 +188,39 @@ def answers(folder):
             same(f"{name}: {line}", int(answer), ANSWERS[case["out"]])
         longer = sum(map(hash_of, cases))
         print(f"interface: {name}: all {len(cases)} cases answered from C, {longer} over SHA-512", flush=True)
+
+
+def first_cases():
+    """The first case of each call, digest function and answer: the line that asks it, and its answer."""
+    found = {}
+    for name in LISTS:
+        for case in cases_of(name):
+            line = question(name, hash_of(case), case["in"])
+            found.setdefault((line.split()[0], hash_of(case), case["out"]), (line, ANSWERS[case["out"]]))
+    return found.values()
+
+
+def refused(folder):
+    """Calls whose requests for memory are refused."""
+    room = folder / "memory"
+    room.mkdir(exist_ok=True)
+    shim = refused_memory.compiled_shim(room)
+    program, wanted, runs = answering(folder, "answers_alone"), dict.fromkeys(CALLS, 0), 0
+    for line, answer in first_cases():
+        ask = lambda *refusals: refused_memory.ended(shim, [program], f"{line}\n", *refusals)
+        whole = ask()
+        same(line, (0, f"{answer}\n"), (whole.status, whole.output))
+        for first in range(1, whole.requests + 1):
+            for last in (first, refused_memory.LAST):
+                ending = ask(first, last)
+                if (ending.status, ending.output) == (CALLER_LACKS_MEMORY, ""):
+                    continue
+                if ending.status or ending.output not in (f"{answer}\n", "-1\n"):
+                    raise AssertionError(f"request {first} of {whole.requests} refused: {ending[:3]}: {line}")
+                wanted[line.split()[0]] += ending.output == "-1\n"
+                runs += 1
+    same("calls that never want memory", [], [it for it, count in wanted.items() if not count])
+    print(f"interface: {runs} calls with memory refused, of which {sum(wanted.values())} wanted memory", flush=True)
 
 
 def hostile(folder, calls, seed):
@@ -230,6 +274,7 @@ def main():
             ("the header compiles", lambda: compiles(folder)),
             ("its names and numbers", lambda: names(folder)),
             ("the cases of four lists", lambda: answers(folder)),
+            ("calls with memory refused", lambda: refused(folder)),
             ("hostile calls", lambda: hostile(folder, given.calls, given.seed)),
             ("the examples", lambda: print(run(ROOT / "examples/run", folder), end="")),
         ]
