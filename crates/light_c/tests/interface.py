@@ -148,6 +148,11 @@ def is_whole(case):
         return False
 
 
+def whole_cases(name):
+    """The cases of a list, but for those of claimed bytes that are no whole key or value."""
+    return [it for it in cases_of(name) if name not in KEYS or is_whole(it["in"])]
+
+
 def lengths(kind):
     """What a call is told of the values of a type, or of keys that are vectors: their size, or the least and the greatest length."""
     return [SIZES[kind]] if kind in SIZES else kind.removeprefix("vec:").split(":")
@@ -180,7 +185,7 @@ def answers(folder):
     """The cases of four lists."""
     program = answering(folder, "answers", "-fsanitize=address,undefined", "-fno-sanitize-recover=all", "-g")
     for name in LISTS:
-        cases = [it for it in cases_of(name) if name not in KEYS or is_whole(it["in"])]
+        cases = whole_cases(name)
         asked = [question(name, hash_of(case), case["in"]) for case in cases]
         said = run(program, text="".join(f"{line}\n" for line in asked)).split()
         same(f"{name}: how many cases and answers", len(cases), len(said))
@@ -194,7 +199,7 @@ def first_cases():
     """The first case of each call, digest function and answer: the line that asks it, and its answer."""
     found = {}
     for name in LISTS:
-        for case in cases_of(name):
+        for case in whole_cases(name):
             line = question(name, hash_of(case), case["in"])
             found.setdefault((line.split()[0], hash_of(case), case["out"]), (line, ANSWERS[case["out"]]))
     return found.values()
