@@ -5,8 +5,8 @@
 
 Into the folder go `libgawerunoa.a` and `libgawerunoa.so`. Both have the code of the crate and the kit's three functions over malloc,
 realloc and free, and no names but those that begin with `gawerunoa_`. With --built the crate is proved and built here, over the
-libraries that a gate left in TREE, and the LLVM module of its code goes into the folder too, for examples/page/wasm. It wants gcc with its
-binutils.
+libraries that stand in TREE and over what a proof of the crate kept there, and the LLVM module of its code goes into the folder too, for
+examples/page/wasm. It wants gcc with its binutils.
 """
 import argparse
 import pathlib
@@ -51,11 +51,16 @@ def module_kept(module):
 
 
 def archive_over(built, kit, work):
-    """The crate's archive, proved and built over the libraries of a tree. The LLVM module of its code stands beside it."""
-    crate = Crate(CRATE, uses_of_crates(), built.resolve(), kit)
+    """The crate's archive, proved and built over the libraries of a tree, and over what a proof of the crate kept there, so that nothing is
+    proved twice. The LLVM module of its code stands beside it."""
+    built = built.resolve()
+    crate = Crate(CRATE, uses_of_crates(), built, kit)
+    kept = crate.kept_at(built)
+    kept.mkdir(parents=True, exist_ok=True)
     archive = pathlib.Path(work, f"lib{CRATE}.a")
     rattle, _, *words = crate.command
-    words += ["--toolchain", toolchain_with(kit, work, module_kept(pathlib.Path(work, LLVM))), "--backend", "llvm"]
+    toolchain = toolchain_with(kit, work, module_kept(pathlib.Path(work, LLVM)))
+    words += ["--incremental", kept, "--toolchain", toolchain, "--backend", "llvm"]
     called(rattle, "build", *words, "-o", archive, folder=crate.folder)
     return archive
 

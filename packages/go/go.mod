@@ -1,0 +1,3 @@
+module gawerunoa
+
+go 1.19

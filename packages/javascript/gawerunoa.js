@@ -1,0 +1,130 @@
+// Checks for a light client of an authenticated database. The types, and what each call answers, stand in gawerunoa.d.ts.
+
+export const version = "0.1.0";
+
+export const Family = Object.freeze({ MMR: 0, MMB: 1 });
+export const Hash = Object.freeze({ SHA256: 0, SHA512: 1 });
+export const Values = Object.freeze({ VARIABLE: "", SIZED: "sized_", FIXED: "fixed_" });
+export const ANY_LENGTH = Object.freeze([0n, 2n ** 64n - 1n]);
+
+/** Memory ran out, which says nothing of the claim. */
+export class OutOfMemory extends Error {
+  constructor() {
+    super("memory ran out during the check");
+    this.name = "OutOfMemory";
+  }
+}
+
+const YES = 1;
+const NO = 0;
+const NO_MEMORY = -1;
+const REFUSALS = new Map([
+  [-2, "the root has another length than a digest of the hash function"],
+  [-3, "there is no such family"],
+  [-4, "there is no such hash function"],
+  [-5, "the lengths of a list do not add up to its bytes"],
+  [-6, "the key has a length that no key of one size has: these have 4, 8, 20 or 32 bytes"],
+  [-7, "the value has a size that no value of one size has: these have 4, 8, 20 or 32 bytes"],
+]);
+const MOST = 2n ** 64n - 1n;
+
+/** Loads the module: from its bytes, else from the file beside this one, which Node reads and a browser fetches. */
+export async function load(bytes) {
+  const { instance } = await WebAssembly.instantiate(bytes ?? (await beside("gawerunoa.wasm")));
+  return new Checks(instance.exports);
+}
+
+async function beside(name) {
+  const url = new URL(name, import.meta.url);
+  if (url.protocol === "file:") {
+    const { readFile } = await import("node:fs/promises");
+    return readFile(url);
+  }
+  const response = await fetch(url);
+  if (!response.ok) throw new Error(`there is no ${url}`);
+  return response.arrayBuffer();
+}
+
+/** The checks, over one module and its memory. */
+class Checks {
+  #exports;
+
+  constructor(exports) {
+    this.#exports = exports;
+  }
+
+  checkOperation({ family, hash, chunkSize, location, proof, operation, root }) {
+    return this.#ask("operation", family, hash, size(chunkSize), size(location), proof, operation, root);
+  }
+
+  checkRange({ family, hash, chunkSize, maxDigests = 128n, start, proof, operations, chunks, root }) {
+    const numbers = [size(chunkSize), size(maxDigests), size(start)];
+    return this.#ask("range", family, hash, ...numbers, proof, ...list(operations), ...list(chunks), root);
+  }
+
+  checkValue({ family, hash, chunkSize, values, keyLengths, proof, key, value, root }) {
+    const [call, lengths] = keysOf(keyLengths, values);
+    return this.#ask(`${call}value`, family, hash, size(chunkSize), ...lengths, proof, key, value, root);
+  }
+
+  checkAbsence({ family, hash, chunkSize, values, valueLengths = ANY_LENGTH, keyLengths, proof, key, root }) {
+    const [call, lengths] = keysOf(keyLengths, values);
+    const [least, greatest] = valueLengths.map(size);
+    const isVariable = values === Values.VARIABLE;
+    if (!isVariable && least !== greatest) throw new RangeError("values of one size have one length");
+    lengths.push(...(isVariable ? [least, greatest] : [least]));
+    return this.#ask(`${call}absence`, family, hash, size(chunkSize), ...lengths, proof, key, root);
+  }
+
+  /** Asks an export. An array is handed over as a pointer and a length; its room is given back before this returns. */
+  #ask(call, ...parts) {
+    const rooms = [];
+    try {
+      const words = parts.flatMap((part) => (ArrayBuffer.isView(part) ? this.#lend(part, rooms) : [part]));
+      return told(this.#exports[`gawerunoa_check_${call}`](...words));
+    } finally {
+      rooms.forEach((room) => this.#exports.gawerunoa_give_back(room));
+    }
+  }
+
+  #lend(array, rooms) {
+    const room = this.#exports.gawerunoa_room(BigInt(array.byteLength));
+    if (room === 0n) throw new OutOfMemory();
+    rooms.push(room);
+    const bytes = new Uint8Array(array.buffer, array.byteOffset, array.byteLength);
+    new Uint8Array(this.#exports.memory.buffer).set(bytes, Number(room));
+    return [room, BigInt(array.length)];
+  }
+}
+
+function told(answer) {
+  if (answer === NO_MEMORY) throw new OutOfMemory();
+  if (REFUSALS.has(answer)) throw new RangeError(REFUSALS.get(answer));
+  if (answer !== YES && answer !== NO) throw new Error(`the module answered ${answer}`);
+  return answer === YES;
+}
+
+function size(number) {
+  const whole = BigInt(number);
+  if (whole < 0n || whole > MOST) throw new RangeError(`${number} is no number from 0 to 2^64 - 1`);
+  return whole;
+}
+
+/** What the name of the call about a key begins with, and the lengths that it is told of keys. */
+function keysOf(keyLengths, values) {
+  if (!Object.values(Values).includes(values)) throw new RangeError("there is no such encoding of values");
+  if (keyLengths === undefined) return [values, []];
+  if (values === Values.FIXED) throw new RangeError("a database of fixed values has keys of one size");
+  return [`string_${values}`, keyLengths.map(size)];
+}
+
+/** The strings of a list as one, and the length of each. */
+function list(strings) {
+  const bytes = new Uint8Array(strings.reduce((sum, it) => sum + it.length, 0));
+  let end = 0;
+  for (const it of strings) {
+    bytes.set(it, end);
+    end += it.length;
+  }
+  return [bytes, BigUint64Array.from(strings, (it) => BigInt(it.length))];
+}

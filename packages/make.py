@@ -1,0 +1,130 @@
+#!/usr/bin/env python3
+"""Puts the library into packages for Python, Rust, Go and JavaScript.
+
+    packages/make.py FOLDER LIBRARY [MODULE]
+
+LIBRARY is a folder with libgawerunoa.a and libgawerunoa.so, MODULE a folder with gawerunoa.wasm, by default LIBRARY. Into FOLDER go
+
+    gawerunoa-VERSION-py3-none-manylinux_2_17_x86_64.whl     a wheel, for pip
+    rust/, go/                                               a crate and a module with the static library inside
+    javascript/                                              an npm package with the WebAssembly module inside, if that is there
+
+Two runs over the same files make the same bytes. It wants Python alone.
+"""
+import argparse
+import base64
+import hashlib
+import pathlib
+import re
+import shutil
+import zipfile
+
+HERE = pathlib.Path(__file__).resolve().parent
+ROOT = HERE.parent
+EXAMPLE = ROOT / "examples/data"
+
+# where each package, and what else is handed on, says the version
+VERSIONS = {
+    "packages/python/gawerunoa/__init__.py": r'__version__ = "(.*)"',
+    "packages/rust/Cargo.toml": r'^version = "(.*)"',
+    "packages/go/gawerunoa.go": r'Version = "(.*)"',
+    "packages/javascript/package.json": r'"version": "(.*)"',
+    "packages/javascript/gawerunoa.js": r'version = "(.*)"',
+    "build": r"^Version: (.*)",
+}
+# glibc's names are older than those of this tag: malloc, realloc, free
+TAG = "py3-none-manylinux_2_17_x86_64"
+SAME_TIME = (1980, 1, 1, 0, 0, 0)
+
+
+def version():
+    """The version, which each package says alike."""
+    found = {file: re.search(pattern, (ROOT / file).read_text(), re.M)[1] for file, pattern in VERSIONS.items()}
+    if len(set(found.values())) != 1:
+        raise SystemExit(f"make: versions differ: {found}")
+    return next(iter(found.values()))
+
+
+def wheel(folder, library):
+    """Writes the wheel, and answers its path."""
+    info = f"gawerunoa-{version()}.dist-info"
+    files = {f"gawerunoa/{it.name}": it.read_bytes() for it in sorted((HERE / "python/gawerunoa").iterdir()) if it.is_file()}
+    files["gawerunoa/libgawerunoa.so"] = (library / "libgawerunoa.so").read_bytes()
+    files[f"{info}/licenses/LICENSE"] = (ROOT / "LICENSE").read_bytes()
+    files[f"{info}/METADATA"] = metadata().encode()
+    files[f"{info}/WHEEL"] = f"Wheel-Version: 1.0\nGenerator: gawerunoa\nRoot-Is-Purelib: false\nTag: {TAG}\n".encode()
+    files[f"{info}/RECORD"] = record(files, f"{info}/RECORD").encode()
+    path = folder / f"gawerunoa-{version()}-{TAG}.whl"
+    with zipfile.ZipFile(path, "w", zipfile.ZIP_DEFLATED) as made:
+        for name, contents in files.items():
+            entry = zipfile.ZipInfo(name, SAME_TIME)
+            entry.external_attr = 0o644 << 16
+            made.writestr(entry, contents, zipfile.ZIP_DEFLATED)
+    return path
+
+
+def metadata():
+    head = {
+        "Metadata-Version": "2.1",
+        "Name": "gawerunoa",
+        "Version": version(),
+        "Summary": "Proved checks for a light client of an authenticated database",
+        "License": "Apache-2.0",
+        "Requires-Python": ">=3.10",
+        "Description-Content-Type": "text/markdown",
+    }
+    return "".join(f"{name}: {value}\n" for name, value in head.items()) + "\n" + (HERE / "python/README.md").read_text()
+
+
+def record(files, own):
+    """The list of a wheel's files, with their digests and sizes."""
+    digest = lambda it: base64.urlsafe_b64encode(hashlib.sha256(it).digest()).rstrip(b"=").decode()
+    rows = [f"{name},sha256={digest(contents)},{len(contents)}\n" for name, contents in files.items()]
+    return "".join(rows) + f"{own},,\n"
+
+
+def tree(name, folder, *more):
+    """Copies a package's folder, with the licence, and other files to their places in it."""
+    room = folder / name
+    shutil.rmtree(room, ignore_errors=True)
+    shutil.copytree(HERE / name, room, ignore=shutil.ignore_patterns("target", "Cargo.lock", "node_modules"))
+    for source, place in [(ROOT / "LICENSE", "LICENSE"), *more]:
+        (room / place).parent.mkdir(parents=True, exist_ok=True)
+        shutil.copy(source, room / place)
+    return room
+
+
+def make(folder, library, module):
+    """Makes all packages, and answers their paths by the names of their languages."""
+    folder.mkdir(parents=True, exist_ok=True)
+    archive = library / "libgawerunoa.a"
+    data = sorted(EXAMPLE.glob("*.bin"))
+    header = ROOT / "include/gawerunoa.h"
+    made = {
+        "python": wheel(folder, library),
+        "rust": tree("rust", folder, (archive, "lib/libgawerunoa.a"), *((it, f"data/{it.name}") for it in data)),
+        "go": tree(
+            "go",
+            folder,
+            (archive, "lib/libgawerunoa.a"),
+            (header, "include/gawerunoa.h"),
+            *((it, f"testdata/{it.name}") for it in data),
+        ),
+    }
+    if (module / "gawerunoa.wasm").is_file():
+        made["javascript"] = tree("javascript", folder, (module / "gawerunoa.wasm", "gawerunoa.wasm"))
+    return made
+
+
+def main():
+    words = argparse.ArgumentParser(usage="make.py FOLDER LIBRARY [MODULE]")
+    words.add_argument("folder", type=pathlib.Path)
+    words.add_argument("library", type=pathlib.Path)
+    words.add_argument("module", type=pathlib.Path, nargs="?")
+    given = words.parse_args()
+    for path in make(given.folder, given.library, given.module or given.library).values():
+        print(path)
+
+
+if __name__ == "__main__":
+    main()

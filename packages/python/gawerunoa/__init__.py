@@ -1,0 +1,181 @@
+"""Checks for a light client of an authenticated database. The client trusts one digest: the canonical root of a snapshot.
+
+Strangers hand it a proof and a claim. Each call answers True or False:
+
+- True means that the claim holds in every snapshot with that root, family, hash function and chunk size; or that two different byte
+  strings have one digest, one hashed by the check, the other by the calculation of the root.
+- False means nothing more than that this proof does not show the claim.
+
+Every call raises ValueError where an argument can be part of no question (a root with another length than a digest, say), and
+MemoryError where memory ran out, which says nothing of the claim. Calls may run side by side in several threads.
+
+Whether the root is recent the caller has to know.
+"""
+
+import ctypes
+import enum
+import pathlib
+from collections.abc import Sequence
+
+__all__ = ["ANY_LENGTH", "Family", "Hash", "Values", "check_absence", "check_operation", "check_range", "check_value"]
+__version__ = "0.1.0"
+
+ANY_LENGTH = (0, 2**64 - 1)
+"""The least and the greatest length of a string that may have any length."""
+
+
+class Family(enum.IntEnum):
+    """The shape of the trees: Merkle mountain ranges or Merkle mountain belts."""
+
+    MMR = 0
+    MMB = 1
+
+
+class Hash(enum.IntEnum):
+    """The digest function. Digests of SHA-256 have 32 bytes, those of SHA-512 have 64."""
+
+    SHA256 = 0
+    SHA512 = 1
+
+
+class Values(enum.Enum):
+    """How a database encodes its values.
+
+    VARIABLE: a value has any length, which is written before it.
+    SIZED: all values have 4, 8, 20 or 32 bytes, and an operation is as long as its parts.
+    FIXED: as SIZED, but zeros fill up all operations to one size. Such a database has keys of one size.
+    """
+
+    VARIABLE = ""
+    SIZED = "sized_"
+    FIXED = "fixed_"
+
+
+def check_operation(
+    proof: bytes, operation: bytes, root: bytes, *, family: Family, hash: Hash, chunk_size: int, location: int
+) -> bool:
+    """Whether `operation` stands at `location` and is active, by an operation proof.
+
+    `chunk_size` is the number of bytes of a chunk of activity bits. A size that no chunk has gives False, and so do more than 128
+    digests in the proof.
+    """
+    return _ask("operation", family, hash, chunk_size, _size(location), *_bytes(proof, operation, root))
+
+
+def check_range(
+    proof: bytes,
+    operations: Sequence[bytes],
+    chunks: Sequence[bytes],
+    root: bytes,
+    *,
+    family: Family,
+    hash: Hash,
+    chunk_size: int,
+    start: int,
+    max_digests: int = 128,
+) -> bool:
+    """Whether `operations` stand at the locations from `start` on, and `chunks` are all those with an activity bit of one of them.
+
+    `proof` is a range proof. More than `max_digests` digests in it give False.
+    """
+    lists = [*_list(operations), *_list(chunks)]
+    return _ask("range", family, hash, chunk_size, _size(max_digests), _size(start), *_bytes(proof), *lists, *_bytes(root))
+
+
+def check_value(
+    proof: bytes,
+    key: bytes,
+    value: bytes,
+    root: bytes,
+    *,
+    family: Family,
+    hash: Hash,
+    chunk_size: int,
+    values: Values,
+    key_lengths: tuple[int, int] | None = None,
+) -> bool:
+    """Whether `key` has the value `value`, by a key-value proof.
+
+    Without `key_lengths` all keys have one size: 4, 8, 20 or 32 bytes. With it keys are strings, and it gives the least and the greatest
+    length of a key that the proof may name (`ANY_LENGTH`, say); another one gives False.
+    """
+    call, lengths = _keys(key_lengths, values)
+    return _ask(f"{call}value", family, hash, chunk_size, *lengths, *_bytes(proof, key, value, root))
+
+
+def check_absence(
+    proof: bytes,
+    key: bytes,
+    root: bytes,
+    *,
+    family: Family,
+    hash: Hash,
+    chunk_size: int,
+    values: Values,
+    value_lengths: tuple[int, int] = ANY_LENGTH,
+    key_lengths: tuple[int, int] | None = None,
+) -> bool:
+    """Whether `key` has no value, by an exclusion proof.
+
+    `value_lengths` are the least and the greatest length of a value that the proof may name; where values have one size, both are that
+    size. For `key_lengths` see `check_value`.
+    """
+    call, lengths = _keys(key_lengths, values)
+    least, greatest = value_lengths
+    if values is Values.VARIABLE:
+        lengths += [_size(least), _size(greatest)]
+    elif least == greatest:
+        lengths.append(_size(least))
+    else:
+        raise ValueError("values of one size have one length")
+    return _ask(f"{call}absence", family, hash, chunk_size, *lengths, *_bytes(proof, key, root))
+
+
+_LIBRARY = ctypes.CDLL(str(pathlib.Path(__file__).with_name("libgawerunoa.so")))
+_YES, _NO, _NO_MEMORY = 1, 0, -1
+_REFUSALS = {
+    -2: "the root has another length than a digest of the hash function",
+    -3: "there is no such family",
+    -4: "there is no such hash function",
+    -5: "the lengths of a list do not add up to its bytes",
+    -6: "the key has a length that no key of one size has: these have 4, 8, 20 or 32 bytes",
+    -7: "the value has a size that no value of one size has: these have 4, 8, 20 or 32 bytes",
+}
+
+
+def _ask(call: str, family: Family, hash: Hash, chunk_size: int, *rest) -> bool:
+    """What the library answers. All arguments have their C types, since ctypes would cut a number of 64 bits to an int."""
+    function = getattr(_LIBRARY, f"gawerunoa_check_{call}")
+    function.restype = ctypes.c_int32
+    answer = function(ctypes.c_uint32(Family(family)), ctypes.c_uint32(Hash(hash)), _size(chunk_size), *rest)
+    if answer == _NO_MEMORY:
+        raise MemoryError("memory ran out during the check")
+    if answer in _REFUSALS:
+        raise ValueError(_REFUSALS[answer])
+    return {_YES: True, _NO: False}[answer]
+
+
+def _keys(key_lengths: tuple[int, int] | None, values: Values) -> tuple[str, list]:
+    """What the name of the call about a key begins with, and the lengths that it is told of keys."""
+    if key_lengths is None:
+        return values.value, []
+    if values is Values.FIXED:
+        raise ValueError("a database of fixed values has keys of one size")
+    return f"string_{values.value}", [_size(it) for it in key_lengths]
+
+
+def _size(number: int) -> ctypes.c_size_t:
+    if not 0 <= number < 2**64:
+        raise ValueError(f"{number} is no number from 0 to 2^64 - 1")
+    return ctypes.c_size_t(number)
+
+
+def _bytes(*strings: bytes) -> list:
+    """A pointer and a length for each."""
+    return [word for it in strings for word in (ctypes.c_char_p(it), ctypes.c_size_t(len(it)))]
+
+
+def _list(strings: Sequence[bytes]) -> list:
+    """The strings as one, the length of each, and how many they are."""
+    lengths = (ctypes.c_size_t * len(strings))(*map(len, strings))
+    return [*_bytes(b"".join(strings)), lengths, ctypes.c_size_t(len(strings))]
