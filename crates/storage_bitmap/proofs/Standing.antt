@@ -432,7 +432,7 @@ refused n count boundary given error at within (inr (few, inr memory)) =
 -- a bitmap whose bits all are pruned is whole
 pub whole_restored : {D : Type 0} (n count boundary : ℕ) (pinned : List D) (r : Retained) (tree : Kept D)
     → IsChunkSize n → 0 < n → count ≤ 2 ^ 62 / (8 * n) → boundary ≡ count → r ≡ record { pruned = count; bits = [] }
-    → tree ≡ record { leaves = boundary; boundary = boundary; pinned = pinned; nodes = [] }
+    → tree ≡ record { leaves = boundary; boundary = boundary; pinned = pinned; nodes = []; room = 0 }
     → IsWholeMap n r tree (λ x leaves complete. leaves ≡ complete)
 whole_restored n count boundary pinned r tree size some within at are is =
     let whole : (count * (8 * n) + 0) / (8 * n) ≡ count = div-mul-add count (8 * n) 0 (omega arith) in

@@ -13,6 +13,8 @@ pub record Kept (D : Type 0) : Type 0 where
   pub pinned : List D
   -- the digests of the nodes from the position of the boundary's leaf on
   pub nodes : List D
+  -- how many digests there is room for from that position on
+  pub room : ℕ
 
 -- true of every tree in memory, also of one that stands for no list
 pub record IsWhole (S : Shape) (leaves boundary pinned nodes : ℕ) : Type 0 where
@@ -20,6 +22,10 @@ pub record IsWhole (S : Shape) (leaves boundary pinned nodes : ℕ) : Type 0 whe
   pub order : boundary ≤ leaves
   pub pins : pinned ≡ length (S.peaks boundary)
   pub count : nodes + size S boundary ≡ size S leaves
+
+-- there is room for the nodes of so many more leaves
+abbrev pub HasRoomFor : {D : Type 0} → Shape → ℕ → Kept D → Type 0
+HasRoomFor S count m = size S (m.leaves + count) ≤ m.room + size S m.boundary
 
 -- ---- what is kept at a position
 

@@ -1,9 +1,9 @@
 //! A tree that is kept in memory.
 
-ghost use Rattle.std.specs.Prelude.{◌≡◌, ℕ, ◌+◌, ◌<◌, ◌≤◌, ◌∷◌, ◌++◌, [], ◌⊎◌, List, map, max, take, length, slice_index, All, IfOk, OnOk, OnErr, IfErr, MatchOption};
+ghost use Rattle.std.specs.Prelude.{◌≡◌, ℕ, ◌+◌, ◌<◌, ◌≤◌, ◌∷◌, ◌++◌, [], ◌⊎◌, List, map, max, min, take, length, slice_index, All, IfOk, IsOk, OnOk, OnErr, IfErr, MatchOption};
 ghost use Rattle.storage_merkle.specs.Calc.{be8};
 ghost use Rattle.storage_merkle.specs.Hashing.{node_over, peak_digests, root_of};
-ghost use Rattle.storage_merkle.specs.Kept.{NodesOver, StandsBut, StandsFor, IsFirstAway, IsWhole, at_peaks, kept_at, pins, list_updated};
+ghost use Rattle.storage_merkle.specs.Kept.{NodesOver, StandsBut, StandsFor, IsFirstAway, IsWhole, HasRoomFor, at_peaks, kept_at, pins, list_updated};
 ghost use Rattle.storage_merkle.specs.Shape.{size, max_leaves};
 
 mod as_storage;
@@ -29,7 +29,7 @@ pub struct Mem<F: Family, D: Digest> {
 }
 
 impl<F: Family, D: Digest> Model for Mem<F, D> {
-    ghost use Rattle.std.specs.Prelude.{vec_len};
+    ghost use Rattle.std.specs.Prelude.{vec_capacity, vec_len};
     ghost use Rattle.storage_merkle.specs.Kept.{Kept, IsWhole};
 
     ghost Value = { Kept D };
@@ -39,6 +39,7 @@ impl<F: Family, D: Digest> Model for Mem<F, D> {
       boundary = m.boundary;
       pinned = m.pinned.items;
       nodes = m.nodes.items;
+      room = vec_capacity m.nodes;
     } };
 
     ghost invariant = { λ m.
@@ -48,7 +49,7 @@ impl<F: Family, D: Digest> Model for Mem<F, D> {
 impl<F: Family, D: Digest> Mem<F, D> {
     /// The tree of no leaves. Takes no memory.
     pub fn new(alloc: Global) -> Self
-        ensures kept { result ≡ record { leaves = 0; boundary = 0; pinned = []; nodes = [] } }
+        ensures kept { result ≡ record { leaves = 0; boundary = 0; pinned = []; nodes = []; room = 0 } }
         ensures stands { (N : NodesOver) → StandsFor D.text F.shape N result [] }
     {
         Mem {
@@ -73,6 +74,7 @@ impl<F: Family, D: Digest> Mem<F, D> {
           boundary = boundary;
           pinned = take (length (F.shape.peaks boundary)) pinned.now;
           nodes = [];
+          room = 0;
         }) }
         ensures stands { IfOk result (λ m. (N : NodesOver) (list : List (List ℕ)) → length list
             ≡ boundary → map D.text (take (length (F.shape.peaks boundary)) pinned.now)
@@ -178,8 +180,8 @@ impl<F: Family, D: Digest> Mem<F, D> {
     ///
     /// # Errors
     ///
-    /// `LocationOverflow` of the number of leaves where that is `MAX_LEAVES`; `Memory`. After either the tree is as it
-    /// was.
+    /// `LocationOverflow` of the number of leaves where that is `MAX_LEAVES`; `Memory`, but not where there is room for
+    /// the leaf already. After either the tree is as it was.
     pub fn add<H: Hasher<F, Digest = D>>(
         &mut self,
         hasher: &H,
@@ -196,6 +198,43 @@ impl<F: Family, D: Digest> Mem<F, D> {
         ensures place { OnOk result ((self.new.leaves ≡ self.old.leaves + 1)
             × (self.new.boundary ≡ self.old.boundary) × (self.new.pinned ≡ self.old.pinned)) }
         ensures fits { OnOk result (self.old.leaves < max_leaves) }
+        ensures room { self.old.room ≤ self.new.room }
+        ensures succeeds { self.old.leaves < max_leaves → HasRoomFor F.shape 1 self.old
+            → IsOk result }
+        ensures same { OnErr result (self.new ≡ self.old) }
+        ensures why { IfErr result (λ e.
+            ((self.old.leaves ≡ max_leaves) × (e ≡ Error.LocationOverflow self.old.leaves))
+            ⊎ ((self.old.leaves < max_leaves) × (e ≡ Error.Memory))) }
+    {
+        let digest = hasher.leaf_digest(self.size(), element);
+        self.add_leaf(hasher, digest)
+    }
+
+    /// Appends the leaf whose digest is `digest`, and the nodes that are added with it.
+    ///
+    /// # Errors
+    ///
+    /// `LocationOverflow` of the number of leaves where that is `MAX_LEAVES`; `Memory`, but not where there is room for
+    /// the leaf already. After either the tree is as it was.
+    pub fn add_leaf<H: Hasher<F, Digest = D>>(
+        &mut self,
+        hasher: &H,
+        digest: D,
+    ) -> Result<(), Error<F>>
+        requires { (p : ℕ) → self.old.leaves < max_leaves
+            → size F.shape self.old.leaves ≤ p
+            → p < size F.shape (self.old.leaves + 1)
+            → H.takes hasher.now p }
+        ensures grown { let N = node_over H.hash_of (H.layout hasher.now) (H.chunk hasher.now) in
+            IfOk result (λ _. (list : List (List ℕ)) (dirty : List ℕ)
+            → StandsBut D.text F.shape N dirty self.old list
+            → StandsBut D.text F.shape N dirty self.new (list ++ D.text digest ∷ [])) }
+        ensures place { OnOk result ((self.new.leaves ≡ self.old.leaves + 1)
+            × (self.new.boundary ≡ self.old.boundary) × (self.new.pinned ≡ self.old.pinned)) }
+        ensures fits { OnOk result (self.old.leaves < max_leaves) }
+        ensures room { self.old.room ≤ self.new.room }
+        ensures succeeds { self.old.leaves < max_leaves → HasRoomFor F.shape 1 self.old
+            → IsOk result }
         ensures same { OnErr result (self.new ≡ self.old) }
         ensures why { IfErr result (λ e.
             ((self.old.leaves ≡ max_leaves) × (e ≡ Error.LocationOverflow self.old.leaves))
@@ -210,13 +249,43 @@ impl<F: Family, D: Digest> Mem<F, D> {
             self.boundary,
             &self.pinned,
             &mut self.nodes,
-            element,
+            digest,
         )
         .is_err()
         {
             return Err(Error::Memory);
         }
         self.leaves += 1;
+        Ok(())
+    }
+
+    /// Makes room for `count` more leaves and the nodes that are added with them, so that appending them is never
+    /// refused memory. Changes no digest.
+    ///
+    /// # Errors
+    ///
+    /// `LocationOverflow` of the number of leaves that there would be, at most `u64::MAX`, where that is past
+    /// `MAX_LEAVES`; `Memory`, but not where there is that room already. After either the tree is as it was.
+    pub fn reserve(&mut self, count: u64) -> Result<(), Error<F>>
+        ensures kept { self.new ≡ record self.old { room = self.new.room } }
+        ensures grows { self.old.room ≤ self.new.room }
+        ensures room { OnOk result (HasRoomFor F.shape count self.new) }
+        ensures succeeds { self.old.leaves + count ≤ max_leaves → HasRoomFor F.shape count self.old
+            → IsOk result }
+        ensures fits { OnOk result (self.old.leaves + count ≤ max_leaves) }
+        ensures same { OnErr result (self.new ≡ self.old) }
+        ensures why { IfErr result (λ e. ((max_leaves < self.old.leaves + count)
+            × (e ≡ Error.LocationOverflow (min (self.old.leaves + count) u64.MAX)))
+            ⊎ ((self.old.leaves + count ≤ max_leaves) × (e ≡ Error.Memory))) }
+    {
+        let leaves = self.leaves().saturating_add(count);
+        if !leaves.is_valid() {
+            return Err(Error::LocationOverflow(leaves));
+        }
+        let more = F::nodes_over(leaves.as_u64()) - F::nodes_over(self.leaves);
+        if self.nodes.reserve(more as usize).is_err() {
+            return Err(Error::Memory);
+        }
         Ok(())
     }
 
@@ -243,6 +312,7 @@ impl<F: Family, D: Digest> Mem<F, D> {
             (list_updated list (map (λ u. (u.0, D.text u.1)) updates.now))) }
         ensures place { OnOk result ((self.new.leaves ≡ self.old.leaves)
             × (self.new.boundary ≡ self.old.boundary) × (self.new.pinned ≡ self.old.pinned)) }
+        ensures room { self.new.room ≡ self.old.room }
         ensures fits { OnOk result
             (All (λ u. (self.old.boundary ≤ u.0) × (u.0 < self.old.leaves)) updates.now) }
         ensures same { OnErr result (self.new ≡ self.old) }
@@ -268,8 +338,8 @@ impl<F: Family, D: Digest> Mem<F, D> {
         Ok(())
     }
 
-    /// Forgets the leaves below `location`, and all nodes but those that the other leaves need. Where these leaves are
-    /// forgotten already it changes nothing.
+    /// Forgets the leaves below `location`, and all nodes but those that the other leaves need. The room of what is
+    /// forgotten is kept for later leaves. Where these leaves are forgotten already it changes nothing.
     ///
     /// # Errors
     ///
@@ -280,6 +350,7 @@ impl<F: Family, D: Digest> Mem<F, D> {
             → StandsFor D.text F.shape N self.old list → StandsFor D.text F.shape N self.new list) }
         ensures place { OnOk result ((self.new.boundary ≡ max self.old.boundary location)
             × (self.new.leaves ≡ self.old.leaves)) }
+        ensures room { self.new.room ≡ self.old.room }
         ensures fits { OnOk result (location ≤ self.old.leaves) }
         ensures same { OnErr result (self.new ≡ self.old) }
         ensures why { IfErr result (λ e.

@@ -55,6 +55,7 @@ impl<D: Digest, const N: usize> BitMap<D, N, Merkleized<D>> {
               pinned = take
                   (length (mmr.peaks state.pruned_chunks)) state.pinned.items;
               nodes = [];
+              room = 0;
             })) }
         ensures stands { H.layout hasher.now ≡ ungrafted mmr
             → IfOk result (λ m. (bits : List Bool)

@@ -1,7 +1,6 @@
 //! The digests that a tree in memory keeps: how they are found, appended and written anew.
 
-ghost use Rattle.std.specs.Prelude.{◌≡◌, ℕ, ◌+◌, ◌-◌, ◌*◌, ◌%◌, ◌<◌, ◌≤◌, ◌↔◌, ◌∷◌, ◌++◌, [], List, map, take, length, get_or, All, Some, IfOk, OnErr, IsTrue, slice_get, option_map, Option};
-ghost use Rattle.storage_merkle.specs.Calc.{be8};
+ghost use Rattle.std.specs.Prelude.{◌≡◌, ℕ, ◌+◌, ◌-◌, ◌*◌, ◌%◌, ◌<◌, ◌≤◌, ◌↔◌, ◌∷◌, ◌++◌, [], List, map, take, length, get_or, All, Some, IfOk, IsOk, OnErr, vec_capacity, IsTrue, slice_get, option_map, Option};
 ghost use Rattle.storage_merkle.specs.Hashing.{node_over};
 ghost use Rattle.storage_merkle.specs.Kept.{kept_at, at_peaks, list_updated, IsClean, HoldsDigests};
 ghost use Rattle.storage_merkle.specs.Nodes.{IsNode};
@@ -56,7 +55,7 @@ pub(crate) fn look_up<F: Family, D: Digest>(
     find::<F, D>(boundary, pinned, nodes, position).copied()
 }
 
-/// The digest of the `offset`-th node, from 0, of those that are added with leaf number `leaves`, that of `element`.
+/// The digest of the `offset`-th node, from 0, of those that are added with leaf number `leaves`, whose digest is `leaf`.
 // in place, as the digest function is, so that they are compiled for parts of known lengths
 #[inline(always)]
 pub(crate) fn born<F: Family, H: Hasher<F>>(
@@ -65,7 +64,7 @@ pub(crate) fn born<F: Family, H: Hasher<F>>(
     boundary: u64,
     pinned: &[H::Digest],
     nodes: &[H::Digest],
-    element: &[u8],
+    leaf: H::Digest,
     offset: u64,
 ) -> H::Digest
     requires few { leaves < max_leaves }
@@ -75,18 +74,17 @@ pub(crate) fn born<F: Family, H: Hasher<F>>(
     requires within { size F.shape leaves + offset < size F.shape (leaves + 1) }
     requires takes { H.takes hasher.now (size F.shape leaves + offset) }
     ensures { let N = node_over H.hash_of (H.layout hasher.now) (H.chunk hasher.now) in
-        let leaf = H.hash_of (be8 (size F.shape leaves) ++ element.now) in
         (list : List (List ℕ)) (dirty : List ℕ) → length list ≡ leaves
-        → HoldsDigests F.shape (N (list ++ leaf ∷ [])) dirty boundary (size F.shape leaves + offset)
+        → HoldsDigests F.shape (N (list ++ H.Digest.text leaf ∷ [])) dirty boundary (size F.shape leaves + offset)
         (map H.Digest.text pinned.now) (map H.Digest.text nodes.now)
         → (a k : ℕ) → IsNode F.shape (size F.shape leaves + offset) a k
         → IsClean dirty a k
-        → H.Digest.text result ≡ N (list ++ leaf ∷ []) k a }
+        → H.Digest.text result ≡ N (list ++ H.Digest.text leaf ∷ []) k a }
 {
     let (first, height) = F::node_after(leaves, offset);
     let position = Position::new(F::nodes_over(leaves) + offset);
     if height == 0 {
-        return hasher.leaf_digest(position, element);
+        return leaf;
     }
     let half = power(height - 1);
     let left = find::<F, H::Digest>(
@@ -105,7 +103,7 @@ pub(crate) fn born<F: Family, H: Hasher<F>>(
     hasher.node_digest(position, left, right)
 }
 
-/// Appends to `nodes` the digests of the nodes that are added with leaf number `leaves`, that of `element`. Out of
+/// Appends to `nodes` the digests of the nodes that are added with leaf number `leaves`, whose digest is `leaf`. Out of
 /// memory changes nothing.
 #[inline(always)]
 pub(crate) fn grow<F: Family, H: Hasher<F>>(
@@ -114,7 +112,7 @@ pub(crate) fn grow<F: Family, H: Hasher<F>>(
     boundary: u64,
     pinned: &[H::Digest],
     nodes: &mut Vec<H::Digest>,
-    element: &[u8],
+    leaf: H::Digest,
 ) -> Result<(), AllocError>
     requires few { leaves < max_leaves }
     requires order { boundary ≤ leaves }
@@ -126,19 +124,22 @@ pub(crate) fn grow<F: Family, H: Hasher<F>>(
     ensures count { IfOk result (λ _.
         length nodes.new.items + size F.shape boundary ≡ size F.shape (leaves + 1)) }
     ensures grown { let N = node_over H.hash_of (H.layout hasher.now) (H.chunk hasher.now) in
-        let leaf = H.hash_of (be8 (size F.shape leaves) ++ element.now) in
         IfOk result (λ _. (list : List (List ℕ)) (dirty : List ℕ) → length list ≡ leaves
         → HoldsDigests F.shape (N list) dirty boundary (size F.shape leaves)
         (map H.Digest.text pinned.now)
         (map H.Digest.text nodes.old.items)
-        → HoldsDigests F.shape (N (list ++ leaf ∷ [])) dirty boundary (size F.shape (leaves + 1))
+        → HoldsDigests F.shape (N (list ++ H.Digest.text leaf ∷ [])) dirty boundary (size F.shape (leaves + 1))
         (map H.Digest.text pinned.now) (map H.Digest.text nodes.new.items)) }
     ensures kept { OnErr result (nodes.new.items ≡ nodes.old.items) }
+    ensures room { vec_capacity nodes.old ≤ vec_capacity nodes.new }
+    ensures none { OnErr result (vec_capacity nodes.new ≡ vec_capacity nodes.old) }
+    ensures succeeds { size F.shape (leaves + 1) ≤ vec_capacity nodes.old + size F.shape boundary
+        → IsOk result }
 {
     let more = F::nodes_over(leaves + 1) - F::nodes_over(leaves);
     nodes.reserve(more as usize)?;
     for offset in 0..more {
-        let digest = born::<F, H>(hasher, leaves, boundary, pinned, nodes, element, offset);
+        let digest = born::<F, H>(hasher, leaves, boundary, pinned, nodes, leaf, offset);
         nodes.push(digest).unwrap();
     }
     Ok(())

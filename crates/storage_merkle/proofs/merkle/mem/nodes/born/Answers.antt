@@ -1,10 +1,9 @@
 use Rattle.std.proofs.Common.{arith, rules, map, option_map, ◌+◌, ◌-◌, ◌≡◌, ◌∷◌, [], ◌++◌, ap, ◌∙◌, sym, subst}
 use Rattle.std.proofs.lemmas.List.{length-map}
 use Rattle.storage_merkle.specs.Shape.{size}
-use Rattle.storage_merkle.specs.Calc.{be8}
 use Rattle.storage_merkle.specs.Hashing.{node_over}
 use Rattle.storage_merkle.specs.Kept.{IsClean}
-use Rattle.storage_merkle.proofs.Keeping.{found, lent_some, seen, value_of, kept_some_at, kept_is, children_kept, children_of, leaf_born, leaf_place, inner_born, clean_children, some_height, same_clean}
+use Rattle.storage_merkle.proofs.Keeping.{found, lent_some, seen, value_of, kept_some_at, kept_is, children_kept, children_of, leaf_born, inner_born, clean_children, some_height, same_clean}
 use Rattle.storage_merkle.proofs.merkle.mem.nodes.born.Goals as goal
 
 pub power-half-requires : goal.power-half-requires
@@ -62,15 +61,9 @@ unwrap-right-requires g c =
 
 pub returns-then-height-eq0 : goal.returns-then-height-eq0
 returns-then-height-eq0 g c list dirty len holds a k j clean =
-    let S = g.F.Family.shape in
-    let L = g.met.F.Family.laws in
-    let z = leaf_place S L c.args.leaves c.args.offset _ _ c.if-height-eq0.true c.requires.within
-    c.node_after-first.ensures in
-    let at : c.new-position.result ≡ size S c.args.leaves =
-    c.new-position.ensures ∙ omega (arith, c.nodes_over.ensures, z) in
-    c.leaf_digest.ensures ∙ ap (λ q. g.H.Hasher.hash_of (be8 q ++ c.args.element.now)) at
-    ∙ leaf_born S L g.H.Hasher.hash_of (g.H.Hasher.layout c.args.hasher.now) (g.H.Hasher.chunk c.args.hasher.now) list _
-    c.args.leaves len c.args.offset _ _ c.if-height-eq0.true c.requires.within c.node_after-first.ensures a k j
+    leaf_born g.F.Family.shape g.met.F.Family.laws g.H.Hasher.hash_of (g.H.Hasher.layout c.args.hasher.now)
+    (g.H.Hasher.chunk c.args.hasher.now) list _ c.args.leaves len c.args.offset _ _ c.if-height-eq0.true c.requires.within
+    c.node_after-first.ensures a k j
 
 pub node_digest-requires : goal.node_digest-requires
 node_digest-requires g c =
@@ -86,7 +79,7 @@ returns g c list dirty len holds a k j clean =
     let T = g.H.Hasher.layout c.args.hasher.now in
     let chunk = g.H.Hasher.chunk c.args.hasher.now in
     let p = size S c.args.leaves + c.args.offset in
-    let grown = list ++ g.H.Hasher.hash_of (be8 (size S c.args.leaves) ++ c.args.element.now) ∷ [] in
+    let grown = list ++ f c.args.leaf ∷ [] in
     let node = node_over g.H.Hasher.hash_of T chunk grown in
     let n = c.node_after-first.result in
     let at : c.new-position.result ≡ p = c.new-position.ensures ∙ ap (λ m. m + c.args.offset) c.nodes_over.ensures in

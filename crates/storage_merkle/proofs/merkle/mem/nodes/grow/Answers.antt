@@ -2,7 +2,6 @@ use Rattle.std.proofs.Common.{arith, map, ◌≡◌, ◌+◌, ◌<◌, ◌∷◌
 use Rattle.std.proofs.lemmas.List.{length-map, map-append, length-append}
 use Rattle.storage_merkle.specs.Shape.{size}
 use Rattle.storage_merkle.specs.Nodes.{IsNode}
-use Rattle.storage_merkle.specs.Calc.{be8}
 use Rattle.storage_merkle.specs.Hashing.{node_over}
 use Rattle.storage_merkle.proofs.Keeping.{holds_old, holds_more, holds_at}
 use Rattle.storage_merkle.proofs.merkle.mem.nodes.grow.Goals as goal
@@ -14,6 +13,7 @@ loop-offset-init g c =
     let more = L.grows c.args.leaves in
     record {
       room = omega (arith, c.in_ok-reserve.ensures.ok);
+      kept_room = omega (arith, c.reserve.ensures.capacity);
       count = rw c.reserve.ensures.items (omega (arith, c.requires.count));
       held = λ list dirty len h.
           rw (add-zero, c.reserve.ensures.items) (holds_old S L g.H.Hasher.hash_of (g.H.Hasher.layout c.args.hasher.now)
@@ -26,7 +26,7 @@ loop-offset-preserved g c =
     let L = g.met.F.Family.laws in
     let f = g.H.Digest.Digest.text in
     let N = node_over g.H.Hasher.hash_of (g.H.Hasher.layout c.args.hasher.now) (g.H.Hasher.chunk c.args.hasher.now) in
-    let leaf = g.H.Hasher.hash_of (be8 (size S c.args.leaves) ++ c.args.element.now) in
+    let leaf = g.H.Digest.Digest.text c.args.leaf in
     let n = c.args.leaves in
     let o = c.loop-offset.offset in
     let more = L.grows n in
@@ -40,6 +40,7 @@ loop-offset-preserved g c =
     let next : size S n + o + 1 ≡ size S n + (o + 1) = omega arith in
     record {
       room = omega (arith, c.loop-offset.invariant.room, c.push.ensures.capacity, c.loop-offset-test.true);
+      kept_room = omega (arith, c.loop-offset.invariant.kept_room, c.push.ensures.capacity);
       count = rw (items, length-append) (omega (arith, c.loop-offset.invariant.count));
       held = λ list dirty len h.
           let before = c.loop-offset.invariant.held list dirty len h in
@@ -64,7 +65,7 @@ returns-clause-grown g c list dirty len h =
     let more = L.grows c.args.leaves in
     holds_at S L
     (node_over g.H.Hasher.hash_of (g.H.Hasher.layout c.args.hasher.now) (g.H.Hasher.chunk c.args.hasher.now)
-    (list ++ g.H.Hasher.hash_of (be8 (size S c.args.leaves) ++ c.args.element.now) ∷ [])) dirty c.args.boundary
+    (list ++ g.H.Digest.Digest.text c.args.leaf ∷ [])) dirty c.args.boundary
     (size S c.args.leaves + c.loop-offset.offset) (size S (c.args.leaves + 1)) _ _
     (omega (arith, c.nodes_over.ensures, c.nodes_over-2.ensures))
     (c.loop-offset.invariant.held list dirty len h)
