@@ -279,6 +279,18 @@ all_head P xs rest x e all = let h : All P (x ∷ rest) = subst (λ ys. All P ys
 pub all_tail : {A : Type 0} (P : A → Type 0) (xs rest : List A) (x : A) → xs ≡ x ∷ rest → All P xs → All P rest
 all_tail P xs rest x e all k d l = let h : All P (x ∷ rest) = subst (λ ys. All P ys) e all in h (suc k) d (omega arith)
 
+-- the leaves of a list of updates, one by one
+pub places_head : {D : Type 0} (updates rest : List (ℕ × D)) (u : ℕ × D) → updates ≡ u ∷ rest → (leaf : ℕ)
+    → Contains (u.0 ∷ []) leaf → Contains (map (λ v. v.0) updates) leaf
+places_head updates rest u e leaf (zero, below, is) =
+    subst (λ us. Contains (map (λ v. v.0) us) leaf) (sym e) (0, omega arith, is)
+places_head updates rest u e leaf (suc k, below, is) = absurd (omega arith)
+
+pub places_tail : {D : Type 0} (updates rest : List (ℕ × D)) (u : ℕ × D) → updates ≡ u ∷ rest → (leaf : ℕ)
+    → Contains (map (λ v. v.0) rest) leaf → Contains (map (λ v. v.0) updates) leaf
+places_tail updates rest u e leaf among =
+    subst (λ us. Contains (map (λ v. v.0) us) leaf) (sym e) (suc among.0, omega (arith, among.1), among.2)
+
 contains_front : (xs ys : List ℕ) (n : ℕ) → Contains xs n → Contains (xs ++ ys) n
 contains_front xs ys n c = (c.0, omega (arith, length-append xs ys, c.1), get_or_append_left xs ys n c.0 c.1 ∙ c.2)
 

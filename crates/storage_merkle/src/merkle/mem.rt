@@ -2,6 +2,7 @@
 
 ghost use Rattle.std.specs.Prelude.{◌≡◌, ℕ, ◌+◌, ◌<◌, ◌≤◌, ◌∷◌, ◌++◌, [], ◌⊎◌, List, map, max, min, take, length, slice_index, All, IfOk, IsOk, OnOk, OnErr, IfErr, MatchOption};
 ghost use Rattle.storage_merkle.specs.Calc.{be8};
+ghost use Rattle.storage_merkle.specs.Hashers.{TakesGrowth, TakesOver};
 ghost use Rattle.storage_merkle.specs.Hashing.{node_over, peak_digests, root_of};
 ghost use Rattle.storage_merkle.specs.Kept.{NodesOver, StandsBut, StandsFor, IsFirstAway, IsWhole, HasRoomFor, at_peaks, kept_at, pins, list_updated};
 ghost use Rattle.storage_merkle.specs.Shape.{size, max_leaves};
@@ -187,10 +188,8 @@ impl<F: Family, D: Digest> Mem<F, D> {
         hasher: &H,
         element: &[u8],
     ) -> Result<(), Error<F>>
-        requires { (p : ℕ) → self.old.leaves < max_leaves
-            → size F.shape self.old.leaves ≤ p
-            → p < size F.shape (self.old.leaves + 1)
-            → H.takes hasher.now p }
+        requires { self.old.leaves < max_leaves → TakesGrowth (H.takes hasher.now) F.shape
+            self.old.leaves (self.old.leaves + 1) }
         ensures grown { let N = node_over H.hash_of (H.layout hasher.now) (H.chunk hasher.now) in
             IfOk result (λ _. (list : List (List ℕ)) (dirty : List ℕ)
             → StandsBut D.text F.shape N dirty self.old list → StandsBut D.text F.shape N dirty
@@ -221,10 +220,8 @@ impl<F: Family, D: Digest> Mem<F, D> {
         hasher: &H,
         digest: D,
     ) -> Result<(), Error<F>>
-        requires { (p : ℕ) → self.old.leaves < max_leaves
-            → size F.shape self.old.leaves ≤ p
-            → p < size F.shape (self.old.leaves + 1)
-            → H.takes hasher.now p }
+        requires { self.old.leaves < max_leaves → TakesGrowth (H.takes hasher.now) F.shape
+            self.old.leaves (self.old.leaves + 1) }
         ensures grown { let N = node_over H.hash_of (H.layout hasher.now) (H.chunk hasher.now) in
             IfOk result (λ _. (list : List (List ℕ)) (dirty : List ℕ)
             → StandsBut D.text F.shape N dirty self.old list
@@ -301,7 +298,8 @@ impl<F: Family, D: Digest> Mem<F, D> {
         hasher: &H,
         updates: &[(Location<F>, D)],
     ) -> Result<(), Error<F>>
-        requires { (p : ℕ) → p < size F.shape self.old.leaves → H.takes hasher.now p }
+        requires { All (λ u. (self.old.boundary ≤ u.0) × (u.0 < self.old.leaves)) updates.now
+            → TakesOver (H.takes hasher.now) F.shape self.old.leaves (map (λ u. u.0) updates.now) }
         ensures written { let N = node_over H.hash_of (H.layout hasher.now) (H.chunk hasher.now) in
             OnOk result ((list : List (List ℕ)) (dirty : List ℕ) → StandsBut D.text F.shape N
             (map (λ u. u.0) updates.now ++ dirty) self.old list → StandsBut D.text F.shape N dirty

@@ -1,6 +1,7 @@
 //! The digests that a tree in memory keeps: how they are found, appended and written anew.
 
 ghost use Rattle.std.specs.Prelude.{◌≡◌, ℕ, ◌+◌, ◌-◌, ◌*◌, ◌%◌, ◌<◌, ◌≤◌, ◌↔◌, ◌∷◌, ◌++◌, [], List, map, take, length, get_or, All, Some, IfOk, IsOk, OnErr, vec_capacity, IsTrue, slice_get, option_map, Option};
+ghost use Rattle.storage_merkle.specs.Hashers.{IsInner, TakesGrowth, TakesOver};
 ghost use Rattle.storage_merkle.specs.Hashing.{node_over};
 ghost use Rattle.storage_merkle.specs.Kept.{kept_at, at_peaks, list_updated, IsClean, HoldsDigests};
 ghost use Rattle.storage_merkle.specs.Nodes.{IsNode};
@@ -72,7 +73,8 @@ pub(crate) fn born<F: Family, H: Hasher<F>>(
     requires pins { length pinned.now ≡ length (F.shape.peaks boundary) }
     requires count { length nodes.now + size F.shape boundary ≡ size F.shape leaves + offset }
     requires within { size F.shape leaves + offset < size F.shape (leaves + 1) }
-    requires takes { H.takes hasher.now (size F.shape leaves + offset) }
+    requires takes { (a k : ℕ) → IsInner F.shape (size F.shape leaves + offset) a k
+        → H.takes hasher.now (size F.shape leaves + offset) }
     ensures { let N = node_over H.hash_of (H.layout hasher.now) (H.chunk hasher.now) in
         (list : List (List ℕ)) (dirty : List ℕ) → length list ≡ leaves
         → HoldsDigests F.shape (N (list ++ H.Digest.text leaf ∷ [])) dirty boundary (size F.shape leaves + offset)
@@ -118,9 +120,7 @@ pub(crate) fn grow<F: Family, H: Hasher<F>>(
     requires order { boundary ≤ leaves }
     requires pins { length pinned.now ≡ length (F.shape.peaks boundary) }
     requires count { length nodes.old.items + size F.shape boundary ≡ size F.shape leaves }
-    requires takes { (p : ℕ) → size F.shape leaves ≤ p
-        → p < size F.shape (leaves + 1)
-        → H.takes hasher.now p }
+    requires takes { TakesGrowth (H.takes hasher.now) F.shape leaves (leaves + 1) }
     ensures count { IfOk result (λ _.
         length nodes.new.items + size F.shape boundary ≡ size F.shape (leaves + 1)) }
     ensures grown { let N = node_over H.hash_of (H.layout hasher.now) (H.chunk hasher.now) in
@@ -217,7 +217,7 @@ pub(crate) fn write_leaf<F: Family, H: Hasher<F>>(
     requires within { place < leaves }
     requires pins { length pinned.now ≡ length (F.shape.peaks boundary) }
     requires count { length nodes.old + size F.shape boundary ≡ size F.shape leaves }
-    requires takes { (p : ℕ) → p < size F.shape leaves → H.takes hasher.now p }
+    requires takes { TakesOver (H.takes hasher.now) F.shape leaves (place ∷ []) }
     ensures { let N = node_over H.hash_of (H.layout hasher.now) (H.chunk hasher.now) in
         (list : List (List ℕ)) (rest : List ℕ) → IsNext next rest
         → HoldsDigests F.shape (N list) (place ∷ rest) boundary (size F.shape leaves)
@@ -261,7 +261,7 @@ pub(crate) fn write_leaves<F: Family, H: Hasher<F>>(
     requires there { All (λ u. (boundary ≤ u.0) × (u.0 < leaves)) updates.now }
     requires pins { length pinned.now ≡ length (F.shape.peaks boundary) }
     requires count { length nodes.old + size F.shape boundary ≡ size F.shape leaves }
-    requires takes { (p : ℕ) → p < size F.shape leaves → H.takes hasher.now p }
+    requires takes { TakesOver (H.takes hasher.now) F.shape leaves (map (λ u. u.0) updates.now) }
     ensures { let N = node_over H.hash_of (H.layout hasher.now) (H.chunk hasher.now) in
         (list : List (List ℕ)) (dirty : List ℕ) → length list ≡ leaves
         → HoldsDigests F.shape (N list) (map (λ u. u.0) updates.now ++ dirty) boundary

@@ -20,7 +20,7 @@ loop-index-init g c = record {
 }
 
 pub add-requires : goal.add-requires
-add-requires g c p few low high =
+add-requires g c few p a k inner low high =
     let more : c.loop-index.index < c.len.result / (8 * g.row.N) = c.loop-index-test.true in
     let e : c.len.result / (8 * g.row.N) ≡ bit_count g.row.N c.args.bits.now / (8 * g.row.N) =
     ap (λ m. m / (8 * g.row.N)) c.len.ensures.value in

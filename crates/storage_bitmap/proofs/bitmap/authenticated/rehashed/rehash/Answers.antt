@@ -9,7 +9,7 @@ use Rattle.storage_bitmap.proofs.Rehashing.{rewritten, chunks_fit, none_away}
 use Rattle.storage_bitmap.proofs.bitmap.authenticated.rehashed.rehash.Goals as goal
 
 pub update_leaves-requires : goal.update_leaves-requires
-update_leaves-requires g c p l =
+update_leaves-requires g c there p a k leaf inner below among low high =
     let up : size mmr c.args.tree.now.leaves ≤ size mmr (bit_count g.row.N c.args.bits.now / (8 * g.row.N)) =
     grows_at_most (size mmr) mmr_laws.grows c.args.tree.now.leaves
     (bit_count g.row.N c.args.bits.now / (8 * g.row.N)) c.requires.leaves in

@@ -10,6 +10,11 @@ pub returns-then-away-self-clause-why : goal.returns-then-away-self-clause-why
 returns-then-away-self-clause-why g c =
     rw (← c.self.view_is) (c.in-Some.away, c.in-Some.ensures.0, inl (c.if-away-self.true, (cc)))
 
+pub write_leaves-requires-clause-takes : goal.write_leaves-requires-clause-takes
+write_leaves-requires-clause-takes g c =
+    let takes = rw (← c.self.view_is) at c.requires in
+    takes c.in_default.ensures
+
 pub returns-clause-written : goal.returns-clause-written
 returns-clause-written g c list dirty s =
     let s' = rw (← c.self.view_is) at s in

@@ -1,4 +1,4 @@
-use Rattle.std.proofs.Common.{arith, rules, map, option_map, ◌+◌, ◌-◌, ◌≡◌, ◌∷◌, [], ◌++◌, ap, ◌∙◌, sym, subst}
+use Rattle.std.proofs.Common.{arith, rules, map, option_map, ◌+◌, ◌-◌, ◌≡◌, ◌≤◌, ◌∷◌, [], ◌++◌, ap, ◌∙◌, sym, subst}
 use Rattle.std.proofs.lemmas.List.{length-map}
 use Rattle.storage_merkle.specs.Shape.{size}
 use Rattle.storage_merkle.specs.Hashing.{node_over}
@@ -69,7 +69,8 @@ pub node_digest-requires : goal.node_digest-requires
 node_digest-requires g c =
     let at : c.new-position.result ≡ size g.F.Family.shape c.args.leaves + c.args.offset =
     c.new-position.ensures ∙ ap (λ m. m + c.args.offset) c.nodes_over.ensures in
-    subst (λ q. g.H.Hasher.takes c.args.hasher.now q) (sym at) c.requires.takes
+    subst (λ q. g.H.Hasher.takes c.args.hasher.now q) (sym at) (c.requires.takes _ _
+    (c.node_after-first.ensures, let above : 1 ≤ c.node_after-first.result.1 = omega (arith, c.if-height-eq0.false) in above))
 
 pub returns : goal.returns
 returns g c list dirty len holds a k j clean =

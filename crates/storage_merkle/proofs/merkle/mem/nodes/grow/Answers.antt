@@ -52,11 +52,11 @@ loop-offset-preserved g c =
     }
 
 pub born-digest-requires-clause-takes : goal.born-digest-requires-clause-takes
-born-digest-requires-clause-takes g c =
+born-digest-requires-clause-takes g c a k inner =
     let S = g.F.Family.shape in
     let within : size S c.args.leaves + c.loop-offset.offset < size S (c.args.leaves + 1) =
     omega (arith, c.nodes_over.ensures, c.nodes_over-2.ensures, c.loop-offset-test.true) in
-    c.requires.takes (size S c.args.leaves + c.loop-offset.offset) (omega arith) within
+    c.requires.takes (size S c.args.leaves + c.loop-offset.offset) a k inner (omega arith) within
 
 pub returns-clause-grown : goal.returns-clause-grown
 returns-clause-grown g c list dirty len h =

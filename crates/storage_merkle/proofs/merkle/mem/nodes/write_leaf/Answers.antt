@@ -1,4 +1,4 @@
-use Rattle.std.proofs.Common.{arith, rules, map, length, ◌≡◌, ◌-◌, ◌*◌, ◌/◌, ◌<◌, ◌≤◌, ◌^◌, ap, ap₂, ◌∙◌}
+use Rattle.std.proofs.Common.{arith, rules, map, length, ◌≡◌, ◌-◌, ◌*◌, ◌/◌, ◌<◌, ◌≤◌, ◌^◌, refl, ap, ap₂, ◌∙◌}
 use Rattle.std.proofs.lemmas.List.{length-map, map-set, length-set}
 use Rattle.storage_merkle.specs.Shape.{size}
 use Rattle.storage_merkle.specs.Laws.Shape.{grows_at_most, grows_below}
@@ -63,12 +63,16 @@ returns-then-birth-leaves g c list rest is h e =
 
 pub above-digest-requires-clause-takes : goal.above-digest-requires-clause-takes
 above-digest-requires-clause-takes g c =
-    let f : c.args.place / c.power.result * c.power-in-loop-height.result ≡ over c.args.place c.loop-height.height =
+    let k = c.loop-height.height in
+    let f : c.args.place / c.power.result * c.power-in-loop-height.result ≡ over c.args.place k =
     ap₂ (λ x y. c.args.place / x * y) c.power.ensures c.power-in-loop-height.ensures in
-    let b : c.birth.result ≡ g.F.Family.shape.birth (over c.args.place c.loop-height.height) c.loop-height.height =
-    c.birth.ensures ∙ ap (λ m. g.F.Family.shape.birth m c.loop-height.height) f in
-    c.requires.takes _
-    (place_early g.F.Family.shape g.met.F.Family.laws c.args.leaves c.args.place c.loop-height.height (omega arith))
+    let b : c.birth.result ≡ g.F.Family.shape.birth (over c.args.place k) k =
+    c.birth.ensures ∙ ap (λ m. g.F.Family.shape.birth m k) f in
+    let o = over_is c.args.place k in
+    c.requires.takes _ (over c.args.place k) k c.args.place
+    (record { aligned = o.aligned; at = refl }, let above : 1 ≤ k = omega arith in above)
+    (place_early g.F.Family.shape g.met.F.Family.laws c.args.leaves c.args.place k (omega arith))
+    (0, omega arith, refl) o.low o.high
 
 pub position-requires-clause-aligned : goal.position-requires-clause-aligned
 position-requires-clause-aligned g c = let o = over_is c.args.place c.loop-height.height in

@@ -1,10 +1,11 @@
 use Rattle.std.proofs.Common.{arith, ◌≤◌, ◌<◌, map, refl}
-use Rattle.storage_merkle.proofs.Rewriting.{halfway_next, halfway_end, all_head, all_tail}
+use Rattle.storage_merkle.proofs.Rewriting.{halfway_next, halfway_end, all_head, all_tail, places_head, places_tail}
 use Rattle.storage_merkle.proofs.merkle.mem.nodes.write_leaves.Goals as goal
 
 pub loop-update-init : goal.loop-update-init
 loop-update-init g c = record {
   there = c.requires.there;
+  among = λ j m. m;
   held = λ list dirty len h. record { now = list; len = len; same = refl; holds = h };
 }
 
@@ -20,6 +21,12 @@ write_leaf-requires-clause-within g c =
     c.in-Some.update.now c.in-Some.ensures.cases.0 c.loop-update.invariant.there in
     omega (arith, h.1, c.as_u64-place.ensures)
 
+pub write_leaf-requires-clause-takes : goal.write_leaf-requires-clause-takes
+write_leaf-requires-clause-takes g c p a k leaf inner within among low high =
+    c.requires.takes p a k leaf inner within (c.loop-update.invariant.among leaf
+    (places_head c.loop-update.left.now c.in-Some.rest.now c.in-Some.update.now c.in-Some.ensures.cases.0 leaf
+    (rw c.as_u64-place.ensures at among))) low high
+
 pub loop-update-smaller : goal.loop-update-smaller
 loop-update-smaller g c = omega (arith, c.in-Some.ensures.cases.1)
 
@@ -32,6 +39,8 @@ loop-update-preserved g c =
     record {
       there = all_tail (λ u. (c.args.boundary ≤ u.0) × (u.0 < c.args.leaves)) c.loop-update.left.now c.in-Some.rest.now
           c.in-Some.update.now c.in-Some.ensures.cases.0 c.loop-update.invariant.there;
+      among = λ j m. c.loop-update.invariant.among j
+          (places_tail c.loop-update.left.now c.in-Some.rest.now c.in-Some.update.now c.in-Some.ensures.cases.0 j m);
       held = λ list dirty len e. halfway_next g.F.Family.shape g.met.F.Family.laws g.H.Hasher.hash_of
           (g.H.Hasher.layout c.args.hasher.now) (g.H.Hasher.chunk c.args.hasher.now) f list c.args.updates.now
           c.loop-update.left.now c.in-Some.rest.now c.in-Some.update.now dirty c.args.boundary c.args.leaves

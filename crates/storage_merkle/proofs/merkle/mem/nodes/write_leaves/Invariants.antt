@@ -1,4 +1,4 @@
-use Rattle.std.proofs.Common.{All, ◌≡◌, ◌≤◌, ◌<◌, ◌++◌, ℕ, List, length, map}
+use Rattle.std.proofs.Common.{All, Contains, ◌≡◌, ◌≤◌, ◌<◌, ◌++◌, ℕ, List, length, map}
 use Rattle.storage_merkle.specs.Shape.{size}
 use Rattle.storage_merkle.specs.Hashing.{node_over}
 use Rattle.storage_merkle.specs.Kept.{HoldsDigests}
@@ -13,6 +13,7 @@ invariant-loop-update g l =
     let chunk = g.H.Hasher.chunk l.hasher in
     record {
       there : All (λ u. (l.boundary ≤ u.0) × (u.0 < l.leaves)) l.left;
+      among : (j : ℕ) → Contains (map (λ u. u.0) l.left) j → Contains (map (λ u. u.0) l.fn.updates) j;
       held : (list : List (List ℕ)) (dirty : List ℕ) → length list ≡ l.leaves
           → HoldsDigests S (node_over g.H.Hasher.hash_of T chunk list) (map (λ u. u.0) l.fn.updates ++ dirty) l.boundary
           (size S l.leaves) (map f l.pinned) (map f l.fn.nodes) → Halfway S g.met.F.Family.laws g.H.Hasher.hash_of T
