@@ -10,32 +10,36 @@ use Rattle.storage_merkle.specs.Laws.Multiples.{pow_two, in_units}
 use Rattle.storage_merkle.specs.Pace.{ChunksKeepPace}
 use Rattle.storage_merkle.specs.Laws.Shape.{grows_at_most}
 use Rattle.storage_merkle.specs.Calc.{be8}
-use Rattle.storage_merkle.specs.Trees.{ungrafted}
-use Rattle.storage_merkle.specs.Hashing.{node_over}
-use Rattle.storage_current.specs.Combined.{over_chunks}
-use Rattle.storage_current.specs.CombinedViews.{AnswersAreTrue, AreAnswersOf, AreGraftedLeaves, both, chunk_node, operations_node}
+use Rattle.storage_current.specs.CombinedViews.{AnswersAreTrue, AreAnswersOf, AreFirstGraftedLeaves, AreGraftedLeaves, both, chunk_node, grafted_node, operations_node}
+use Rattle.storage_current.specs.GraftedTrees.{IsHashedOver}
 use Rattle.storage_current.specs.Laws.Grafting.{graftable_by_birth}
-use Rattle.storage_current.specs.Snapshots.{Grafting, IsGrafting, height, graftable_at, Snapshot, IsSnapshot, view_node}
+use Rattle.storage_current.specs.Snapshots.{Grafting, IsGrafting, height, graftable, graftable_at, Snapshot, IsSnapshot, view_node}
 use Rattle.storage_current.proofs.Joined.{joined_below, joined_above}
 use Rattle.storage_current.proofs.NodeSteps.{view_low, view_above}
 
-module _ (h : HashFunction) (g : Grafting) (grafting : IsGrafting g) (s : Snapshot) (leaves : List (List ℕ))
-    (grafted : AreGraftedLeaves h g s leaves) where
-  -- a node over chunks is the view's
-  over_view : (k a : ℕ) → a + 2 ^ k ≤ length leaves → node_over h (over_chunks (height g) (ungrafted g.shape))
-      (λ a. []) leaves k a ≡ view_node h g s (a * 2 ^ height g) (k + height g)
-  over_view zero a l = let e : zero + height g ≡ height g = omega arith in
-      rw e (grafted.each a (omega (arith, pow_pos 0)))
-  over_view (suc k) a l =
-      let P : ℕ = 2 ^ height g in
+module _ (h : HashFunction) (g : Grafting) (s : Snapshot) where
+  -- over chunks a node of the view is hashed from its halves
+  pub grafted_halves : IsHashedOver h g.shape (height g) (grafted_node h g s)
+  grafted_halves a k =
       let less : suc k + height g - 1 ≡ k + height g = omega arith in
       let right : (a + 2 ^ k) * 2 ^ height g ≡ a * 2 ^ height g + 2 ^ (k + height g) =
       add-mul a (2 ^ k) (2 ^ height g) ∙ ap (λ x. a * 2 ^ height g + x) (sym (pow-add 2 k (height g))) in
+      rw (right, ← less) (view_above h g s (a * 2 ^ height g) (suc k + height g) (omega arith))
+
+  -- a node over the first of them is the view's
+  pub over_view : (leaves : List (List ℕ)) → AreFirstGraftedLeaves h g s leaves → (k a : ℕ) → a + 2 ^ k ≤ length leaves
+      → chunk_node h g leaves a k ≡ grafted_node h g s a k
+  over_view leaves grafted zero a l = let e : zero + height g ≡ height g = omega arith in
+      rw e (grafted.each a (omega (arith, pow_pos 0)))
+  over_view leaves grafted (suc k) a l =
       let two = pow_two k in
-      let low = over_view k a (omega arith) in
-      let high = rw right at (over_view k (a + 2 ^ k) (omega arith)) in
-      ap₂ (λ x y. h (be8 (g.shape.position (a * 2 ^ height g) (suc k + height g)) ++ (x ++ y))) low high
-      ∙ sym (rw less at (view_above h g s (a * 2 ^ height g) (suc k + height g) (omega arith)))
+      ap₂ (λ x y. h (be8 (g.shape.position (a * 2 ^ height g) (suc k + height g)) ++ (x ++ y)))
+      (over_view leaves grafted k a (omega arith)) (over_view leaves grafted k (a + 2 ^ k) (omega arith))
+      ∙ sym (grafted_halves a k)
+
+  -- all of them are the first
+  pub first_of_all : (leaves : List (List ℕ)) → AreGraftedLeaves h g s leaves → AreFirstGraftedLeaves h g s leaves
+  first_of_all leaves grafted = record { few = omega (arith, grafted.count); each = grafted.each }
 
 -- what both trees as one have at a node of the view: below the chunks' height the operations' node, else the node over chunks
 pub record IsBelow {D : Type 0} (h : HashFunction) (g : Grafting) (s : Snapshot) (chunks operations : ℕ → Option D)
@@ -44,16 +48,15 @@ pub record IsBelow {D : Type 0} (h : HashFunction) (g : Grafting) (s : Snapshot)
   pub read : both g s chunks operations p ≡ operations p
   pub same : operations_node h g s a k ≡ view_node h g s a k
 
-pub record IsAbove {D : Type 0} (h : HashFunction) (g : Grafting) (s : Snapshot) (leaves : List (List ℕ))
-    (chunks operations : ℕ → Option D) (p a k : ℕ) : Type 0 where
+pub record IsAbove {D : Type 0} (h : HashFunction) (g : Grafting) (s : Snapshot) (chunks operations : ℕ → Option D)
+    (p a k : ℕ) : Type 0 where
   pub position : ℕ
   pub first : ℕ
   pub over : ℕ
   pub node : IsNode g.shape position first over
-  pub covers : CoversSame g.shape (height g) position p
-  pub within : position < size g.shape (length leaves)
+  pub within : position < size g.shape (graftable g (length s.operations))
   pub read : both g s chunks operations p ≡ chunks position
-  pub same : chunk_node h g leaves first over ≡ view_node h g s a k
+  pub same : grafted_node h g s first over ≡ view_node h g s a k
 
 -- the node over chunks that covers the operations of a node at least as high as theirs
 pub record Cover (S : Shape) (g count p a k : ℕ) : Type 0 where
@@ -96,28 +99,26 @@ cover S L g n count pace all p a k node within m =
     }
 
 module _ (h : HashFunction) (g : Grafting) (pace : ChunksKeepPace g.shape (height g)) (grafting : IsGrafting g)
-    (s : Snapshot) (snapshot : IsSnapshot s) (leaves : List (List ℕ)) (grafted : AreGraftedLeaves h g s leaves)
-    {D : Type 0} (chunks operations : ℕ → Option D) where
+    (s : Snapshot) (snapshot : IsSnapshot s) {D : Type 0} (chunks operations : ℕ → Option D) where
   above : (p a k : ℕ) → p < size g.shape (length s.operations) → p ≤ size g.shape (2 ^ 62) → IsNode g.shape p a k
-      → height g ≤ k → IsAbove h g s leaves chunks operations p a k
+      → height g ≤ k → IsAbove h g s chunks operations p a k
   above p a k within valid node m =
       let S = g.shape in
       let L = grafting.laws in
       let n = length s.operations in
-      let c = cover S L (height g) n (length leaves) pace grafted.count p a k node within m in
+      let c = cover S L (height g) n (graftable g n) pace refl p a k node within m in
       record {
         position = c.position;
         first = c.first;
         over = c.over;
         node = c.node;
-        covers = c.covers;
         within = c.within;
         read = joined_above S L (height g) (size S n) chunks operations p c.position within valid c.covers;
-        same = over_view h g grafting s leaves grafted c.over c.first c.ends ∙ ap₂ (view_node h g s) c.starts c.high;
+        same = ap₂ (view_node h g s) c.starts c.high;
       }
 
-  pub joined_at : (p a k : ℕ) → p < size g.shape (length s.operations) → IsNode g.shape p a k
-      → IsBelow h g s chunks operations p a k ⊎ IsAbove h g s leaves chunks operations p a k
+  joined_at : (p a k : ℕ) → p < size g.shape (length s.operations) → IsNode g.shape p a k
+      → IsBelow h g s chunks operations p a k ⊎ IsAbove h g s chunks operations p a k
   joined_at p a k within node =
       let S = g.shape in
       let L = grafting.laws in
@@ -134,7 +135,7 @@ module _ (h : HashFunction) (g : Grafting) (pace : ChunksKeepPace g.shape (heigh
       ]
 
   module _ (text : D → List ℕ) where
-    pub joined_view : AreAnswersOf text g.shape (length leaves) (chunk_node h g leaves) chunks
+    pub joined_view : AreAnswersOf text g.shape (graftable g (length s.operations)) (grafted_node h g s) chunks
         → AreAnswersOf text g.shape (length s.operations) (operations_node h g s) operations
         → AreAnswersOf text g.shape (length s.operations) (view_node h g s) (both g s chunks operations)
     joined_view over below p a k within node = elim (joined_at p a k within node) [
@@ -142,7 +143,7 @@ module _ (h : HashFunction) (g : Grafting) (pace : ChunksKeepPace g.shape (heigh
       | inr it ↦ ap (option_map text) it.read ∙ over it.position it.first it.over it.within it.node ∙ ap Some it.same
     ]
 
-    pub joined_true : AnswersAreTrue text g.shape (length leaves) (chunk_node h g leaves) chunks
+    pub joined_true : AnswersAreTrue text g.shape (graftable g (length s.operations)) (grafted_node h g s) chunks
         → AnswersAreTrue text g.shape (length s.operations) (operations_node h g s) operations
         → AnswersAreTrue text g.shape (length s.operations) (view_node h g s) (both g s chunks operations)
     joined_true over below p a k digest within node is = elim (joined_at p a k within node) [

@@ -21,6 +21,7 @@ mod Pruning
 mod CombinedViews
 mod StoresOfViews
 mod PrunedViews
+mod KeptChunks
 mod Regrafting
 mod Exclusions
 mod Splitting

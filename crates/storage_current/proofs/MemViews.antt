@@ -19,17 +19,17 @@ use Rattle.storage_merkle.specs.Laws.Multiples.{is_multiple}
 use Rattle.storage_merkle.specs.Laws.Shape.{every, grows_at_most, no_peaks}
 use Rattle.storage_merkle.specs.Trees.{ungrafted, listed, tree_node}
 use Rattle.storage_bitmap.specs.Chunks.{chunk}
-use Rattle.storage_current.specs.CombinedViews.{AnswersAreTrue, AreGraftedLeaves, chunk_node}
+use Rattle.storage_current.specs.CombinedViews.{AnswersAreTrue, AreGraftedLeaves, chunk_node, grafted_node}
 use Rattle.storage_current.specs.GraftedTrees.{KeptChunks, Keeps, regrafted, join_over, tree_at}
 use Rattle.storage_current.specs.Laws.Grafting.{graftable_by_birth}
 use Rattle.storage_current.specs.NodeLists.{AreHad, AreNodes, IsGrown, IsOver, IsTreeOver, KeptTree, plain_over, seen_in, seen_list}
 use Rattle.storage_current.specs.Snapshots.{Grafting, IsGrafting, Snapshot, IsSnapshot, graftable, graftable_at, height, view_node}
-use Rattle.storage_current.proofs.CombinedViews.{cover, joined_true}
+use Rattle.storage_current.proofs.CombinedViews.{cover, first_of_all, grafted_halves, joined_true}
 use Rattle.storage_current.proofs.Joined.{joined_above, joined_below, joined_past}
 use Rattle.storage_current.proofs.NodeLists.{all_answers, are_nodes, had_text, length-texts}
 use Rattle.storage_current.proofs.NodeSteps.{hashed_graft}
-use Rattle.storage_current.proofs.Pinned.{covered}
-use Rattle.storage_current.proofs.PrunedViews.{had_true, regrafted_is}
+use Rattle.storage_current.proofs.KeptChunks.{unpruned_each}
+use Rattle.storage_current.proofs.PrunedViews.{keeps_true, regrafted_is, regrafted_true}
 use Rattle.storage_current.proofs.Rebuilt.{covered_some}
 
 -- ---- the tree over the operations
@@ -101,13 +101,9 @@ module _ (S : Shape) (L : Laws S) {D : Type 0} (digest : List ℕ → D) (text :
   chunks_some : (g : ℕ) (leaves : List D) (q a k : ℕ) → IsNode S q a k → q < size S (length leaves)
       → IsSome (regrafted digest text S g (tree_at S 0 [] leaves) q)
   chunks_some g leaves q a k node within =
-      let here : S.position a k < size S (length leaves) = omega (arith, node.at) in
-      let born : S.birth a k ≤ length leaves = (L.born (length leaves) a k node.aligned).0 here in
       ap is_some (regrafted_is S L digest text g (tree_at S 0 [] leaves) q a k node)
       ∙ covered_some S (join_over digest text S g) (tree_at S 0 [] leaves) k a
-      (covered S L 0 [] leaves (sym (ap length (no_peaks S L))) k a node.aligned (omega (arith, born, L.late a k))
-      (λ i. absurd (let b : S.birth a k ≤ 0 = (L.inside 0 a k node.aligned).0 i in
-      omega (arith, L.late a k, pow_pos k))))
+      (unpruned_each S L 0 [] leaves (sym (ap length (no_peaks S L))) refl q a k within node)
 
   pub tree_some : (g : ℕ) (t : KeptChunks D) (ds : List D) (q a k : ℕ) → AreMade text S t ds → IsNode S q a k
       → q < size S (length ds) → IsSome (regrafted digest text S g (tree_at S t.pruned t.pinned t.leaves) q)
@@ -171,8 +167,10 @@ module _ {D : Type 0} (digest : List ℕ → D) (text : D → List ℕ) (h : Has
       let chunks = regrafted digest text S (height g) (tree_at S t.pruned t.pinned t.leaves) in
       let operations = kept_at S m.boundary m.pinned m.nodes in
       let true_of : AnswersAreTrue text S m.leaves (view_node h g s) (seen_in digest text S (height g) m t) =
-      rw n (joined_true h g pace grafting s snapshot leaves grafted chunks operations text
-      (had_true digest text h told g grafting.laws leaves t kept)
+      rw n (joined_true h g pace grafting s snapshot chunks operations text
+      (regrafted_true digest text h told S grafting.laws (height g) (graftable g (length s.operations))
+      (grafted_node h g s) (grafted_halves h g s) (tree_at S t.pruned t.pinned t.leaves)
+      (keeps_true text h g grafting.laws s leaves (first_of_all h g s leaves grafted) t kept))
       (kept_true text h S grafting.laws m keeps grown s.operations over)) in
       are_nodes text (seen_in digest text S (height g) m t) S m.leaves (view_node h g s) had
       (all_answers text (seen_in digest text S (height g) m t) S m.leaves (view_node h g s) had true_of)

@@ -13,7 +13,7 @@ use Rattle.storage_merkle.specs.Nodes.{placed}
 use Rattle.storage_merkle.specs.Laws.Multiples.{pow_two, pow_order, next, multiple_add, multiple_down, power_multiple, is_multiple}
 use Rattle.storage_merkle.specs.Laws.Shape.{inside_between, grows_at_most, grows_below, leaves_of_size}
 use Rattle.storage_merkle.specs.Kept.{at_peaks, paired, pins}
-use Rattle.storage_current.specs.GraftedTrees.{IsCoverable, IsKeptIn, IsUnder, leaf_places, tree_at}
+use Rattle.storage_current.specs.GraftedTrees.{IsCoverable, IsKeptIn, IsPeak, IsUnder, leaf_places, tree_at}
 
 neq-eqb : (a b : ℕ) → a ≢ b → eqb a b ≡ false
 neq-eqb a b ne = ⊎_elim (λ (x : (eqb a b ≡ true) × (a ≡ b)). absurd (ne x.1)) (λ (y : (eqb a b ≡ false) × (a ≢ b)). y.0)
@@ -21,7 +21,7 @@ neq-eqb a b ne = ⊎_elim (λ (x : (eqb a b ≡ true) × (a ≡ b)). absurd (ne 
 
 -- ---- by what each digest is seen as
 
-paired-map : {D E : Type 0} (f : D → E) (p : ℕ) (qs : List ℕ) (ds : List D)
+pub paired-map : {D E : Type 0} (f : D → E) (p : ℕ) (qs : List ℕ) (ds : List D)
     → option_map f (paired p qs ds) ≡ paired p qs (map f ds)
 paired-map f p [] ds = refl
 paired-map f p (q ∷ qs) [] = refl
@@ -110,11 +110,6 @@ module _ (S : Shape) (L : Laws S) where
   no_size place p low high ne j e = ne (ap (size S) (leaves_of_size S L place j p e low high) ∙ e)
 
 -- ---- pins
-
--- the node is one of the peaks, which begin at the leaf s
-abbrev pub IsPeak : List ℕ → ℕ → ℕ → ℕ → Type 0
-IsPeak [] s a k = ⊥
-IsPeak (h ∷ hs) s a k = ((s ≡ a) × (h ≡ k)) ⊎ IsPeak hs (s + 2 ^ h) a k
 
 pub peak_inside : (hs : List ℕ) (s a k : ℕ) → IsPeak hs s a k → Inside hs s a k
 unfolding Inside
@@ -278,6 +273,32 @@ module _ (S : Shape) where
         (let x : Some (get_or ls r.place []) ≡ Some d = sym (slice_get-get_or ls r.place [] r.within) ∙ r.is in cc) in
         sym value ∙ ap (λ xs. get_or xs r.place []) el ∙ get_or-drop b list r.place []
         ∙ sym (leaf (b + r.place)) ∙ ap₂ (λ x y. node y x) i.0 i.1)
+        (cases_lt (S.position a k) (size S b))
+
+    -- what is kept past the pins is of a leaf
+    pub record IsLeaf (b count a k : ℕ) : Type 0 where
+      pub level : k ≡ 0
+      pub place : b ≤ a
+      pub within : a < b + count
+
+    pub leaf_is : {D : Type 0} (b : ℕ) (ps ls : List D) (a k : ℕ) (d : D) → a % 2 ^ k ≡ 0 → size S b ≤ S.position a k
+        → tree_at S b ps ls (S.position a k) ≡ Some d → IsLeaf b (length ls) a k
+    leaf_is b ps ls a k d al m e =
+        let r = found_leaf S L (S.position a k) b ls d (sym (tree_at_high S b ps ls _ m) ∙ e) in
+        let i = L.injective (b + r.place) 0 a k (let z : (b + r.place) % 1 ≡ 0 = omega arith in z) al
+        ((L.leaf (b + r.place)).0 ∙ r.at) in
+        record { level = sym i.1; place = omega (arith, i.0); within = omega (arith, i.0, r.within) }
+
+    -- what is kept of a node is over leaves of the tree
+    pub kept_within : {D : Type 0} (b : ℕ) (ps ls : List D) (a k : ℕ) (d : D) → a % 2 ^ k ≡ 0
+        → tree_at S b ps ls (S.position a k) ≡ Some d → a + 2 ^ k ≤ b + length ls
+    kept_within b ps ls a k d al e =
+        ⊎_elim
+        (λ (l : S.position a k < size S b).
+        let born : S.birth a k ≤ b = (L.born b a k al).0 l in omega (arith, born, L.late a k))
+        (λ (m : size S b ≤ S.position a k).
+        let i = leaf_is b ps ls a k d al m e in
+        let one : 2 ^ k ≡ 1 = ap (λ j. 2 ^ j) i.level in omega (arith, i.place, i.within))
         (cases_lt (S.position a k) (size S b))
 
     module _ {D : Type 0} (b : ℕ) (ps ls : List D) (few : length ps ≡ length (S.peaks b)) where

@@ -1,5 +1,5 @@
 -- A tree over chunks that keeps pins and leaves alone and a tree over the operations, read as one.
-use Rattle.std.proofs.Common.{◌≡◌, ℕ, zero, suc, ◌+◌, ◌-◌, ◌*◌, ◌/◌, ◌<◌, ◌≤◌, ◌^◌, inl, inr, List, [], length, map, Option, Some, option_map, refl, sym, ap, ap₂, ◌∙◌, arith}
+use Rattle.std.proofs.Common.{◌≡◌, ℕ, zero, suc, ◌+◌, ◌-◌, ◌*◌, ◌/◌, ◌<◌, ◌≤◌, ◌^◌, inl, inr, List, [], length, map, Option, Some, None, IsSome, option_map, refl, sym, ap, ap₂, ◌∙◌, arith}
 use Rattle.std.specs.Option.{is_some}
 use Rattle.std.proofs.lemmas.Bool.{cases_lt}
 use Rattle.std.proofs.lemmas.Nat.{shl-shr, pow-add}
@@ -7,18 +7,17 @@ use Rattle.std.proofs.Math.Nat.{add-mul}
 use Rattle.storage_codec.specs.Digests.{HashFunction}
 use Rattle.storage_merkle.specs.Shape.{Shape, Laws, size}
 use Rattle.storage_merkle.specs.Nodes.{IsNode}
-use Rattle.storage_merkle.specs.Trees.{ungrafted}
-use Rattle.storage_merkle.specs.Hashing.{join_digest}
 use Rattle.storage_merkle.specs.Laws.Multiples.{in_units}
 use Rattle.storage_merkle.specs.Laws.Shape.{grows_at_most, covers_down}
-use Rattle.storage_current.specs.Combined.{first_at, height_at, over_chunks}
-use Rattle.storage_current.specs.CombinedViews.{AnswersAreTrue, chunk_node}
-use Rattle.storage_current.specs.GraftedTrees.{IsCoverable, IsKeptIn, KeptChunks, Keeps, join_over, rebuilt, regrafted, tree_at}
-use Rattle.storage_current.specs.PrunedViews.{IsKeptOfBoth, CoverableNodesAreHad}
-use Rattle.storage_current.specs.Snapshots.{Grafting, height}
+use Rattle.storage_current.specs.Combined.{first_at, height_at}
+use Rattle.storage_current.specs.CombinedViews.{AnswersAreTrue, AreAnswersOf, AreFirstGraftedLeaves, EachIsCoverable, IsKeptOfBoth, chunk_node, grafted_node}
+use Rattle.storage_current.specs.GraftedTrees.{IsCoverable, IsHashedOver, IsKeptIn, KeptChunks, Keeps, join_over, rebuilt, regrafted, tree_at}
+use Rattle.storage_current.specs.PrunedViews.{CoverableNodesAreHad}
+use Rattle.storage_current.specs.Snapshots.{Grafting, Snapshot, graftable}
+use Rattle.storage_current.proofs.CombinedViews.{over_view}
 use Rattle.storage_current.proofs.Joined.{first_is, height_is, joined_below, joined_above}
 use Rattle.storage_current.proofs.Rebuilt.{covered_some, some_covered, rebuilt_seen, rebuilt_true}
-use Rattle.storage_current.proofs.Pinned.{tree_at-map, tree_true}
+use Rattle.storage_current.proofs.Pinned.{tree_at-map, tree_true, kept_within}
 
 module _ (S : Shape) (L : Laws S) {D : Type 0} (digest : List ℕ → D) (text : D → List ℕ) where
   -- what can be had at a node's position is what is rebuilt of the node
@@ -126,25 +125,53 @@ module _ (S : Shape) (L : Laws S) {D : Type 0} (digest : List ℕ → D) (text :
             )
       ]
 
--- what can be had of a tree that keeps a list's digests is the list's
-pub had_true : {D : Type 0} (digest : List ℕ → D) (text : D → List ℕ) (h : HashFunction)
-    → ((x : List ℕ) → text (digest x) ≡ h x) → (g : Grafting) → Laws g.shape → (leaves : List (List ℕ))
-    (t : KeptChunks D) → Keeps text g.shape (λ list k a. chunk_node h g list a k) t leaves
-    → AnswersAreTrue text g.shape (length leaves) (chunk_node h g leaves)
-    (regrafted digest text g.shape (height g) (tree_at g.shape t.pruned t.pinned t.leaves))
-had_true {D} digest text h told g L leaves t keeps p a k d within node is =
+-- a digest of an option of which each is this one
+some_is : {D : Type 0} (text : D → List ℕ) (o : Option D) (x : List ℕ) → IsSome o
+    → ((d : D) → o ≡ Some d → text d ≡ x) → option_map text o ≡ Some x
+some_is text None x some each = absurd (cc)
+some_is text (Some d) x some each = ap Some (each d refl)
+
+told_true : {D : Type 0} (text : D → List ℕ) (o : Option D) (x y : List ℕ) → option_map text o ≡ Some x
+    → ((d : D) → o ≡ Some d → text d ≡ y) → x ≡ y
+told_true text None x y told each = cc
+told_true text (Some d) x y told each = let e : text d ≡ x = cc in sym e ∙ each d refl
+
+-- what can be had of nodes that are true is true
+module _ {D : Type 0} (digest : List ℕ → D) (text : D → List ℕ) (h : HashFunction)
+    (told : (x : List ℕ) → text (digest x) ≡ h x) (S : Shape) (L : Laws S) (g n : ℕ) (node : ℕ → ℕ → List ℕ)
+    (halves : IsHashedOver h S g node) (kept : ℕ → Option D) (true_of : AnswersAreTrue text S n node kept) where
+  pub regrafted_true : AnswersAreTrue text S n node (regrafted digest text S g kept)
+  regrafted_true p a k d within at is =
+      let over = join_over digest text S g in
+      let under = join_over h (λ x. x) S g in
+      let seen = rebuilt_seen S text over under (λ b j l r. told _) kept k a in
+      let here : rebuilt S under (λ q. option_map text (kept q)) k a ≡ Some (text d) =
+      sym seen ∙ ap (option_map text) (sym (regrafted_is S L digest text g kept p a k at) ∙ is) in
+      rebuilt_true S under (λ q. option_map text (kept q)) (λ j b. node b j) (λ j b. halves b j) (size S n)
+      (λ j b e al low was. told_true text (kept (S.position b j)) e (node b j) was
+      (λ x had. true_of (S.position b j) b j x low (record { aligned = al; at = refl }) had))
+      L k a (text d) at.aligned (omega (arith, at.at)) here
+
+  -- and where each node is coverable all are had
+  pub regrafted_each : EachIsCoverable S n kept → AreAnswersOf text S n node (regrafted digest text S g kept)
+  regrafted_each each p a k within at =
+      some_is text (regrafted digest text S g kept p) (node a k)
+      (ap is_some (regrafted_is S L digest text g kept p a k at)
+      ∙ covered_some S (join_over digest text S g) kept k a (each p a k within at))
+      (λ d is. regrafted_true p a k d within at is)
+
+-- what is kept of the first of a snapshot's graftable chunks is of its grafted view
+pub keeps_true : {D : Type 0} (text : D → List ℕ) (h : HashFunction) (g : Grafting) → Laws g.shape → (s : Snapshot)
+    (leaves : List (List ℕ)) → AreFirstGraftedLeaves h g s leaves → (t : KeptChunks D)
+    → Keeps text g.shape (λ list k a. chunk_node h g list a k) t leaves
+    → AnswersAreTrue text g.shape (graftable g (length s.operations)) (grafted_node h g s)
+    (tree_at g.shape t.pruned t.pinned t.leaves)
+keeps_true text h g L s leaves grafted t keeps p a k d within node is =
     let S = g.shape in
-    let G = height g in
-    let T = over_chunks G (ungrafted S) in
-    let under = join_digest h T (λ a. []) in
-    let kept : ℕ → Option D = tree_at S t.pruned t.pinned t.leaves in
-    let seen = rebuilt_seen S text (join_over digest text S G) under (λ b j l r. told _) kept k a in
-    let here : rebuilt S under (λ q. option_map text (kept q)) k a ≡ Some (text d) =
-    sym seen ∙ ap (option_map text) (sym (regrafted_is S L digest text G kept p a k node) ∙ is) in
-    rebuilt_true S under (λ q. option_map text (kept q)) (λ j b. chunk_node h g leaves b j) (λ j b. refl)
-    (S.position a k + 1)
-    (λ j b e al low was.
+    let here : tree_at S t.pruned t.pinned t.leaves (S.position a k) ≡ Some d =
+    ap (tree_at S t.pruned t.pinned t.leaves) node.at ∙ is in
     tree_true S L (λ j b. chunk_node h g leaves b j) leaves t.pruned (map text t.pinned) (map text t.leaves)
-    (λ b. refl) keeps.pins keeps.leaves b j e al
-    (sym (tree_at-map text S t.pruned t.pinned t.leaves (S.position b j)) ∙ was))
-    L k a (text d) node.aligned (omega arith) here
+    (λ b. refl) keeps.pins keeps.leaves a k (text d) node.aligned
+    (sym (tree_at-map text S t.pruned t.pinned t.leaves (S.position a k)) ∙ ap (option_map text) here)
+    ∙ over_view h g s leaves grafted k a
+    (omega (arith, keeps.count, kept_within S L t.pruned t.pinned t.leaves a k d node.aligned here))

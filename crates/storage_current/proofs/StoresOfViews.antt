@@ -1,17 +1,17 @@
 -- A store of each digest of a snapshot's grafted view serves each proof of its operations.
-use Rattle.std.proofs.Common.{◌≡◌, ℕ, ◌<◌, List, length, Option, Some, None, IsSome, option_map, min, refl, sym, arith, inl, inr}
+use Rattle.std.proofs.Common.{◌≡◌, ℕ, ◌<◌, List, length, Option, Some, None, IsSome, option_map, refl, sym, arith}
 use Rattle.std.specs.List.{Contains}
 use Rattle.std.proofs.lemmas.List.Elements.{All-weaker, All-contains_itself}
 use Rattle.storage_codec.specs.Digests.{HashFunction}
 use Rattle.storage_merkle.specs.Shape.{Laws, size}
-use Rattle.storage_merkle.specs.Nodes.{IsNode, CoversSame}
-use Rattle.storage_merkle.specs.Pace.{ChunksKeepPace}
+use Rattle.storage_merkle.specs.Nodes.{IsNode}
 use Rattle.storage_merkle.specs.Plans.{GreatestNodesArePlanned, planned}
-use Rattle.storage_bitmap.specs.Chunks.{Retained, IsRest}
-use Rattle.storage_current.specs.CombinedViews.{AnswersAreTrue, AreAnswersOf, AreGraftedLeaves, ServesSnapshot, ServesRange, both}
-use Rattle.storage_current.specs.Served.{AreServedOf, held_at}
-use Rattle.storage_current.specs.Snapshots.{Grafting, IsGrafting, Snapshot, IsSnapshot, height, ops_root_of, view_node}
-use Rattle.storage_current.proofs.CombinedViews.{joined_at}
+use Rattle.storage_current.specs.CombinedViews.{AnswersAreTrue, AreAnswersOf, IsKeptOfBoth, IsOfSnapshot, ServesSnapshot, ServesRange, had_of_both}
+use Rattle.storage_current.specs.GraftedTrees.{IsCoverable}
+use Rattle.storage_current.specs.Laws.Grafting.{chunk_height}
+use Rattle.storage_current.specs.Served.{held_at}
+use Rattle.storage_current.specs.Snapshots.{Grafting, IsGrafting, Snapshot, IsSnapshot, height, view_node}
+use Rattle.storage_current.proofs.PrunedViews.{coverable_had}
 
 -- where a digest is answered there is one
 some_of : {D : Type 0} (text : D → List ℕ) (o : Option D) (x : List ℕ) → option_map text o ≡ Some x → IsSome o
@@ -40,9 +40,7 @@ module _ {D : Type 0} (text : D → List ℕ) (h : HashFunction) (g : Grafting) 
 
   -- true answers are a snapshot's, whichever of its nodes are answered
   pub served_true : AnswersAreTrue text g.shape (length s.operations) (view_node h g s) node
-      → (low high floor : ℕ) (status : Retained) (ops_root : List ℕ) → IsRest g.bytes status s.bits
-      → s.floor ≡ min floor (length s.operations) → ops_root ≡ ops_root_of h g s
-      → AreServedOf (size g.shape (length s.operations)) node g low high status text h floor ops_root s
+      → IsOfSnapshot text h g (size g.shape (length s.operations)) node s
   served_true true_of low high floor status ops_root rest floor_is root_is = record {
     tree = refl;
     parts = record {
@@ -73,22 +71,19 @@ module _ {D : Type 0} (text : D → List ℕ) (h : HashFunction) (g : Grafting) 
       (λ p has. let i = inside low high p has in
       some_of text (node p) (view_node h g s i.0 i.1) (are p i.0 i.1 i.3 i.2))
 
--- what is planned of a range, where the tree over operations has it below the chunks' height, else the tree over chunks
-pub planned_serve : {D : Type 0} (text : D → List ℕ) (h : HashFunction) (g : Grafting)
-    (pace : ChunksKeepPace g.shape (height g)) (greatest : GreatestNodesArePlanned) (grafting : IsGrafting g)
-    (s : Snapshot) (snapshot : IsSnapshot s) (leaves : List (List ℕ)) (grafted : AreGraftedLeaves h g s leaves)
-    (chunks operations : ℕ → Option D) (low high : ℕ)
-    → AnswersAreTrue text g.shape (length s.operations) (view_node h g s) (both g s chunks operations)
-    → ((p a k : ℕ) → Contains (planned g.shape (length s.operations) low high) p → IsNode g.shape p a k → k < height g
-    → IsSome (operations p))
-    → ((p q : ℕ) → Contains (planned g.shape (length s.operations) low high) p → CoversSame g.shape (height g) q p
-    → IsSome (chunks q))
-    → ServesRange text h g (size g.shape (length s.operations)) (both g s chunks operations) s low high
-planned_serve text h g pace greatest grafting s snapshot leaves grafted chunks operations low high true_of below above =
-    serves text h g grafting.laws greatest s (both g s chunks operations) low high true_of
+-- what is planned of a range, where both trees keep enough to cover it
+pub planned_serve : {D : Type 0} (digest : List ℕ → D) (text : D → List ℕ) (h : HashFunction) (g : Grafting)
+    (greatest : GreatestNodesArePlanned) (grafting : IsGrafting g) (s : Snapshot) (snapshot : IsSnapshot s)
+    (kept operations : ℕ → Option D) (low high : ℕ)
+    → AnswersAreTrue text g.shape (length s.operations) (view_node h g s) (had_of_both digest text g s kept operations)
+    → ((p a k : ℕ) → Contains (planned g.shape (length s.operations) low high) p → IsNode g.shape p a k
+    → IsCoverable (IsKeptOfBoth g.shape (height g) kept operations) (height g) k a)
+    → ServesRange text h g (size g.shape (length s.operations)) (had_of_both digest text g s kept operations) s low high
+planned_serve digest text h g greatest grafting s snapshot kept operations low high true_of have =
+    let node = had_of_both digest text g s kept operations in
+    let level = (chunk_height g grafting.size).is in
+    serves text h g grafting.laws greatest s node low high true_of
     (λ p has.
-    let i = inside text h g grafting.laws greatest s (both g s chunks operations) low high p has in
-    elim (joined_at h g pace grafting s snapshot leaves grafted chunks operations p i.0 i.1 i.3 i.2) [
-      | inl it ↦ rw it.read (below p i.0 i.1 has i.2 it.low)
-      | inr it ↦ rw it.read (above p it.position has it.covers)
-    ])
+    let i = inside text h g grafting.laws greatest s node low high p has in
+    (coverable_had g.shape grafting.laws digest text (height g) (length s.operations) p i.0 i.1 kept operations
+    (omega (arith, level)) snapshot.few i.3 i.2).1 (have p i.0 i.1 has i.2))

@@ -1,6 +1,7 @@
 -- Trees over chunks that keep pins and leaves alone; and nodes that are rebuilt from those that are kept.
 use Rattle.std.specs.Prelude.{◌≡◌, ℕ, zero, suc, ◌+◌, ◌*◌, ◌%◌, ◌<◌, ◌≤◌, ◌^◌, ◌⊎◌, List, [], ◌∷◌, ◌++◌, length, map, drop, Option, Some, None, IsSome, leb, if◌then◌else◌}
 use Rattle.std.specs.Option.{option_or}
+use Rattle.storage_codec.specs.Digests.{HashFunction}
 use Rattle.storage_merkle.specs.Shape.{Shape, size, max_leaves}
 use Rattle.storage_merkle.specs.Calc.{be8}
 use Rattle.storage_merkle.specs.Kept.{NodesOver, at_peaks, paired, pins}
@@ -33,6 +34,11 @@ pub record Keeps {D : Type 0} (bytes_of : D → List ℕ) (S : Shape) (N : Nodes
 abbrev pub leaf_places : {D : Type 0} → Shape → ℕ → List D → List ℕ
 leaf_places S a [] = []
 leaf_places S a (d ∷ ds) = size S a ∷ leaf_places S (a + 1) ds
+
+-- the node of height k over the leaves from a on is one of the peaks hs, the first of which begins at the leaf s
+abbrev pub IsPeak : List ℕ → ℕ → ℕ → ℕ → Type 0
+IsPeak [] s a k = ⊥
+IsPeak (h ∷ hs) s a k = ((s ≡ a) × (h ≡ k)) ⊎ IsPeak hs (s + 2 ^ h) a k
 
 -- the digest at a position: a kept leaf's or a pin's, and no other node's
 abbrev pub tree_at : {D : Type 0} → Shape → ℕ → List D → List D → ℕ → Option D
@@ -78,3 +84,7 @@ join_over digest bytes_of S g a k l r = digest (be8 (S.position (a * 2 ^ g) (k +
 abbrev pub regrafted : {D : Type 0} → (List ℕ → D) → (D → List ℕ) → Shape → ℕ → (ℕ → Option D) → ℕ → Option D
 regrafted digest bytes_of S g kept p =
     rebuilt S (join_over digest bytes_of S g) kept (height_at S p) (first_at S (height_at S p) p)
+
+-- each node's digest is hashed from those of its halves so
+abbrev pub IsHashedOver : HashFunction → Shape → ℕ → (ℕ → ℕ → List ℕ) → Type 0
+IsHashedOver h S g node = (a k : ℕ) → node a (suc k) ≡ join_over h (λ bytes. bytes) S g a (suc k) (node a k) (node (a + 2 ^ k) k)

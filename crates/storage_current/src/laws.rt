@@ -9,6 +9,7 @@ pub mod chunk_lengths;
 pub mod combined;
 pub mod equality;
 pub mod extracted;
+pub mod grafted_trees;
 pub mod keys;
 pub mod shared;
 

@@ -50,29 +50,36 @@ pub fn joined_trees_meet_at_a_height<F: Family, D: Digest>()
         → joined F.shape height nodes chunks operations position ≡ chunks over }
 {}
 
-/// A tree over chunks that stands for the digests of a snapshot's graftable chunks, and a tree over the operations that has each
-/// node, are both as one the snapshot's grafted view.
+/// Both trees read as one have the whole grafted view, where the one keeps digests of the view by which each node over the graftable
+/// chunks is coverable, and the other has each of the operations' nodes.
 pub fn joined_trees_are_the_view<F: Graftable, H: digest::Hasher, const N: usize>()
-    ensures { JoinedTreesAreTheView H.Digest.text H.hash_of (grafting_of F.shape N) }
+    ensures { JoinedTreesAreTheView H.digest_of H.Digest.text H.hash_of
+        (grafting_of F.shape N) }
 {}
 
-/// Where each of the trees has some of its nodes, what both as one have is of the snapshot's grafted view.
+/// Where all that both trees keep is a snapshot's, all that can be had of them as one is the grafted view's, and each proof that is
+/// made from it is the snapshot's own. Neither tree has to have all its nodes.
 pub fn joined_trees_answer_the_view<F: Graftable, H: digest::Hasher, const N: usize>()
-    ensures { JoinedTreesAnswerTheView H.Digest.text H.hash_of (grafting_of F.shape N) }
-{}
-
-/// Where they have at least what is planned of a range, both as one serve that range: every planned position has its digest, and
-/// what is proved is the snapshot's own.
-pub fn planned_nodes_serve_a_range<F: Graftable, H: digest::Hasher, const N: usize>()
-    ensures { PlannedNodesServeARange H.Digest.text H.hash_of (grafting_of F.shape N) }
+    ensures { JoinedTreesAnswerTheView H.digest_of H.Digest.text H.hash_of
+        (grafting_of F.shape N) }
 {
     greatest_nodes_are_planned();
 }
 
-/// From trees that have each node both as one each proof of the snapshot's operations is made: every planned position has its
+/// Where moreover each node that is planned of a range is coverable, both as one serve that range: every planned position has its
 /// digest, and what is proved is the snapshot's own.
+pub fn planned_nodes_serve_a_range<F: Graftable, H: digest::Hasher, const N: usize>()
+    ensures { PlannedNodesServeARange H.digest_of H.Digest.text H.hash_of
+        (grafting_of F.shape N) }
+{
+    greatest_nodes_are_planned();
+}
+
+/// Two trees that are the whole view as one serve each proof of the snapshot's operations: every planned position has its digest, and
+/// what is proved is the snapshot's own.
 pub fn combined_stores_serve_the_view<F: Graftable, H: digest::Hasher, const N: usize>()
-    ensures { JoinedTreesServeTheView H.Digest.text H.hash_of (grafting_of F.shape N) }
+    ensures { JoinedTreesServeTheView H.digest_of H.Digest.text H.hash_of
+        (grafting_of F.shape N) }
 {
     greatest_nodes_are_planned();
 }
@@ -83,8 +90,8 @@ pub fn coverable_nodes_are_had<F: Graftable, H: digest::Hasher>()
     ensures { CoverableNodesAreHad H.digest_of H.Digest.text F.shape }
 {}
 
-/// A proof from a tree over chunks that keeps pins and leaves alone, where it is built, is the one from the tree with nothing
-/// pruned: what can be had is of the grafted view, and what is proved from that is the snapshot's own.
+/// A tree over the first of a snapshot's graftable chunks leads to no wrong proof, whichever of them are pruned and however many chunks
+/// it is behind: what can be had is the grafted view's, and each proof that is made from it is the snapshot's own.
 pub fn pruned_trees_serve_the_view<F: Graftable, H: digest::Hasher, const N: usize>()
     ensures { PrunedTreesServeTheView H.digest_of H.Digest.text H.hash_of (grafting_of F.shape N) }
 {

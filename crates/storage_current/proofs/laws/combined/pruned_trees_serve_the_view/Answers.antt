@@ -1,8 +1,9 @@
-use Rattle.storage_current.specs.Snapshots.{Grafting, height}
+use Rattle.std.proofs.Common.{length}
+use Rattle.storage_current.specs.CombinedViews.{grafted_node, had_of_both}
 use Rattle.storage_current.specs.GraftedTrees.{regrafted, tree_at}
-use Rattle.storage_current.specs.PrunedViews.{had_of_both}
-use Rattle.storage_current.proofs.CombinedViews.{joined_true}
-use Rattle.storage_current.proofs.PrunedViews.{had_true}
+use Rattle.storage_current.specs.Snapshots.{Grafting, graftable, height}
+use Rattle.storage_current.proofs.CombinedViews.{grafted_halves, joined_true}
+use Rattle.storage_current.proofs.PrunedViews.{keeps_true, regrafted_true}
 use Rattle.storage_current.proofs.StoresOfViews.{served_true}
 use Rattle.storage_current.proofs.laws.combined.pruned_trees_serve_the_view.Goals as goal
 
@@ -13,10 +14,12 @@ returns g c grafting s snapshot leaves grafted t keeps operations below =
     let digest = g.H.Hasher.digest_of in
     let G : Grafting = record { shape = g.F.Family.shape; bytes = g.row.N } in
     let pace = g.met.F.Graftable.keeps_pace (height G) in
-    let chunks = regrafted digest text G.shape (height G) (tree_at G.shape t.pruned t.pinned t.leaves) in
-    let true_of = joined_true hash G pace grafting s snapshot leaves grafted chunks operations text
-    (had_true digest text hash g.met.H.Hasher.told G grafting.laws leaves t keeps) below in (
+    let kept = tree_at G.shape t.pruned t.pinned t.leaves in
+    let true_of = joined_true hash G pace grafting s snapshot (regrafted digest text G.shape (height G) kept) operations text
+    (regrafted_true digest text hash g.met.H.Hasher.told G.shape grafting.laws (height G)
+    (graftable G (length s.operations)) (grafted_node hash G s) (grafted_halves hash G s) kept
+    (keeps_true text hash G grafting.laws s leaves grafted t keeps)) below in (
       true_of,
       served_true text hash G grafting.laws c.greatest_nodes_are_planned.ensures s
-          (had_of_both digest text G s t operations) true_of,
+          (had_of_both digest text G s kept operations) true_of,
     )

@@ -77,6 +77,11 @@ impl<F: Graftable, D: Digest> GraftedTree<F, D> {
           pinned = take (length (F.shape.peaks pruned_chunks)) pinned.now;
           leaves = leaves.items;
         }) }
+        ensures stands { IfOk result (λ t. (N : NodesOver) (list : List (List ℕ))
+            → length list ≡ pruned_chunks + length leaves.items
+            → map D.text (take (length (F.shape.peaks pruned_chunks)) pinned.now)
+            ≡ at_peaks (N list) 0 (F.shape.peaks pruned_chunks)
+            → map D.text leaves.items ≡ drop pruned_chunks list → Keeps D.text F.shape N t list) }
         ensures fits { IfOk result (λ _. (pruned_chunks + length leaves.items ≤ max_leaves)
             × (length (F.shape.peaks pruned_chunks) ≤ length pinned.now)) }
         ensures why { IfErr result (λ e.
@@ -105,6 +110,15 @@ impl<F: Graftable, D: Digest> GraftedTree<F, D> {
             leaves,
             family: PhantomData,
         })
+    }
+
+    /// As many digests are kept as there are peaks over the pruned chunks, and at most as many chunks as a tree may have leaves. Does
+    /// nothing.
+    pub(crate) fn is_whole(&self)
+        ensures { IsWholeGrafted F.shape self.now.pruned (length self.now.pinned)
+            (length self.now.leaves) }
+    {
+        let _ = &self.leaves;
     }
 
     /// How many chunks the tree is over, the pruned ones among them. Takes no memory.

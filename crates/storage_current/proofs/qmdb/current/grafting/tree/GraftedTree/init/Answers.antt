@@ -21,3 +21,6 @@ returns-clause-kept g c = search rules
 
 pub returns-clause-fits : goal.returns-clause-fits
 returns-clause-fits g c = search rules
+
+pub returns-clause-stands : goal.returns-clause-stands
+returns-clause-stands g c = search rules
