@@ -1,30 +1,47 @@
 #!/usr/bin/env python3
-"""What the program `stateproof db` answers, from the definitions over whole lists.
+"""What a database answers, from the definitions over whole lists: `stateproof db`, and the program `example_server`.
 
     tools/database.py FAMILY CHUNK
+    tools/database.py example
 
-Standard input has the commands and questions, a line for each, all of them as they should be. Nothing is taken from the sources of
-the crates: tools/definitions.py has trees, snapshots and proofs, docs/DEFINITIONS.md says in words what a command appends.
+Standard input has the commands and questions, a line for each, all of them as they should be: of `stateproof db`, or of `example_server`.
+Nothing is taken from the sources of the crates: tools/definitions.py has trees, snapshots and proofs, docs/DEFINITIONS.md says in words
+what a command appends.
 """
 import sys
 
-from definitions import Digests, Family, Snapshot, be8
-
-# an operation has as many bytes as a commit: its tag, a value that may be missing, and its floor
-LENGTH = 1 + 9 + 8
+from definitions import Digests, Family, Snapshot, be8, varint
 
 
-def update(key, value, next_key):
-    return (b"\xd2" + key + be8(value) + next_key).ljust(LENGTH, b"\0")
+class Fixed:
+    """Keys of 4 bytes and numbers as values. An operation has as many bytes as a commit: its tag, a value that may be missing, its floor."""
+
+    def key(self, key):
+        return key
+
+    def value(self, value):
+        return be8(value)
+
+    def operation(self, tag, *parts):
+        return b"".join([tag, *parts]).ljust(1 + 9 + 8, b"\0")
+
+    def commit(self, floor):
+        return b"\xd3" + bytes(9) + be8(floor)
 
 
-def deletion(key):
-    return (b"\xd1" + key).ljust(LENGTH, b"\0")
+class Variable:
+    """Byte strings as keys and values, each after its length."""
 
+    def key(self, key):
+        return varint(len(key)) + key
 
-def commit(floor):
-    """A commit without a value."""
-    return b"\xd3" + bytes(9) + be8(floor)
+    value = key
+
+    def operation(self, tag, *parts):
+        return b"".join([tag, *parts])
+
+    def commit(self, floor):
+        return b"\xd3\0" + varint(floor)
 
 
 def others(keys, key):
@@ -35,34 +52,41 @@ def others(keys, key):
 class Commit:
     """What a database keeps of a commit: where it stands, the keys and the snapshot."""
 
-    def __init__(self, location, active, snapshot):
-        self.location, self.active, self.snapshot = location, active, snapshot
+    def __init__(self, encoding, location, active, snapshot):
+        self.encoding, self.location, self.active, self.snapshot = encoding, location, active, snapshot
 
     def next_key(self, key):
-        return next(iter(others(self.active, key)), key)
+        return self.encoding.key(next(iter(others(self.active, key)), key))
 
-    def value(self, key):
-        if key not in self.active:
-            return "absent"
-        value, location = self.active[key]
-        return f"{value} {(self.snapshot.operation_proof(location) + self.next_key(key)).hex()}"
+    def value_proof(self, key):
+        return self.snapshot.operation_proof(self.active[key][1]) + self.next_key(key)
 
-    def absence(self, key):
-        if key in self.active:
-            return "present"
+    def absence_proof(self, key):
         if not self.active:
-            return (b"\1" + self.snapshot.operation_proof(self.location) + b"\0").hex()
+            return b"\1" + self.snapshot.operation_proof(self.location) + b"\0"
         before = others(self.active, key)[-1]
         value, location = self.active[before]
-        told = before + be8(value) + self.next_key(before)
-        return (b"\0" + self.snapshot.operation_proof(location) + told).hex()
+        told = self.encoding.key(before) + self.encoding.value(value) + self.next_key(before)
+        return b"\0" + self.snapshot.operation_proof(location) + told
+
+    def value(self, key):
+        return f"{self.active[key][0]} {self.value_proof(key).hex()}" if key in self.active else "absent"
+
+    def absence(self, key):
+        return "present" if key in self.active else self.absence_proof(key).hex()
+
+    def claim(self, key):
+        """What `example_server` answers of a key."""
+        if key in self.active:
+            return f"value {key.decode()} {self.active[key][0].decode()} {self.value_proof(key).hex()}"
+        return f"absence {key.decode()} {self.absence_proof(key).hex()}"
 
 
 class Database:
     """Operations, a bit for each, the active keys with their values and locations, and the last commit."""
 
-    def __init__(self, family, size):
-        self.family, self.size = Family(family), size
+    def __init__(self, family, size, encoding=Fixed()):
+        self.family, self.size, self.encoding = Family(family), size, encoding
         self.operations, self.bits, self.active, self.last = [], [], {}, None
 
     def append(self, operation, bit):
@@ -73,7 +97,8 @@ class Database:
         if key in self.active:
             self.bits[self.active[key][1]] = "0"
         self.active[key] = value, len(self.operations)
-        self.append(update(key, value, next_key), "1")
+        parts = self.encoding.key(key), self.encoding.value(value), self.encoding.key(next_key)
+        self.append(self.encoding.operation(b"\xd2", *parts), "1")
 
     def put(self, key, value):
         is_new, ring = key not in self.active, others(self.active, key)
@@ -86,7 +111,7 @@ class Database:
             return "no"
         ring = others(self.active, key)
         self.bits[self.active.pop(key)[1]] = "0"
-        self.append(deletion(key), "0")
+        self.append(self.encoding.operation(b"\xd1", self.encoding.key(key)), "0")
         if ring:
             self.updated(ring[-1], self.active[ring[-1]][0], ring[0])
         return "yes"
@@ -96,13 +121,13 @@ class Database:
         floor = min([location, *(it for _, it in self.active.values())])
         if self.last:
             self.bits[self.last.location] = "0"
-        self.append(commit(floor), "1")
+        self.append(self.encoding.commit(floor), "1")
         snapshot = Snapshot(Digests("sha256"), self.family, [*self.operations], "".join(self.bits), floor, self.size)
-        self.last = Commit(location, dict(self.active), snapshot)
+        self.last = Commit(self.encoding, location, dict(self.active), snapshot)
         return snapshot.root.hex()
 
     def answer(self, line):
-        """What a line is answered; none for a put."""
+        """What `stateproof db` answers to a line; none for a put."""
         word, *rest = line.split(" ")
         key = bytes.fromhex(rest[0]) if rest else None
         if word == "put":
@@ -115,17 +140,42 @@ class Database:
             return "uncommitted"
         return self.last.value(key) if word == "value" else self.last.absence(key)
 
+    def answer_of_example(self, line):
+        """What `example_server` answers to a line; none for a put and a deletion."""
+        word, _, rest = line.partition(" ")
+        if word == "commit":
+            return f"root {self.commit()}"
+        if word == "put":
+            return self.put(*rest.encode().split(b" ", 1))
+        if word == "delete":
+            return self.delete(rest.encode()) and None
+        return self.last.claim(rest.encode()) if self.last else "uncommitted"
+
+
+def lines_of(answers):
+    """The text of the answers that there are, a line for each."""
+    return "".join(f"{it}\n" for it in answers if it is not None)
+
 
 def answers(family, size, lines):
-    """The text that is written for some lines."""
+    """The text that `stateproof db` writes for some lines."""
     database = Database(family, size)
-    told = [database.answer(it) for it in lines]
-    return "".join(f"{it}\n" for it in told if it is not None)
+    return lines_of([database.answer(it) for it in lines])
+
+
+def example(lines):
+    """The text that `example_server` writes for some lines, and its database after them."""
+    database = Database("mmb", 32, Variable())
+    return lines_of([database.answer_of_example(it) for it in lines]), database
 
 
 def main():
-    family, size = sys.argv[1:]
-    print(answers(family, int(size), sys.stdin.read().splitlines()), end="")
+    lines = sys.stdin.read().splitlines()
+    if sys.argv[1:] == ["example"]:
+        print(example(lines)[0], end="")
+    else:
+        family, size = sys.argv[1:]
+        print(answers(family, int(size), lines), end="")
 
 
 if __name__ == "__main__":
