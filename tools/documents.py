@@ -14,10 +14,13 @@
     [text](GATE.md)                            a link, from the document's folder on
 
 In a path `*` and the words NAME, CRATE, FILE and FOLDER stand for any name, and `...` for any folders; then the ending of a file may be
-left out. What is made below out/ and dist/ is not looked for, nor anything outside of the repository.
+left out. What is made below out/ and dist/ is not looked for, nor a reader's own crate, whose name begins with `my_`, nor anything outside
+of the repository.
 
-`examples`: a block of code of README.md or crates/*/README.md that is marked as `rust` is the text of a file of a crate that crates.txt
-lists, word for word: the last path before the block, as `crates/example_client/src/client.rt`. README.md has such a block.
+`examples`: a block of code that is marked as `rust` is the text of a file of a crate that crates.txt lists, word for word: the last path
+before the block, as `crates/example_client/src/client.rt`. README.md has such a block. One that is marked as `text PATH` has lines of
+that file, in their order: `..` inside a line is any text that was left out, a line `..` any lines. What `example_server` and
+`example_client` are to write is what tools/database.py computes.
 
 `refusals`: each edit of crates/*/must-not-compile, in a copy of the repository, is refused by the compiler with the error that it names.
 
@@ -32,10 +35,11 @@ import subprocess
 import sys
 import tempfile
 
+import database
 from tries import Try
 
 ROOT = pathlib.Path(__file__).resolve().parent.parent
-READMES = [ROOT / "README.md", *sorted(ROOT.glob("crates/*/README.md"))]
+DOCUMENTS = [ROOT / "README.md", *sorted(ROOT.glob("crates/*/README.md")), *sorted(ROOT.glob("docs/*.md"))]
 
 SPAN = re.compile(r"(`+)((?:(?!\n\n).)+?)\1", re.S)
 FENCED = re.compile(r"^```.*?^```", re.M | re.S)
@@ -52,6 +56,7 @@ ANY_NAME = re.compile(r"\*|\b(?:NAME|CRATE|FILE|FOLDER)\b")
 
 BLOCK = re.compile(r"^```rust\n(.*?)^```$", re.M | re.S)
 SOURCE = re.compile(r"`(crates/(\w+)/src/[\w/]+\.rt)`")
+LINES = re.compile(r"^```text (\S+)\n(.*?)^```$", re.M | re.S)
 
 
 def kept_files():
@@ -105,7 +110,7 @@ def words_of(text):
 
 def is_there(word, is_link, document, files):
     """Whether what a word cites exists; None where it cites nothing here."""
-    if "://" in word or not word or {"out", "dist"} & {*word.split("/")}:
+    if "://" in word or not word or any(it in ("out", "dist") or it.startswith("my_") for it in word.split("/")):
         return None
     if is_link:
         return (document.parent / word).exists()
@@ -128,7 +133,7 @@ def is_there(word, is_link, document, files):
 def citations():
     """How many citations the documents have, and those whose subject is missing."""
     files, cited, faults = Files(), 0, []
-    for document in [*READMES, *sorted(ROOT.glob("docs/*.md"))]:
+    for document in DOCUMENTS:
         text = document.read_text()
         for at, word, is_link in sorted(words_of(text)):
             there = is_there(word, is_link, document, files)
@@ -151,17 +156,41 @@ def fault_of(text, block, crates):
     return differing and f"it is not the text of {path} from its line {differing} on"
 
 
+def fault_of_lines(block):
+    """Why the lines of a block are not those of the file that it names, None where they are."""
+    path, shown = ROOT / block[1], block[2]
+    if not path.is_file():
+        return f"{block[1]} is missing"
+    told = "".join("(?:.*\n)*" if it == "..\n" else re.escape(it).replace(r"\.\.", ".+") for it in shown.splitlines(keepends=True))
+    return None if re.search(f"^{told}", path.read_text(), re.M) else f"these are no lines of {block[1]}"
+
+
+def wrong_answers():
+    """What is wrong with the files of `example_server` and `example_client`: a server's answer is right where the definitions give it, and
+    a client takes it where they give it of the last commit."""
+    told = lambda name: (ROOT / "crates" / name).read_text()
+    served, kept = database.example(told("example_server/stdin").splitlines())
+    asked = [it for it in told("example_client/stdin").splitlines() if not it.startswith("demo ")]
+    answers = "".join("yes\n" if it == kept.last.claim(it.split(" ")[1].encode()) else "no\n" for it in asked)
+    right = {
+        "example_server/stdout": told("example_server/stdout") == served,
+        "example_client/args": told("example_client/args") == f"{kept.last.snapshot.root.hex()}\n",
+        "example_client/stdout": told("example_client/stdout").startswith(answers),
+    }
+    return [f"crates/{name}: not what tools/database.py computes" for name, is_right in right.items() if not is_right]
+
+
 def examples():
-    """How many examples the documents have, and those that are not the text of a proved file."""
+    """How many examples the documents have, and those that are not the text of a proved file, or not what is computed."""
     crates = {line.split()[0].rstrip(":") for line in (ROOT / "crates.txt").read_text().splitlines() if line.strip()}
-    count, faults = 0, []
-    for document in READMES:
+    count, faults = 0, wrong_answers()
+    for document in DOCUMENTS:
         text = document.read_text()
-        blocks = list(BLOCK.finditer(text))
-        count += len(blocks)
+        blocks, lines = list(BLOCK.finditer(text)), list(LINES.finditer(text))
+        count += len(blocks) + len(lines)
         if not blocks and document.parent == ROOT:
             faults.append("README.md: no example")
-        found = ((block, fault_of(text, block, crates)) for block in blocks)
+        found = [*((it, fault_of(text, it, crates)) for it in blocks), *((it, fault_of_lines(it)) for it in lines)]
         faults += [f"{place(document, text, block.start())}: {fault}" for block, fault in found if fault]
     return count, faults
 

@@ -1,36 +1,36 @@
-//! What a light client asks of a proof that a stranger sent.
+//! The checks of what a server answers.
 
-use anyhow::{Result, bail};
-use commonware_storage::codec::FixedBytes;
+use anyhow::{Context, Result};
+use commonware_storage::codec::{FixedBytes, RangeCfg};
 use commonware_storage::digest::Sha256;
-use commonware_storage::light::{MAX_DIGESTS, check_operation, check_range, check_value};
-use commonware_storage::merkle::Location;
-use commonware_storage::merkle::mmr::Family;
-use commonware_storage::qmdb::any::FixedEncoding;
+use commonware_storage::light::{check_absence, check_value};
+use commonware_storage::merkle::mmb::Family;
+use commonware_storage::qmdb::any::VariableEncoding;
 use std::alloc::Global;
 
-type Digest = FixedBytes<32>;
+type Root = FixedBytes<32>;
 
-type Value = FixedEncoding<u64>;
+/// The bytes of a chunk of activity bits. It must be the server's, as the family, the digest function and the encoding.
+const CHUNK: usize = 32;
 
-/// The update of the key 6 to the value 3, with the next key, 8: tag, key, value, next key, zeros.
-const UPDATE: [u8; 18] = [0xd2, 0, 0, 0, 6, 0, 0, 0, 0, 0, 0, 0, 3, 0, 0, 0, 8, 0];
+/// How values are encoded: with any length.
+type Value = VariableEncoding<Vec<u8>>;
 
-/// Whether `proof` shows what is asked of the snapshot with the root `root`, in chunks of one byte. Out of memory is an error.
-pub(crate) fn answer(alloc: Global, asked: &str, proof: &[u8], root: &Digest) -> Result<bool> {
-    let (bytes, at) = ([0, 0, 0, 6], Location::new(3));
-    let key = FixedBytes { bytes };
-    let yes = match asked {
-        // does the update stand at location 3, and is it active?
-        "operation" => check_operation::<Family, Sha256>(alloc, proof, 1, at, &UPDATE, root)?,
-        // does the key 6 have the value 3?
-        "value" => check_value::<Family, Sha256, _, Value>(alloc, proof, 1, &(), key, 3, root)?,
-        // does the update stand at location 3, and are these the activity bits of its chunk?
-        "range" => {
-            let (updates, chunks): (&[&[u8]], &[&[u8]]) = (&[&UPDATE], &[&[0b1000]]);
-            check_range::<Family, Sha256>(alloc, proof, 1, MAX_DIGESTS, at, updates, chunks, root)?
-        }
-        _ => bail!("no such question"),
-    };
-    Ok(yes)
+/// What readers of keys and values are told: the lengths that they admit, in bytes.
+const CFG: (RangeCfg, ()) = (RangeCfg { min: 0, max: 1024 }, ());
+
+/// Whether `proof` shows that the key of `claim`, `KEY VALUE`, has this value in the database with the root `root`.
+pub(crate) fn has_value(alloc: Global, claim: &str, proof: &[u8], root: &Root) -> Result<bool> {
+    let (key, value) = claim.split_once(' ').context("no value")?;
+    let key = key.as_bytes().to_vec(alloc)?;
+    let value = value.as_bytes().to_vec(alloc)?;
+    Ok(check_value::<Family, Sha256, _, Value>(alloc, proof, CHUNK, &CFG, key, value, root)?)
+}
+
+/// Whether `proof` shows that `key` has no value in the database with the root `root`.
+pub(crate) fn is_absent(alloc: Global, key: &str, proof: &[u8], root: &Root) -> Result<bool> {
+    let key = key.as_bytes().to_vec(alloc)?;
+    // an absence is shown by an update, with its key and value, or by a commit, with its value
+    let cfgs = ((CFG, CFG), CFG);
+    Ok(check_absence::<Family, Sha256, _, Value>(alloc, proof, CHUNK, &cfgs, &key, root)?)
 }
