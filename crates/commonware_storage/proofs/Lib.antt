@@ -8,3 +8,4 @@ mod OwnYes
 mod RangeAnswers
 mod OwnRanges
 mod OwnRangeYes
+mod DatabaseYes

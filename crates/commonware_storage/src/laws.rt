@@ -11,6 +11,7 @@ ghost use Rattle.storage_current.specs.Snapshots.{IsActive, IsSnapshot, Snapshot
 ghost use Rattle.commonware_storage.specs.Handed.{AreSnapshotParts};
 ghost use Rattle.commonware_storage.specs.Light.{IsAcceptedAt, OwnProofsAreAccepted};
 
+pub mod databases;
 pub mod keys;
 pub mod ranges;
 

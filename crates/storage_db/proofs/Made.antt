@@ -42,21 +42,20 @@ module _ {K W Y : Type 0} (e : Keyed K W) (seen : W → Y) (h : HashFunction) (g
   made_more old new command is_done made =
       (made.0 ++ command ∷ [], (each_call old new command is_done made.0 made.1).0)
 
-  -- a command that is refused
-  pub made_still : (log after : Log) (m n : List (K × Active W)) (last : Option (KeptCommit K W))
-      → ((l : Option (Committed K W)) → database_of after n l ≡ database_of log m l)
-      → IsMade e seen h g (kept_of log m last) → IsMade e seen h g (kept_of after n last)
-  made_still log after m n last same made =
-      subst (λ (k : KeptDatabase K W). IsMade e seen h g k) (sym (same_kept log after m n last same)) made
+  module _ (log after : Log) (m n : List (K × Active W)) (last : Option (KeptCommit K W)) (old : KeptDatabase K W)
+      (is : kept_of log m last ≡ old) where
+    -- a command that is refused
+    pub made_still : ((l : Option (Committed K W)) → database_of after n l ≡ database_of log m l)
+        → IsMade e seen h g old → IsMade e seen h g (kept_of after n last)
+    made_still same made =
+        subst (λ (k : KeptDatabase K W). IsMade e seen h g k) (sym (same_kept log after m n last same ∙ is)) made
 
-  -- a command that only changes the log and the active keys, or is refused
-  pub made_by : (command : Command K W) (log after : Log) (m n : List (K × Active W)) (last : Option (KeptCommit K W))
-      → {T E : Type 0} (r : Result T E)
-      → OnOk r ((l : Option (Committed K W)) → database_of after n l ≡ done e (database_of log m l) command)
-      → length after.operations.items ≤ 2 ^ 62
-      → OnErr r ((l : Option (Committed K W)) → database_of after n l ≡ database_of log m l)
-      → IsMade e seen h g (kept_of log m last) → IsMade e seen h g (kept_of after n last)
-  made_by command log after m n last (Ok x) steps few same made =
-      made_more (kept_of log m last) (kept_of after n last) command
-      (done_from e seen h g (λ d. done e d command) log after m n last (kept_of log m last) refl steps few) made
-  made_by command log after m n last (Err y) steps few same made = made_still log after m n last same made
+    -- a command that only changes the log and the active keys, or is refused
+    pub made_by : (command : Command K W) {T E : Type 0} (r : Result T E)
+        → OnOk r ((l : Option (Committed K W)) → database_of after n l ≡ done e (database_of log m l) command)
+        → length after.operations.items ≤ 2 ^ 62
+        → OnErr r ((l : Option (Committed K W)) → database_of after n l ≡ database_of log m l)
+        → IsMade e seen h g old → IsMade e seen h g (kept_of after n last)
+    made_by command (Ok x) steps few same made = made_more old (kept_of after n last) command
+        (done_from e seen h g (λ d. done e d command) log after m n last old is steps few) made
+    made_by command (Err y) steps few same made = made_still same made

@@ -54,17 +54,25 @@ returns-in_err-remove-clause-active g c =
     c.self.view_is c.args.key.now (sym c.contains_key.ensures ∙ c.if-not-contains_key.false))
 
 pub invariant_of-self : goal.invariant_of-self
-invariant_of-self g c =
-    let e : Keyed g.row.K.Denot g.row.V-Value.Denot
-    = keyed_by g.K.Write.text g.V.Value.Write.text g.V.OperationCodec.operation_text g.K.Ord.cmp in
-    (c.self.invariant.0, made_by e g.V.Value.Read.view g.H.Hasher.hash_of (grafting_of g.F.Family.shape g.row.N)
-    (Delete c.args.key.now) c.self.inside.log c.remove.new.log c.self.inside.active.entries c.remove.new.active.entries
-    c.self.inside.last c.remove.result c.remove.ensures.ok c.remove.ensures.few c.remove.ensures.err c.self.invariant.1)
+invariant_of-self g c = c.self.invariant
 
 pub invariant_of-self-2 : goal.invariant_of-self-2
-invariant_of-self-2 g c =
+invariant_of-self-2 g c = c.self.invariant
+
+pub returns-in_err-remove-clause-made : goal.returns-in_err-remove-clause-made
+returns-in_err-remove-clause-made g c =
     let e : Keyed g.row.K.Denot g.row.V-Value.Denot
     = keyed_by g.K.Write.text g.V.Value.Write.text g.V.OperationCodec.operation_text g.K.Ord.cmp in
-    (c.self.invariant.0, made_by e g.V.Value.Read.view g.H.Hasher.hash_of (grafting_of g.F.Family.shape g.row.N)
-    (Delete c.args.key.now) c.self.inside.log c.remove.new.log c.self.inside.active.entries c.remove.new.active.entries
-    c.self.inside.last c.remove.result c.remove.ensures.ok c.remove.ensures.few c.remove.ensures.err c.self.invariant.1)
+    made_by e g.V.Value.Read.view g.H.Hasher.hash_of (grafting_of g.F.Family.shape g.row.N)
+    c.self.inside.log c.remove.new.log c.self.inside.active.entries c.remove.new.active.entries c.self.inside.last
+    c.args.self.now c.self.view_is (Delete c.args.key.now) c.remove.result c.remove.ensures.ok c.remove.ensures.few
+    c.remove.ensures.err
+
+pub returns-clause-made : goal.returns-clause-made
+returns-clause-made g c =
+    let e : Keyed g.row.K.Denot g.row.V-Value.Denot
+    = keyed_by g.K.Write.text g.V.Value.Write.text g.V.OperationCodec.operation_text g.K.Ord.cmp in
+    made_by e g.V.Value.Read.view g.H.Hasher.hash_of (grafting_of g.F.Family.shape g.row.N)
+    c.self.inside.log c.remove.new.log c.self.inside.active.entries c.remove.new.active.entries c.self.inside.last
+    c.args.self.now c.self.view_is (Delete c.args.key.now) c.remove.result c.remove.ensures.ok c.remove.ensures.few
+    c.remove.ensures.err
