@@ -11,6 +11,8 @@ mod definitions;
 #[cfg(test)]
 mod grafted;
 #[cfg(test)]
+mod joined;
+#[cfg(test)]
 mod refused;
 #[cfg(test)]
 mod stops;

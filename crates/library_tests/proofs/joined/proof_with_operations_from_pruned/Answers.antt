@@ -1,0 +1,9 @@
+use Rattle.std.proofs.Common.{◌≡◌, ℕ, length, arith}
+use Rattle.library_tests.proofs.BothTrees.{some_weaker}
+use Rattle.library_tests.proofs.joined.proof_with_operations_from_pruned.Goals as goal
+
+pub returns : goal.returns
+returns g c =
+    some_weaker c.proof_with_operations_from.result _ _
+    (λ answer own s leaves grafted keeps parts. own s (c.grafted_trees_keep_the_view.ensures s leaves grafted keeps) parts)
+    c.proof_with_operations_from.ensures
