@@ -1,4 +1,4 @@
-//! A tree over chunks whose pruning is made again where memory is refused to it.
+//! Trees over chunks: prunings made again where memory is refused to them, and calls that hash nothing.
 
 ghost use Rattle.std.specs.Prelude.{◌≤◌};
 
@@ -9,14 +9,12 @@ use storage_codec::digest::{Hasher, Sha256};
 use storage_current::laws::combined::nodes_over_chunks_are_taken;
 use storage_current::qmdb::current::grafting::{GraftedHasher, GraftedTree};
 use storage_merkle::merkle::hasher::Standard;
+use storage_merkle::merkle::mem::Mem;
 use storage_merkle::merkle::{Bagging, Error, Graftable, Location, Position, mmb};
 
 type Digest = FixedBytes<32>;
 
 type Tree = GraftedTree<mmb::Family, Digest>;
-
-/// More chunks than a case has.
-const MANY: u64 = 1000;
 
 /// The height of a node over as many operations as a chunk of one byte has bits.
 const HEIGHT: u32 = 3;
@@ -29,17 +27,17 @@ fn prune_once<F: Graftable, H: Hasher>(
 ) -> Result<(), Error<F>>
     requires low { 1 ≤ height }
     requires high { height ≤ 8 }
+    requires few { chunks ≤ 1000 }
 {
     nodes_over_chunks_are_taken::<F, Standard<H>>();
-    if tree.leaves().as_u64() >= MANY {
-        return Err(Error::DataCorrupted("too many chunks"));
-    }
     let hasher = GraftedHasher::new(Standard::<H>::new(Bagging::BackwardFold), height);
     tree.prune(&hasher, chunks)
 }
 
 /// Forgets the first `chunks` chunks of `tree`.
-fn prune(rt: &impl Abort, tree: &mut Tree, chunks: u64) {
+fn prune(rt: &impl Abort, tree: &mut Tree, chunks: u64)
+    requires { chunks ≤ 1000 }
+{
     if prune_once::<mmb::Family, Sha256>(tree, HEIGHT, chunks).is_ok() {
         return;
     }
@@ -64,30 +62,37 @@ fn leaf(byte: u8) -> Digest {
     FixedBytes { bytes: [byte; 32] }
 }
 
-// what is expected is from an independent program, which hashes each node with its position over the operations
+/// The digests of the nodes over the first two chunks, over the next two and over all four, whose leaves are `leaf(1)` to `leaf(4)`:
+/// from an independent program, which hashes each node with its position over the operations.
+fn nodes_over_chunks() -> [Digest; 3] {
+    [
+        FixedBytes {
+            bytes: [
+                0x40, 0x16, 0xb8, 0x4f, 0xbc, 0xb3, 0x41, 0x48, 0x0b, 0x06, 0x2b, 0x2d, 0x09, 0xdf,
+                0x34, 0x71, 0xe1, 0xaf, 0x9e, 0xb0, 0x80, 0xac, 0x54, 0x6d, 0x68, 0x23, 0x6f, 0x40,
+                0x5a, 0xa3, 0xfc, 0xd2,
+            ],
+        },
+        FixedBytes {
+            bytes: [
+                0x2a, 0x11, 0xda, 0x4f, 0x3b, 0x21, 0x4c, 0x06, 0x59, 0xa8, 0xd5, 0xdf, 0xe7, 0x4a,
+                0x06, 0x62, 0x53, 0xfd, 0x63, 0xdf, 0xc4, 0x5a, 0x7c, 0x1f, 0xd2, 0xe8, 0x75, 0xce,
+                0x04, 0x67, 0x13, 0xac,
+            ],
+        },
+        FixedBytes {
+            bytes: [
+                0xc5, 0xae, 0xeb, 0x7f, 0x31, 0x43, 0x7e, 0x08, 0xd5, 0xba, 0xe2, 0xbc, 0x8c, 0x61,
+                0x41, 0xc6, 0xdb, 0x68, 0x8f, 0x4b, 0x27, 0x84, 0x96, 0x6a, 0xb6, 0x4b, 0xf1, 0x42,
+                0xfa, 0x91, 0x05, 0xb6,
+            ],
+        },
+    ]
+}
+
 #[test]
 fn grafted_pruning_made_again(rt: HostRuntime) {
-    let first = FixedBytes {
-        bytes: [
-            0x40, 0x16, 0xb8, 0x4f, 0xbc, 0xb3, 0x41, 0x48, 0x0b, 0x06, 0x2b, 0x2d, 0x09, 0xdf,
-            0x34, 0x71, 0xe1, 0xaf, 0x9e, 0xb0, 0x80, 0xac, 0x54, 0x6d, 0x68, 0x23, 0x6f, 0x40,
-            0x5a, 0xa3, 0xfc, 0xd2,
-        ],
-    };
-    let second = FixedBytes {
-        bytes: [
-            0x2a, 0x11, 0xda, 0x4f, 0x3b, 0x21, 0x4c, 0x06, 0x59, 0xa8, 0xd5, 0xdf, 0xe7, 0x4a,
-            0x06, 0x62, 0x53, 0xfd, 0x63, 0xdf, 0xc4, 0x5a, 0x7c, 0x1f, 0xd2, 0xe8, 0x75, 0xce,
-            0x04, 0x67, 0x13, 0xac,
-        ],
-    };
-    let four = FixedBytes {
-        bytes: [
-            0xc5, 0xae, 0xeb, 0x7f, 0x31, 0x43, 0x7e, 0x08, 0xd5, 0xba, 0xe2, 0xbc, 0x8c, 0x61,
-            0x41, 0xc6, 0xdb, 0x68, 0x8f, 0x4b, 0x27, 0x84, 0x96, 0x6a, 0xb6, 0x4b, 0xf1, 0x42,
-            0xfa, 0x91, 0x05, 0xb6,
-        ],
-    };
+    let [first, second, four] = nodes_over_chunks();
     let [third, fourth, fifth] = [Some(leaf(3)), Some(leaf(4)), Some(leaf(5))];
 
     let Ok(leaves) = Vec::from_slice(rt.alloc(), &[1, 2, 3, 4, 5].map(leaf)) else {
@@ -113,4 +118,32 @@ fn grafted_pruning_made_again(rt: HostRuntime) {
     let kept = [None, None, None, None, None, None, fifth, Some(four)];
     assert!(rt; has_nodes(&tree, &kept));
     assert!(rt; tree.leaves() == Location::new(5));
+}
+
+/// More chunks than a hasher over chunks can hash the nodes of: the operations below them are past the limit of leaves.
+const HUGE: u64 = 1 << 60;
+
+#[test]
+fn pruned_already(rt: HostRuntime) {
+    let made = Tree::init(rt.alloc(), HUGE, &[leaf(6); 60], Vec::new(rt.alloc()));
+    let Ok(mut tree) = made else {
+        out_of_memory(&rt)
+    };
+    prune(&rt, &mut tree, 5);
+    assert!(rt; tree.pruned_chunks() == HUGE);
+    assert!(rt; tree.leaves() == Location::new(HUGE));
+}
+
+#[test]
+fn no_leaves_updated(rt: HostRuntime) {
+    let made = Mem::<mmb::Family, _>::init(rt.alloc(), Location::new(HUGE), &[leaf(6); 60]);
+    let Ok(mut tree) = made else {
+        out_of_memory(&rt)
+    };
+    let hasher = GraftedHasher::new(Standard::<Sha256>::new(Bagging::BackwardFold), HEIGHT);
+    if let Err(refusal) = tree.update_leaves(&hasher, &[]) {
+        refused(&rt, &refusal);
+    }
+    assert!(rt; tree.leaves() == Location::new(HUGE));
+    assert!(rt; tree.pinned_nodes() == [leaf(6); 60].as_slice());
 }

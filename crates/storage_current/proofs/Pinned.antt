@@ -9,11 +9,12 @@ use Rattle.std.proofs.lemmas.List.{length-map}
 use Rattle.std.proofs.lemmas.Option.{slice_get-get_or}
 use Rattle.std.proofs.Math.Nat.{mod-lt}
 use Rattle.storage_merkle.specs.Shape.{Shape, Laws, size, Inside, AreAligned}
+use Rattle.storage_merkle.specs.Hashers.{TakesGrowth}
 use Rattle.storage_merkle.specs.Nodes.{placed}
 use Rattle.storage_merkle.specs.Laws.Multiples.{pow_two, pow_order, next, multiple_add, multiple_down, power_multiple, is_multiple}
 use Rattle.storage_merkle.specs.Laws.Shape.{inside_between, grows_at_most, grows_below, leaves_of_size}
 use Rattle.storage_merkle.specs.Kept.{at_peaks, paired, pins}
-use Rattle.storage_current.specs.GraftedTrees.{IsCoverable, IsKeptIn, IsPeak, IsUnder, leaf_places, tree_at}
+use Rattle.storage_current.specs.GraftedTrees.{IsCoverable, IsKeptIn, IsPeak, TakesMade, leaf_places, tree_at}
 
 neq-eqb : (a b : ℕ) → a ≢ b → eqb a b ≡ false
 neq-eqb a b ne = ⊎_elim (λ (x : (eqb a b ≡ true) × (a ≡ b)). absurd (ne x.1)) (λ (y : (eqb a b ≡ false) × (a ≢ b)). y.0)
@@ -352,18 +353,56 @@ module _ (S : Shape) where
           (λ (g : S.birth a (suc k) ≤ b). inl (pin_kept a (suc k) al (top ((L.inside b a (suc k) al).1 g))))
           (cases_lt b (S.birth a (suc k)))
 
+      -- of a peak over more chunks what is inside a pin is that pin
+      peak_top : (m a k : ℕ) → b ≤ m → a % 2 ^ k ≡ 0 → IsPeak (S.peaks m) 0 a k → Inside (S.peaks b) 0 a k
+          → IsPeak (S.peaks b) 0 a k
+      peak_top m a k from al i x =
+          let q = parent_of a k al in
+          inside_peak (S.peaks b) 0 a k q.first (L.aligned b) x q.aligned q.low q.high
+          (λ y. peak_topmost (S.peaks m) 0 a k q.first i q.low q.high
+          ((L.inside m q.first (suc k) q.aligned).1 (let z : S.birth q.first (suc k) ≤ b =
+          (L.inside b q.first (suc k) q.aligned).0 y in omega arith)))
+
       -- so are the peaks over more chunks
       pub peak_covered : (m a k : ℕ) → b ≤ m → m ≤ b + length ls → a % 2 ^ k ≡ 0 → IsPeak (S.peaks m) 0 a k
           → IsCoverable (IsKeptIn S (tree_at S b ps ls)) 0 k a
       peak_covered m a k from to al i =
-          let inside = peak_inside (S.peaks m) 0 a k i in
-          let end = (inside_between (S.peaks m) 0 a k inside).1 in
-          let q = parent_of a k al in
-          covered k a al (omega (arith, end, L.sum m))
-          (λ x. inside_peak (S.peaks b) 0 a k q.first (L.aligned b) x q.aligned q.low q.high
-          (λ y. peak_topmost (S.peaks m) 0 a k q.first i q.low q.high
-          ((L.inside m q.first (suc k) q.aligned).1 (let z : S.birth q.first (suc k) ≤ b =
-          (L.inside b q.first (suc k) q.aligned).0 y in omega arith))))
+          let end = (inside_between (S.peaks m) 0 a k (peak_inside (S.peaks m) 0 a k i)).1 in
+          covered k a al (omega (arith, end, L.sum m)) (peak_top m a k from al i)
+
+      -- to have a node of the tree over m chunks, only nodes are hashed that are not in the tree over the pruned ones
+      made_taken : (takes : ℕ → Type 0) (m : ℕ) → TakesGrowth takes S b m → (k a : ℕ) → a % 2 ^ k ≡ 0
+          → S.position a k < size S m → (Inside (S.peaks b) 0 a k → IsPeak (S.peaks b) 0 a k)
+          → TakesMade (IsKeptIn S (tree_at S b ps ls)) (λ a k. takes (S.position a k)) k a
+      made_taken takes m growth zero a al below top = tt
+      made_taken takes m growth (suc k) a al below top =
+          let left : a % 2 ^ k ≡ 0 = multiple_down a k (suc k) (omega arith) al in
+          let right : (a + 2 ^ k) % 2 ^ k ≡ 0 =
+          multiple_add a (2 ^ k) (2 ^ k) (pow_pos k) left (power_multiple k k (omega arith)) in
+          let two = pow_two k in
+          let c = L.children a k al in
+          ⊎_elim
+          (λ (low : S.position a (suc k) < size S b). inl (pin_kept a (suc k) al
+          (top ((L.inside b a (suc k) al).1 ((L.born b a (suc k) al).0 low)))))
+          (λ (high : size S b ≤ S.position a (suc k)).
+          let none : Inside (S.peaks b) 0 a (suc k) → ⊥ =
+          λ i. absurd (let x : S.position a (suc k) < size S b = (L.born b a (suc k) al).1 ((L.inside b a (suc k) al).0 i) in
+          omega arith) in
+          inr (
+            growth (S.position a (suc k)) a (suc k) (record { aligned = al; at = refl }, omega arith) high below,
+            made_taken takes m growth k a left (omega (arith, c.0, below))
+                (λ i. inside_peak (S.peaks b) 0 a k a (L.aligned b) i al (omega arith) (omega arith) none),
+            made_taken takes m growth k (a + 2 ^ k) right (omega (arith, c.1, below))
+                (λ i. inside_peak (S.peaks b) 0 (a + 2 ^ k) k a (L.aligned b) i al (omega arith) (omega arith) none),
+          ))
+          (cases_lt (S.position a (suc k)) (size S b))
+
+      pub peak_taken : (takes : ℕ → Type 0) (m a k : ℕ) → TakesGrowth takes S b m → b ≤ m → a % 2 ^ k ≡ 0
+          → IsPeak (S.peaks m) 0 a k → TakesMade (IsKeptIn S (tree_at S b ps ls)) (λ a k. takes (S.position a k)) k a
+      peak_taken takes m a k growth from al i =
+          let below : S.position a k < size S m =
+          (L.born m a k al).1 ((L.inside m a k al).0 (peak_inside (S.peaks m) 0 a k i)) in
+          made_taken takes m growth k a al below (peak_top m a k from al i)
 
     -- ---- a walk along the peaks
 
@@ -390,9 +429,3 @@ module _ (S : Shape) where
     walk_next m first left h w e le =
         let al = rw e at w.aligned in
         record { sum = omega (arith, w.sum); aligned = al.1; part = λ a k i. w.part a k (rw e (inr i)) }
-
-    -- a node under a peak of a tree stands in it
-    pub under_within : (m first h a k : ℕ) → IsPeak (S.peaks m) 0 first h → IsUnder first h a k → S.position a k < size S m
-    under_within m first h a k i u =
-        let inside = inside_under (S.peaks m) 0 first h a k (peak_inside (S.peaks m) 0 first h i) u.1 u.2 in
-        (L.born m a k u.0).1 ((L.inside m a k u.0).0 inside)

@@ -2,9 +2,9 @@
 use Rattle.std.proofs.Common.{◌≡◌, ◌≢◌, ℕ, zero, suc, ◌+◌, ◌-◌, ◌%◌, ◌^◌, ◌<◌, ◌≤◌, ◌⊎◌, inl, inr, List, Option, Some, None, option_map, true, false, refl, sym, ap, ap₂, ◌∙◌, arith}
 use Rattle.std.specs.Option.{option_or, is_some}
 use Rattle.storage_merkle.specs.Shape.{Shape, Laws, size}
-use Rattle.storage_merkle.specs.Laws.Multiples.{pow_two, multiple_down, multiple_add, power_multiple}
+use Rattle.storage_merkle.specs.Laws.Multiples.{multiple_down, multiple_add, power_multiple}
 use Rattle.std.proofs.lemmas.Nat.{pow_pos}
-use Rattle.storage_current.specs.GraftedTrees.{IsCoverable, IsKeptIn, made_of, rebuilt}
+use Rattle.storage_current.specs.GraftedTrees.{IsCoverable, IsKeptIn, TakesMade, made_of, rebuilt}
 
 -- ---- options
 
@@ -28,10 +28,6 @@ pub record Halves (S : Shape) (a k : ℕ) : Type 0 where
   pub left_before : S.position a (k - 1) < S.position a k
   pub right_before : S.position (a + 2 ^ (k - 1)) (k - 1) < S.position a k
   pub first : a + 2 ^ (k - 1) ≤ S.position a k
-
-pub halves_length : (k : ℕ) → k ≢ 0 → 2 ^ k ≡ 2 ^ (k - 1) + 2 ^ (k - 1)
-halves_length zero ne = absurd (ne refl)
-halves_length (suc k) ne = let e : suc k - 1 ≡ k = omega arith in rw e (pow_two k)
 
 module _ (S : Shape) (L : Laws S) where
   at_least : (n : ℕ) → n ≤ size S n
@@ -83,6 +79,14 @@ module _ (P : ℕ → ℕ → Type 0) where
   covered_halves (suc k) a ne gone (inl p) = absurd (gone p)
   covered_halves (suc k) a ne gone (inr c) = let e : suc k - 1 ≡ k = omega arith in rw e (c.1, c.2)
 
+-- to have a node that is not kept, it is hashed, and what its halves take
+pub made_halves : {D : Type 0} (S : Shape) (kept : ℕ → Option D) (taken : ℕ → ℕ → Type 0) (k a : ℕ) → k ≢ 0
+    → is_some (kept (S.position a k)) ≡ false → TakesMade (IsKeptIn S kept) taken k a → taken a k
+    × TakesMade (IsKeptIn S kept) taken (k - 1) a × TakesMade (IsKeptIn S kept) taken (k - 1) (a + 2 ^ (k - 1))
+made_halves S kept taken zero a ne none t = absurd (ne refl)
+made_halves S kept taken (suc k) a ne none (inl some) = absurd (cc)
+made_halves S kept taken (suc k) a ne none (inr t) = let e : suc k - 1 ≡ k = omega arith in rw e t
+
 -- the same by what each digest is seen as
 module _ {D E : Type 0} (S : Shape) (f : D → E) (kept : ℕ → Option D) where
   pub covered_seen : (k a : ℕ) → IsCoverable (IsKeptIn S kept) 0 k a
@@ -123,6 +127,10 @@ or_left : {D : Type 0} (x y : Option D) → is_some x ≡ true → is_some (opti
 or_left None y e = cc
 or_left (Some x) y e = refl
 
+or_first : {D : Type 0} (x y : Option D) → is_some x ≡ true → x ≡ option_or x y
+or_first None y e = cc
+or_first (Some x) y e = refl
+
 or_right : {D : Type 0} (x y : Option D) → is_some y ≡ true → is_some (option_or x y) ≡ true
 or_right None y e = e
 or_right (Some x) y e = refl
@@ -153,6 +161,13 @@ module _ {D : Type 0} (S : Shape) (join : ℕ → ℕ → D → D → D) (kept :
   pub rebuilt_leaf : (k a : ℕ) → k ≡ 0 → rebuilt S join kept k a ≡ kept (S.position a k)
   rebuilt_leaf zero a e = refl
   rebuilt_leaf (suc k) a e = absurd (omega arith)
+
+  -- where it is kept, or is a leaf, it is what is kept
+  pub rebuilt_here : (k a : ℕ) → (is_some (kept (S.position a k)) ≡ true) ⊎ (k ≡ 0)
+      → kept (S.position a k) ≡ rebuilt S join kept k a
+  rebuilt_here zero a here = refl
+  rebuilt_here (suc k) a (inl some) = or_first (kept (S.position a (suc k))) _ some
+  rebuilt_here (suc k) a (inr leaf) = absurd (omega arith)
 
   pub rebuilt_halves : (k a : ℕ) → k ≢ 0 → kept (S.position a k) ≡ None → rebuilt S join kept k a
       ≡ made_of (join a k) (rebuilt S join kept (k - 1) a) (rebuilt S join kept (k - 1) (a + 2 ^ (k - 1)))

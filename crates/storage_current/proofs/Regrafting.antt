@@ -1,5 +1,5 @@
 -- Nodes over chunks that are hashed again for a position of the tree over the operations.
-use Rattle.std.proofs.Common.{◌≡◌, ℕ, zero, suc, ◌+◌, ◌-◌, ◌*◌, ◌/◌, ◌%◌, ◌<◌, ◌≤◌, ◌^◌, List, [], Option, option_map, refl, sym, ap, ap₂, ◌∙◌, arith, ⊎_elim, pow_pos}
+use Rattle.std.proofs.Common.{◌≡◌, ℕ, zero, suc, ◌+◌, ◌-◌, ◌*◌, ◌/◌, ◌%◌, ◌<◌, ◌≤◌, ◌^◌, List, [], inr, Option, option_map, refl, sym, ap, ap₂, ◌∙◌, arith, ⊎_elim, pow_pos}
 use Rattle.std.proofs.lemmas.Bool.{cases_lt}
 use Rattle.std.proofs.lemmas.Nat.{pow-add, mul-le}
 use Rattle.std.proofs.Math.Nat.{add-mul}
@@ -11,10 +11,29 @@ use Rattle.storage_merkle.specs.Hashing.{join_digest}
 use Rattle.storage_merkle.specs.Laws.Multiples.{in_units, multiple_add, multiple_down, next, out_of_units, pow_le, pow_order, pow_two, power_multiple}
 use Rattle.storage_merkle.specs.Laws.Shape.{covers_down, covers_once, valid_height, valid_leaves}
 use Rattle.storage_current.specs.Combined.{IsRaised, over_chunks}
-use Rattle.storage_current.specs.GraftedTrees.{IsUnder, join_over, rebuilt, regrafted}
+use Rattle.storage_current.specs.GraftedTrees.{TakesMade, join_over, rebuilt, regrafted}
 use Rattle.storage_current.proofs.PrunedViews.{regrafted_is}
 use Rattle.storage_current.proofs.Raised.{raised}
 use Rattle.storage_current.proofs.Rebuilt.{rebuilt_seen, seen_once}
+
+-- the node of height j over the leaves from b on is under the one of height k over those from a on, or is that one
+abbrev pub IsUnder : ℕ → ℕ → ℕ → ℕ → Type 0
+IsUnder a k b j = (b % 2 ^ j ≡ 0) × (a ≤ b) × (b + 2 ^ j ≤ a + 2 ^ k)
+
+-- where each node under one is taken, so are those that are hashed
+pub all_taken : (kept taken : ℕ → ℕ → Type 0) (k a : ℕ) → a % 2 ^ k ≡ 0 → ((b j : ℕ) → IsUnder a k b j → taken b j)
+    → TakesMade kept taken k a
+all_taken kept taken zero a al all = tt
+all_taken kept taken (suc k) a al all =
+    let two = pow_two k in
+    let left : a % 2 ^ k ≡ 0 = multiple_down a k (suc k) (omega arith) al in
+    let right : (a + 2 ^ k) % 2 ^ k ≡ 0 =
+    multiple_add a (2 ^ k) (2 ^ k) (pow_pos k) left (power_multiple k k (omega arith)) in
+    inr (
+      all a (suc k) (al, omega arith, omega arith),
+      all_taken kept taken k a left (λ b j u. all b j (u.0, u.1, omega (arith, u.2, two))),
+      all_taken kept taken k (a + 2 ^ k) right (λ b j u. all b j (u.0, omega (arith, u.1), omega (arith, u.2, two))),
+    )
 
 module _ (S : Shape) (L : Laws S) where
   -- a node under another one stands before it

@@ -54,9 +54,12 @@ IsCoverable kept g zero a = kept a zero
 IsCoverable kept g (suc k) a =
     kept a (suc k) ⊎ ((g < suc k) × IsCoverable kept g k a × IsCoverable kept g k (a + 2 ^ k))
 
--- the node of height j over the leaves from b on is under the one of height k over those from a on, or is that one
-abbrev pub IsUnder : ℕ → ℕ → ℕ → ℕ → Type 0
-IsUnder a k b j = (b % 2 ^ j ≡ 0) × (a ≤ b) × (b + 2 ^ j ≤ a + 2 ^ k)
+-- Each node is taken that is hashed to have the one of height k over the leaves from a on: none where it is kept or a leaf, else this
+-- one and those of its halves.
+abbrev pub TakesMade : (kept taken : ℕ → ℕ → Type 0) → ℕ → ℕ → Type 0
+TakesMade kept taken zero a = Unit {0}
+TakesMade kept taken (suc k) a =
+    kept a (suc k) ⊎ (taken a (suc k) × TakesMade kept taken k a × TakesMade kept taken k (a + 2 ^ k))
 
 -- the node of height k over the leaves from a on has a digest in a store
 abbrev pub IsKeptIn : {D : Type 0} → Shape → (ℕ → Option D) → ℕ → ℕ → Type 0

@@ -1,15 +1,14 @@
-use Rattle.std.proofs.Common.{arith, ◌+◌, ◌*◌, ◌^◌, ◌≤◌, length}
+use Rattle.std.proofs.Common.{arith, ◌*◌, ◌^◌, ◌≤◌}
 use Rattle.std.proofs.lemmas.Nat.{mul-le}
 use Rattle.storage_merkle.specs.Laws.Multiples.{pow_le}
 use Rattle.library_tests.proofs.grafted.prune_once.Goals as goal
 
 pub prune-requires : goal.prune-requires
-prune-requires g c p below =
-    let chunks = c.args.tree.now.pruned + length c.args.tree.now.leaves in
+prune-requires g c few p a k inner high below =
+    let chunks = c.args.chunks in
     let power : 2 ^ c.args.height ≤ 2 ^ 8 = pow_le c.args.height 8 c.requires.high in
-    let most : chunks ≤ 1000 = omega (arith, c.leaves.ensures) in
     let product : chunks * (2 * 2 ^ c.args.height) ≤ 1000 * 512 =
-    mul-le chunks (2 * 2 ^ c.args.height) 1000 512 most (omega arith) in
+    mul-le chunks (2 * 2 ^ c.args.height) 1000 512 c.requires.few (omega arith) in
     let room : chunks * (2 * 2 ^ c.args.height) ≤ 2 ^ 62 = omega arith in
     rw c.new-hasher.ensures.height (c.nodes_over_chunks_are_taken.ensures.half c.new-hasher.result.inner chunks
     c.args.height p c.requires.low room below (λ q covers. tt))

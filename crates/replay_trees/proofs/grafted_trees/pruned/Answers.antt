@@ -4,10 +4,10 @@ use Rattle.storage_merkle.specs.Laws.Multiples.{pow_le}
 use Rattle.replay_trees.proofs.grafted_trees.pruned.Goals as goal
 
 pub prune-requires : goal.prune-requires
-prune-requires g c p below =
-    let chunks = c.args.tree.now.pruned + length c.args.tree.now.leaves in
+prune-requires g c few p a k inner high below =
+    let chunks = c.args.chunks in
     let power : 2 ^ c.args.height ≤ 2 ^ 8 = pow_le c.args.height 8 c.requires.high in
-    let most : chunks ≤ 1000 = omega (arith, c.leaves.ensures) in
+    let most : chunks ≤ 1000 = omega (arith, few, c.leaves.ensures) in
     let product : chunks * (2 * 2 ^ c.args.height) ≤ 1000 * 512 =
     mul-le chunks (2 * 2 ^ c.args.height) 1000 512 most (omega arith) in
     let room : chunks * (2 * 2 ^ c.args.height) ≤ 2 ^ 62 = omega arith in

@@ -1,8 +1,8 @@
 //! Nodes of a tree that keeps some of them: as they are kept, or hashed from those below.
 
-ghost use Rattle.std.specs.Prelude.{◌≡◌, ℕ, ◌+◌, ◌%◌, ◌^◌, ◌<◌, ◌≤◌, ◌↔◌, IsTrue, option_map};
+ghost use Rattle.std.specs.Prelude.{◌≡◌, ◌+◌, ◌%◌, ◌^◌, ◌<◌, ◌≤◌, ◌↔◌, IsTrue, option_map};
 ghost use Rattle.storage_merkle.specs.Hashing.{join_digest};
-ghost use Rattle.storage_current.specs.GraftedTrees.{IsCoverable, IsKeptIn, IsUnder, rebuilt};
+ghost use Rattle.storage_current.specs.GraftedTrees.{IsCoverable, IsKeptIn, TakesMade, rebuilt};
 
 use crate::qmdb::current::grafting::power;
 use storage_merkle::merkle::hasher::Hasher;
@@ -20,8 +20,8 @@ pub(crate) fn node_of<F: Family, R: Readable<Family = F>, H: Hasher<F, Digest = 
     requires high { height ≤ 62 }
     requires aligned { first % 2 ^ height ≡ 0 }
     requires fits { F.shape.position first height < 2 ^ 64 }
-    requires takes { (a k : ℕ) → IsUnder first height a k
-        → H.takes hasher.now (F.shape.position a k) }
+    requires takes { TakesMade (IsKeptIn F.shape (R.node tree.now))
+        (λ a k. H.takes hasher.now (F.shape.position a k)) height first }
     ensures { option_map R.Digest.text result ≡ rebuilt F.shape
         (join_digest H.hash_of (H.layout hasher.now) (H.chunk hasher.now))
         (λ p. option_map R.Digest.text (R.node tree.now p)) height first }
@@ -68,8 +68,8 @@ fn rebuild<F: Family, R: Readable<Family = F>, H: Hasher<F, Digest = R::Digest>>
     requires high { height ≤ 62 }
     requires aligned { first % 2 ^ height ≡ 0 }
     requires fits { F.shape.position first height < 2 ^ 64 }
-    requires takes { (a k : ℕ) → IsUnder first height a k
-        → H.takes hasher.now (F.shape.position a k) }
+    requires takes { TakesMade (IsKeptIn F.shape (R.node tree.now))
+        (λ a k. H.takes hasher.now (F.shape.position a k)) height first }
     ensures { option_map R.Digest.text result ≡ rebuilt F.shape
         (join_digest H.hash_of (H.layout hasher.now) (H.chunk hasher.now))
         (λ p. option_map R.Digest.text (R.node tree.now p)) height first }

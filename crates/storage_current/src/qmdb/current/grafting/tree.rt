@@ -1,7 +1,8 @@
 //! A tree over chunks that keeps pins and leaves alone.
 
 ghost use Rattle.std.specs.Prelude.{◌≡◌, ℕ, ◌+◌, ◌-◌, ◌<◌, ◌≤◌, [], ◌⊎◌, List, map, max, min, take, drop, length, slice_index, IfOk, OnOk, OnErr, IfErr};
-ghost use Rattle.storage_merkle.specs.Shape.{size, max_leaves};
+ghost use Rattle.storage_merkle.specs.Shape.{max_leaves};
+ghost use Rattle.storage_merkle.specs.Hashers.{TakesGrowth};
 ghost use Rattle.storage_merkle.specs.Hashing.{node_over};
 ghost use Rattle.storage_merkle.specs.Kept.{NodesOver, at_peaks, paired, pins};
 ghost use Rattle.storage_current.specs.GraftedTrees.{IsWholeGrafted, Keeps, tree_at};
@@ -155,8 +156,8 @@ impl<F: Graftable, D: Digest> GraftedTree<F, D> {
         hasher: &H,
         chunks: u64,
     ) -> Result<(), Error<F>>
-        requires { (p : ℕ) → p < size F.shape (self.old.pruned + length self.old.leaves)
-            → H.takes hasher.now p }
+        requires { chunks ≤ self.old.pruned + length self.old.leaves
+            → TakesGrowth (H.takes hasher.now) F.shape self.old.pruned chunks }
         ensures stands { let N = node_over H.hash_of (H.layout hasher.now) (H.chunk hasher.now) in
             OnOk result ((list : List (List ℕ)) → Keeps D.text F.shape N self.old list
             → Keeps D.text F.shape N self.new list) }
@@ -263,7 +264,7 @@ fn peaks_over<F: Graftable, D: Digest, H: Hasher<F, Digest = D>>(
         (length tree.now.leaves) }
     requires from { tree.now.pruned ≤ chunks }
     requires to { chunks ≤ tree.now.pruned + length tree.now.leaves }
-    requires takes { (p : ℕ) → p < size F.shape chunks → H.takes hasher.now p }
+    requires takes { TakesGrowth (H.takes hasher.now) F.shape tree.now.pruned chunks }
     ensures count { IfOk result (λ v. length v.items ≡ length (F.shape.peaks chunks)) }
     ensures digests { let N = node_over H.hash_of (H.layout hasher.now) (H.chunk hasher.now) in
         IfOk result (λ v. (list : List (List ℕ)) → Keeps D.text F.shape N tree.now list

@@ -1,8 +1,9 @@
-use Rattle.std.proofs.Common.{arith, rules, ◌≡◌, ◌+◌, ◌-◌, ◌^◌, ◌<◌, ℕ, List, Option, Some, None, option_map, false, ap, ap₂, sym, ◌∙◌}
+use Rattle.std.proofs.Common.{arith, rules, ◌≡◌, ◌+◌, ◌-◌, ◌^◌, ◌<◌, ℕ, List, Option, Some, None, option_map, true, false, inl, inr, ap, ap₂, sym, ◌∙◌}
 use Rattle.std.specs.Option.{is_some}
 use Rattle.storage_merkle.specs.Hashing.{join_digest}
-use Rattle.storage_current.specs.GraftedTrees.{IsUnder, made_of, rebuilt}
-use Rattle.storage_current.proofs.Rebuilt.{halves, halves_length, made_none, none_some, rebuilt_halves}
+use Rattle.storage_current.specs.GraftedTrees.{IsKeptIn, TakesMade, made_of, rebuilt}
+use Rattle.storage_current.proofs.Rebuilt.{halves, made_halves, made_none, map_some, none_some, rebuilt_halves, rebuilt_here}
+use Rattle.storage_current.proofs.qmdb.current.grafting.rebuild.+rebuild.Goals.{then-is_some-via-then-is_some, then-is_some-via-else-is_some+then-height-eq0}
 use Rattle.storage_current.proofs.qmdb.current.grafting.rebuild.+rebuild.Goals as goal
 
 pub rebuild-requires : goal.rebuild-requires
@@ -11,9 +12,12 @@ rebuild-requires g t c κs within =
     let h = halves S g.met.F.Family.laws c.args.first c.args.height c.requires.aligned c.if-height-eq0.false in
     let l = h.left in
     let f : S.position c.args.first (c.args.height - 1) < 2 ^ 64 = omega (arith, h.left_before, c.requires.fits) in
-    let two = halves_length c.args.height c.if-height-eq0.false in
-    let u : (a k : ℕ) → IsUnder c.args.first (c.args.height - 1) a k → g.H.Hasher.takes c.args.hasher.now (S.position a k) =
-    λ a k u. c.requires.takes a k (u.0, u.1, omega (arith, u.2, two)) in
+    let taken : ℕ → ℕ → Type 0 = λ a k. g.H.Hasher.takes c.args.hasher.now (S.position a k) in
+    let none : is_some (g.R.Readable.node c.args.tree.now (S.position c.args.first c.args.height)) ≡ false =
+    rw (← c.position.ensures, ← c.new-position.ensures, ← c.get_node-kept.ensures) (search rules) in
+    let made = made_halves S (g.R.Readable.node c.args.tree.now) taken c.args.height c.args.first c.if-height-eq0.false none
+    c.requires.takes in
+    let u : TakesMade (IsKeptIn S (g.R.Readable.node c.args.tree.now)) taken (c.args.height - 1) c.args.first = made.1 in
     search rules
 
 pub returns-in_err-left : goal.returns-in_err-left
@@ -45,11 +49,24 @@ rebuild-requires-2 g t c κs within =
     let l = h.right in
     let f : S.position (c.args.first + 2 ^ (c.args.height - 1)) (c.args.height - 1) < 2 ^ 64 =
     omega (arith, h.right_before, c.requires.fits) in
-    let two = halves_length c.args.height c.if-height-eq0.false in
-    let u : (a k : ℕ) → IsUnder (c.args.first + 2 ^ (c.args.height - 1)) (c.args.height - 1) a k
-    → g.H.Hasher.takes c.args.hasher.now (S.position a k) =
-    λ a k u. c.requires.takes a k (u.0, omega (arith, u.1), omega (arith, u.2, two)) in
+    let taken : ℕ → ℕ → Type 0 = λ a k. g.H.Hasher.takes c.args.hasher.now (S.position a k) in
+    let none : is_some (g.R.Readable.node c.args.tree.now (S.position c.args.first c.args.height)) ≡ false =
+    rw (← c.position.ensures, ← c.new-position.ensures, ← c.get_node-kept.ensures) (search rules) in
+    let made = made_halves S (g.R.Readable.node c.args.tree.now) taken c.args.height c.args.first c.if-height-eq0.false none
+    c.requires.takes in
+    let u : TakesMade (IsKeptIn S (g.R.Readable.node c.args.tree.now)) taken (c.args.height - 1)
+    (c.args.first + 2 ^ (c.args.height - 1)) = made.2 in
     rw c.power.ensures (search rules)
+
+pub node_digest_over-requires-clause-takes : goal.node_digest_over-requires-clause-takes
+node_digest_over-requires-clause-takes g t c =
+    let S = g.F.Family.shape in
+    let taken : ℕ → ℕ → Type 0 = λ a k. g.H.Hasher.takes c.args.hasher.now (S.position a k) in
+    let none : is_some (g.R.Readable.node c.args.tree.now (S.position c.args.first c.args.height)) ≡ false =
+    rw (← c.position.ensures, ← c.new-position.ensures, ← c.get_node-kept.ensures) (search rules) in
+    let made = made_halves S (g.R.Readable.node c.args.tree.now) taken c.args.height c.args.first c.if-height-eq0.false none
+    c.requires.takes in
+    made.0
 
 pub returns-in_err-right : goal.returns-in_err-right
 returns-in_err-right g t c =
@@ -85,4 +102,17 @@ returns g t c =
     ap Some c.node_digest_over.ensures ∙ sym (halves_are ∙ ap₂ (made_of (J c.args.first c.args.height)) left right)
 
 pub returns-then-is_some : goal.returns-then-is_some
-returns-then-is_some g t c = grind arith
+returns-then-is_some g t c =
+    let S = g.F.Family.shape in
+    let text = g.R.Digest.Digest.text in
+    let K : ℕ → Option (List ℕ) = λ p. option_map text (g.R.Readable.node c.args.tree.now p) in
+    let J = join_digest g.H.Hasher.hash_of (g.H.Hasher.layout c.args.hasher.now) (g.H.Hasher.chunk c.args.hasher.now) in
+    let same : option_map text c.get_node-kept.result ≡ K (S.position c.args.first c.args.height) =
+    ap (option_map text) (c.get_node-kept.ensures
+    ∙ ap (g.R.Readable.node c.args.tree.now) (c.new-position.ensures ∙ c.position.ensures)) in
+    same ∙ rebuilt_here S J K c.args.height c.args.first (elim c.then-is_some.branch [
+      | then-is_some-via-then-is_some w ↦
+          let yes : is_some c.get_node-kept.result ≡ true = (let some = w.if-is_some.true in search rules) in
+          inl (ap is_some (sym same) ∙ map_some text c.get_node-kept.result ∙ yes)
+      | then-is_some-via-else-is_some+then-height-eq0 w ↦ inr w.if-height-eq0.true
+    ])

@@ -1,7 +1,7 @@
 use Rattle.std.proofs.Common.{arith, ◌≡◌, [], ◌∷◌, length, ap, ◌∙◌, length-append}
 use Rattle.storage_merkle.specs.Laws.Shape.{no_peaks}
 use Rattle.storage_merkle.specs.Hashing.{join_digest, node_over}
-use Rattle.storage_current.proofs.Pinned.{under_within, walk_aligned, walk_here, walk_next}
+use Rattle.storage_current.proofs.Pinned.{peak_taken, walk_aligned, walk_here, walk_next}
 use Rattle.storage_current.proofs.Pruning.{peak_had, peak_true, walk_end, walk_fits, walk_push}
 use Rattle.storage_current.proofs.qmdb.current.grafting.tree.peaks_over.Goals as goal
 
@@ -16,11 +16,14 @@ node_of-requires-clause-fits g c =
     c.loop-left.invariant.walk c.first_peak-height.ensures.first
 
 pub node_of-requires-clause-takes : goal.node_of-requires-clause-takes
-node_of-requires-clause-takes g c a k under =
+node_of-requires-clause-takes g c =
     let S = g.F.Family.shape in
     let L = g.met.F.Family.laws in
-    c.requires.takes (S.position a k) (under_within S L c.args.chunks c.loop-left.first c.first_peak-height.result a k
-    (walk_here S L c.args.chunks _ _ _ c.loop-left.invariant.walk c.first_peak-height.ensures.first) under)
+    let t = c.args.tree.now in
+    peak_taken S L t.pruned t.pinned t.leaves c.requires.whole.pins (g.H.Hasher.takes c.args.hasher.now) c.args.chunks
+    c.loop-left.first c.first_peak-height.result c.requires.takes c.requires.from
+    (walk_aligned S L c.args.chunks _ _ _ c.loop-left.invariant.walk c.first_peak-height.ensures.first)
+    (walk_here S L c.args.chunks _ _ _ c.loop-left.invariant.walk c.first_peak-height.ensures.first)
 
 pub unwrap-requires : goal.unwrap-requires
 unwrap-requires g c =

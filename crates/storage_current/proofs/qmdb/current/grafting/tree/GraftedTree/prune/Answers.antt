@@ -1,6 +1,4 @@
 use Rattle.std.proofs.Common.{arith, ◌≡◌, ◌+◌, ◌-◌, ◌≤◌, length, drop, take, ap, ◌∙◌, rules}
-use Rattle.storage_merkle.specs.Shape.{size}
-use Rattle.storage_merkle.specs.Laws.Shape.{grows_at_most}
 use Rattle.storage_current.proofs.Pruning.{kept_pruned, rotated}
 use Rattle.storage_merkle.specs.Kept.{pins}
 use Rattle.std.proofs.lemmas.Grind.{common_steps}
@@ -13,12 +11,8 @@ peaks_over-requires-clause-whole g c = rw (← c.self.view_is) (record {
 })
 
 pub peaks_over-requires-clause-takes : goal.peaks_over-requires-clause-takes
-peaks_over-requires-clause-takes g c p low =
-    let S = g.F.Family.shape in
-    let up : size S c.args.chunks ≤ size S (c.args.self.now.pruned + length c.args.self.now.leaves) =
-    grows_at_most (size S) g.met.F.Family.laws.grows _ _
-    (omega (arith, c.if-chunks-as_u64.false, c.as_u64.ensures, c.leaves.ensures)) in
-    c.requires p (omega arith)
+peaks_over-requires-clause-takes g c =
+    c.requires (omega (arith, c.if-chunks-as_u64.false, c.as_u64.ensures, c.leaves.ensures))
 
 pub returns-clause-stands : goal.returns-clause-stands
 returns-clause-stands g c list keeps =
