@@ -41,8 +41,12 @@ fn by_type(alloc: Global, kind: &str, job: &Job) -> Result<String, Fault> {
         ("ordered-fixed" | "unordered-fixed", "fixed4", "u64") => {
             fixed::<FixedBytes<4>>(alloc, shape, job)
         }
+        ("ordered-fixed" | "unordered-fixed", "fixed8", "u64") => {
+            fixed::<FixedBytes<8>>(alloc, shape, job)
+        }
         ("ordered-fixed" | "unordered-fixed", "u64", "u64") => { fixed::<U64>(alloc, shape, job) }
         (_, "fixed4", _) => by_value::<FixedBytes<4>>(alloc, shape, (), value, job),
+        (_, "fixed8", _) => by_value::<FixedBytes<8>>(alloc, shape, (), value, job),
         (_, "u64", _) => by_value::<U64>(alloc, shape, (), value, job),
         _ => by_value::<Vec<u8>>(alloc, shape, (lengths(key)?, ()), value, job),
     }

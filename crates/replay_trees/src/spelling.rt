@@ -26,12 +26,15 @@ pub fn spell_bytes(alloc: Global, bytes: &[u8]) -> Result<String, Fault> {
     Ok(hex::encode(alloc, bytes)?)
 }
 
-impl Spell for FixedBytes<4> {
+impl<const N: usize> Spell for FixedBytes<N> {
     fn spell(&self, alloc: Global) -> Result<String, Fault> {
         spell_bytes(alloc, &self.bytes)
     }
 
-    fn parse(_alloc: Global, text: &str) -> Result<FixedBytes<4>, Fault> {
+    fn parse(_alloc: Global, text: &str) -> Result<FixedBytes<N>, Fault> {
+        if N > 1 << 32 {
+            return Err(Fault::Malformed);
+        }
         Ok(FixedBytes {
             bytes: array(text)?,
         })
