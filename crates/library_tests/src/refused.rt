@@ -35,6 +35,31 @@ fn push_made_again(rt: HostRuntime) {
     assert!(rt; bits.len() == 20);
 }
 
+#[test]
+fn append_made_again(rt: HostRuntime) {
+    let parts: [(&[bool], u8); 4] = [
+        (&[true, false, true], 0b101),
+        (&[], 0b101),
+        (&[false, true, true, false, true], 0b1011_0101),
+        (
+            &[
+                true, true, false, false, false, false, false, false, false, true,
+            ],
+            0b10,
+        ),
+    ];
+    let mut bits = Prunable::<1>::new(rt.alloc());
+    for (part, last) in parts {
+        assert!(rt; bits.len() <= 8);
+        assert!(rt; part.len() <= 10);
+        if bits.append(part).is_err() && bits.append(part).is_err() {
+            out_of_memory(&rt);
+        }
+        assert!(rt; bits.last_chunk() == Some(&[last]));
+    }
+    assert!(rt; bits.len() == 18);
+}
+
 /// Appends a bit to `bitmap` for each of `digits`.
 fn push_all(rt: &impl Abort, bitmap: &mut UnmerkleizedBitMap<Digest, 1>, digits: &[u8]) {
     for digit in digits {

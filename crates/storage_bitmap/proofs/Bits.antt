@@ -1,6 +1,7 @@
 -- Packed bits and the bytes of chunks.
-use Rattle.std.proofs.Common.{◌≡◌, ◌≢◌, ℕ, zero, suc, ◌+◌, ◌-◌, ◌*◌, ◌/◌, ◌%◌, ◌^◌, ◌<◌, ◌≤◌, ◌↔◌, List, [], ◌∷◌, ◌++◌, length, drop, set, get_or, refl, sym, ap, ◌∙◌, arith, Bool, true, false, eqb, inl, inr, zero-mul, get_or-drop, ext_get_or, get_or-set_same, get_or-set_other, length-set, length-drop, length-append, mul_comm, ap₂, replicate, take, Option, Some, None, MatchOption, Bor}
-use Rattle.std.specs.Int.{bit_at}
+use Rattle.std.proofs.Common.{◌≡◌, ◌≢◌, ℕ, zero, suc, ◌+◌, ◌-◌, ◌*◌, ◌/◌, ◌%◌, ◌^◌, ◌<◌, ◌≤◌, ◌↔◌, List, [], ◌∷◌, ◌++◌, length, drop, set, get_or, refl, sym, ap, ◌∙◌, append_assoc, arith, Bool, true, false, eqb, inl, inr, zero-mul, get_or-drop, ext_get_or, get_or-set_same, get_or-set_other, length-set, length-drop, length-append, mul_comm, ap₂, replicate, take, Option, Some, None, MatchOption, Bor}
+use Rattle.std.specs.Int.{bit_at, div_ceil}
+use Rattle.std.proofs.lemmas.Grind.{div_ceil_times}
 use Rattle.std.proofs.lemmas.Nat.Bits.{bit_at-suc, bit_at_lowest, bit_at-zero, same_from_bits_below, bit_at-lt}
 use Rattle.std.proofs.lemmas.List.{drop-drop, get_or_past, length_push, get_or_push, get_or_append_left}
 use Rattle.std.proofs.lemmas.List.FromFn.{length-map-range_with_len, get_or-map-range_with_len}
@@ -12,7 +13,7 @@ use Rattle.std.proofs.Math.Seq.{drop-nil}
 use Rattle.std.proofs.lemmas.List.{length-replicate, nil_from_length, take_all, get_or-take, length-take-le}
 use Rattle.std.specs.Array.{IsFirstChunk, IsWholeChunk}
 use Rattle.storage_bitmap.specs.Chunks.{digit_of, number_of, packed_bytes, chunk, IsChunkSize, pruned_to}
-use Rattle.storage_bitmap.specs.Packed.{bit_in, bits_in, IsPacked, IsWritten, HasRoom}
+use Rattle.storage_bitmap.specs.Packed.{bit_in, bits_in, AreAppended, IsPacked, IsWritten, HasRoom}
 
 digit-below : (b : Bool) → digit_of b < 2
 digit-below true = omega arith
@@ -131,7 +132,7 @@ grown (x ∷ bytes) n zero = refl
 grown (x ∷ bytes) n (suc p) = grown bytes n p
 
 -- so many chunks have so many bits
-eights : (n chunks : ℕ) → chunks * (8 * n) ≡ 8 * (chunks * n)
+pub eights : (n chunks : ℕ) → chunks * (8 * n) ≡ 8 * (chunks * n)
 eights n chunks = grind arith
 
 -- so many bits fill the bytes where they fill a number of chunks
@@ -210,6 +211,75 @@ bits_push kept old mid new bit n r w =
       | inr d ↦ w.others i d ∙ (r.same i ∙ sym (get_or_append_left (bits_in old kept) (bit ∷ []) false i
           (rw length-bits_in (omega arith)) ∙ get_or-bits_in old kept i (omega arith)))
     ])
+
+-- one bit more of those that are appended
+pub one_appended : (old mid new : List ℕ) (place : ℕ) (bits : List Bool) (bit : Bool) → AreAppended old mid place bits
+    → place + length bits < 8 * length mid → IsWritten mid new (place + length bits) bit
+    → AreAppended old new place (bits ++ bit ∷ [])
+one_appended old mid new place bits bit a within w =
+    let same : HasRoom 0 mid mid (place + length bits) = record {
+      more = λ e. absurd (omega arith);
+      enough = λ d. refl;
+      narrow = λ h. h;
+      same = λ i. refl;
+    } in
+    let count : place + length (bits ++ bit ∷ []) ≡ place + length bits + 1 = omega (arith, length_push bits bit) in
+    record {
+      len = w.len ∙ a.len;
+      narrow = λ h. w.narrow (a.narrow h);
+      are = ap (bits_in new) count ∙ bits_push (place + length bits) mid mid new bit 0 same w
+          ∙ ap (λ (x : List Bool). x ++ bit ∷ []) a.are ∙ append_assoc (bits_in old place) bits (bit ∷ []);
+      clear = λ i far. w.others i (λ e. absurd (omega (arith, count))) ∙ a.clear i (omega (arith, count));
+    }
+
+-- as many chunks as have room for so many bits
+pub rounded_up : (n end chunks : ℕ) → 0 < n → chunks ≡ div_ceil end (8 * n)
+    → (end ≤ chunks * (8 * n)) × (chunks * (8 * n) < end + 8 * n)
+rounded_up n end chunks some is = rw is (div_ceil_times end (8 * n) (omega arith))
+
+-- as many chunks as have room for what is appended are no fewer than there are
+pub chunks_within : (n pruned kept end chunks : ℕ) (bytes : List ℕ) → IsPacked n pruned kept bytes → kept ≤ end
+    → end ≤ chunks * (8 * n) → length bytes ≤ chunks * n
+chunks_within n pruned kept end chunks bytes p more enough = elim (cases_lt chunks p.chunks) [
+  | inl less ↦
+      let one : suc chunks * (8 * n) ≡ chunks * (8 * n) + 8 * n = grind arith in
+      let most : suc chunks * (8 * n) ≤ p.chunks * (8 * n) = mul-le-mul_right (8 * n) less in
+      absurd (omega (arith, one, most, p.tight))
+  | inr le ↦ omega (arith, p.room, mul-le-mul_right n le)
+]
+
+pub more_length : (bytes : List ℕ) (n : ℕ) → length (bytes ++ replicate n 0) ≡ length bytes + n
+more_length bytes n =
+    length-append bytes (replicate n 0) ∙ ap (λ (x : ℕ). length bytes + x) (length-replicate n 0)
+
+pub packed_append : (n pruned kept chunks more : ℕ) (old mid new : List ℕ) (bits : List Bool) → IsPacked n pruned kept old
+    → pruned * (8 * n) + kept + length bits ≤ 2 ^ 62 → mid ≡ old ++ replicate more 0 → length old + more ≡ chunks * n
+    → kept + length bits ≤ chunks * (8 * n) → chunks * (8 * n) < kept + length bits + 8 * n
+    → AreAppended mid new kept bits → IsPacked n pruned (kept + length bits) new
+packed_append n pruned kept chunks more old mid new bits p few is room enough tight a =
+    let len : length mid ≡ length old + more = ap length is ∙ more_length old more in
+    record {
+      size = p.size;
+      few = omega arith;
+      chunks = chunks;
+      room = a.len ∙ len ∙ room;
+      enough = enough;
+      tight = tight;
+      narrow = a.narrow (λ i. rw (is, grown old more i) (p.narrow i));
+      clear = a.clear;
+    }
+
+-- clear bytes at the end change no bit
+pub more_clear : (bytes : List ℕ) (n i : ℕ) → bit_in (bytes ++ replicate n 0) i ≡ bit_in bytes i
+unfolding bit_in
+more_clear bytes n i = rw (grown bytes n (i / 8)) refl
+
+pub more_same : (bytes : List ℕ) (n kept : ℕ) → bits_in (bytes ++ replicate n 0) kept ≡ bits_in bytes kept
+more_same bytes n kept =
+    ext_get_or false (bits_in (bytes ++ replicate n 0) kept) (bits_in bytes kept)
+    (length-bits_in (bytes ++ replicate n 0) kept ∙ sym (length-bits_in bytes kept))
+    (λ i b. let below : i < kept = rw length-bits_in at b in
+    get_or-bits_in (bytes ++ replicate n 0) kept i below ∙ more_clear bytes n i ∙ sym (get_or-bits_in bytes kept i below))
 
 pub packed_set : (n pruned kept place : ℕ) (old new : List ℕ) (bit : Bool) → IsPacked n pruned kept old → place < kept
     → IsWritten old new place bit → IsPacked n pruned kept new

@@ -1,5 +1,5 @@
 -- Bits packed into bytes, low bit first.
-use Rattle.std.specs.Prelude.{◌≡◌, ◌≢◌, ℕ, ◌+◌, ◌*◌, ◌/◌, ◌%◌, ◌<◌, ◌≤◌, List, length, map, slice_index, Bool, false, eqb}
+use Rattle.std.specs.Prelude.{◌≡◌, ◌≢◌, ℕ, ◌+◌, ◌*◌, ◌/◌, ◌%◌, ◌<◌, ◌≤◌, ◌++◌, List, length, map, slice_index, Bool, false, eqb}
 use Rattle.std.specs.List.{range_with_len}
 use Rattle.std.specs.Int.{bit_at}
 use Rattle.storage_merkle.specs.Shape.{max_leaves}
@@ -30,6 +30,13 @@ pub record IsWritten (old new : List ℕ) (place : ℕ) (bit : Bool) : Type 0 wh
   pub narrow : ((i : ℕ) → slice_index old i < 256) → (i : ℕ) → slice_index new i < 256
   pub there : bit_in new place ≡ bit
   pub others : (i : ℕ) → i ≢ place → bit_in new i ≡ bit_in old i
+
+-- new is old with these bits written from a place on, past which it is clear
+pub record AreAppended (old new : List ℕ) (place : ℕ) (bits : List Bool) : Type 0 where
+  pub len : length new ≡ length old
+  pub narrow : ((i : ℕ) → slice_index old i < 256) → (i : ℕ) → slice_index new i < 256
+  pub are : bits_in new (place + length bits) ≡ bits_in old place ++ bits
+  pub clear : (i : ℕ) → place + length bits ≤ i → bit_in new i ≡ false
 
 -- new has the bits of old, and one clear chunk of n bytes more where so many bits fill it
 pub record HasRoom (n : ℕ) (old new : List ℕ) (kept : ℕ) : Type 0 where

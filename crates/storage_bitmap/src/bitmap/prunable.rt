@@ -4,7 +4,7 @@ ghost use Rattle.std.specs.Prelude.{◌≡◌, ◌≢◌, ℕ, ◌+◌, ◌-◌,
 ghost use Rattle.std.specs.Int.{bit_at};
 ghost use Rattle.storage_merkle.specs.Shape.{max_leaves};
 ghost use Rattle.storage_bitmap.specs.Chunks.{IsChunkSize, Retained, bit_count, chunk, digit_of, pruned_to};
-ghost use Rattle.storage_bitmap.specs.Packed.{HasRoom, IsPacked, IsWritten, bit_in, bits_in};
+ghost use Rattle.storage_bitmap.specs.Packed.{AreAppended, HasRoom, IsPacked, IsWritten, bit_in, bits_in};
 
 use crate::bitmap::Readable;
 use std::alloc::Global;
@@ -64,6 +64,22 @@ impl<const N: usize> Prunable<N> {
         make_room::<N>(&mut self.bytes, kept)?;
         fill(&mut self.bytes, kept, bit);
         self.kept = kept + 1;
+        Ok(())
+    }
+
+    /// Appends `bits` in their order. Out of memory, `NoMemory`, changes nothing.
+    pub fn append(&mut self, bits: &[bool]) -> Result<(), NoMemory>
+        requires { bit_count N self.old + length bits.now ≤ max_leaves }
+        ensures ok { OnOk result (self.new ≡ record self.old { bits = self.old.bits ++ bits.now }) }
+        ensures err { OnErr result (self.new ≡ self.old) }
+    {
+        let kept = self.kept;
+        let end = kept + bits.len() as u64;
+        let chunks = end.div_ceil(8 * N as u64) as usize;
+        let missing = chunks * N - self.bytes.len();
+        add_clear(&mut self.bytes, missing)?;
+        fill_all(&mut self.bytes, kept, bits);
+        self.kept = end;
         Ok(())
     }
 
@@ -158,20 +174,20 @@ fn make_room<const N: usize>(bytes: &mut Vec<u8>, kept: u64) -> Result<(), NoMem
     ensures err { OnErr result (bytes.new.items ≡ bytes.old.items) }
 {
     if kept.is_multiple_of(8 * N as u64) {
-        add_clear::<N>(bytes)?;
+        add_clear(bytes, N)?;
     }
     Ok(())
 }
 
-/// Appends a clear chunk of `N` bytes to `bytes`.
+/// Appends `more` clear bytes to `bytes`.
 #[cold]
-fn add_clear<const N: usize>(bytes: &mut Vec<u8>) -> Result<(), NoMemory>
-    requires { length bytes.old.items + N < 2 ^ 64 }
-    ensures ok { OnOk result (bytes.new.items ≡ bytes.old.items ++ replicate N 0) }
+fn add_clear(bytes: &mut Vec<u8>, more: usize) -> Result<(), NoMemory>
+    requires { length bytes.old.items + more < 2 ^ 64 }
+    ensures ok { OnOk result (bytes.new.items ≡ bytes.old.items ++ replicate more 0) }
     ensures err { OnErr result (bytes.new.items ≡ bytes.old.items) }
 {
     let count = bytes.len();
-    bytes.resize(count + N, 0)?;
+    bytes.resize(count + more, 0)?;
     Ok(())
 }
 
@@ -200,6 +216,20 @@ fn fill(bytes: &mut Vec<u8>, place: u64, bit: bool)
 {
     if bit {
         bytes[(place / 8) as usize] |= 1 << (place % 8);
+    }
+}
+
+/// Sets the bits of `bytes` from number `place` on, which are clear, to `bits`.
+fn fill_all(bytes: &mut Vec<u8>, place: u64, bits: &[bool])
+    requires within { place + length bits.now ≤ 8 * length bytes.old.items }
+    requires few { place + length bits.now < 2 ^ 64 }
+    requires clear { (i : ℕ) → place ≤ i → bit_in bytes.old.items i ≡ false }
+    ensures { AreAppended bytes.old.items bytes.new.items place bits.now }
+{
+    let mut next = place;
+    for bit in bits {
+        fill(bytes, next, *bit);
+        next += 1;
     }
 }
 
