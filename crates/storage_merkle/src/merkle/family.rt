@@ -6,7 +6,7 @@ ghost use Rattle.storage_codec.specs.Parts.{AppendsStart, IsEnding};
 ghost use Rattle.storage_merkle.specs.Wire.{slot_text, slot_at, IsPendingSlot};
 ghost use Rattle.storage_merkle.specs.Shape.{Shape, Laws, size, max_leaves};
 ghost use Rattle.storage_merkle.specs.Nodes.{IsNode, placed};
-ghost use Rattle.storage_merkle.specs.Pace.{ChunksKeepPace};
+ghost use Rattle.storage_merkle.specs.Pace.{ChunksKeepPace, ChunksStayWithin};
 
 use crate::merkle::countable::most_leaves_within;
 use crate::merkle::{Countable, Location, NodesToPin, Peaks, Position};
@@ -226,6 +226,9 @@ pub trait Graftable: Countable {
 
     /// Over each node of at least a chunk's height that is in a tree, the tree over its graftable chunks has one.
     ghost keeps_pace: { (height : ℕ) → ChunksKeepPace Self.shape height };
+
+    /// The leaves under each node over graftable chunks have a node in a tree of at most so many leaves as there may be.
+    ghost stays_within: { (height : ℕ) → 2 ≤ height → height ≤ 62 → ChunksStayWithin Self.shape height };
 }
 
 /// How many leaves the largest tree with at most `nodes` nodes has. `nodes` is at most the number of nodes of the tree

@@ -6,7 +6,7 @@ ghost use Rattle.storage_merkle.specs.Shape.{Shape, Laws, size};
 ghost use Rattle.storage_merkle.specs.Mmb.{mmb};
 ghost use Rattle.storage_merkle.specs.Laws.Mmb.{mmb_laws};
 ghost use Rattle.storage_merkle.specs.Nodes.{IsNode};
-ghost use Rattle.storage_merkle.specs.Laws.Pace.{mmb_keeps_pace};
+ghost use Rattle.storage_merkle.specs.Laws.Pace.{mmb_keeps_pace, mmb_stays_within};
 
 use crate::merkle::family::power;
 
@@ -73,6 +73,8 @@ impl crate::merkle::Graftable for Family {
     ghost prompt = { λ absent. absurd (true≢false absent) };
 
     ghost keeps_pace = { mmb_keeps_pace };
+
+    ghost stays_within = { mmb_stays_within };
 }
 
 impl crate::merkle::Countable for Family {

@@ -5,7 +5,7 @@ ghost use Rattle.storage_merkle.specs.Shape.{Shape, Laws, size};
 ghost use Rattle.storage_merkle.specs.Mmr.{mmr};
 ghost use Rattle.storage_merkle.specs.Laws.Mmr.{mmr_laws};
 ghost use Rattle.storage_merkle.specs.Nodes.{IsNode};
-ghost use Rattle.storage_merkle.specs.Laws.Pace.{mmr_keeps_pace};
+ghost use Rattle.storage_merkle.specs.Laws.Pace.{mmr_keeps_pace, mmr_stays_within};
 
 use crate::merkle::family::power;
 
@@ -55,6 +55,8 @@ impl crate::merkle::Graftable for Family {
     ghost prompt = { λ _ first height. refl };
 
     ghost keeps_pace = { mmr_keeps_pace };
+
+    ghost stays_within = { mmr_stays_within };
 }
 
 impl crate::merkle::Countable for Family {
