@@ -1,10 +1,10 @@
 -- A tree over operations in memory and one over their graftable chunks, none of them pruned: each node of the view can be had.
-use Rattle.std.proofs.Common.{◌≡◌, ℕ, ◌+◌, ◌*◌, ◌/◌, ◌%◌, ◌^◌, ◌<◌, ◌≤◌, ◌++◌, List, [], ◌∷◌, length, map, take, get_or, Option, Some, None, option_map, IsSome, Result, Ok, Err, OnOk, false, refl, sym, ap, ◌∙◌, arith, inl, inr, pow_pos}
+use Rattle.std.proofs.Common.{◌≡◌, ℕ, ◌+◌, ◌*◌, ◌/◌, ◌%◌, ◌^◌, ◌<◌, ◌≤◌, ◌++◌, List, [], ◌∷◌, length, map, get_or, Bool, Option, Some, None, option_map, IsSome, Result, Ok, Err, OnOk, true, false, refl, sym, ap, ap₂, ◌∙◌, append_assoc, arith, inl, inr, length-append, pow_pos}
 use Rattle.std.specs.Option.{is_some}
-use Rattle.std.specs.Result.{is_err}
+use Rattle.std.specs.Result.{is_err, is_ok}
 use Rattle.std.proofs.lemmas.Bool.{cases_lt}
-use Rattle.std.proofs.lemmas.List.{length-map, map-append, get_or_append_left, get_or-append-add}
-use Rattle.std.proofs.lemmas.Nat.{shl-shr, shr_le}
+use Rattle.std.proofs.lemmas.List.{length_push, get_or_append_left, get_or-append-add}
+use Rattle.std.proofs.lemmas.Nat.{shl-shr}
 use Rattle.std.proofs.lemmas.Option.{slice_get_past}
 use Rattle.std.specs.List.{slice_get}
 use Rattle.storage_codec.specs.Digests.{HashFunction}
@@ -12,25 +12,24 @@ use Rattle.storage_merkle.specs.Shape.{Shape, Laws, size, Inside}
 use Rattle.storage_merkle.specs.Nodes.{IsNode}
 use Rattle.storage_merkle.specs.Pace.{ChunksKeepPace}
 use Rattle.storage_merkle.specs.Calc.{be8, grafted_digest}
-use Rattle.storage_merkle.specs.Hashing.{leaf_digests}
+use Rattle.storage_merkle.specs.Hashing.{leaf_digests, node_over}
 use Rattle.storage_merkle.specs.Laws.Hashing.{leaf_digests-append, length-leaf_digests, node_over-tree}
 use Rattle.storage_merkle.specs.Kept.{Kept, NodesOver, StandsBut, StandsFor, kept_at}
 use Rattle.storage_merkle.specs.Laws.Multiples.{is_multiple}
-use Rattle.storage_merkle.specs.Laws.Shape.{every, grows_at_most, no_peaks}
+use Rattle.storage_merkle.specs.Laws.Shape.{every, grows_at_most}
 use Rattle.storage_merkle.specs.Trees.{ungrafted, listed, tree_node}
-use Rattle.storage_bitmap.specs.Chunks.{chunk}
-use Rattle.storage_current.specs.CombinedViews.{AnswersAreTrue, AreGraftedLeaves, chunk_node, grafted_node}
-use Rattle.storage_current.specs.GraftedTrees.{KeptChunks, Keeps, regrafted, join_over, tree_at}
+use Rattle.storage_bitmap.specs.Chunks.{Retained, chunk}
+use Rattle.storage_current.specs.Combined.{over_chunks}
+use Rattle.storage_current.specs.CombinedViews.{AreAnswersOf, AreGraftedLeaves, chunk_node, grafted_node}
+use Rattle.storage_current.specs.KeptSnapshots.{AreRootsOf, StandsForSnapshot}
+use Rattle.storage_current.specs.KeptTrees.{AreGraftsFrom, AreKept, HasMoreGrafts, StandsForChunks}
 use Rattle.storage_current.specs.Laws.Grafting.{graftable_by_birth}
 use Rattle.storage_current.specs.NodeLists.{AreHad, AreNodes, IsGrown, IsOver, IsTreeOver, KeptTree, plain_over, seen_in, seen_list}
-use Rattle.storage_current.specs.Snapshots.{Grafting, IsGrafting, Snapshot, IsSnapshot, graftable, graftable_at, height, view_node}
-use Rattle.storage_current.proofs.CombinedViews.{cover, first_of_all, grafted_halves, joined_true}
+use Rattle.storage_current.specs.Snapshots.{Grafting, IsGrafting, Snapshot, IsSnapshot, Witness, graftable, graftable_at, height, view_node}
+use Rattle.storage_current.proofs.CombinedViews.{cover, first_of_all, joined_view, over_view}
 use Rattle.storage_current.proofs.Joined.{joined_above, joined_below, joined_past}
-use Rattle.storage_current.proofs.NodeLists.{all_answers, are_nodes, had_text, length-texts}
+use Rattle.storage_current.proofs.NodeLists.{are_nodes, had_text, length-texts}
 use Rattle.storage_current.proofs.NodeSteps.{hashed_graft}
-use Rattle.storage_current.proofs.KeptChunks.{unpruned_each}
-use Rattle.storage_current.proofs.PrunedViews.{keeps_true, regrafted_is, regrafted_true}
-use Rattle.storage_current.proofs.Rebuilt.{covered_some}
 
 -- ---- the tree over the operations
 
@@ -40,19 +39,19 @@ KeepsNodes text S m = (N : NodesOver) (list : List (List ℕ)) → StandsFor tex
     → size S m.boundary ≤ p → p < size S (length list)
     → option_map text (kept_at S m.boundary m.pinned m.nodes p) ≡ Some (N list k a)
 
+some_of : {A B : Type 0} (f : A → B) (o : Option A) (x : B) → option_map f o ≡ Some x → IsSome o
+some_of f None x e = absurd (cc)
+some_of f (Some d) x e = refl
+
 module _ {D : Type 0} (text : D → List ℕ) (h : HashFunction) (S : Shape) (L : Laws S) (m : Kept D)
     (keeps : KeepsNodes text S m) (grown : IsGrown text h S m) where
   from_start : (p : ℕ) → size S m.boundary ≤ p
   from_start p = let e : size S m.boundary ≡ size S 0 = ap (size S) grown.unpruned in omega arith
 
-  some_of : (o : Option D) (x : List ℕ) → option_map text o ≡ Some x → IsSome o
-  some_of None x e = absurd (cc)
-  some_of (Some d) x e = refl
-
   pub kept_some : (p a k : ℕ) → IsNode S p a k → p < size S m.leaves
       → IsSome (kept_at S m.boundary m.pinned m.nodes p)
   kept_some p a k node within =
-      some_of _ _ (keeps (plain_over h S) grown.list grown.stands p a k node (from_start p) (rw (← grown.stands.count) within))
+      some_of text _ _ (keeps (plain_over h S) grown.list grown.stands p a k node (from_start p) (rw (← grown.stands.count) within))
 
   pub kept_is : (operations : List (List ℕ)) → IsOver text h S m operations → (p a k : ℕ) → IsNode S p a k
       → p < size S (length operations) → option_map text (kept_at S m.boundary m.pinned m.nodes p)
@@ -65,115 +64,106 @@ module _ {D : Type 0} (text : D → List ℕ) (h : HashFunction) (S : Shape) (L 
       keeps (plain_over h S) (leaf_digests h (ungrafted S) 0 operations) over p a k node (from_start p) (rw count within)
       ∙ ap Some (node_over-tree h (ungrafted S) (listed operations) k a (omega (arith, born, L.late a k)))
 
-  -- what is kept of it is true
-  pub kept_true : (operations : List (List ℕ)) → IsOver text h S m operations → AnswersAreTrue text S (length operations)
-      (tree_node h (ungrafted S) (listed operations)) (kept_at S m.boundary m.pinned m.nodes)
-  kept_true operations over p a k d within node is =
-      let f : Some (text d) ≡ Some (tree_node h (ungrafted S) (listed operations) a k) =
-      ap (option_map text) (sym is) ∙ kept_is operations over p a k node within in cc
+-- ---- the tree over chunks, and both as one
 
--- ---- the tree over chunks
-
--- it keeps the digests of its leaves, and nothing is pruned
-pub record AreMade {D : Type 0} (text : D → List ℕ) (S : Shape) (t : KeptChunks D) (ds : List D) : Type 0 where
-  pub pruned : t.pruned ≡ 0
-  pub pinned : t.pinned ≡ []
-  pub keeps : (N : NodesOver) → Keeps text S N t (map text ds)
-
--- it is made from the digests of the graftable chunks
-pub new_made : {D : Type 0} (text : D → List ℕ) (S : Shape) (t : KeptChunks D) (ds : List D) (r n leaves complete count : ℕ)
-    → leaves ≡ n → n ≤ 2 ^ 62 → complete ≡ leaves / 2 ^ r → count ≤ complete → count ≡ graftable_at S r leaves
-    → length ds ≡ count → t ≡ record { pruned = 0; pinned = []; leaves = take (2 ^ 62) ds }
-    → ((N : NodesOver) → length ds ≤ 2 ^ 62 → Keeps text S N t (map text ds))
-    → AreMade text S t ds × (length ds ≡ graftable_at S r n)
-new_made text S t ds r n leaves complete count same few whole within all length_is made keeps =
-    let fits : length ds ≤ 2 ^ 62 = omega (arith, same, few, whole, within, length_is, shr_le leaves r) in (
-      record {
-        pruned = ap (λ x. x.pruned) made;
-        pinned = ap (λ x. x.pinned) made;
-        keeps = λ N. keeps N fits;
-      },
-      length_is ∙ all ∙ ap (graftable_at S r) same,
-    )
-
-module _ (S : Shape) (L : Laws S) {D : Type 0} (digest : List ℕ → D) (text : D → List ℕ) where
-  -- each node over its leaves can be had
-  chunks_some : (g : ℕ) (leaves : List D) (q a k : ℕ) → IsNode S q a k → q < size S (length leaves)
-      → IsSome (regrafted digest text S g (tree_at S 0 [] leaves) q)
-  chunks_some g leaves q a k node within =
-      ap is_some (regrafted_is S L digest text g (tree_at S 0 [] leaves) q a k node)
-      ∙ covered_some S (join_over digest text S g) (tree_at S 0 [] leaves) k a
-      (unpruned_each S L 0 [] leaves (sym (ap length (no_peaks S L))) refl q a k within node)
-
-  pub tree_some : (g : ℕ) (t : KeptChunks D) (ds : List D) (q a k : ℕ) → AreMade text S t ds → IsNode S q a k
-      → q < size S (length ds) → IsSome (regrafted digest text S g (tree_at S t.pruned t.pinned t.leaves) q)
-  tree_some g t ds q a k made node within =
-      let all : length t.leaves ≡ length ds =
-      omega (arith, (made.keeps (λ list j b. [])).count, made.pruned, length-map ds text) in
-      rw (made.pruned, made.pinned) (chunks_some g t.leaves q a k node (rw all within))
-
-  -- ---- both as one
-
-  pub seen_some : (h : HashFunction) (g : ℕ) → ChunksKeepPace S g → (m : Kept D) → KeepsNodes text S m
-      → IsGrown text h S m → (t : KeptChunks D) (ds : List D) → AreMade text S t ds
-      → length ds ≡ graftable_at S g m.leaves → AreHad (seen_in digest text S g m t) (size S m.leaves)
-  seen_some h g pace m keeps grown t ds made all p within =
-      let n = m.leaves in
-      let at = every S L n p within in
-      let a = at.0 in
-      let k = at.1 in
-      let most : size S n ≤ size S (2 ^ 62) = grows_at_most (size S) L.grows n (2 ^ 62) grown.few in
-      let valid : p ≤ size S (2 ^ 62) = omega arith in
-      let chunks = regrafted digest text S g (tree_at S t.pruned t.pinned t.leaves) in
-      let operations = kept_at S m.boundary m.pinned m.nodes in
-      elim (cases_lt k g) [
-        | inl low ↦ ap is_some (joined_below S L g (size S n) chunks operations p a k within valid at.2 low)
-            ∙ kept_some text h S L m keeps grown p a k at.2 within
-        | inr high ↦
-            let c = cover S L g n (length ds) pace all p a k at.2 within high in
-            ap is_some (joined_above S L g (size S n) chunks operations p c.position within valid c.covers)
-            ∙ tree_some g t ds c.position c.first c.over made c.node c.within
-      ]
+module _ (S : Shape) (L : Laws S) {D : Type 0} (text : D → List ℕ) where
+  -- a tree of which nothing is forgotten has each node of the list that it stands for
+  pub list_kept : (m : Kept D) → KeepsNodes text S m → m.boundary ≡ 0 → (N : NodesOver) (list : List (List ℕ))
+      → StandsFor text S N m list
+      → AreAnswersOf text S (length list) (λ a k. N list k a) (kept_at S m.boundary m.pinned m.nodes)
+  list_kept m keeps unpruned N list stands p a k within node =
+      let e : size S m.boundary ≡ size S 0 = ap (size S) unpruned in
+      keeps N list stands p a k node (omega arith) within
 
   -- what is had is what the list has, and past its end there is nothing
-  pub seen_value : (g : ℕ) (m : Kept D) (t : KeptChunks D) (p : ℕ) → AreHad (seen_in digest text S g m t) (size S m.leaves)
-      → option_map text (seen_in digest text S g m t p) ≡ slice_get (seen_list digest text S g m t) p
-  seen_value g m t p had =
+  pub seen_value : (g : ℕ) (m c : Kept D) (p : ℕ) → AreHad (seen_in S g m c) (size S m.leaves)
+      → option_map text (seen_in S g m c p) ≡ slice_get (seen_list text S g m c) p
+  seen_value g m c p had =
       let n : ℕ = size S m.leaves in
-      let seen = seen_in digest text S g m t in
+      let seen = seen_in S g m c in
       elim (cases_lt p n) [
         | inl within ↦ sym (had_text text seen n p had within)
-        | inr past ↦ ap (option_map text) (joined_past S L g n
-            (regrafted digest text S g (tree_at S t.pruned t.pinned t.leaves))
+        | inr past ↦ ap (option_map text) (joined_past S L g n (kept_at S c.boundary c.pinned c.nodes)
             (kept_at S m.boundary m.pinned m.nodes) p past)
-            ∙ sym (slice_get_past (seen_list digest text S g m t) p (omega (arith, length-texts text seen n 0)))
+            ∙ sym (slice_get_past (seen_list text S g m c) p (omega (arith, length-texts text seen n 0)))
       ]
 
--- ---- the view of a snapshot
+-- each node of the view can be had of trees that are kept
+pub kept_had : {D : Type 0} (text : D → List ℕ) (h : HashFunction) (g : Grafting) → Laws g.shape
+    → ChunksKeepPace g.shape (height g) → (m c : Kept D) (status : Retained) → AreKept text h g m c status
+    → KeepsNodes text g.shape m → KeepsNodes text g.shape c → AreHad (seen_in g.shape (height g) m c) (size g.shape m.leaves)
+kept_had text h g L pace m c status kept keeps_m keeps_c p within =
+    let S = g.shape in
+    let n = m.leaves in
+    let at = every S L n p within in
+    let a = at.0 in
+    let k = at.1 in
+    let most : size S n ≤ size S (2 ^ 62) = grows_at_most (size S) L.grows n (2 ^ 62) kept.grown.few in
+    let valid : p ≤ size S (2 ^ 62) = omega arith in
+    let chunks = kept_at S c.boundary c.pinned c.nodes in
+    let operations = kept_at S m.boundary m.pinned m.nodes in
+    elim (cases_lt k (height g)) [
+      | inl low ↦ ap is_some (joined_below S L (height g) (size S n) chunks operations p a k within valid at.2 low)
+          ∙ kept_some text h S L m keeps_m kept.grown p a k at.2 within
+      | inr high ↦
+          let o = cover S L (height g) n c.leaves pace kept.count p a k at.2 within high in
+          ap is_some (joined_above S L (height g) (size S n) chunks operations p o.position within valid o.covers)
+          ∙ some_of text _ _ (list_kept S L text c keeps_c kept.unpruned (λ list k a. chunk_node h g list a k) kept.list kept.stands
+          o.position o.first o.over (rw (← kept.stands.count) o.within) o.node)
+    ]
 
-module _ {D : Type 0} (digest : List ℕ → D) (text : D → List ℕ) (h : HashFunction)
-    (told : (x : List ℕ) → text (digest x) ≡ h x) (g : Grafting) (pace : ChunksKeepPace g.shape (height g))
-    (grafting : IsGrafting g) (s : Snapshot) (snapshot : IsSnapshot s) (m : Kept D) (keeps : KeepsNodes text g.shape m)
-    (grown : IsGrown text h g.shape m) (over : IsOver text h g.shape m s.operations) (t : KeptChunks D)
-    (leaves : List (List ℕ)) (grafted : AreGraftedLeaves h g s leaves)
-    (kept : Keeps text g.shape (λ list k a. chunk_node h g list a k) t leaves)
-    (had : AreHad (seen_in digest text g.shape (height g) m t) (size g.shape m.leaves)) where
-  -- what both as one have are its nodes
-  pub view_nodes : AreNodes g.shape (view_node h g s) (seen_list digest text g.shape (height g) m t)
-  view_nodes =
-      let S = g.shape in
-      let n : m.leaves ≡ length s.operations =
-      over.count ∙ length-leaf_digests h (ungrafted S) 0 s.operations in
-      let chunks = regrafted digest text S (height g) (tree_at S t.pruned t.pinned t.leaves) in
-      let operations = kept_at S m.boundary m.pinned m.nodes in
-      let true_of : AnswersAreTrue text S m.leaves (view_node h g s) (seen_in digest text S (height g) m t) =
-      rw n (joined_true h g pace grafting s snapshot chunks operations text
-      (regrafted_true digest text h told S grafting.laws (height g) (graftable g (length s.operations))
-      (grafted_node h g s) (grafted_halves h g s) (tree_at S t.pruned t.pinned t.leaves)
-      (keeps_true text h g grafting.laws s leaves (first_of_all h g s leaves grafted) t kept))
-      (kept_true text h S grafting.laws m keeps grown s.operations over)) in
-      are_nodes text (seen_in digest text S (height g) m t) S m.leaves (view_node h g s) had
-      (all_answers text (seen_in digest text S (height g) m t) S m.leaves (view_node h g s) had true_of)
+-- and what both as one have are the nodes of the view
+pub view_nodes : {D : Type 0} (text : D → List ℕ) (h : HashFunction) (g : Grafting) → ChunksKeepPace g.shape (height g)
+    → IsGrafting g → (s : Snapshot) → IsSnapshot s → (m c : Kept D) → KeepsNodes text g.shape m → KeepsNodes text g.shape c
+    → IsGrown text h g.shape m → IsOver text h g.shape m s.operations → c.boundary ≡ 0 → (leaves : List (List ℕ))
+    → StandsForChunks text h g c leaves → AreGraftedLeaves h g s leaves
+    → AreHad (seen_in g.shape (height g) m c) (size g.shape m.leaves)
+    → AreNodes g.shape (view_node h g s) (seen_list text g.shape (height g) m c)
+view_nodes text h g pace grafting s snapshot m c keeps_m keeps_c grown over unpruned leaves stands grafted had =
+    let S = g.shape in
+    let n : m.leaves ≡ length s.operations = over.count ∙ length-leaf_digests h (ungrafted S) 0 s.operations in
+    let chunks = kept_at S c.boundary c.pinned c.nodes in
+    let operations = kept_at S m.boundary m.pinned m.nodes in
+    let over_graftable : AreAnswersOf text S (graftable g (length s.operations)) (grafted_node h g s) chunks = λ p a k within node.
+    let same : size S (length leaves) ≡ size S (graftable g (length s.operations)) = ap (size S) grafted.count in
+    let here : S.position a k < size S (length leaves) = omega (arith, node.at, same, within) in
+    let born : S.birth a k ≤ length leaves = (grafting.laws.born (length leaves) a k node.aligned).0 here in
+    list_kept S grafting.laws text c keeps_c unpruned (λ list k a. chunk_node h g list a k) leaves stands p a k
+    (omega (arith, same, within)) node
+    ∙ ap Some (over_view h g s leaves (first_of_all h g s leaves grafted) k a (omega (arith, born, grafting.laws.late a k))) in
+    let answers : AreAnswersOf text S m.leaves (view_node h g s) (seen_in S (height g) m c) =
+    rw n (joined_view h g pace grafting s snapshot chunks operations text over_graftable
+    (λ p a k within node. kept_is text h S grafting.laws m keeps_m grown s.operations over p a k node within)) in
+    are_nodes text (seen_in S (height g) m c) S m.leaves (view_node h g s) had answers
+
+-- a snapshot that stands, from the trees that are kept of it
+pub kept_stands : {D : Type 0} (text : D → List ℕ) (h : HashFunction) (g : Grafting) → ChunksKeepPace g.shape (height g)
+    → IsGrafting g → (s : Snapshot) → IsSnapshot s → (m c : Kept D) (status : Retained) → KeepsNodes text g.shape m
+    → KeepsNodes text g.shape c → (kept : AreKept text h g m c status) → IsOver text h g.shape m s.operations
+    → AreGraftedLeaves h g s kept.list → status.bits ≡ s.bits → (ops_root root : List ℕ) (witness : Witness)
+    → (AreNodes g.shape (view_node h g s) (seen_list text g.shape (height g) m c) → AreRootsOf h g s ops_root root witness)
+    → StandsForSnapshot h g (record {
+      nodes = seen_list text g.shape (height g) m c;
+      status = status;
+      ops_root = ops_root;
+      root = root;
+      witness = witness;
+    }) s
+kept_stands text h g pace grafting s snapshot m c status keeps_m keeps_c kept over grafted bits ops_root root witness roots =
+    let S = g.shape in
+    let n : m.leaves ≡ length s.operations = over.count ∙ length-leaf_digests h (ungrafted S) 0 s.operations in
+    let had = kept_had text h g grafting.laws pace m c status kept keeps_m keeps_c in
+    let nodes = view_nodes text h g pace grafting s snapshot m c keeps_m keeps_c kept.grown over kept.unpruned kept.list
+    kept.stands grafted had in
+    let r = roots nodes in
+    record {
+      count = length-texts text (seen_in S (height g) m c) (size S m.leaves) 0 ∙ ap (size S) n;
+      nodes = nodes;
+      status = ap₂ (λ p b. record { pruned = p; bits = b }) kept.bits.unpruned bits;
+      ops_root = r.ops_root;
+      root = r.root;
+      witness = r.witness;
+    }
 
 -- ---- the nodes of chunks
 
@@ -219,20 +209,49 @@ chunk_grafted h g L s i j k bytes out inner level one below e chunk_is same plai
     chunk_is (same ∙ sym (shl-shr i (height g))) (rw level plain_is)
 
 -- one more of them
-pub more_grafted : {D : Type 0} (text : D → List ℕ) (node : ℕ → List ℕ) (ds : List D) (d : D) (i : ℕ) → length ds ≡ i
-    → ((j : ℕ) → j < i → get_or (map text ds) j [] ≡ node j) → text d ≡ node i → (j : ℕ) → j < i + 1
-    → get_or (map text (ds ++ d ∷ [])) j [] ≡ node j
-more_grafted text node ds d i count each is j within =
-    let e = ap (λ xs. get_or xs j []) (map-append text ds (d ∷ [])) in
-    let l : length (map text ds) ≡ i = length-map ds text ∙ count in
-    elim (cases_lt j i) [
-      | inl less ↦ e ∙ get_or_append_left (map text ds) (text d ∷ []) [] j (omega (arith, l)) ∙ each j less
-      | inr more ↦
-          let last : j ≡ length (map text ds) + 0 = omega (arith, l) in
-          let same : j ≡ i = omega arith in
-          e ∙ ap (λ m. get_or (map text ds ++ text d ∷ []) m []) last
-          ∙ get_or-append-add (map text ds) (text d ∷ []) 0 [] ∙ is ∙ ap node (sym same)
-    ]
+pub grafts_more : (h : HashFunction) (g : Grafting) (s : Snapshot) (start : ℕ) (grafts : List (List ℕ)) (d : List ℕ)
+    → AreGraftsFrom h g s start grafts → d ≡ view_node h g s ((start + length grafts) * 2 ^ height g) (height g)
+    → AreGraftsFrom h g s start (grafts ++ d ∷ [])
+grafts_more h g s start grafts d are is i within = elim (cases_lt i (length grafts)) [
+  | inl less ↦ get_or_append_left grafts (d ∷ []) [] i less ∙ are i less
+  | inr more ↦
+      let last : i ≡ length grafts + 0 = omega (arith, length_push grafts d) in
+      let same : length grafts ≡ i = omega arith in
+      ap (λ j. get_or (grafts ++ d ∷ []) j []) last ∙ get_or-append-add grafts (d ∷ []) 0 [] ∙ is
+      ∙ ap (λ j. view_node h g s ((start + j) * 2 ^ height g) (height g)) same
+]
+
+-- a leaf more of the tree over chunks
+pub chunk_more : {D : Type 0} (text : D → List ℕ) (h : HashFunction) (g : Grafting) (r : ℕ) (old new : Kept D) (d : List ℕ)
+    → height g ≡ r → ((list : List (List ℕ)) (dirty : List ℕ)
+    → StandsBut text g.shape (node_over h (over_chunks r (ungrafted g.shape)) (λ a. [])) dirty old list
+    → StandsBut text g.shape (node_over h (over_chunks r (ungrafted g.shape)) (λ a. [])) dirty new (list ++ d ∷ []))
+    → (list : List (List ℕ)) → StandsForChunks text h g old list → StandsForChunks text h g new (list ++ d ∷ [])
+chunk_more text h g r old new d level grown list stands = (rw (← level) at grown) list [] stands
+
+-- all of them
+pub all_grafts : (h : HashFunction) (g : Grafting) (s : Snapshot) (grafts : List (List ℕ))
+    → length grafts ≡ graftable g (length s.operations) → AreGraftsFrom h g s 0 grafts → AreGraftedLeaves h g s grafts
+all_grafts h g s grafts count are = record {
+  count = count;
+  each = λ j within.
+      let e : 0 + j ≡ j = omega arith in
+      are j within ∙ ap (λ (i : ℕ). view_node h g s (i * 2 ^ height g) (height g)) e;
+}
+
+pub more_grafts : {D : Type 0} (text : D → List ℕ) (h : HashFunction) (g : Grafting) (operations old new : Kept D)
+    (bits : List Bool) (list : List (List ℕ)) (d : List ℕ) → HasMoreGrafts text h g operations old bits list
+    → ((all : List (List ℕ)) → StandsForChunks text h g old all → StandsForChunks text h g new (all ++ d ∷ []))
+    → ((s : Snapshot) → s.bits ≡ bits → IsOver text h g.shape operations s.operations
+    → d ≡ view_node h g s (old.leaves * 2 ^ height g) (height g)) → HasMoreGrafts text h g operations new bits list
+more_grafts text h g operations old new bits list d has grown graft = record {
+  more = has.more ++ d ∷ [];
+  stands = rw (← append_assoc list has.more (d ∷ [])) (grown (list ++ has.more) has.stands);
+  are = λ s same over.
+      let place : old.leaves ≡ length list + length has.more =
+      has.stands.count ∙ length-append list has.more in
+      grafts_more h g s (length list) has.more d (has.are s same over) (rw (← place) (graft s same over));
+}
 
 -- ---- trees over operations by the bytes of their digests
 
@@ -256,6 +275,11 @@ over_tree text h S m tree operations zero none leaves nodes over = record {
 pub succeeded : {A E : Type 0} (r : Result A E) (Q : Type 0) → is_err r ≡ false → OnOk r Q → Q
 succeeded (Ok x) Q e h = h
 succeeded (Err x) Q e h = absurd (cc)
+
+-- a call is not refused and answered at once
+pub not_refused : {A E : Type 0} (r : Result A E) → is_err r ≡ true → is_ok r ≡ true → ⊥
+not_refused (Ok x) e o = cc
+not_refused (Err x) e o = cc
 
 -- one operation more
 pub over_more : {D : Type 0} (text : D → List ℕ) (h : HashFunction) (S : Shape) → Laws S → (m more : Kept D)

@@ -1,11 +1,14 @@
 -- Nodes of a tree over chunks, and the nodes of the tree over the operations that cover the same leaves.
-use Rattle.std.proofs.Common.{◌≡◌, ℕ, ◌+◌, ◌*◌, ◌^◌, ◌<◌, ◌≤◌, sym, ◌∙◌, arith, pow_pos}
+use Rattle.std.proofs.Common.{◌≡◌, ℕ, ◌+◌, ◌*◌, ◌/◌, ◌^◌, ◌<◌, ◌≤◌, sym, ◌∙◌, arith, pow_pos}
 use Rattle.std.proofs.lemmas.Nat.{pow-add, mul-le}
-use Rattle.std.proofs.Math.Nat.{add-mul}
+use Rattle.std.proofs.Math.Nat.{add-mul, div-mul-le_self}
 use Rattle.storage_merkle.specs.Shape.{Shape, Laws, size}
-use Rattle.storage_merkle.specs.Nodes.{IsNode, CoversSame}
+use Rattle.storage_merkle.specs.Nodes.{AreGraftable, IsNode, CoversSame}
+use Rattle.storage_merkle.specs.Pace.{ChunksStayWithin}
 use Rattle.storage_merkle.specs.Laws.Shape.{grows_at_most}
 use Rattle.storage_current.specs.Combined.{IsRaised}
+use Rattle.storage_current.specs.Laws.Grafting.{graftable_is}
+use Rattle.storage_current.proofs.Windows.{graftable_within}
 
 module _ (S : Shape) (L : Laws S) where
   -- the node that covers the leaves of a node over chunks
@@ -62,3 +65,13 @@ module _ (S : Shape) (L : Laws S) where
       let power : 2 ^ (c.height + g) ≡ 2 ^ c.height * 2 ^ g = pow-add 2 c.height g in
       omega (arith, prompt (c.first * 2 ^ g) (c.height + g), add-mul c.first (2 ^ c.height) (2 ^ g))))
       taken
+
+  -- the graftable chunks of a tree
+  pub graftable_raised : (takes : ℕ → Type 0) (n count g p : ℕ) → ChunksStayWithin S g → 1 ≤ g → n ≤ 2 ^ 62
+      → AreGraftable S n g count → p < size S count → ((q : ℕ) → CoversSame S g p q → takes q) → IsRaised S takes g p
+  graftable_raised takes n count g p stays low few are below taken =
+      let whole : count ≤ n / 2 ^ g =
+      omega (arith, graftable_is S L g n count are, graftable_within S L g n) in
+      let all : count * 2 ^ g ≤ n / 2 ^ g * 2 ^ g = mul-le count (2 ^ g) (n / 2 ^ g) (2 ^ g) whole (omega arith) in
+      is_raised takes count g p low (omega (arith, all, div-mul-le_self n (2 ^ g))) below
+      (λ q c. covered count g p q below c (stays n count c.first c.height few are)) taken

@@ -2,14 +2,12 @@
 use Rattle.std.specs.Prelude.{◌≡◌, ℕ, ◌<◌, ◌≤◌, ◌⊎◌, List, length}
 use Rattle.storage_codec.specs.Digests.{HashFunction}
 use Rattle.storage_merkle.specs.declared.merkle.error.Error.TheVariants.{RangeOutOfBounds, LocationOverflow}
-use Rattle.storage_merkle.specs.Kept.{Kept}
 use Rattle.storage_merkle.specs.Shape.{size, max_leaves}
 use Rattle.storage_bitmap.specs.Chunks.{IsChunkSize, Retained, bit_count}
 use Rattle.storage_ops.specs.declared.qmdb.error.Error.{Error}
 use Rattle.storage_ops.specs.declared.qmdb.error.Error.TheVariants.{DataCorrupted, Merkle, Memory}
-use Rattle.storage_current.specs.GraftedTrees.{KeptChunks}
-use Rattle.storage_current.specs.NodeLists.{AreHad, AreNodes, seen_in}
-use Rattle.storage_current.specs.Snapshots.{Grafting, height, Snapshot, view_node, ops_root_of, canonical_root, Witness, own_witness}
+use Rattle.storage_current.specs.NodeLists.{AreNodes}
+use Rattle.storage_current.specs.Snapshots.{Grafting, Snapshot, view_node, ops_root_of, canonical_root, Witness, own_witness}
 
 -- the digests of the grafted view's nodes by position, as a tree over the operations and one over their chunks have them, the bits,
 -- the roots, and the witness of the operations root
@@ -29,16 +27,16 @@ pub record StandsForSnapshot (h : HashFunction) (g : Grafting) (kept : KeptSnaps
   pub root : kept.root ≡ canonical_root h g s
   pub witness : kept.witness ≡ own_witness h g s
 
--- each node of the view can be had of the two trees
-pub record HasEachNode {D : Type 0} (digest : List ℕ → D) (text : D → List ℕ) (g : Grafting) (operations : Kept D)
-    (chunks : KeptChunks D) : Type 0 where
-  pub sized : IsChunkSize g.bytes
-  pub had : AreHad (seen_in digest text g.shape (height g) operations chunks) (size g.shape operations.leaves)
-
 -- none of so many operations lacks its bit, and no bit is forgotten
 pub record HasEachBit (n count : ℕ) (bits : Retained) : Type 0 where
   pub all : bit_count n bits ≡ count
   pub unpruned : bits.pruned ≡ 0
+
+-- these are the roots of a snapshot, and the witness of its operations root
+pub record AreRootsOf (h : HashFunction) (g : Grafting) (s : Snapshot) (ops canonical : List ℕ) (told : Witness) : Type 0 where
+  pub ops_root : ops ≡ ops_root_of h g s
+  pub root : canonical ≡ canonical_root h g s
+  pub witness : told ≡ own_witness h g s
 
 -- the refusal is corrupted data; its text is not told
 abbrev pub IsCorrupted : {F : Type 0} → Error F → Type 0

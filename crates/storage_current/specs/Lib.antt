@@ -17,6 +17,7 @@ pub mod Windows
 pub mod Held
 pub mod NodeLists
 pub mod KeptSnapshots
+pub mod KeptTrees
 pub mod CurrentWire
 pub mod BuiltProofs
 pub mod Served

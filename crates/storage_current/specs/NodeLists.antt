@@ -7,7 +7,6 @@ use Rattle.storage_merkle.specs.Nodes.{IsNode}
 use Rattle.storage_merkle.specs.Shape.{Shape, size, max_leaves}
 use Rattle.storage_merkle.specs.Trees.{ungrafted}
 use Rattle.storage_current.specs.Combined.{joined}
-use Rattle.storage_current.specs.GraftedTrees.{KeptChunks, regrafted, tree_at}
 
 -- the digest at each position of the list is that of the node there, by its first leaf and height
 pub record AreNodes (S : Shape) (digest_of : ℕ → ℕ → List ℕ) (digests : List (List ℕ)) : Type 0 where
@@ -44,9 +43,9 @@ pub record IsTreeOver (h : HashFunction) (S : Shape) (tree : KeptTree) (operatio
 -- ---- what a tree over operations and one over their chunks have as one, by position
 
 -- the digest at a position, where chunks are over nodes of the height g
-abbrev pub seen_in : {D : Type 0} → (List ℕ → D) → (D → List ℕ) → Shape → ℕ → Kept D → KeptChunks D → ℕ → Option D
-seen_in digest bytes_of S g m t = joined S g (size S m.leaves)
-    (regrafted digest bytes_of S g (tree_at S t.pruned t.pinned t.leaves)) (kept_at S m.boundary m.pinned m.nodes)
+abbrev pub seen_in : {D : Type 0} → Shape → ℕ → Kept D → Kept D → ℕ → Option D
+seen_in S g m c = joined S g (size S m.leaves) (kept_at S c.boundary c.pinned c.nodes)
+    (kept_at S m.boundary m.pinned m.nodes)
 
 -- each position of so many has a digest
 abbrev pub AreHad : {D : Type 0} → (ℕ → Option D) → ℕ → Type 0
@@ -63,5 +62,5 @@ bytes_from bytes_of answers p zero = []
 bytes_from bytes_of answers p (suc n) = bytes_or_none bytes_of (answers p) ∷ bytes_from bytes_of answers (p + 1) n
 
 -- all that both as one have
-abbrev pub seen_list : {D : Type 0} → (List ℕ → D) → (D → List ℕ) → Shape → ℕ → Kept D → KeptChunks D → List (List ℕ)
-seen_list digest bytes_of S g m t = bytes_from bytes_of (seen_in digest bytes_of S g m t) 0 (size S m.leaves)
+abbrev pub seen_list : {D : Type 0} → (D → List ℕ) → Shape → ℕ → Kept D → Kept D → List (List ℕ)
+seen_list bytes_of S g m c = bytes_from bytes_of (seen_in S g m c) 0 (size S m.leaves)

@@ -1,5 +1,6 @@
 //! Snapshots of operations and of which of them are active, their roots and proofs.
 
+mod chunk_tree;
 mod chunks;
 mod contiguous;
 pub mod grafting;
@@ -8,6 +9,7 @@ pub mod ordered;
 pub mod proof;
 mod required;
 mod root;
+mod roots;
 mod snapshot;
 mod view;
 

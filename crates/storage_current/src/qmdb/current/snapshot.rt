@@ -9,29 +9,30 @@ ghost use Rattle.storage_current.specs.NodeLists.{IsGrown, IsOver, IsTreeOver};
 ghost use Rattle.storage_current.specs.Snapshots.{IsServed, IsSnapshot, Snapshot as SnapshotOf, canonical_root, ops_root_of, own_witness, grafting_of};
 ghost use Rattle.storage_current.specs.WitnessWire.{witness_of};
 
-use crate::qmdb::current::chunks::{ChunkCounts, chunk_digest};
-use crate::qmdb::current::grafting::{self, GraftedTree, aligned_inactive, exact_inactive};
+use crate::qmdb::current::chunk_tree::append_grafts;
+use crate::qmdb::current::grafting;
 use crate::qmdb::current::operation_tree::OperationTree;
 use crate::qmdb::current::proof::OpsRootWitness;
-use crate::qmdb::current::root::canonical_root;
-use crate::qmdb::current::view::{graft_chunks, view_digest, view_root};
-use std::alloc::{AllocError, Global};
+use crate::qmdb::current::roots::Roots;
+use crate::qmdb::current::view::view_digest;
+use std::alloc::Global;
 use std::convert::AsSlice;
 use std::marker::Model;
 use storage_bitmap::bitmap::{Prunable, Readable};
+use storage_codec::NoMemory;
 use storage_codec::digest::Hasher;
 use storage_merkle::laws::kept::trees_keep_the_nodes_of_their_list;
 use storage_merkle::merkle::mem::Mem;
 use storage_merkle::merkle::{self, Graftable, Location, MAX_LEAVES, Position};
-use storage_ops::qmdb::{self, Error};
+use storage_ops::qmdb::Error;
 
 /// Operations, a bit for each that says whether it is active, and an inactivity floor, with their roots. It keeps no
-/// operation: it has the tree over them, and the digests of their graftable chunks, from which it hashes again what else
-/// is asked for of the grafted view.
+/// operation: it has the nodes of the tree over them and of the one over their graftable chunks, so that a node of the
+/// grafted view is read and not hashed.
 #[derive(Drop)]
 pub struct Snapshot<F: Graftable, H: Hasher, const N: usize> {
     operations: Mem<F, H::Digest>,
-    chunks: GraftedTree<F, H::Digest>,
+    chunks: Mem<F, H::Digest>,
     status: Prunable<N>,
     ops_root: H::Digest,
     root: H::Digest,
@@ -39,7 +40,8 @@ pub struct Snapshot<F: Graftable, H: Hasher, const N: usize> {
 }
 
 impl<F: Graftable, H: Hasher, const N: usize> Model for Snapshot<F, H, N> {
-    ghost use Rattle.storage_current.specs.KeptSnapshots.{HasEachNode, KeptSnapshot};
+    ghost use Rattle.storage_current.specs.KeptSnapshots.{KeptSnapshot};
+    ghost use Rattle.storage_current.specs.KeptTrees.{AreKept};
     ghost use Rattle.storage_current.specs.NodeLists.{seen_list};
     ghost use Rattle.storage_current.specs.Snapshots.{grafting_of, height};
     ghost use Rattle.storage_current.specs.WitnessWire.{witness_of};
@@ -47,16 +49,16 @@ impl<F: Graftable, H: Hasher, const N: usize> Model for Snapshot<F, H, N> {
     ghost Value = { KeptSnapshot };
 
     ghost view = { λ s. record {
-      nodes = seen_list H.digest_of H.Digest.text F.shape (height (grafting_of F.shape N))
-          s.operations s.chunks;
+      nodes = seen_list H.Digest.text F.shape (height (grafting_of F.shape N)) s.operations
+          s.chunks;
       status = s.status;
       ops_root = H.Digest.text s.ops_root;
       root = H.Digest.text s.root;
       witness = witness_of H.Digest.text s.witness;
     } };
 
-    ghost invariant = { λ s. HasEachNode H.digest_of H.Digest.text (grafting_of F.shape N)
-        s.operations s.chunks };
+    ghost invariant = { λ s. AreKept H.Digest.text H.hash_of (grafting_of F.shape N) s.operations
+        s.chunks s.status };
 }
 
 impl<F: Graftable, H: Hasher, const N: usize> Snapshot<F, H, N> {
@@ -138,7 +140,7 @@ impl<F: Graftable, H: Hasher, const N: usize> Snapshot<F, H, N> {
         operations: Mem<F, H::Digest>,
         bits: Prunable<N>,
         floor: Location<F>,
-    ) -> Result<Self, AllocError>
+    ) -> Result<Self, NoMemory>
         requires chunks { IsChunkSize N }
         requires grown { IsGrown H.Digest.text H.hash_of F.shape operations }
         requires bits { HasEachBit N operations.leaves bits }
@@ -155,36 +157,17 @@ impl<F: Graftable, H: Hasher, const N: usize> Snapshot<F, H, N> {
             IsSnapshot s × StandsForSnapshot H.hash_of g kept s) }
     {
         trees_keep_the_nodes_of_their_list(&operations);
-        let leaves = bits.len();
-        let height = grafting::height::<N>();
-        let exact = exact_inactive::<F>(leaves, floor.as_u64());
-        let ops_root = operations.root(&qmdb::hasher::<H>(), exact).unwrap();
-        let counts = ChunkCounts::over::<F>(leaves, height);
-        let grafted = graft_chunks::<F, H, Prunable<N>, N>(
-            alloc,
-            &operations,
-            &bits,
-            counts.graftable,
-        )?;
-        let chunks = GraftedTree::new(alloc, grafted);
-        let aligned = aligned_inactive::<F>(leaves, floor.as_u64(), height);
-        let grafted_root = view_root::<F, H>(alloc, &operations, &chunks, height, aligned)?;
-        let pending = chunk_digest::<H, N>(counts.pending::<Prunable<N>, N>(&bits));
-        let partial = chunk_digest::<H, N>(counts.partial::<Prunable<N>, N>(&bits));
-        let root = canonical_root::<H>(
-            &ops_root,
-            &grafted_root,
-            &pending,
-            counts.next_bit,
-            &partial,
-        );
+        let mut chunks = Mem::new(alloc);
+        append_grafts::<F, H, N>(&operations, &bits, &mut chunks)?;
+        trees_keep_the_nodes_of_their_list(&chunks);
+        let roots = Roots::over::<H, N>(&operations, &chunks, &bits, floor);
         Ok(Snapshot {
             operations,
             chunks,
             status: bits,
-            ops_root,
-            root,
-            witness: OpsRootWitness::of(grafted_root, pending, counts.next_bit, partial),
+            ops_root: roots.ops_root,
+            root: roots.canonical,
+            witness: roots.witness,
         })
     }
 
@@ -232,8 +215,10 @@ impl<F: Graftable, H: Hasher, const N: usize> Snapshot<F, H, N> {
             → result ≡ None }
     {
         let operations = &self.operations;
-        let height = grafting::height::<N>();
-        view_digest::<F, H>(operations, &self.chunks, height, position)
+        let chunks = &self.chunks;
+        trees_keep_the_nodes_of_their_list(operations);
+        trees_keep_the_nodes_of_their_list(chunks);
+        view_digest::<F, H>(operations, chunks, grafting::height::<N>(), position)
     }
 
     /// The activity bits. Takes no memory.

@@ -1,19 +1,46 @@
-use Rattle.std.proofs.Common.{sym, ◌∙◌}
+use Rattle.std.proofs.Common.{◌≤◌, ◌<◌, ◌-◌, ◌/◌, ◌^◌, arith, refl, sym, ◌∙◌, ap}
 use Rattle.storage_merkle.specs.Kept.{kept_at}
+use Rattle.storage_merkle.specs.Laws.Shape.{covers_down, down}
+use Rattle.storage_merkle.specs.Nodes.{CoversSame}
+use Rattle.storage_merkle.specs.Shape.{size}
+use Rattle.storage_current.proofs.Joined.{joined_above, joined_below}
 use Rattle.storage_current.proofs.qmdb.current.view.view_digest.Goals as goal
 
-pub returns-in-Absent : goal.returns-in-Absent
-returns-in-Absent g c =
+pub returns-then-own-height : goal.returns-then-own-height
+returns-then-own-height g c =
+    let S = g.F.Family.shape in
     let m = c.args.operations.now in
-    sym (rw c.size.ensures at (c.in-Absent.ensures.look (kept_at g.F.Family.shape m.boundary m.pinned m.nodes)))
+    let k = c.args.chunks.now in
+    let valid : c.args.position ≤ size S (2 ^ 62) = c.if-not-is_valid.ensures.0 refl in
+    c.get_node.ensures ∙ sym (joined_below S g.met.F.Family.laws c.args.height (size S m.leaves)
+    (kept_at S k.boundary k.pinned k.nodes) (kept_at S m.boundary m.pinned m.nodes) c.args.position
+    c.node_at-first.result.0 c.node_at-first.result.1 (omega (arith, c.size.ensures)) valid
+    (rw c.as_u64-3.ensures at c.node_at-first.ensures.node) c.if-own-height.true)
 
-pub returns-in-Below : goal.returns-in-Below
-returns-in-Below g c =
-    let m = c.args.operations.now in
-    c.get_node.ensures
-    ∙ sym (rw c.size.ensures at (c.in-Below.ensures.look (kept_at g.F.Family.shape m.boundary m.pinned m.nodes)))
+pub position-requires-clause-aligned : goal.position-requires-clause-aligned
+position-requires-clause-aligned g c =
+    let valid : c.args.position ≤ size g.F.Family.shape (2 ^ 62) = c.if-not-is_valid.ensures.0 refl in
+    let d = down g.F.Family.shape g.met.F.Family.laws _ _ c.args.height _
+    (rw c.as_u64-3.ensures at c.node_at-first.ensures.node) c.if-own-height.false c.requires valid in
+    d.units
 
-pub returns-in-Found : goal.returns-in-Found
-returns-in-Found g c =
+pub position-requires-clause-fits : goal.position-requires-clause-fits
+position-requires-clause-fits g c =
+    let valid : c.args.position ≤ size g.F.Family.shape (2 ^ 62) = c.if-not-is_valid.ensures.0 refl in
+    let d = down g.F.Family.shape g.met.F.Family.laws _ _ c.args.height _
+    (rw c.as_u64-3.ensures at c.node_at-first.ensures.node) c.if-own-height.false c.requires valid in
+    d.fits
+
+pub returns : goal.returns
+returns g c =
+    let S = g.F.Family.shape in
     let m = c.args.operations.now in
-    sym (rw c.size.ensures at (c.in-Found.ensures.look (kept_at g.F.Family.shape m.boundary m.pinned m.nodes)))
+    let k = c.args.chunks.now in
+    let node = rw c.as_u64-3.ensures at c.node_at-first.ensures.node in
+    let valid : c.args.position ≤ size S (2 ^ 62) = c.if-not-is_valid.ensures.0 refl in
+    let q = S.position (c.node_at-first.result.0 / 2 ^ c.args.height) (c.node_at-first.result.1 - c.args.height) in
+    let covers : CoversSame S c.args.height q c.args.position =
+    covers_down S g.met.F.Family.laws _ _ c.args.height c.args.position q node c.if-own-height.false refl in
+    (rw (c.new.ensures, c.position.ensures) at c.get_node-2.ensures)
+    ∙ sym (joined_above S g.met.F.Family.laws c.args.height (size S m.leaves) (kept_at S k.boundary k.pinned k.nodes)
+    (kept_at S m.boundary m.pinned m.nodes) c.args.position q (omega (arith, c.size.ensures)) valid covers)

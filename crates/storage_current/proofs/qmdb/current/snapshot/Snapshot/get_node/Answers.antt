@@ -4,22 +4,26 @@ use Rattle.std.specs.Option.{option_map}
 use Rattle.std.proofs.lemmas.Option.{slice_get_past}
 use Rattle.storage_current.specs.Laws.Grafting.{height_of_power}
 use Rattle.storage_current.specs.Snapshots.{Grafting, height, view_node}
-use Rattle.storage_current.proofs.MemViews.{seen_value}
+use Rattle.storage_current.proofs.MemViews.{kept_had, seen_value}
 use Rattle.storage_current.proofs.Roots.{looked_up, none_there}
 use Rattle.storage_current.proofs.qmdb.current.snapshot.Snapshot.get_node.Goals as goal
 
-pub height-height-requires : goal.height-height-requires
-height-height-requires g c = c.self.invariant.sized
+pub height-requires : goal.height-requires
+height-requires g c = c.self.invariant.sized
 
 pub returns-clause-value : goal.returns-clause-value
 returns-clause-value g c =
     let S = g.F.Family.shape in
     let text = g.H.Digest.Digest.text in
     let G : Grafting = record { shape = S; bytes = g.row.N } in
-    let level : height G ≡ c.height-height.result = height_of_power S g.row.N _ c.height-height.ensures.power in
+    let m = c.self.inside.operations in
+    let t = c.self.inside.chunks in
+    let level : height G ≡ c.height.result = height_of_power S g.row.N _ c.height.ensures.power in
     rw (← c.self.view_is) (ap (option_map text) (rw (← level) at c.view_digest.ensures)
-    ∙ seen_value S g.met.F.Family.laws g.H.Hasher.digest_of text (height G) c.self.inside.operations
-    c.self.inside.chunks c.args.position c.self.invariant.had)
+    ∙ seen_value S g.met.F.Family.laws text (height G) m t c.args.position
+    (kept_had text g.H.Hasher.hash_of G g.met.F.Family.laws (g.met.F.Graftable.keeps_pace (height G)) m t
+    c.self.inside.status c.self.invariant
+    c.trees_keep_the_nodes_of_their_list.ensures c.trees_keep_the_nodes_of_their_list-2.ensures))
 
 pub returns-clause-there : goal.returns-clause-there
 returns-clause-there g c s stands below =

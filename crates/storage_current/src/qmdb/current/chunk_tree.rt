@@ -1,0 +1,76 @@
+//! The tree over a snapshot's graftable chunks: its leaves are these chunks grafted over the operations' nodes.
+
+ghost use Rattle.std.specs.Prelude.{◌≡◌, ℕ, ◌-◌, ◌*◌, ◌^◌, ◌<◌, ◌≤◌, List, OnOk, IsOk};
+ghost use Rattle.storage_merkle.specs.Kept.{HasRoomFor};
+ghost use Rattle.storage_bitmap.specs.Chunks.{IsChunkSize, bit_count};
+ghost use Rattle.storage_current.specs.KeptSnapshots.{HasEachBit};
+ghost use Rattle.storage_current.specs.KeptTrees.{HasMoreGrafts, StandsForChunks};
+ghost use Rattle.storage_current.specs.NodeLists.{IsGrown, IsOver};
+ghost use Rattle.storage_current.specs.Snapshots.{Snapshot as SnapshotOf, graftable, grafting_of, height, view_node};
+
+use crate::qmdb::current::grafting::{self, GraftedHasher, graft, graftable_chunks, power};
+use storage_bitmap::bitmap::{Prunable, Readable};
+use storage_codec::NoMemory;
+use storage_codec::digest::Hasher;
+use storage_merkle::laws::kept::trees_keep_the_nodes_of_their_list;
+use storage_merkle::merkle::hasher::Standard;
+use storage_merkle::merkle::mem::Mem;
+use storage_merkle::merkle::{Graftable, Position};
+use storage_ops::qmdb;
+
+/// The digest of the node of the graftable chunk number `index` of `status` with the chunk grafted, from the node that
+/// `operations` keeps.
+pub(crate) fn graft_at<F: Graftable, H: Hasher, const N: usize>(
+    operations: &Mem<F, H::Digest>,
+    status: &Prunable<N>,
+    index: u64,
+) -> H::Digest
+    requires chunks { IsChunkSize N }
+    requires grown { IsGrown H.Digest.text H.hash_of F.shape operations.now }
+    requires bits { HasEachBit N operations.now.leaves status.now }
+    requires within { index < graftable (grafting_of F.shape N) operations.now.leaves }
+    ensures { let g = grafting_of F.shape N in (s : SnapshotOf) → s.bits ≡ status.now.bits
+        → IsOver H.Digest.text H.hash_of F.shape operations.now s.operations
+        → H.Digest.text result ≡ view_node H.hash_of g s (index * 2 ^ height g) (height g) }
+{
+    trees_keep_the_nodes_of_their_list(operations);
+    let height = grafting::height::<N>();
+    let position = Position::new(F::position(index * power(height), height));
+    let inner = operations.get_node(position).unwrap();
+    graft::<H>(&status.get_chunk(index as usize), inner)
+}
+
+/// Appends to `chunks`, a tree over graftable chunks of `status`, those that it lacks, with the nodes over them: all that
+/// are graftable over `operations`. Where there is room for them it is not refused memory.
+pub(crate) fn append_grafts<F: Graftable, H: Hasher, const N: usize>(
+    operations: &Mem<F, H::Digest>,
+    status: &Prunable<N>,
+    chunks: &mut Mem<F, H::Digest>,
+) -> Result<(), NoMemory>
+    requires chunks { IsChunkSize N }
+    requires grown { IsGrown H.Digest.text H.hash_of F.shape operations.now }
+    requires bits { HasEachBit N operations.now.leaves status.now }
+    requires within { chunks.old.leaves ≤ graftable (grafting_of F.shape N) operations.now.leaves }
+    ensures count { OnOk result
+        (chunks.new.leaves ≡ graftable (grafting_of F.shape N) operations.now.leaves) }
+    ensures place { OnOk result ((chunks.new.boundary ≡ chunks.old.boundary)
+        × (chunks.new.pinned ≡ chunks.old.pinned)) }
+    ensures grafted { let g = grafting_of F.shape N in
+        OnOk result ((list : List (List ℕ))
+        → StandsForChunks H.Digest.text H.hash_of g chunks.old list
+        → HasMoreGrafts H.Digest.text H.hash_of g operations.now chunks.new status.now.bits list) }
+    ensures succeeds { HasRoomFor F.shape (graftable (grafting_of F.shape N) operations.now.leaves
+        - chunks.old.leaves) chunks.old
+        → IsOk result }
+{
+    let height = grafting::height::<N>();
+    let hasher = GraftedHasher::<F, Standard<H>>::new(qmdb::hasher::<H>(), height);
+    let count = graftable_chunks::<F>(operations.leaves().as_u64(), height);
+    for index in chunks.leaves().as_u64()..count {
+        let digest = graft_at::<F, H, N>(operations, status, index);
+        if chunks.add_leaf(&hasher, digest).is_err() {
+            return Err(NoMemory);
+        }
+    }
+    Ok(())
+}

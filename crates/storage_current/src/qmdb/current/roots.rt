@@ -1,0 +1,74 @@
+//! The roots of a snapshot, from the trees over its operations and its graftable chunks.
+
+ghost use Rattle.std.specs.Prelude.{◌≡◌, ℕ, ◌≤◌};
+ghost use Rattle.storage_current.specs.KeptSnapshots.{AreRootsOf};
+ghost use Rattle.storage_current.specs.KeptTrees.{AreKept};
+ghost use Rattle.storage_current.specs.NodeLists.{AreNodes, IsOver, seen_list};
+ghost use Rattle.storage_current.specs.Snapshots.{Snapshot as SnapshotOf, grafting_of, height, view_node};
+ghost use Rattle.storage_current.specs.WitnessWire.{witness_of};
+
+use crate::qmdb::current::chunks::{ChunkCounts, chunk_digest};
+use crate::qmdb::current::grafting::{self, aligned_inactive, exact_inactive};
+use crate::qmdb::current::proof::OpsRootWitness;
+use crate::qmdb::current::root::canonical_root;
+use crate::qmdb::current::view::view_root;
+use storage_bitmap::bitmap::{Prunable, Readable};
+use storage_codec::digest::{Digest, Hasher};
+use storage_merkle::laws::kept::trees_keep_the_nodes_of_their_list;
+use storage_merkle::merkle::mem::Mem;
+use storage_merkle::merkle::{Graftable, Location};
+use storage_ops::qmdb;
+
+/// The operations root and the canonical root of a snapshot, and the witness that the one belongs to the other.
+#[derive(Drop)]
+pub(crate) struct Roots<F, D> {
+    pub ops_root: D,
+    pub canonical: D,
+    pub witness: OpsRootWitness<F, D>,
+}
+
+impl<F: Graftable, D: Digest> Roots<F, D> {
+    /// The roots of the snapshot that `operations` and `chunks` are kept of, with the bits `status` and the floor `floor`.
+    /// Hashes no node, but the foldings of the peaks and the chunks under no node of their own. Takes no memory.
+    pub(crate) fn over<H: Hasher<Digest = D>, const N: usize>(
+        operations: &Mem<F, D>,
+        chunks: &Mem<F, D>,
+        status: &Prunable<N>,
+        floor: Location<F>,
+    ) -> Self
+        requires kept { AreKept D.text H.hash_of (grafting_of F.shape N) operations.now chunks.now
+            status.now }
+        requires floor { floor ≤ operations.now.leaves }
+        ensures { let g = grafting_of F.shape N in (s : SnapshotOf) → s.bits ≡ status.now.bits
+            → s.floor ≡ floor
+            → IsOver D.text H.hash_of F.shape operations.now s.operations
+            → AreNodes F.shape (view_node H.hash_of g s)
+            (seen_list D.text F.shape (height g) operations.now chunks.now)
+            → AreRootsOf H.hash_of g s (D.text result.ops_root) (D.text result.canonical)
+            (witness_of D.text result.witness) }
+    {
+        trees_keep_the_nodes_of_their_list(operations);
+        trees_keep_the_nodes_of_their_list(chunks);
+        let leaves = status.len();
+        let height = grafting::height::<N>();
+        let exact = exact_inactive::<F>(leaves, floor.as_u64());
+        let ops_root = operations.root(&qmdb::hasher::<H>(), exact).unwrap();
+        let aligned = aligned_inactive::<F>(leaves, floor.as_u64(), height);
+        let grafted_root = view_root::<F, H>(operations, chunks, height, aligned);
+        let counts = ChunkCounts::over::<F>(leaves, height);
+        let pending = chunk_digest::<H, N>(counts.pending::<Prunable<N>, N>(status));
+        let partial = chunk_digest::<H, N>(counts.partial::<Prunable<N>, N>(status));
+        let canonical = canonical_root::<H>(
+            &ops_root,
+            &grafted_root,
+            &pending,
+            counts.next_bit,
+            &partial,
+        );
+        Roots {
+            ops_root,
+            canonical,
+            witness: OpsRootWitness::of(grafted_root, pending, counts.next_bit, partial),
+        }
+    }
+}
