@@ -104,7 +104,8 @@ impl<F: Graftable, H: Hasher, K: Key, V: OperationCodec<F, Update<K, V>>, const 
     ///
     /// # Errors
     ///
-    /// Where the key has a value, the first of: `Full` where the operations with the one or two that are appended would pass 2^62; `Memory`.
+    /// Where the key has a value, the first of: `Full` where the operations with the one or two that are appended would
+    /// pass 2^62; `Memory`.
     pub fn delete(&mut self, key: &K) -> Result<bool, Error<F>>
         ensures ok { let e = keyed_by K.text V.Value.text V.operation_text K.cmp in OnOk result
             (IsDone e V.Value.view H.hash_of (grafting_of F.shape N) self.old self.new (Delete key.now)) }
