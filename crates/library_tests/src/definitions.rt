@@ -25,7 +25,7 @@ fn bytes(rt: &impl Abort, alloc: Global, text: &str) -> Vec<u8> {
 }
 
 /// Byte strings with commas between them.
-fn strings(rt: &impl Abort, alloc: Global, text: &str) -> Vec<Vec<u8>> {
+pub fn strings(rt: &impl Abort, alloc: Global, text: &str) -> Vec<Vec<u8>> {
     let mut strings = Vec::new(alloc);
     for part in text.split(',') {
         if strings.push(bytes(rt, alloc, part)).is_err() {

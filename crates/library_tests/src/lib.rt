@@ -9,6 +9,8 @@ mod database;
 #[cfg(test)]
 mod definitions;
 #[cfg(test)]
+mod extended;
+#[cfg(test)]
 mod grafted;
 #[cfg(test)]
 mod joined;

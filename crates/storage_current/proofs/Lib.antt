@@ -43,3 +43,5 @@ mod Fetching
 mod Making
 mod Serving
 mod SharedChunks
+mod Extending
+mod Growing

@@ -1,5 +1,5 @@
 -- A tree over operations in memory and one over their graftable chunks, none of them pruned: each node of the view can be had.
-use Rattle.std.proofs.Common.{◌≡◌, ℕ, ◌+◌, ◌*◌, ◌/◌, ◌%◌, ◌^◌, ◌<◌, ◌≤◌, ◌++◌, List, [], ◌∷◌, length, map, get_or, Bool, Option, Some, None, option_map, IsSome, Result, Ok, Err, OnOk, true, false, refl, sym, ap, ap₂, ◌∙◌, append_assoc, arith, inl, inr, length-append, pow_pos}
+use Rattle.std.proofs.Common.{◌≡◌, ℕ, ◌+◌, ◌*◌, ◌/◌, ◌%◌, ◌^◌, ◌<◌, ◌≤◌, ◌++◌, List, [], ◌∷◌, length, map, get_or, Bool, Option, Some, None, option_map, IsSome, Result, Ok, Err, OnErr, OnOk, true, false, refl, sym, ap, ap₂, ◌∙◌, append_assoc, arith, inl, inr, length-append, pow_pos}
 use Rattle.std.specs.Option.{is_some}
 use Rattle.std.specs.Result.{is_err, is_ok}
 use Rattle.std.proofs.lemmas.Bool.{cases_lt}
@@ -14,7 +14,7 @@ use Rattle.storage_merkle.specs.Pace.{ChunksKeepPace}
 use Rattle.storage_merkle.specs.Calc.{be8, grafted_digest}
 use Rattle.storage_merkle.specs.Hashing.{leaf_digests, node_over}
 use Rattle.storage_merkle.specs.Laws.Hashing.{leaf_digests-append, length-leaf_digests, node_over-tree}
-use Rattle.storage_merkle.specs.Kept.{Kept, NodesOver, StandsBut, StandsFor, kept_at}
+use Rattle.storage_merkle.specs.Kept.{Kept, NodesOver, StandsBut, StandsFor, kept_at, list_updated}
 use Rattle.storage_merkle.specs.Laws.Multiples.{is_multiple}
 use Rattle.storage_merkle.specs.Laws.Shape.{every, grows_at_most}
 use Rattle.storage_merkle.specs.Trees.{ungrafted, listed, tree_node}
@@ -229,6 +229,14 @@ pub chunk_more : {D : Type 0} (text : D → List ℕ) (h : HashFunction) (g : Gr
     → (list : List (List ℕ)) → StandsForChunks text h g old list → StandsForChunks text h g new (list ++ d ∷ [])
 chunk_more text h g r old new d level grown list stands = (rw (← level) at grown) list [] stands
 
+-- leaves of the tree over chunks with new digests
+pub chunk_written : {D : Type 0} (text : D → List ℕ) (h : HashFunction) (g : Grafting) (r : ℕ) (old new : Kept D)
+    (us : List (ℕ × List ℕ)) → height g ≡ r
+    → ((list : List (List ℕ)) → StandsFor text g.shape (node_over h (over_chunks r (ungrafted g.shape)) (λ a. [])) old list
+    → StandsFor text g.shape (node_over h (over_chunks r (ungrafted g.shape)) (λ a. [])) new (list_updated list us))
+    → (list : List (List ℕ)) → StandsForChunks text h g old list → StandsForChunks text h g new (list_updated list us)
+chunk_written text h g r old new us level written list stands = (rw (← level) at written) list stands
+
 -- all of them
 pub all_grafts : (h : HashFunction) (g : Grafting) (s : Snapshot) (grafts : List (List ℕ))
     → length grafts ≡ graftable g (length s.operations) → AreGraftsFrom h g s 0 grafts → AreGraftedLeaves h g s grafts
@@ -276,7 +284,15 @@ pub succeeded : {A E : Type 0} (r : Result A E) (Q : Type 0) → is_err r ≡ fa
 succeeded (Ok x) Q e h = h
 succeeded (Err x) Q e h = absurd (cc)
 
--- a call is not refused and answered at once
+-- and one that had to succeed
+pub granted : {A E : Type 0} (r : Result A E) (Q : Type 0) → is_ok r ≡ true → OnOk r Q → Q
+granted (Ok x) Q e h = h
+granted (Err x) Q e h = absurd (cc)
+
+pub failed : {A E : Type 0} (r : Result A E) (Q : Type 0) → is_err r ≡ true → OnErr r Q → Q
+failed (Ok x) Q e h = absurd (cc)
+failed (Err x) Q e h = h
+
 pub not_refused : {A E : Type 0} (r : Result A E) → is_err r ≡ true → is_ok r ≡ true → ⊥
 not_refused (Ok x) e o = cc
 not_refused (Err x) e o = cc

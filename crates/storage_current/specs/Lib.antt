@@ -3,6 +3,7 @@ pub mod Keys
 pub mod KeyProofs
 pub mod HeldKeys
 pub mod Equality
+pub mod Extended
 pub mod KeyWire
 pub mod CurrentProofs
 pub mod CurrentSoundness

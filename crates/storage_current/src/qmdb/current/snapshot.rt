@@ -9,6 +9,8 @@ ghost use Rattle.storage_current.specs.NodeLists.{IsGrown, IsOver, IsTreeOver};
 ghost use Rattle.storage_current.specs.Snapshots.{IsServed, IsSnapshot, Snapshot as SnapshotOf, canonical_root, ops_root_of, own_witness, grafting_of};
 ghost use Rattle.storage_current.specs.WitnessWire.{witness_of};
 
+mod extend;
+
 use crate::qmdb::current::chunk_tree::append_grafts;
 use crate::qmdb::current::grafting;
 use crate::qmdb::current::operation_tree::OperationTree;
