@@ -1,6 +1,9 @@
 //! Calls that are made again where memory is refused to them: a refused call leaves everything as it was, as its contract says, so
 //! that the second one gives what the first would have given. Where memory is found none is made again; `tools/refused_memory.py`
-//! refuses each request of these tests in turn.
+//! refuses each request of these tests in turn. Within the room that a tree has, no call needs to be made again.
+
+ghost use Rattle.std.specs.Prelude.{◌+◌, ◌≤◌};
+ghost use Rattle.storage_merkle.specs.Shape.{max_leaves};
 
 use crate::stops::{out_of_memory, refused};
 use std::alloc::Global;
@@ -194,6 +197,29 @@ fn forget(rt: &impl Abort, tree: &mut Mem<mmb::Family, Digest>, location: u64) {
     }
 }
 
+/// Appends to `tree` the leaf whose digest is `first` and that of `second`, once there is room for both: then neither is refused.
+fn append_two(
+    rt: &impl Abort,
+    tree: &mut Mem<mmb::Family, Digest>,
+    hasher: &Standard<Sha256>,
+    first: Digest,
+    second: &[u8],
+)
+    requires { tree.old.leaves + 2 ≤ max_leaves }
+{
+    let Ok(()) = tree.reserve(2) else {
+        out_of_memory(rt)
+    };
+    match tree.add_leaf(hasher, first) {
+        Ok(()) => {}
+        Err(_) => unreachable!(),
+    }
+    match tree.add(hasher, second) {
+        Ok(()) => {}
+        Err(_) => unreachable!(),
+    }
+}
+
 // what is expected is from an independent program over the whole list of leaves
 #[test]
 fn tree_calls_made_again(rt: HostRuntime) {
@@ -238,6 +264,13 @@ fn tree_calls_made_again(rt: HostRuntime) {
     assert!(rt; tree.leaves() == Location::new(14));
     assert!(rt; tree.get_node(Position::new(0)).is_none());
     assert!(rt; tree.root(&hasher, 0) == Ok(root));
+
+    let mut other = Mem::new(rt.alloc());
+    append_two(&rt, &mut other, &hasher, leaf, elements[1]);
+    for element in &elements[2..] {
+        add(&rt, &mut other, &hasher, *element);
+    }
+    assert!(rt; other.root(&hasher, 0) == Ok(root));
 }
 
 /// Writes `bytes` behind the seven in `written`.
