@@ -1,6 +1,6 @@
-//! Trees over chunks: prunings made again where memory is refused to them, and calls that hash nothing.
+//! Trees over chunks: prunings made again where memory is refused to them, chunks appended, and calls that hash nothing.
 
-ghost use Rattle.std.specs.Prelude.{◌≤◌};
+ghost use Rattle.std.specs.Prelude.{◌<◌, ◌≤◌};
 
 use crate::stops::{out_of_memory, refused};
 use std::process::Abort;
@@ -44,6 +44,26 @@ fn prune(rt: &impl Abort, tree: &mut Tree, chunks: u64)
     if let Err(refusal) = prune_once::<mmb::Family, Sha256>(tree, HEIGHT, chunks) {
         refused(rt, &refusal);
     }
+}
+
+/// Appends the leaf whose digest is `digest` to `tree`, a tree in memory over chunks, and then gives the leaves of `updates` their
+/// new digests.
+fn append<F: Graftable, H: Hasher>(
+    tree: &mut Mem<F, H::Digest>,
+    height: u32,
+    digest: H::Digest,
+    updates: &[(Location<F>, H::Digest)],
+) -> Result<(), Error<F>>
+    requires low { 1 ≤ height }
+    requires high { height ≤ 8 }
+    requires few { tree.old.leaves < 1000 }
+{
+    nodes_over_chunks_are_taken::<F, Standard<H>>();
+    let hasher = GraftedHasher::new(Standard::<H>::new(Bagging::BackwardFold), height);
+    if let Err(error) = tree.add_leaf(&hasher, digest) {
+        return Err(error);
+    }
+    tree.update_leaves(&hasher, updates)
 }
 
 /// Whether the nodes of `tree` are these, by their positions.
@@ -146,4 +166,20 @@ fn no_leaves_updated(rt: HostRuntime) {
     }
     assert!(rt; tree.leaves() == Location::new(HUGE));
     assert!(rt; tree.pinned_nodes() == [leaf(6); 60].as_slice());
+}
+
+#[test]
+fn chunks_appended(rt: HostRuntime) {
+    let [first, second, four] = nodes_over_chunks();
+    let mut tree = Mem::new(rt.alloc());
+    for byte in [1, 2, 3, 4, 5] {
+        assert!(rt; tree.leaves().as_u64() < 1000);
+        let updates = [(tree.leaves(), leaf(byte))];
+        if let Err(refusal) = append::<mmb::Family, Sha256>(&mut tree, HEIGHT, leaf(9), &updates) {
+            refused(&rt, &refusal);
+        }
+    }
+    assert!(rt; tree.get_node(Position::new(2)) == Some(first));
+    assert!(rt; tree.get_node(Position::new(5)) == Some(second));
+    assert!(rt; tree.get_node(Position::new(7)) == Some(four));
 }
