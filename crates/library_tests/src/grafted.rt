@@ -17,7 +17,7 @@ type Digest = FixedBytes<32>;
 type Tree = GraftedTree<mmb::Family, Digest>;
 
 /// The height of a node over as many operations as a chunk of one byte has bits.
-const HEIGHT: u32 = 3;
+pub const HEIGHT: u32 = 3;
 
 /// Forgets the first `chunks` chunks of `tree`, which are over nodes of height `height`, once.
 fn prune_once<F: Graftable, H: Hasher>(
@@ -48,7 +48,7 @@ fn prune(rt: &impl Abort, tree: &mut Tree, chunks: u64)
 
 /// Appends the leaf whose digest is `digest` to `tree`, a tree in memory over chunks, and then gives the leaves of `updates` their
 /// new digests.
-fn append<F: Graftable, H: Hasher>(
+pub fn append<F: Graftable, H: Hasher>(
     tree: &mut Mem<F, H::Digest>,
     height: u32,
     digest: H::Digest,

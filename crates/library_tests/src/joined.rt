@@ -1,5 +1,6 @@
 //! Proofs from a tree over chunks and a tree over the operations, read as one: the laws of such trees and the contracts of the calls
-//! tell that each is the snapshot's own, over a tree in memory and over one that keeps pins and leaves alone.
+//! tell that each is the snapshot's own, over a tree in memory and over one that keeps pins and leaves alone. The proofs of one
+//! snapshot are made too: a client accepts them.
 
 ghost use Rattle.std.specs.Prelude.{◌≡◌, ℕ, ◌+◌, ◌<◌, ◌≤◌, ◌^◌, [], List, length, map, get_or, option_map, IfOk, IfSome};
 ghost use Rattle.storage_merkle.specs.Kept.{StandsFor};
@@ -12,18 +13,28 @@ ghost use Rattle.storage_current.specs.Served.{AreServedOf, end_of};
 ghost use Rattle.storage_current.specs.Snapshots.{Holds, IsServed, IsSnapshot, Snapshot, graftable, grafting_of, own_range_proof};
 ghost use Rattle.library_tests.specs.Joined.{AreOtherParts};
 
+use crate::grafted::{HEIGHT, append};
+use crate::stops::{out_of_memory, refused};
 use std::alloc::Global;
 use std::ops::Range;
-use storage_bitmap::bitmap;
-use storage_codec::digest::Hasher;
+use std::process::Abort;
+use storage_bitmap::bitmap::{self, Prunable, Readable as _};
+use storage_codec::codec::FixedBytes;
+use storage_codec::digest::{Hasher, Sha256};
 use storage_current::laws::combined::{joined_trees_answer_the_view, joined_trees_are_the_view};
 use storage_current::laws::grafted_trees::{
     grafted_trees_keep_the_view, memory_trees_keep_the_view, nodes_inside_no_pin_are_coverable,
 };
-use storage_current::qmdb::current::Contiguous;
 use storage_current::qmdb::current::grafting::{self, GraftedTree};
 use storage_current::qmdb::current::proof::{RangeProof, RangeProofSpec};
-use storage_merkle::merkle::{self, Graftable, Location, Mem, Position, Readable, Storage as _};
+use storage_current::qmdb::current::{self, Contiguous};
+use storage_merkle::merkle::hasher::Standard;
+use storage_merkle::merkle::{
+    self, Bagging, Graftable, Location, MAX_LEAVES, Mem, Position, RangePlan, Readable,
+    Storage as _, mmr,
+};
+
+type Digest = FixedBytes<32>;
 
 /// The proof of the operations at the locations of `range`, from `storage`; none where it is refused.
 fn proof_served<
@@ -396,4 +407,159 @@ fn node_from_unpruned<
     grafted_trees_keep_the_view::<F, H, N>(chunks);
     nodes_inside_no_pin_are_coverable(chunks);
     node_from::<F, H, GraftedTree<F, H::Digest>, S, N>(chunks, operations, position)
+}
+
+/// The inactivity floor of the snapshot that is tried.
+const FLOOR: u64 = 17;
+
+/// The operations of the snapshot that is tried: three complete chunks of them, and three more.
+fn operations() -> [[u8; 1]; 27] {
+    [
+        0, 1, 2, 3, 4, 5, 6, 7, 8, 9, 10, 11, 12, 13, 14, 15, 16, 17, 18, 19, 20, 21, 22, 23, 24,
+        25, 26,
+    ]
+    .map(|byte| [byte])
+}
+
+/// The snapshot of `operations`, of which every third is active.
+fn snapshot_of(
+    rt: &impl Abort,
+    alloc: Global,
+    operations: &[[u8; 1]],
+) -> current::Snapshot<mmr::Family, Sha256, 1> {
+    let mut bits = Prunable::new(alloc);
+    for _ in operations {
+        assert!(rt; bits.len() < MAX_LEAVES);
+        let bit = bits.len() % 3 == 0;
+        if bits.push(bit).is_err() {
+            out_of_memory(rt);
+        }
+    }
+    match current::Snapshot::new(alloc, operations, bits, Location::new(FLOOR)) {
+        Ok(snapshot) => snapshot,
+        Err(refusal) => refused(rt, &refusal),
+    }
+}
+
+/// The tree in memory over the chunks of `snapshot` that are grafted at `positions`.
+fn tree_over_chunks(
+    rt: &impl Abort,
+    alloc: Global,
+    snapshot: &current::Snapshot<mmr::Family, Sha256, 1>,
+    positions: &[u64],
+) -> Mem<mmr::Family, Digest> {
+    let mut tree = Mem::new(alloc);
+    for position in positions {
+        let Some(digest) = snapshot.get_node(Position::new(*position)) else {
+            panic!(rt; "no node")
+        };
+        assert!(rt; tree.leaves().as_u64() < 1000);
+        if let Err(refusal) = append::<mmr::Family, Sha256>(&mut tree, HEIGHT, digest, &[]) {
+            refused(rt, &refusal);
+        }
+    }
+    tree
+}
+
+/// The tree in memory over `operations`.
+fn tree_over(rt: &impl Abort, alloc: Global, operations: &[[u8; 1]]) -> Mem<mmr::Family, Digest> {
+    let hasher = Standard::<Sha256>::new(Bagging::BackwardFold);
+    let mut tree = Mem::new(alloc);
+    for operation in operations {
+        if let Err(refusal) = tree.add(&hasher, operation) {
+            refused(rt, &refusal);
+        }
+    }
+    tree
+}
+
+/// Asserts that the proof of `operations`, from the location `start` on, is the same from `chunks` and `tree` as from `snapshot`, and
+/// that a client accepts it with `bits`, the chunks that it touches.
+fn assert_proof(
+    rt: &impl Abort,
+    alloc: Global,
+    snapshot: &current::Snapshot<mmr::Family, Sha256, 1>,
+    chunks: &Mem<mmr::Family, Digest>,
+    tree: &mut Mem<mmr::Family, Digest>,
+    start: u64,
+    operations: &[[u8; 1]],
+    bits: &[[u8; 1]],
+) {
+    let (status, ops_root) = (snapshot.status(), snapshot.ops_root());
+    let floor = Location::new(FLOOR);
+    let end = Location::new(start.saturating_add(operations.len() as u64));
+    let start = Location::new(start);
+    let plan = match RangePlan::new(alloc, tree.leaves(), start..end) {
+        Ok(plan) => plan,
+        Err(refusal) => refused(rt, &refusal),
+    };
+    let own = match RangeProof::build::<Sha256, Prunable<1>, _, 1>(
+        alloc,
+        status,
+        plan,
+        |position| snapshot.get_node(position),
+        floor,
+        ops_root,
+    ) {
+        Ok(own) => own,
+        Err(refusal) => refused(rt, &refusal),
+    };
+    let Some(proof) = proof_from_memory::<mmr::Family, Sha256, _, Prunable<1>, 1>(
+        alloc,
+        status,
+        chunks,
+        tree,
+        floor,
+        start..end,
+        ops_root,
+    ) else {
+        out_of_memory(rt)
+    };
+    assert!(rt; proof == own);
+    let root = snapshot.root();
+    let Ok(yes) = proof.verify_encoded::<Sha256, [u8; 1], [u8; 1]>(
+        alloc, start, operations, bits, 1, &root,
+    ) else {
+        out_of_memory(rt)
+    };
+    assert!(rt; yes);
+}
+
+// the positions of the nodes over eight operations, and the bits of each chunk, are worked by hand
+#[test]
+fn proofs_of_a_snapshot(rt: HostRuntime) {
+    let operations = operations();
+    let snapshot = snapshot_of(&rt, rt.alloc(), &operations);
+    let chunks = tree_over_chunks(&rt, rt.alloc(), &snapshot, &[14, 29, 45]);
+    let mut tree = tree_over(&rt, rt.alloc(), &operations);
+    assert_proof(
+        &rt,
+        rt.alloc(),
+        &snapshot,
+        &chunks,
+        &mut tree,
+        0,
+        &operations[..1],
+        &[[0x49]],
+    );
+    assert_proof(
+        &rt,
+        rt.alloc(),
+        &snapshot,
+        &chunks,
+        &mut tree,
+        17,
+        &operations[17..20],
+        &[[0x24]],
+    );
+    assert_proof(
+        &rt,
+        rt.alloc(),
+        &snapshot,
+        &chunks,
+        &mut tree,
+        5,
+        &operations[5..26],
+        &[[0x49], [0x92], [0x24], [0x01]],
+    );
 }
