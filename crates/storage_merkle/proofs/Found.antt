@@ -7,15 +7,13 @@ use Rattle.storage_merkle.specs.Calc.{Site, node, Values, eval}
 use Rattle.storage_merkle.specs.Trees.{Layout, Peak, peaks_of, node_calc}
 use Rattle.storage_merkle.specs.RangeProofs.{apart, leading, position_of}
 use Rattle.storage_merkle.specs.Rests.{peaks_from, AreAfterLeading}
+use Rattle.storage_merkle.specs.CheckParts.{Adds}
 use Rattle.storage_merkle.specs.Extracted.{nodes_under, nodes_in, overlapped, entries, digest_at}
 use Rattle.storage_merkle.proofs.Plan.Folds.{no_peaks_from}
 use Rattle.storage_merkle.proofs.Siblings.{overlapped-past}
 use Rattle.storage_merkle.proofs.Extracted.{tells}
 
 -- ---- what is kept behind what was there, if anything is kept
-
-abbrev pub Adds : {V X : Type 0} → (V → List X) → Option V → Option V → List X → Type 0
-Adds g old new xs = option_map g new ≡ option_map (λ v. g v ++ xs) old
 
 pub adds_nothing : {V X : Type 0} (g : V → List X) (o : Option V) (xs : List X) → xs ≡ [] → Adds g o o xs
 adds_nothing g None xs e = refl

@@ -1,10 +1,11 @@
 -- The steps of a check of a range proof.
-use Rattle.std.specs.Prelude.{◌≡◌, ℕ, zero, suc, ◌+◌, ◌-◌, ◌%◌, ◌<◌, ◌≤◌, ◌^◌, List, [], ◌∷◌, length, get_or, Contains, false, if◌then◌else◌, leb, Option, Some, None}
+use Rattle.std.specs.Prelude.{◌≡◌, ℕ, zero, suc, ◌+◌, ◌-◌, ◌%◌, ◌<◌, ◌≤◌, ◌^◌, List, [], ◌∷◌, ◌++◌, length, get_or, Contains, Bool, false, if◌then◌else◌, leb, Option, Some, None, option_map}
 use Rattle.std.specs.List.Sorted.{IsNonDecreasing}
 use Rattle.storage_codec.specs.Digests.{HashFunction}
 use Rattle.storage_merkle.specs.Shape.{Shape, max_leaves}
 use Rattle.storage_merkle.specs.Calc.{Site, front, back, node, Values}
-use Rattle.storage_merkle.specs.Trees.{Peak, part, ungrafted}
+use Rattle.storage_merkle.specs.Trees.{Layout, Peak, part, ungrafted}
+use Rattle.storage_merkle.specs.Extracted.{digest_at, entries}
 use Rattle.storage_merkle.specs.RangeProofs.{apart, sites_of, position_of}
 use Rattle.storage_merkle.specs.Hashers.{appended, prepended}
 
@@ -79,3 +80,11 @@ bag_onto h digest fold high before (p ∷ ps) (suc f) = bag_onto h digest fold h
 abbrev pub folded_before : List ℕ → ℕ → Option (List ℕ)
 folded_before fold zero = None
 folded_before fold (suc a) = Some fold
+
+-- what is kept, if anything is, is what was kept before with some more behind it
+abbrev pub Adds : {V X : Type 0} → (V → List X) → Option V → Option V → List X → Type 0
+Adds g old new xs = option_map g new ≡ option_map (λ v. g v ++ xs) old
+
+-- the digests that a calculation has at some nodes, with their positions
+abbrev pub found_at : HashFunction → Layout → (ℕ → ℕ → Bool) → Values → List Site → List (ℕ × List ℕ)
+found_at h T cut v ss = entries T (digest_at h v T cut) ss

@@ -3,8 +3,8 @@
 ghost use Rattle.std.specs.Prelude.{◌≡◌, ℕ, ◌+◌, ◌-◌, ◌*◌, ◌%◌, ◌<◌, ◌≤◌, ◌∷◌, ◌++◌, List, [], length, map, drop, option_map, true, false, if◌then◌else◌, Some, None, IfOk, MatchOption, Contains};
 ghost use Rattle.storage_merkle.specs.Calc.{Site, front, back, node, eval};
 ghost use Rattle.storage_merkle.specs.Checks.{IsRecomputed};
-ghost use Rattle.storage_merkle.specs.CheckParts.{front_before, top_sites, given_values, IsGiven, Serves, Present, PresentIn, right_of, bag_onto, folded_before};
-ghost use Rattle.storage_merkle.specs.Extracted.{checked, checked_sites, digest_at, entries, nodes_in, nodes_under, overlapped, by_bytes};
+ghost use Rattle.storage_merkle.specs.CheckParts.{Adds, front_before, found_at, top_sites, given_values, IsGiven, Serves, Present, PresentIn, right_of, bag_onto, folded_before};
+ghost use Rattle.storage_merkle.specs.Extracted.{checked, checked_sites, nodes_in, nodes_under, overlapped, by_bytes};
 ghost use Rattle.storage_merkle.specs.Hashers.{TakesTree};
 ghost use Rattle.storage_merkle.specs.Held.{lent_proof_of};
 ghost use Rattle.storage_merkle.specs.Nodes.{IsNode};
@@ -44,13 +44,12 @@ pub(crate) fn recompute<F: Family, H: Hasher<F>, E: AsSlice<u8>>(
     ensures fits { IfOk result (λ root. MatchOption root (Unit {0}) (λ _. CountsFit H.hash_of
         (ungrafted F.shape) (H.bagging hasher.now) (lent_proof_of H.Digest.text proof.now) start
         (content_of (map E.items elements.now) (H.chunk hasher.now)))) }
-    ensures found { IfOk result (λ root. MatchOption root (Unit {0}) (λ _. option_map
-        (λ v. by_bytes H.Digest.text v.items) found.new
-        ≡ option_map (λ v. by_bytes H.Digest.text v.items
-        ++ checked H.hash_of (H.layout hasher.now) (H.bagging hasher.now)
-        (lent_proof_of H.Digest.text proof.now) start (content_of (map E.items elements.now)
-        (H.chunk hasher.now)) (checked_sites (H.layout hasher.now) proof.now.leaves start
-        (start + length (map E.items elements.now)))) found.old)) }
+    ensures found { let T = H.layout hasher.now in
+        IfOk result (λ root. MatchOption root (Unit {0})
+        (λ _. Adds (λ v. by_bytes H.Digest.text v.items) found.old found.new
+        (checked H.hash_of T (H.bagging hasher.now) (lent_proof_of H.Digest.text proof.now) start
+        (content_of (map E.items elements.now) (H.chunk hasher.now))
+        (checked_sites T proof.now.leaves start (start + length (map E.items elements.now)))))) }
 {
     let leaves = proof.leaves.as_u64();
     let start = start.as_u64();
@@ -135,20 +134,20 @@ impl<F: Family, D: Digest, E: AsSlice<u8>> Given<'_, F, D, E> {
             (peaks_from F.shape rest.first rest.left) }
         requires tops { length tops.now ≡ length (front_before rest.first ++ top_sites
             self.now.start self.now.end (peaks_from F.shape rest.first rest.left) rest.folded) }
-        ensures { (digest : Site → List ℕ) → Serves F.shape digest self.now.siblings.now
-            (map D.text self.now.digests.now) → map D.text tops.now ≡ map digest (front_before
-            rest.first ++ top_sites self.now.start self.now.end
-            (peaks_from F.shape rest.first rest.left) rest.folded) → IfOk result (λ r. (option_map
-            D.text r ≡ bag_onto H.hash_of (λ p. eval H.hash_of (given_values digest self.now.start
-            (map E.items self.now.elements.now) (H.chunk hasher.now)) (part (H.layout hasher.now)
-            (apart self.now.start self.now.end) p)) (digest back) self.now.end
-            (folded_before (digest front) rest.first) (peaks_from F.shape rest.first rest.left)
-            rest.folded) × (option_map (λ v. by_bytes D.text v.items) found.new ≡ option_map
-            (λ v. by_bytes D.text v.items ++ entries (H.layout hasher.now) (digest_at H.hash_of
-            (given_values digest self.now.start (map E.items self.now.elements.now)
-            (H.chunk hasher.now)) (H.layout hasher.now) (apart self.now.start self.now.end))
-            (nodes_in (apart self.now.start self.now.end) (overlapped self.now.start self.now.end
-            (peaks_from F.shape rest.first rest.left)))) found.old)) }
+        ensures { (digest : Site → List ℕ) →
+            let T = H.layout hasher.now in
+            let cut = apart self.now.start self.now.end in
+            let v = given_values digest self.now.start (map E.items self.now.elements.now)
+            (H.chunk hasher.now) in
+            let peaks = peaks_from F.shape rest.first rest.left in
+            Serves F.shape digest self.now.siblings.now (map D.text self.now.digests.now)
+            → map D.text tops.now ≡ map digest (front_before rest.first
+            ++ top_sites self.now.start self.now.end peaks rest.folded)
+            → IfOk result (λ r. (option_map D.text r
+            ≡ bag_onto H.hash_of (λ p. eval H.hash_of v (part T cut p)) (digest back)
+            self.now.end (folded_before (digest front) rest.first) peaks rest.folded)
+            × Adds (λ v. by_bytes D.text v.items) found.old found.new (found_at H.hash_of T cut
+            v (nodes_in cut (overlapped self.now.start self.now.end peaks)))) }
     {
         let mut rest = rest;
         let mut tops = tops;
@@ -188,19 +187,20 @@ impl<F: Family, D: Digest, E: AsSlice<u8>> Given<'_, F, D, E> {
             (peaks_from F.shape rest.first rest.left) }
         requires tops { length tops.now ≡ length
             (top_sites self.now.start self.now.end (peaks_from F.shape rest.first rest.left) 0) }
-        ensures { (digest : Site → List ℕ) → Serves F.shape digest self.now.siblings.now
-            (map D.text self.now.digests.now) → map D.text tops.now ≡ map digest (top_sites
-            self.now.start self.now.end (peaks_from F.shape rest.first rest.left) 0) → IfOk result
-            (λ r. (option_map D.text r ≡ right_of H.hash_of (λ p. eval H.hash_of (given_values
-            digest self.now.start (map E.items self.now.elements.now) (H.chunk hasher.now)) (part
-            (H.layout hasher.now) (apart self.now.start self.now.end) p)) (digest back) self.now.end
-            (peaks_from F.shape rest.first rest.left)) × (option_map (λ v. by_bytes D.text v.items)
-            found.new ≡ option_map (λ v. by_bytes D.text v.items ++ entries (H.layout hasher.now)
-            (digest_at H.hash_of (given_values digest self.now.start
-            (map E.items self.now.elements.now) (H.chunk hasher.now)) (H.layout hasher.now)
-            (apart self.now.start self.now.end)) (nodes_in (apart self.now.start self.now.end)
-            (overlapped self.now.start self.now.end (peaks_from F.shape rest.first rest.left))))
-            found.old)) }
+        ensures { (digest : Site → List ℕ) →
+            let T = H.layout hasher.now in
+            let cut = apart self.now.start self.now.end in
+            let v = given_values digest self.now.start (map E.items self.now.elements.now)
+            (H.chunk hasher.now) in
+            let peaks = peaks_from F.shape rest.first rest.left in
+            Serves F.shape digest self.now.siblings.now (map D.text self.now.digests.now)
+            → map D.text tops.now
+            ≡ map digest (top_sites self.now.start self.now.end peaks 0)
+            → IfOk result (λ r. (option_map D.text r
+            ≡ right_of H.hash_of (λ p. eval H.hash_of v (part T cut p)) (digest back)
+            self.now.end peaks)
+            × Adds (λ v. by_bytes D.text v.items) found.old found.new (found_at H.hash_of T cut
+            v (nodes_in cut (overlapped self.now.start self.now.end peaks)))) }
     {
         if rest.left == 0 {
             return Ok(None);
@@ -236,19 +236,18 @@ impl<F: Family, D: Digest, E: AsSlice<u8>> Given<'_, F, D, E> {
             → 0 < length tops.now }
         ensures left { IfOk result (λ r. r.1.now ≡ (if apart self.now.start self.now.end first
             height then drop 1 tops.now else tops.now)) }
-        ensures exact { (digest : Site → List ℕ) (later : List Site)
-            → Serves F.shape digest self.now.siblings.now (map D.text self.now.digests.now)
-            → (apart self.now.start self.now.end first height ≡ true
-            → map D.text tops.now ≡ map digest (node first height ∷ later))
-            → IfOk result (λ r. (D.text r.0 ≡ eval H.hash_of (given_values digest self.now.start
-            (map E.items self.now.elements.now) (H.chunk hasher.now))
-            (node_calc (H.layout hasher.now) (apart self.now.start self.now.end) height first))
-            × (option_map (λ v. by_bytes D.text v.items) found.new ≡ option_map
-            (λ v. by_bytes D.text v.items ++ entries (H.layout hasher.now) (digest_at H.hash_of
-            (given_values digest self.now.start (map E.items self.now.elements.now)
-            (H.chunk hasher.now)) (H.layout hasher.now) (apart self.now.start self.now.end))
-            (if apart self.now.start self.now.end first height then []
-            else nodes_under (apart self.now.start self.now.end) height first)) found.old)) }
+        ensures exact { (digest : Site → List ℕ) (later : List Site) →
+            let T = H.layout hasher.now in
+            let cut = apart self.now.start self.now.end in
+            let v = given_values digest self.now.start (map E.items self.now.elements.now)
+            (H.chunk hasher.now) in
+            let is_top = cut first height in
+            Serves F.shape digest self.now.siblings.now (map D.text self.now.digests.now)
+            → (is_top ≡ true → map D.text tops.now ≡ map digest (node first height ∷ later))
+            → IfOk result (λ r. (D.text r.0
+            ≡ eval H.hash_of v (node_calc T cut height first))
+            × Adds (λ v. by_bytes D.text v.items) found.old found.new (found_at H.hash_of T cut
+            v (if is_top then [] else nodes_under cut height first))) }
     {
         if is_apart(self.start, self.end, first, height) {
             Ok((tops[0], &tops[1..]))
@@ -272,31 +271,31 @@ impl<F: Family, D: Digest, E: AsSlice<u8>> Given<'_, F, D, E> {
         requires takes { TakesTree (H.takes hasher.now) F.shape self.now.leaves }
         requires present { Present F.shape self.now.siblings.now (sites_of
             (node_calc (ungrafted F.shape) (apart self.now.start self.now.end) height first)) }
-        ensures { (digest : Site → List ℕ) → Serves F.shape digest self.now.siblings.now
-            (map D.text self.now.digests.now) → IfOk result (λ d. (D.text d ≡ eval H.hash_of
-            (given_values digest self.now.start (map E.items self.now.elements.now)
-            (H.chunk hasher.now)) (node_calc (H.layout hasher.now)
-            (apart self.now.start self.now.end) height first)) × (option_map
-            (λ v. by_bytes D.text v.items) found.new ≡ option_map
-            (λ v. by_bytes D.text v.items ++ entries
-            (H.layout hasher.now) (digest_at H.hash_of (given_values digest self.now.start
-            (map E.items self.now.elements.now) (H.chunk hasher.now)) (H.layout hasher.now)
-            (apart self.now.start self.now.end)) (nodes_under (apart self.now.start self.now.end)
-            height first)) found.old)) }
+        ensures { (digest : Site → List ℕ) →
+            let T = H.layout hasher.now in
+            let cut = apart self.now.start self.now.end in
+            let v = given_values digest self.now.start (map E.items self.now.elements.now)
+            (H.chunk hasher.now) in
+            Serves F.shape digest self.now.siblings.now (map D.text self.now.digests.now)
+            → IfOk result (λ d. (D.text d
+            ≡ eval H.hash_of v (node_calc T cut height first))
+            × Adds (λ v. by_bytes D.text v.items) found.old found.new
+            (found_at H.hash_of T cut v (nodes_under cut height first))) }
     {
-        let position = node_position(first, height);
         if is_apart(self.start, self.end, first, height) {
-            return keep(found, position, self.sibling(position));
+            let position = node_position(first, height);
+            return keep(found, first, height, self.sibling(position));
         }
         if height == 0 {
+            let leaf = node_position(first, height);
             let element = &self.elements[(first - self.start) as usize];
-            let digest = hasher.leaf_digest(position, element.as_slice());
-            return keep(found, position, digest);
+            let digest = hasher.leaf_digest(leaf, element.as_slice());
+            return keep(found, first, height, digest);
         }
         let left = self.node(hasher, first, height - 1, found)?;
         let right = self.node(hasher, first + power(height - 1), height - 1, found)?;
         let digest = hasher.node_digest_over(first, height, &left, &right);
-        keep(found, position, digest)
+        keep(found, first, height, digest)
     }
 
     /// The digest of the sibling at `position`.

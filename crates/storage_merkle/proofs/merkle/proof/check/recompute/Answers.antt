@@ -1,7 +1,7 @@
 use Rattle.std.proofs.Common.{arith, refl, map, option_map, length, ap, sym, ℕ, ◌≡◌, ◌+◌, ◌-◌, ◌≤◌, ◌++◌, ◌∙◌}
 use Rattle.std.proofs.lemmas.List.{length-map}
 use Rattle.std.proofs.lemmas.Grind.{common_steps}
-use Rattle.storage_merkle.specs.CheckParts.{top_sites}
+use Rattle.storage_merkle.specs.CheckParts.{Adds, top_sites}
 use Rattle.storage_merkle.specs.Extracted.{checked, checked_sites, digest_at, entries, by_bytes}
 use Rattle.storage_merkle.specs.RangeProofs.{apart, position_of, recomputed_root}
 use Rattle.storage_merkle.specs.Rests.{peaks_from}
@@ -150,9 +150,8 @@ returns-clause-found g c =
     let serves = siblings_serve g.F.Family.shape g.met.F.Family.laws v.digest w.n w.low w.high c.deref.result.now
     (map text c.split_at.result.1.now) (c.deref.ensures.value ∙ c.in_ok-siblings.ensures) beside in
     let all = found_rest w.h w.T w.low w.high v g.F.Family.shape w.n w.f w.a w.r w.g w.same w.after in
-    at_args g k (λ z start. option_map (λ v. by_bytes text v.items) c.bag.new.found ≡ option_map (λ v. by_bytes text
-    v.items ++ checked w.h w.T w.b (proof_over w z) start (claim w) (checked_sites w.T z start
-    (start + length w.elements))) c.args.found.now)
+    at_args g k (λ z start. Adds (λ v. by_bytes text v.items) c.args.found.now c.bag.new.found (checked w.h w.T w.b
+    (proof_over w z) start (claim w) (checked_sites w.T z start (start + length w.elements))))
     (adds_same _ c.args.found.now c.bag.new.found _ _ (all ∙ ap (λ z. entries w.T
     (digest_at w.h v w.T (apart w.low z)) (checked_sites w.T w.n w.low z)) w.range)
     (c.in_ok-bag.ensures v.digest serves top).1)

@@ -21,6 +21,30 @@ is_apart-requires-clause-within g t c = omega (
   c.requires.given.few,
 )
 
+pub node_position-leaf-requires-clause-within : goal.node_position-leaf-requires-clause-within
+node_position-leaf-requires-clause-within g t c = omega (
+  arith,
+  in_tree_leaves g.F.Family.shape g.met.F.Family.laws
+      c.args.self.now.leaves c.args.first c.args.height c.requires.within,
+  c.requires.given.few,
+)
+
+pub keep-requires-clause-within : goal.keep-requires-clause-within
+keep-requires-clause-within g t c = omega (
+  arith,
+  in_tree_leaves g.F.Family.shape g.met.F.Family.laws
+      c.args.self.now.leaves c.args.first c.args.height c.requires.within,
+  c.requires.given.few,
+)
+
+pub keep-requires-2-clause-within : goal.keep-requires-2-clause-within
+keep-requires-2-clause-within g t c = omega (
+  arith,
+  in_tree_leaves g.F.Family.shape g.met.F.Family.laws
+      c.args.self.now.leaves c.args.first c.args.height c.requires.within,
+  c.requires.given.few,
+)
+
 pub sibling-requires-clause-present : goal.sibling-requires-clause-present
 sibling-requires-clause-present g t c =
     present_itself g.F.Family.shape c.args.self.now.siblings.now c.args.self.now.start c.args.self.now.end c.args.height
@@ -35,11 +59,12 @@ returns-then-is_apart g t c = λ digest serves.
     node_sibling g.H.Hasher.hash_of (g.H.Hasher.layout c.args.hasher.now) c.args.self.now.start c.args.self.now.end
     v c.args.height c.args.first _ c.if-is_apart.ensures (c.sibling.ensures digest c.args.first c.args.height serves
     (record { aligned = c.requires.within.aligned; at = sym c.node_position-position.ensures })) in
-    keeps_last g.D.Digest.text _ c.keep.result c.sibling.result _ c.node_position-position.result c.args.found.now
+    keeps_last g.D.Digest.text _ c.keep.result c.sibling.result _
+    (g.F.Family.shape.position c.args.first c.args.height) c.args.found.now
     c.args.found.now c.keep.new.found [] _ is
     (found_itself g.H.Hasher.hash_of
     (g.H.Hasher.layout c.args.hasher.now) c.args.self.now.start c.args.self.now.end v g.F.Family.shape c.args.height
-    c.args.first c.node_position-position.result same c.if-is_apart.ensures c.node_position-position.ensures)
+    c.args.first (g.F.Family.shape.position c.args.first c.args.height) same c.if-is_apart.ensures refl)
     (adds_nothing _ c.args.found.now [] refl) c.keep.ensures.same c.keep.ensures.kept
 
 pub returns-then-height-eq0 : goal.returns-then-height-eq0
@@ -49,15 +74,15 @@ returns-then-height-eq0 g t c = λ digest serves.
     (g.H.Hasher.chunk c.args.hasher.now) in
     let is = node_leaf g.H.Hasher.hash_of (g.H.Hasher.layout c.args.hasher.now) c.args.self.now.start
     c.args.self.now.end v g.F.Family.shape c.args.height c.args.first _ _ _ same c.if-is_apart.ensures
-    c.if-height-eq0.true c.node_position-position.ensures c.leaf_digest-digest.ensures
+    c.if-height-eq0.true c.node_position-leaf.ensures c.leaf_digest-digest.ensures
     (c.as_slice.ensures ∙ element_at g.E.AsSlice.items c.args.self.now.elements.now c.args.self.now.start
     c.args.self.now.end c.args.first c.args.height c.index-self-first.result c.if-is_apart.ensures
     c.if-height-eq0.true c.requires.given.range) in
     keeps_last g.D.Digest.text _ c.keep-then-height-eq0.result c.leaf_digest-digest.result _
-    c.node_position-position.result c.args.found.now c.args.found.now c.keep-then-height-eq0.new.found [] _ is
+    (g.F.Family.shape.position c.args.first c.args.height) c.args.found.now c.args.found.now c.keep-then-height-eq0.new.found [] _ is
     (found_leaf g.H.Hasher.hash_of
     (g.H.Hasher.layout c.args.hasher.now) c.args.self.now.start c.args.self.now.end v g.F.Family.shape c.args.height
-    c.args.first c.node_position-position.result same c.if-height-eq0.true c.node_position-position.ensures)
+    c.args.first (g.F.Family.shape.position c.args.first c.args.height) same c.if-height-eq0.true refl)
     (adds_nothing _ c.args.found.now [] refl) c.keep-then-height-eq0.ensures.same c.keep-then-height-eq0.ensures.kept
 
 pub node-requires : goal.node-requires
@@ -112,10 +137,11 @@ returns g t c = λ digest serves.
     node_halves g.H.Hasher.hash_of (g.H.Hasher.layout c.args.hasher.now) c.args.self.now.start c.args.self.now.end v
     c.args.height c.args.first _ _ _ c.if-is_apart.ensures c.if-height-eq0.false left.0 right.0
     c.node_digest_over-digest.ensures in
-    keeps_last g.D.Digest.text _ c.keep-2.result c.node_digest_over-digest.result _ c.node_position-position.result c.args.found.now
+    keeps_last g.D.Digest.text _ c.keep-2.result c.node_digest_over-digest.result _
+    (g.F.Family.shape.position c.args.first c.args.height) c.args.found.now
     c.node-2.new.found c.keep-2.new.found _ _ is
     (found_halves g.H.Hasher.hash_of (g.H.Hasher.layout c.args.hasher.now) c.args.self.now.start c.args.self.now.end v
-    g.F.Family.shape c.args.height c.args.first c.node_position-position.result same c.if-is_apart.ensures
-    c.if-height-eq0.false c.node_position-position.ensures)
+    g.F.Family.shape c.args.height c.args.first (g.F.Family.shape.position c.args.first c.args.height) same
+    c.if-is_apart.ensures c.if-height-eq0.false refl)
     (adds_then _ c.args.found.now c.node.new.found c.node-2.new.found _ _ _ refl left.1 right.1) c.keep-2.ensures.same
     c.keep-2.ensures.kept
