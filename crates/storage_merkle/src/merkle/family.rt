@@ -1,4 +1,16 @@
-//! Tree families: where the nodes of a tree stand. No call takes memory, but writing and reading a pending slot.
+//! Tree families: where the nodes of a tree stand. No call allocates, except writing and reading a pending slot.
+//!
+//! A family is settled by the peaks over `n` leaves. Number each node when it is added: its number is its position.
+//!
+//! ```text
+//!               position                   birth: how many leaves the tree has when the node is added
+//! leaf a        size(a)                    a + 1                       both families
+//! MMR (a, k)    size(a) + 2^(k+1) - 2      a + 2^k                     with the last of its leaves
+//! MMB (a, k)    size(birth) - 1            a + 3 * 2^(k-1) - 1         2^(k-1) - 1 leaves later
+//! ```
+//!
+//! Here `size(n)` is `2n` less the number of peaks, and `(a, k)` the node of height `k`, at least 1, over the `2^k` leaves
+//! from `a` on. An MMB delays merges so that each leaf adds one inner node at most.
 
 ghost use Rattle.std.specs.Prelude.{◌≡◌, ℕ, ◌+◌, ◌-◌, ◌*◌, ◌%◌, ◌^◌, ◌<◌, ◌≤◌, ◌∷◌, ◌++◌, Bool, false, List, length, map, option_map, IfOk, OnOk, OnErr};
 ghost use Rattle.storage_codec.specs.Codec.{Gives, front_at};

@@ -1,4 +1,14 @@
 //! How the leaves, nodes and roots of a tree are hashed.
+//!
+//! ```text
+//! leaf    h( position || element )                        numbers take eight bytes, highest first
+//! node    h( position || left || right )
+//! fold    h( left || right )                              of peaks
+//! root    h( family || bagging || leaves || inactive || bagged peaks )
+//! ```
+//!
+//! The position goes into each string, so that no subtree can be shown at another place. The root has the number of leaves
+//! and of inactive peaks, so that neither can be claimed otherwise.
 
 ghost use Rattle.std.specs.Prelude.{◌≡◌, ℕ, ◌%◌, ◌^◌, ◌<◌, ◌≤◌, ◌++◌, List, [], flat_map, length, map, false, refl, All, Option, option_map};
 ghost use Rattle.std.specs.List.{AllZip};

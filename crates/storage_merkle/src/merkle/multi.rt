@@ -1,4 +1,7 @@
 //! The root that a multi proof and its elements give.
+//!
+//! A multi proof has the digests of the greatest nodes that hold none of the claimed locations, ascending by position. The
+//! check goes down from each peak, to leaves that are claimed and nodes that are given, and folds the peaks.
 
 ghost use Rattle.std.specs.Prelude.{◌≡◌, ℕ, ◌+◌, ◌-◌, ◌%◌, ◌^◌, ◌<◌, ◌≤◌, ◌++◌, List, length, map, option_map, IfOk, OnOk, Contains};
 ghost use Rattle.storage_merkle.specs.Calc.{Site, node, eval};

@@ -1,4 +1,8 @@
 //! Which nodes a range proof needs, and the proof from their digests.
+//!
+//! A plan asks for the greatest nodes that hold no leaf of the range, and for no others. Siblings come last, ascending by
+//! position, which in an MMB is not from left to right. A plan knows no digest, so it serves trees in memory, stores that
+//! may fail and grafted views alike.
 
 ghost use Rattle.std.specs.Prelude.{◌≡◌, ℕ, ◌+◌, ◌-◌, ◌*◌, ◌%◌, ◌^◌, ◌<◌, ◌≤◌, ◌++◌, ◌⊎◌, List, length, map, Some, None, Err, IfOk, IfErr, OnOk, MatchOption, MatchResult};
 ghost use Rattle.std.specs.List.{All, AllZip};

@@ -1,4 +1,8 @@
 //! What is kept of an accepted range proof, to give other proofs.
+//!
+//! A store proves any sub-range and any locations inside the source's range, without asking the server again. Peaks past
+//! the range came as one fold, which cannot be taken apart: a multi proof that needs one of them is given its digest by the
+//! caller.
 
 ghost use Rattle.std.specs.Prelude.{◌≡◌, ◌≢◌, ℕ, ◌+◌, ◌-◌, ◌*◌, ◌%◌, ◌<◌, ◌≤◌, ◌⊎◌, ◌++◌, ◌∷◌, [], List, drop, if◌then◌else◌, map, option_map, OnOk, Some, None, IfOk, IfErr, MatchResult};
 ghost use Rattle.storage_merkle.specs.Extracted.{by_bytes};

@@ -1,4 +1,17 @@
 //! Walks along the peaks of a tree, past a range of leaves.
+//!
+//! A range proof has no digest for what the elements give, and as few as possible for the rest:
+//!
+//! ```text
+//! peaks        p1   p2   p3   p4   p5   p6   p7           p1 and p2 are inactive, p4 holds the range
+//! leading      \____/                                     folded from the left: one digest, if they all are before the range
+//! apart                  p3                               one digest
+//! overlapped                  p4                          from the elements, and the siblings inside
+//! past                             \____________/         active, folded from the right: one digest
+//! ```
+//!
+//! `Leading` are the peaks of the first row, `Tops` the items of the second and the last. Checks, plans and stores walk the
+//! same way, so they agree on the order of the digests.
 
 ghost use Rattle.std.specs.Prelude.{◌≡◌, ℕ, ◌+◌, ◌-◌, ◌^◌, ◌≤◌, List, take};
 ghost use Rattle.std.specs.Iterator.{item_count};

@@ -1,4 +1,12 @@
 //! The check that a bit is in a bitmap.
+//!
+//! ```text
+//! bits fill their chunks      root = root of the tree over the chunks
+//! else                        root = h( root of the tree || number of bits || h(last chunk) )
+//! ```
+//!
+//! So a bit of a complete chunk is shown by a path in the tree, with the last chunk's digest where there is a partial one.
+//! A bit of the partial chunk is shown by the root of the tree alone.
 
 ghost use Rattle.std.specs.Prelude.{◌≡◌, ◌≢◌, ℕ, ◌*◌, ◌/◌, ◌%◌, ◌<◌, ◌≤◌, ◌^◌, ◌↔◌, [], ◌∷◌, map, option_map, None, Ok, false, IsTrue, IfOk};
 ghost use Rattle.storage_bitmap.specs.BitProofs.{IsBitAccepted, IsBitProved};

@@ -1,4 +1,6 @@
 //! The tree over the chunks of a bitmap, brought to the bitmap's bits.
+//!
+//! Only chunks that changed, chunks that are complete since, and the nodes over them are hashed, each once.
 
 ghost use Rattle.std.specs.Prelude.{◌≡◌, ℕ, ◌+◌, ◌-◌, ◌*◌, ◌/◌, ◌%◌, ◌<◌, ◌≤◌, ◌∷◌, ◌++◌, [], ◌≢◌, List, Bool, length, map, All, IfOk, IfErr, OnOk};
 ghost use Rattle.std.specs.List.{AllZip};

@@ -1,4 +1,13 @@
 //! The chunks of a snapshot's bits that are grafted over no node: the pending and the partial one.
+//!
+//! ```text
+//! operations    0 ........ 8N ........ 16N ........ 24N ...
+//! chunk              0           1           2         3
+//!               graftable     graftable    pending   partial       the last two enter the canonical string by their digests
+//! ```
+//!
+//! A complete chunk is graftable if one node of the tree covers it. In an MMR all are. In an MMB the last one may wait for
+//! its node: it is pending, and it is the only one.
 
 ghost use Rattle.std.specs.Prelude.{◌≡◌, ℕ, ◌+◌, ◌-◌, ◌*◌, ◌/◌, ◌%◌, ◌^◌, ◌<◌, ◌≤◌, ltb, eqb, not, if◌then◌else◌, option_map};
 ghost use Rattle.storage_merkle.specs.Shape.{max_leaves};

@@ -1,4 +1,13 @@
 //! Chunks of bits grafted over the nodes of a tree of operations.
+//!
+//! ```text
+//! node of height G over chunk c     inner = h( position || left || right )
+//! grafted                           h( chunk c || inner ), or inner if the chunk has no set bit
+//! ```
+//!
+//! G is the height of a node over the operations of one chunk: `2^G = 8N` for chunks of `N` bytes. Grafting binds the
+//! activity bits to the operations with one more string a chunk, so that one path shows both. Nodes above height G form a
+//! tree over the chunks, which is kept apart from the tree over the operations and read together with it.
 
 ghost use Rattle.std.specs.Prelude.{◌≡◌, ℕ, ◌*◌, ◌^◌, ◌<◌, ◌≤◌, ◌++◌, MatchOption, IfSome};
 ghost use Rattle.storage_merkle.specs.Calc.{grafted_digest, is_zero as all_zero};

@@ -1,4 +1,8 @@
 //! Range proofs of operations and of their activity bits.
+//!
+//! The proof over the grafted view shows the operations and the graftable chunks that they touch. The digests of the
+//! pending and of the partial chunk stand in slots of their own, and the operations root completes the canonical string. A
+//! chunk of the range that lies in a slot is compared with it: nothing else binds its bits.
 
 ghost use Rattle.std.specs.Prelude.{◌≡◌, ℕ, ◌+◌, ◌-◌, ◌*◌, ◌/◌, ◌%◌, ◌^◌, ◌<◌, ◌≤◌, ◌↔◌, ◌⊎◌, OnOk, IfOk, IfErr, MatchOption, IsTrue, Ok, false, length, map, option_map};
 ghost use Rattle.std.specs.List.{All};

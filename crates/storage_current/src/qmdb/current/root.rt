@@ -1,4 +1,10 @@
 //! The canonical root of a snapshot.
+//!
+//! ```text
+//! h( operations root || grafted root [ || h(pending chunk) ] [ || number of bits in the partial chunk || h(partial chunk) ] )
+//! ```
+//!
+//! A bracket stands only if there is such a chunk. Their lengths differ, so that no part can be taken for another one.
 
 ghost use Rattle.std.specs.Prelude.{◌≡◌, ◌++◌, ◌∷◌, List, [], Option, option_map};
 ghost use Rattle.storage_current.specs.Snapshots.{canonical_string, slot};

@@ -1,4 +1,8 @@
 //! The digests that a tree in memory keeps: how they are found, appended and written anew.
+//!
+//! Nodes stand in one vector by their positions, from the boundary's leaf on; the pinned peaks over the forgotten leaves
+//! stand in another. A changed leaf writes the nodes above it anew. If several leaves change, in ascending order, each of
+//! these nodes is hashed once: a leaf's climb ends where the next leaf's begins.
 
 ghost use Rattle.std.specs.Prelude.{◌≡◌, ℕ, ◌+◌, ◌-◌, ◌*◌, ◌%◌, ◌<◌, ◌≤◌, ◌↔◌, ◌∷◌, ◌++◌, [], List, map, take, length, get_or, All, Some, IfOk, IsOk, OnErr, vec_capacity, IsTrue, slice_get, option_map, Option};
 ghost use Rattle.storage_merkle.specs.Hashers.{IsInner, TakesGrowth, TakesOver};

@@ -1,4 +1,8 @@
 //! The root that a range proof and its elements give.
+//!
+//! The check goes down from each overlapped peak. It hashes the elements, takes the proof's digest at each sibling, and
+//! hashes each inner node once. Then it folds the peaks in the order of the walk ([`Rest`](crate::merkle::walk::Rest)).
+//! Counts are compared before any hashing: a proof with a digest too many or too few has no root.
 
 ghost use Rattle.std.specs.Prelude.{◌≡◌, ℕ, ◌+◌, ◌-◌, ◌*◌, ◌%◌, ◌<◌, ◌≤◌, ◌∷◌, ◌++◌, List, [], length, map, drop, option_map, true, false, if◌then◌else◌, Some, None, IfOk, MatchOption, Contains};
 ghost use Rattle.storage_merkle.specs.Calc.{Site, front, back, node, eval};

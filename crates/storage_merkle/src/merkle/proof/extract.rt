@@ -1,4 +1,7 @@
 //! The digests that an accepted check of a range proof hands out.
+//!
+//! After a yes, each digest that the check read or computed is the tree's own, or two different strings have one digest. So
+//! it may be kept and used for other proofs.
 
 ghost use Rattle.std.specs.Prelude.{◌≡◌, ◌≢◌, ◌+◌, ◌⊎◌, [], MatchResult, map, option_map, IfErr, IfOk, MatchOption};
 ghost use Rattle.storage_merkle.specs.Checks.{IsRecomputed};

@@ -1,4 +1,8 @@
 //! The check of a range proof with the digests of the peaks over the leaves before its range.
+//!
+//! Whoever keeps a tree from some leaf on needs these digests, the pinned ones, and has them from a stranger. A proof binds
+//! the leaves before its range by a fold, by peaks and by siblings. The check computes all of these from the pinned digests
+//! and compares.
 
 ghost use Rattle.std.specs.Prelude.{◌≡◌, ◌≢◌, ℕ, ◌+◌, ◌-◌, ◌^◌, ◌<◌, ◌≤◌, ◌↔◌, ◌++◌, List, [], length, map, take, option_map, true, false, IsTrue, IsOk, IfOk, MatchOption, All};
 ghost use Rattle.storage_merkle.specs.CheckParts.{top_sites};

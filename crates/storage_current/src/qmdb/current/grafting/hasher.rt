@@ -1,4 +1,7 @@
 //! The hasher of a tree over chunks.
+//!
+//! Positions in that tree count chunks. What is hashed are the positions of the tree over the operations, so that its nodes
+//! are the nodes of the grafted view.
 
 ghost use Rattle.std.specs.Prelude.{◌≡◌, ℕ, ◌+◌, ◌*◌, ◌%◌, ◌^◌, ◌<◌, ◌≤◌};
 ghost use Rattle.storage_merkle.specs.Nodes.{IsNode};

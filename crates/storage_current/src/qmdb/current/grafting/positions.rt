@@ -1,5 +1,8 @@
-//! Places in the tree over chunks and in the tree over operations below it, and how many peaks are inactive in each. No call
-//! takes memory.
+//! Places in the tree over chunks and in the tree over operations below it, and how many peaks are inactive in each. No
+//! call allocates.
+//!
+//! A node `(a, k)` of the tree over chunks covers the same operations as the node `(a * 2^G, k + G)` of the tree over
+//! operations, where a chunk is over `2^G` operations. A position goes down or up by this.
 
 ghost use Rattle.std.specs.Prelude.{◌≡◌, ℕ, ◌≤◌};
 ghost use Rattle.storage_merkle.specs.Inactive.{IsExact, IsAligned};

@@ -1,4 +1,13 @@
 //! A tree over chunks and a tree over the operations, read as one.
+//!
+//! ```text
+//! height of a position         taken from
+//! below G                      the tree over the operations
+//! G and above                  the tree over chunks: as it is kept, or hashed from its nodes below
+//! ```
+//!
+//! A pruned tree over chunks keeps no inner node, so that such a node is hashed from the leaves below it. Nothing is hashed
+//! for a node that cannot be had, because the nodes below are looked up first.
 
 ghost use Rattle.std.specs.Prelude.{◌≡◌, ℕ, ◌+◌, ◌%◌, ◌^◌, ◌<◌, ◌≤◌, ◌∷◌, ◌⊎◌, ◌↔◌, [], List, length, map, IfOk, MatchOption, MatchResult, Err, Some, None, Option};
 ghost use Rattle.std.specs.List.{All};

@@ -1,4 +1,8 @@
 //! A tree over chunks that keeps pins and leaves alone.
+//!
+//! Leaves are the digests of grafted chunks, from the pruned ones on; pins are the peaks over the pruned ones. Inner nodes
+//! are hashed when they are asked for. That keeps a pruned tree small, and a server that makes many proofs keeps a `Mem`
+//! over its chunks instead.
 
 ghost use Rattle.std.specs.Prelude.{◌≡◌, ℕ, ◌+◌, ◌-◌, ◌<◌, ◌≤◌, [], ◌⊎◌, List, map, max, min, take, drop, length, slice_index, IfOk, OnOk, OnErr, IfErr};
 ghost use Rattle.storage_merkle.specs.Shape.{max_leaves};

@@ -1,4 +1,7 @@
 //! The hasher of checks over a grafted view.
+//!
+//! It is the ordinary hasher with the claimed chunks at hand: at height G it hashes the chunk in front of the node. A node
+//! over a chunk that was not claimed holds no operation of the range, so no check asks for it.
 
 ghost use Rattle.std.specs.Prelude.{◌≡◌, ℕ, ◌+◌, ◌-◌, ◌*◌, ◌/◌, ◌%◌, ◌^◌, ◌<◌, ◌≤◌, ◌&&◌, ◌++◌, List, [], refl, map, eqb, ltb, if◌then◌else◌, MatchOption};
 ghost use Rattle.storage_merkle.specs.Shape.{size, max_leaves};

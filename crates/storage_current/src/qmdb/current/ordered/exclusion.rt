@@ -1,4 +1,12 @@
 //! Proofs that a key has no value.
+//!
+//! ```text
+//! keys in order     a ---> c ---> f ---> a            an active update names the next active key, the greatest one the least
+//! b has no value    by the update of a, which names c
+//! g has no value    by the update of f, which names a: the ring goes around there
+//! ```
+//!
+//! If no key is active at all, a commit whose floor is its own location shows it: no operation before it is active.
 
 ghost use Rattle.std.specs.Prelude.{◌≡◌, ◌↔◌, ◌⊎◌, IfOk, IsTrue, Ok, true, false, ℕ, ◌+◌, ◌%◌, ◌^◌, length};
 ghost use Rattle.storage_bitmap.specs.Chunks.{IsChunkSize};

@@ -1,4 +1,7 @@
 //! Proofs of the value of a key.
+//!
+//! The check writes the update of the key to the value, with the next key from the proof, and asks whether it is active. In
+//! a well-formed snapshot a key has one active update at most, so the value is the key's.
 
 ghost use Rattle.std.specs.Prelude.{◌≡◌, ◌↔◌, ◌⊎◌, IfOk, IsTrue, Ok, true, false, ℕ, ◌%◌, ◌^◌, length};
 ghost use Rattle.storage_bitmap.specs.Chunks.{IsChunkSize};

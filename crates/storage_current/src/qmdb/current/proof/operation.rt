@@ -1,4 +1,7 @@
 //! Proofs that one operation is active.
+//!
+//! The proof is a range proof of one location, with its chunk. The check looks at the operation's bit in that chunk first,
+//! and at the chunk's place in the canonical string after.
 
 ghost use Rattle.std.specs.Prelude.{◌≡◌, ◌↔◌, ◌⊎◌, OnOk, IfOk, IfErr, IfSome, MatchOption, IsTrue, Ok, true, false, ℕ, ◌+◌, ◌-◌, ◌*◌, ◌/◌, ◌%◌, ◌^◌, ◌<◌, ◌≤◌, length};
 ghost use Rattle.std.specs.List.{All};

@@ -1,4 +1,7 @@
 //! Where a claimed range of operations stands among the chunks.
+//!
+//! The range from `start` to before `end` touches the chunks `start / 8N` to `(end - 1) / 8N`. A claim must bring exactly
+//! these, because each graftable one is hashed into the path of an operation, and each other one is compared with its slot.
 
 ghost use Rattle.std.specs.Prelude.{◌≡◌, ℕ, ◌+◌, ◌-◌, ◌*◌, ◌/◌, ◌%◌, ◌^◌, ◌<◌, ◌≤◌, MatchOption};
 ghost use Rattle.storage_bitmap.specs.Chunks.{IsChunkSize};

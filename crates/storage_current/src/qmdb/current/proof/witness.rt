@@ -1,4 +1,7 @@
 //! Witnesses that an operations root is the snapshot's.
+//!
+//! A witness has all other parts of the canonical string. Whoever has the operations root so can check plain proofs of
+//! operations against it, without chunks.
 
 ghost use Rattle.std.specs.Prelude.{◌≡◌, ◌↔◌, ℕ, ◌<◌, ◌^◌, IsTrue, IfOk, IfSome, option_map};
 ghost use Rattle.storage_current.specs.CurrentProofs.{witness_string};
