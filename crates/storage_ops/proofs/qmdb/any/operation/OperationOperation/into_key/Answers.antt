@@ -1,5 +1,0 @@
-use Rattle.std.proofs.Common.{rules}
-use Rattle.storage_ops.proofs.qmdb.any.operation.OperationOperation.into_key.Goals as goal
-
-pub returns-in-Update : goal.returns-in-Update
-returns-in-Update g c = search rules

@@ -1,5 +1,0 @@
-use Rattle.std.proofs.Common.{rules}
-use Rattle.storage_ops.proofs.qmdb.any.operation.display.write_empty_commit.Goals as goal
-
-pub returns : goal.returns
-returns g c = search rules

@@ -1,5 +1,0 @@
-use Rattle.std.proofs.Common.{rules}
-use Rattle.storage_ops.proofs.qmdb.any.operation.update.ordered.UpdateFixedEncodingFixedSize.fixed_size.Goals as goal
-
-pub returns : goal.returns
-returns g c = search rules
