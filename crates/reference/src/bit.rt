@@ -22,7 +22,7 @@ use storage_codec::digest::Hasher;
 use storage_merkle::merkle::{Bagging, Location, Proof, mmr};
 
 /// How many bits a chunk of `size` bytes has.
-fn bits_in(size: usize) -> u64
+fn bits_per_chunk(size: usize) -> u64
     requires { IsChunkSize size }
     ensures value { result ≡ 8 * size }
     ensures some { 0 < result }
@@ -61,7 +61,7 @@ fn complete(alloc: Global, size: usize, bits: &[bool]) -> Result<Vec<Vec<u8>>, A
         ≡ complete_chunks size bits.now) }
 {
     let mut chunks = Vec::new(alloc);
-    let count = bits.len() as u64 / bits_in(size);
+    let count = bits.len() as u64 / bits_per_chunk(size);
     push_chunks(&mut chunks, size, bits, count, 0)?;
     Ok(chunks)
 }
@@ -96,7 +96,7 @@ fn partial_digest<H: Hasher>(
     ensures { IfOk result (λ digest.
         H.Digest.text digest ≡ H.hash_of (partial_chunk size bits.now)) }
 {
-    let bytes = chunk(alloc, size, bits, bits.len() as u64 / bits_in(size))?;
+    let bytes = chunk(alloc, size, bits, bits.len() as u64 / bits_per_chunk(size))?;
     Ok(string_digest::<H>(&bytes))
 }
 
@@ -128,7 +128,7 @@ pub fn bit_root<H: Hasher>(
 {
     let root = chunks_root::<H>(alloc, bagging, size, bits)?;
     let length = bits.len() as u64;
-    if length % bits_in(size) == 0 {
+    if length % bits_per_chunk(size) == 0 {
         return Ok(root);
     }
     let last = partial_digest::<H>(alloc, size, bits)?;
@@ -150,7 +150,7 @@ fn own_bit_digests<H: Hasher>(
         ≡ own_bit_digests H.hash_of bagging size bits.now place) }
 {
     let length = bits.len() as u64;
-    if place == length / bits_in(size) {
+    if place == length / bits_per_chunk(size) {
         let mut digests = Vec::new(alloc);
         digests.push(chunks_root::<H>(alloc, bagging, size, bits)?)?;
         return Ok(digests);
@@ -163,7 +163,7 @@ fn own_bit_digests<H: Hasher>(
         inactive: 0,
     };
     let proof = own_proof::<mmr::Family, H, Ungrafted, Vec<u8>>(alloc, &tree, place, place + 1)?;
-    if length % bits_in(size) == 0 {
+    if length % bits_per_chunk(size) == 0 {
         return Ok(proof.digests);
     }
     let mut digests = proof.digests;
@@ -184,7 +184,7 @@ pub fn own_bit_proof<H: Hasher>(
     ensures { IfOk result (λ proof. proof_of H.Digest.text proof
         ≡ own_bit_proof H.hash_of bagging size bits.now bit) }
 {
-    let digests = own_bit_digests::<H>(alloc, bagging, size, bits, bit / bits_in(size))?;
+    let digests = own_bit_digests::<H>(alloc, bagging, size, bits, bit / bits_per_chunk(size))?;
     Ok(Proof {
         leaves: Location::new(bits.len() as u64),
         inactive_peaks: 0,
@@ -239,9 +239,9 @@ fn computed_root<H: Hasher>(
         (proof_of H.Digest.text proof.now) bytes.now bit (option_map H.Digest.text root)) }
 {
     let length = proof.leaves.as_u64();
-    let complete = length / bits_in(size);
-    let place = bit / bits_in(size);
-    if length % bits_in(size) == 0 {
+    let complete = length / bits_per_chunk(size);
+    let place = bit / bits_per_chunk(size);
+    if length % bits_per_chunk(size) == 0 {
         let digests = &proof.digests;
         return recomputed_chunks_root::<H>(alloc, bagging, complete, digests, place, bytes);
     }

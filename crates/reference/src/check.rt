@@ -89,7 +89,7 @@ impl<H: Hasher, E: AsSlice<u8>> Source<H> for Claim<'_, H::Digest, E> {
 }
 
 /// Appends to `digests` the digest that `claim` has of the fold before the range, where `peaks`, those in it, are not empty.
-fn push_front<H: Hasher, E: AsSlice<u8>>(
+fn push_front_fold<H: Hasher, E: AsSlice<u8>>(
     digests: &mut Vec<H::Digest>,
     claim: &Claim<'_, H::Digest, E>,
     peaks: &[Node],
@@ -106,7 +106,7 @@ fn push_front<H: Hasher, E: AsSlice<u8>>(
 }
 
 /// Appends to `digests` the digest that `claim` has of the fold past the range, where `peaks`, those in it, are not empty.
-fn push_back<H: Hasher, E: AsSlice<u8>>(
+fn push_back_fold<H: Hasher, E: AsSlice<u8>>(
     digests: &mut Vec<H::Digest>,
     claim: &Claim<'_, H::Digest, E>,
     peaks: &[Node],
@@ -182,11 +182,11 @@ fn claimed_bag<F: Digits, H: Hasher, G: Grafts<H>, E: AsSlice<u8>>(
     let (before, others) = split_leading(claim.low, left);
     let (reached, past) = split_up_to(claim.high, right);
     let mut front = Vec::new(alloc);
-    push_front::<H, E>(&mut front, claim, before)?;
+    push_front_fold::<H, E>(&mut front, claim, before)?;
     push_digests::<F, H, _, G>(&mut front, claim, grafts, others)?;
     let mut rest = Vec::new(alloc);
     push_digests::<F, H, _, G>(&mut rest, claim, grafts, reached)?;
-    push_back::<H, E>(&mut rest, claim, past)?;
+    push_back_fold::<H, E>(&mut rest, claim, past)?;
     Ok(bag::<H>(&front, &rest))
 }
 

@@ -209,7 +209,7 @@ pub(crate) fn by_position<F: Digits>(alloc: Global, sites: &[Site]) -> Result<Ve
 }
 
 /// Appends to `sites` the fold before the range, where `peaks`, those in it, are not empty.
-fn push_front(sites: &mut Vec<Site>, peaks: &[Node]) -> Result<(), AllocError>
+fn push_front_fold(sites: &mut Vec<Site>, peaks: &[Node]) -> Result<(), AllocError>
     ensures { OnOk result
         (map site_of sites.new.items ≡ map site_of sites.old.items ++ one_for front peaks.now) }
 {
@@ -220,7 +220,7 @@ fn push_front(sites: &mut Vec<Site>, peaks: &[Node]) -> Result<(), AllocError>
 }
 
 /// Appends to `sites` the fold past the range, where `peaks`, those in it, are not empty.
-fn push_back(sites: &mut Vec<Site>, peaks: &[Node]) -> Result<(), AllocError>
+fn push_back_fold(sites: &mut Vec<Site>, peaks: &[Node]) -> Result<(), AllocError>
     ensures { OnOk result
         (map site_of sites.new.items ≡ map site_of sites.old.items ++ one_for back peaks.now) }
 {
@@ -271,10 +271,10 @@ fn sites_over<F: Digits>(
     let (_, right_past) = split_up_to(high, right);
     let cut = Apart { low, high };
     let mut sites = Vec::new(alloc);
-    push_front(&mut sites, left_front)?;
+    push_front_fold(&mut sites, left_front)?;
     push_sites_in(&mut sites, &cut, right_front)?;
     push_sites_in(&mut sites, &cut, left_past)?;
-    push_back(&mut sites, right_past)?;
+    push_back_fold(&mut sites, right_past)?;
     let siblings = siblings::<F>(alloc, low, high, left_reached, right_reached)?;
     sites.extend_from_slice(&siblings)?;
     Ok(sites)

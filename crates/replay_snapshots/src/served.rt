@@ -109,27 +109,27 @@ fn told_by<
     requires fails { S.failed store.old + 1 < 2 ^ 64 }
 {
     match call.wanted {
-        Wanted::Nodes => Ok((nodes_told(alloc, own, store, left.codes.0)?, 0)),
+        Wanted::Nodes => Ok((nodes_text(alloc, own, store, left.codes.0)?, 0)),
         Wanted::Operation(at) => {
-            let text = operation_told::<F, H, S, N>(alloc, status, store, floor, ops_root, at)?;
+            let text = operation_text::<F, H, S, N>(alloc, status, store, floor, ops_root, at)?;
             Ok((text, 0))
         }
         Wanted::Range(start, end) => {
             let range = (start, end);
-            let text = range_told::<F, H, S, N>(alloc, status, store, floor, ops_root, range)?;
+            let text = range_text::<F, H, S, N>(alloc, status, store, floor, ops_root, range)?;
             Ok((text, 0))
         }
         Wanted::WithOperations(start, most) => {
             let log = (call.first, left.items, left.codes.1);
             let range = (start, most);
-            with_operations_told::<F, H, S, N>(alloc, status, store, floor, ops_root, log, range)
+            with_operations_text::<F, H, S, N>(alloc, status, store, floor, ops_root, log, range)
         }
     }
 }
 
 /// How many nodes a store has, where each read of them is answered as `own` says, and after them there is none; else the first
 /// position whose read fails, with this code, and how many do.
-fn nodes_told<F: Graftable, S: merkle::Storage<F>>(
+fn nodes_text<F: Graftable, S: merkle::Storage<F>>(
     alloc: Global,
     own: &[S::Digest],
     store: &mut S,
@@ -170,7 +170,7 @@ fn is_answered<F: Graftable, S: merkle::Storage<F>>(
 }
 
 /// The proof of the operation at a location from a store, or the refusal.
-fn operation_told<
+fn operation_text<
     F: Graftable + Countable,
     H: Hasher,
     S: merkle::Storage<F, Digest = H::Digest>,
@@ -201,7 +201,7 @@ fn operation_told<
 }
 
 /// The proof of the operations from `range.0` to before `range.1` from a store, or the refusal.
-fn range_told<
+fn range_text<
     F: Graftable + Countable,
     H: Hasher,
     S: merkle::Storage<F, Digest = H::Digest>,
@@ -232,7 +232,7 @@ fn range_told<
 
 /// The proof of at most `range.1` operations from `range.0` on from a store, with these and their chunks, or the refusal; and how often
 /// the log failed, which begins at `log.0`, has `log.1` answers, and then fails with the code `log.2`.
-fn with_operations_told<
+fn with_operations_text<
     F: Graftable + Countable,
     H: Hasher,
     S: merkle::Storage<F, Digest = H::Digest>,
@@ -261,13 +261,13 @@ fn with_operations_told<
     let answer = RangeProof::new_with_ops::<H, Prunable<N>, _, S, N>(
         alloc, status, store, &mut log, spec,
     );
-    Ok((answer_told(alloc, &answer)?, log.failures()))
+    Ok((answer_text(alloc, &answer)?, log.failures()))
 }
 
 /// What a store and a log serve: a proof, operations and their chunks, or the refusal.
 type Answer<F, D, const N: usize> = Result<(RangeProof<F, D>, Vec<u64>, Vec<[u8; N]>), Error<F>>;
 
-fn answer_told<F: Graftable, D: Digest, const N: usize>(
+fn answer_text<F: Graftable, D: Digest, const N: usize>(
     alloc: Global,
     answer: &Answer<F, D, N>,
 ) -> Result<String, Fault> {

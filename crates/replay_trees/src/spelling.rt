@@ -206,14 +206,14 @@ where
 
     fn valued(self, alloc: Global) -> Result<String, Fault> {
         match self {
-            Operation::Update(update) => value_told(alloc, update),
+            Operation::Update(update) => value_text(alloc, update),
             _ => Err(Fault::Malformed),
         }
     }
 }
 
 /// The value of an update, as it is lent and as it is given up.
-fn value_told<S: Update>(alloc: Global, update: S) -> Result<String, Fault>
+fn value_text<S: Update>(alloc: Global, update: S) -> Result<String, Fault>
 where
     S::Value: Spell,
 {

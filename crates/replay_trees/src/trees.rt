@@ -9,7 +9,8 @@ use replay_columns::columns::{Fault, parse};
 use replay_columns::refusals::database_refusal;
 use std::alloc::Global;
 use storage_current::qmdb::current::grafting::{
-    aligned_inactive, exact_inactive, graftable_chunks, grafted_to_ops_pos, ops_to_grafted_pos,
+    chunk_aligned_inactive_peaks, exact_inactive, graftable_chunks, grafted_to_ops_pos,
+    ops_to_grafted_pos,
 };
 use storage_current::qmdb::current::proof::required_chunks;
 use storage_merkle::merkle::family::{leaves_within, node_at, power};
@@ -162,7 +163,7 @@ pub fn inactive<F: Graftable>(alloc: Global, columns: &[&str]) -> Result<String,
         return Err(Fault::Malformed);
     }
     let exact = exact_inactive::<F>(leaves, floor);
-    let aligned = aligned_inactive::<F>(leaves, floor, height as u32);
+    let aligned = chunk_aligned_inactive_peaks::<F>(leaves, floor, height as u32);
     told(alloc, (exact, aligned))
 }
 

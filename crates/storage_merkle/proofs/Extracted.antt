@@ -20,9 +20,9 @@ use Rattle.storage_merkle.proofs.Agreeing.{AllPeaks, AgreeAll, AgreeAt, AgreeBag
 use Rattle.storage_merkle.proofs.Distinct.{times, one_if, one_if-le, other_first, times-append}
 use Rattle.storage_merkle.proofs.RangeSound.{own_values, folded-all, range_agrees, range_sound}
 use Rattle.storage_merkle.proofs.RangeOwn.{and-true, eval_agree, all_not_leading, all_up_to, peaks_under}
-use Rattle.storage_merkle.proofs.Rising.{count, count-permutation}
+use Rattle.storage_merkle.proofs.AscendingNumbers.{count, count-permutation}
 use Rattle.storage_merkle.proofs.Siblings.{positions, sort_rises, overlapped-is}
-use Rattle.storage_merkle.proofs.Ascending.{sorted}
+use Rattle.storage_merkle.proofs.SiblingOrder.{sorted}
 use Rattle.storage_merkle.proofs.Plan.Sites.{AllSites, all_both, IsAlignedNode, each_place_once, strictly}
 
 pub tells : (b : Bool) → (b ≡ true) ⊎ (b ≡ false)

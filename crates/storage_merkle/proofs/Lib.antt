@@ -9,30 +9,30 @@ pub mod Extracted
 pub mod Expand
 pub mod Pinned
 pub mod Examples
-pub mod Keeping
-mod Retained
+pub mod MemNodes
+mod MemBoundary
 pub mod Topmost
 pub mod MemProofs
 pub mod Rewriting
 pub mod Alike
-pub mod Ascending
+pub mod SiblingOrder
 pub mod Walks
 pub mod Walked
 pub mod Plan
 pub mod Greatest
 pub mod Folds
 pub mod Written
-pub mod Rising
+pub mod AscendingNumbers
 pub mod Siblings
 pub mod Rests
 pub mod Check
 pub mod Meaning
 pub mod Built
-pub mod KeptRoots
+pub mod MemRoots
 pub mod Served
 pub mod Found
-pub mod Handed
-pub mod HandedOut
+pub mod ExtractedEntries
+pub mod ExtractMeaning
 pub mod Multi
 pub mod Store
 mod Births

@@ -18,7 +18,7 @@ use Rattle.storage_merkle.specs.Plans.{InTree, IsFirstAbsent, IsOwnOfEach, PlanO
 use Rattle.storage_merkle.specs.RangeProofs.{Proof, apart, own_proof}
 use Rattle.storage_merkle.specs.Trees.{Layout, Content}
 use Rattle.storage_merkle.proofs.Greatest.{greatest_nodes_are_planned}
-use Rattle.storage_merkle.proofs.Keeping.{IsKept, kept_some, clean_none, seen}
+use Rattle.storage_merkle.proofs.MemNodes.{IsKept, kept_some, clean_none, seen}
 use Rattle.storage_merkle.proofs.Topmost.{Parent, kept_below}
 use Rattle.storage_merkle.proofs.Walks.{in_tree_leaves}
 

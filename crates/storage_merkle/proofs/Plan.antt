@@ -1,5 +1,5 @@
 pub mod Sites
-pub mod Answers
+pub mod ByPosition
 pub mod Folds
 pub mod Tops
 pub mod Among

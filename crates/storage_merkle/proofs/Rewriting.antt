@@ -13,7 +13,7 @@ use Rattle.storage_merkle.specs.Hashing.{join_digest, node_over}
 use Rattle.storage_merkle.specs.Kept.{kept_at, list_updated, IsClean, HoldsDigests}
 use Rattle.storage_merkle.specs.Laws.Kept.{node_same, peaks_same}
 use Rattle.storage_merkle.specs.Rewriting.{over, WrittenBelow, IsNext, Reaches}
-use Rattle.storage_merkle.proofs.Keeping.{IsKept, child, kept_value, clean_none}
+use Rattle.storage_merkle.proofs.MemNodes.{IsKept, child, kept_value, clean_none}
 
 pub record Over (place k : ℕ) : Type 0 where
   pub aligned : over place k % 2 ^ k ≡ 0

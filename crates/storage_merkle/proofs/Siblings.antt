@@ -10,7 +10,7 @@ use Rattle.storage_merkle.specs.RangeProofs.{apart, not_leading, up_to, sites_of
 use Rattle.storage_merkle.specs.Siblings.{sibling_sites}
 use Rattle.storage_merkle.specs.Extracted.{overlapped}
 use Rattle.storage_merkle.proofs.Distinct.{one_if}
-use Rattle.storage_merkle.proofs.Rising.{AtLeast, Rising, count, at_least_less, sorted_is}
+use Rattle.storage_merkle.proofs.AscendingNumbers.{AtLeast, Rising, count, at_least_less, sorted_is}
 
 module _ (low high : ℕ) where
   pub overlapped-past : (s : ℕ) (ks : List ℕ) → high ≤ s → overlapped low high (places s ks) ≡ []

@@ -7,4 +7,4 @@ pub mod Steps
 pub mod Reads
 pub mod Kept
 pub mod Range
-pub mod Answers
+pub mod Accepted

@@ -8,7 +8,7 @@ use Rattle.storage_merkle.specs.Shape.{Shape, Laws, size, Inside, AreAligned}
 use Rattle.storage_merkle.specs.Laws.Shape.{inside_between, step, no_peaks}
 use Rattle.storage_merkle.specs.Laws.Multiples.{pow_two, next, multiple_add, multiple_down, power_multiple, is_multiple}
 use Rattle.storage_merkle.specs.Kept.{at_peaks}
-use Rattle.storage_merkle.proofs.Keeping.{IsPeak, IsKept, inside_peak}
+use Rattle.storage_merkle.proofs.MemNodes.{IsPeak, IsKept, inside_peak}
 
 pub peak_inside : (hs : List ℕ) (s a k : ℕ) → IsPeak hs s a k → Inside hs s a k
 unfolding Inside

@@ -199,7 +199,7 @@ impl<D: Digest> History<D> {
     ) -> Result<(), Fault> {
         if let Stage::Merkleized(bitmap) = stage {
             let place = self.place_of(bitmap.root())?;
-            let stage = stage_told(alloc, bitmap, place)?;
+            let stage = stage_text(alloc, bitmap, place)?;
             self.stages.push(alloc, &stage)?;
         }
         Ok(())
@@ -220,7 +220,7 @@ impl<D: Digest> History<D> {
 }
 
 /// What stands in a bitmap with its root, whose place among the roots is given.
-fn stage_told<D: Digest, const N: usize>(
+fn stage_text<D: Digest, const N: usize>(
     alloc: Global,
     bitmap: &MerkleizedBitMap<D, N>,
     place: u64,

@@ -28,7 +28,7 @@ where
 {
     let (List(calls), List(bits)): (List<String>, List<u64>) = parse(alloc, columns)?;
     let bitmap = after::<H, D, N>(alloc, hasher, &calls)?;
-    let bits = bits_told(alloc, &bitmap, &bits)?;
+    let bits = bits_text(alloc, &bitmap, &bits)?;
     let chunks = by_chunk::<N, MerkleizedBitMap<FixedBytes<D>, N>>(alloc, &bitmap)?;
     let opened = by_chunk::<N, UnmerkleizedBitMap<FixedBytes<D>, N>>(alloc, &bitmap.into_dirty())?;
     if opened.as_str() != chunks.as_str() {
@@ -59,7 +59,7 @@ fn chunks_left<const N: usize, R: Readable<N>>(alloc: Global, bits: &R) -> Resul
 }
 
 /// Bits with their values, as their chunks have them, and their chunks.
-fn bits_told<D: Digest, const N: usize>(
+fn bits_text<D: Digest, const N: usize>(
     alloc: Global,
     bitmap: &MerkleizedBitMap<D, N>,
     bits: &[u64],
@@ -100,11 +100,11 @@ where
         alloc, columns,
     )?;
     let mut bitmap = after::<H, D, N>(alloc, hasher, &calls)?;
-    nodes_told(alloc, &mut bitmap, &positions)
+    nodes_text(alloc, &mut bitmap, &positions)
 }
 
 /// How many nodes a bitmap has, and those at positions, one by one and in one call.
-fn nodes_told<D: Digest, const N: usize>(
+fn nodes_text<D: Digest, const N: usize>(
     alloc: Global,
     bitmap: &mut MerkleizedBitMap<D, N>,
     positions: &[Position<mmr::Family>],

@@ -77,7 +77,7 @@ impl<const N: usize> Prunable<N> {
         let end = kept + bits.len() as u64;
         let chunks = end.div_ceil(8 * N as u64) as usize;
         let missing = chunks * N - self.bytes.len();
-        add_clear(&mut self.bytes, missing)?;
+        push_zero_bytes(&mut self.bytes, missing)?;
         fill_all(&mut self.bytes, kept, bits);
         self.kept = end;
         Ok(())
@@ -174,14 +174,14 @@ fn make_room<const N: usize>(bytes: &mut Vec<u8>, kept: u64) -> Result<(), NoMem
     ensures err { OnErr result (bytes.new.items ≡ bytes.old.items) }
 {
     if kept.is_multiple_of(8 * N as u64) {
-        add_clear(bytes, N)?;
+        push_zero_bytes(bytes, N)?;
     }
     Ok(())
 }
 
 /// Appends `more` clear bytes to `bytes`.
 #[cold]
-fn add_clear(bytes: &mut Vec<u8>, more: usize) -> Result<(), NoMemory>
+fn push_zero_bytes(bytes: &mut Vec<u8>, more: usize) -> Result<(), NoMemory>
     requires { length bytes.old.items + more < 2 ^ 64 }
     ensures ok { OnOk result (bytes.new.items ≡ bytes.old.items ++ replicate more 0) }
     ensures err { OnErr result (bytes.new.items ≡ bytes.old.items) }

@@ -16,7 +16,9 @@ use crate::db::Error;
 use crate::db::active::{Active, least_location, previous};
 use crate::db::commit::Commit;
 use crate::db::log::Log;
-use crate::db::strings::{next_or_own, relinked, written_commit, written_delete, written_update};
+use crate::db::strings::{
+    next_or_own, predecessor_update, written_commit, written_delete, written_update,
+};
 use crate::laws::operations_settle_keys;
 use std::alloc::Global;
 use std::collections::BTreeMap;
@@ -83,7 +85,7 @@ pub(crate) fn put_new<F: Family, K: Key, V: OperationCodec<F, Update<K, V>>>(
     log.make_room::<F>(appended(&before))?;
     let next_key = next_or_own(active, &key)?;
     let bytes = written_update::<F, K, V>(alloc, &key, &value, &next_key)?;
-    match relinked::<F, K, V>(alloc, before, &key)? {
+    match predecessor_update::<F, K, V>(alloc, before, &key)? {
         None => {
             set(log, active, key, value, bytes)?;
             Ok(())
@@ -123,14 +125,14 @@ pub(crate) fn remove<F: Family, K: Key, V: OperationCodec<F, Update<K, V>>>(
     log.make_room::<F>(appended(&before))?;
     let next_key = next_or_own(active, key)?;
     let bytes = written_delete::<F, K, V>(alloc, key)?;
-    match relinked::<F, K, V>(alloc, before, &next_key)? {
+    match predecessor_update::<F, K, V>(alloc, before, &next_key)? {
         None => {
-            take_out(log, active, key, bytes);
+            remove_active(log, active, key, bytes);
             Ok(())
         }
         Some((previous, link)) => {
             operations_settle_keys::<F, K, V>();
-            take_out(log, active, key, bytes);
+            remove_active(log, active, key, bytes);
             renew(log, active, &previous, link);
             Ok(())
         }
@@ -225,7 +227,7 @@ fn set<K: Key, W: Drop>(
 }
 
 /// Appends `bytes`, the deletion of `key`, which is not active from now on. There is room.
-fn take_out<K: Key, W: Drop>(
+fn remove_active<K: Key, W: Drop>(
     log: &mut Log,
     active: &mut BTreeMap<K, Active<W>>,
     key: &K,

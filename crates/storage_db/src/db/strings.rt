@@ -100,7 +100,7 @@ pub(crate) fn next_or_own<K: Key, W>(
 
 /// The key of `before`, which is an active one, and its update, its value kept, that names `next_key`, as it is written;
 /// none for none.
-pub(crate) fn relinked<F: Family, K: Key, V: OperationCodec<F, Update<K, V>>>(
+pub(crate) fn predecessor_update<F: Family, K: Key, V: OperationCodec<F, Update<K, V>>>(
     alloc: Global,
     before: Option<(&K, &Active<V::Value>)>,
     next_key: &K,

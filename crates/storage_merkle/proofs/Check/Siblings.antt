@@ -12,7 +12,7 @@ use Rattle.storage_merkle.specs.Siblings.{sibling_sites}
 use Rattle.storage_merkle.specs.Extracted.{overlapped}
 use Rattle.storage_merkle.specs.CheckParts.{Serves, Present, PresentIn}
 use Rattle.storage_merkle.proofs.Distinct.{one_if}
-use Rattle.storage_merkle.proofs.Rising.{Rising, count, rising_at}
+use Rattle.storage_merkle.proofs.AscendingNumbers.{Rising, count, rising_at}
 use Rattle.storage_merkle.proofs.Siblings.{overlapped-is, positions, sites-join, sort-count, sort_rises, not_both}
 
 contains_count : (m : ℕ) (xs : List ℕ) → 1 ≤ count m xs → Contains xs m

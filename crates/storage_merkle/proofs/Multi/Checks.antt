@@ -18,7 +18,7 @@ use Rattle.storage_merkle.proofs.Distinct.{times, times-by_position, each_given_
 use Rattle.storage_merkle.proofs.Siblings.{positions, sort-count, sort_rises}
 use Rattle.storage_merkle.proofs.Check.Roots.{plain_in, plain_sorted, agree_itself}
 use Rattle.storage_merkle.proofs.Check.Siblings.{rising_list, ArePlaces, places_append, places_sorted, node_places, serve_each, present_all}
-use Rattle.storage_merkle.proofs.Rising.{count}
+use Rattle.storage_merkle.proofs.AscendingNumbers.{count}
 use Rattle.storage_merkle.proofs.Multi.Claims.{locations-claims}
 use Rattle.storage_merkle.proofs.Multi.Nodes.{values_in}
 

@@ -19,7 +19,7 @@ use Rattle.storage_merkle.specs.PlanParts.{IsAmong, AreAmong, AreInOrder, ArePla
 use Rattle.storage_merkle.proofs.Prune.{leading-all, up_to-all}
 use Rattle.storage_merkle.proofs.Distinct.{times, one_if, same_itself, times-append, times-by_position, times-in}
 use Rattle.storage_merkle.proofs.RangeOwn.{same_site-eq}
-use Rattle.storage_merkle.proofs.Rising.{rising_at}
+use Rattle.storage_merkle.proofs.AscendingNumbers.{rising_at}
 use Rattle.storage_merkle.proofs.Siblings.{positions, sites-cut, sort_rises}
 use Rattle.storage_merkle.proofs.Check.Sites.{front_before-are, all_added}
 use Rattle.storage_merkle.proofs.Walked.{listed, pushed}

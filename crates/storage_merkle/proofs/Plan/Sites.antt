@@ -10,8 +10,8 @@ use Rattle.storage_merkle.specs.Trees.{Layout, ungrafted, places, peaks_of, node
 use Rattle.storage_merkle.specs.RangeProofs.{apart, sites_of, sites_in, position_of, by_position, same_site}
 use Rattle.storage_merkle.specs.Plans.{planned}
 use Rattle.storage_merkle.proofs.Distinct.{times, one_if, same_itself, each_given_once}
-use Rattle.storage_merkle.proofs.Ascending.{sorted}
-use Rattle.storage_merkle.proofs.Rising.{Rising, count, count-permutation}
+use Rattle.storage_merkle.proofs.SiblingOrder.{sorted}
+use Rattle.storage_merkle.proofs.AscendingNumbers.{Rising, count, count-permutation}
 use Rattle.storage_merkle.proofs.Siblings.{positions, apart_under, sites-join, sort_rises, positions_sorted}
 
 -- the positions in the peaks over r leaves from the leaf s on

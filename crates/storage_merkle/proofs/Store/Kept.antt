@@ -16,12 +16,12 @@ use Rattle.storage_merkle.specs.CheckParts.{top_sites}
 use Rattle.storage_merkle.specs.Extracted.{nodes_under, nodes_in, overlapped, entries, by_bytes, digest_at, checked_sites}
 use Rattle.storage_merkle.specs.StoreParts.{nodes_among}
 use Rattle.storage_merkle.specs.Stores.{kept_sites}
-use Rattle.storage_merkle.proofs.Rising.{count-permutation, same_rising}
+use Rattle.storage_merkle.proofs.AscendingNumbers.{count-permutation, same_rising}
 use Rattle.storage_merkle.proofs.Siblings.{positions, sort-count, sort_rises, overlapped-past}
 use Rattle.storage_merkle.proofs.Extracted.{tells}
 use Rattle.storage_merkle.proofs.Plan.Sites.{AllSites, IsAlignedNode, one_place}
 use Rattle.storage_merkle.proofs.Store.Entries.{all_sorted, kept_nodes, nodes_aligned}
-use Rattle.storage_merkle.proofs.Handed.{sorted_entries}
+use Rattle.storage_merkle.proofs.ExtractedEntries.{sorted_entries}
 use Rattle.storage_merkle.proofs.Found.{found_rest}
 
 -- ---- sites in another order, sorted

@@ -23,9 +23,9 @@ returns g c =
     c.split_up_to.ensures.others
     (map text c.deref.result.now) (map text c.deref-2.result.now) _
     (ap (map text) c.deref.ensures.value ∙ c.in_ok-push_digests.ensures
-    ∙ ap (λ (ds : List (List ℕ)). ds ++ map f c.split_leading.result.1.now) (c.in_ok-push_front.ensures item chunk ∙ ap
+    ∙ ap (λ (ds : List (List ℕ)). ds ++ map f c.split_leading.result.1.now) (c.in_ok-push_front_fold.ensures item chunk ∙ ap
     (λ xs. map text xs ++ map (eval h v) (one_for (given front) c.split_leading.result.0.now)) c.new-front.ensures.items))
-    (ap (map text) c.deref-2.ensures.value ∙ c.in_ok-push_back.ensures item chunk
+    (ap (map text) c.deref-2.ensures.value ∙ c.in_ok-push_back_fold.ensures item chunk
     ∙ ap (λ (ds : List (List ℕ)). ds ++ map (eval h v) (one_for (given back) c.split_up_to.result.1.now))
     (c.in_ok-push_digests-2.ensures
     ∙ ap (λ xs. map text xs ++ map f c.split_up_to.result.0.now) c.new-rest.ensures.items))

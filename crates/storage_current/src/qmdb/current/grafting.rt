@@ -13,8 +13,8 @@ mod verifier;
 
 pub use hasher::GraftedHasher;
 pub use positions::{
-    aligned_inactive, exact_inactive, graftable_chunks, grafted_to_ops_pos, ops_to_grafted_pos,
-    up_and_down,
+    chunk_aligned_inactive_peaks, exact_inactive, graftable_chunks, grafted_to_ops_pos,
+    ops_to_grafted_pos, up_and_down,
 };
 pub use storage::Storage;
 pub(crate) use storage::{Look, look_up};

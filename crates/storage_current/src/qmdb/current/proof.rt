@@ -24,7 +24,7 @@ mod witness;
 
 use crate::laws::current_proofs_are_sound;
 use crate::qmdb::current::chunks::{ChunkCounts, chunk_digest};
-use crate::qmdb::current::grafting::{self, Verifier, aligned_inactive};
+use crate::qmdb::current::grafting::{self, Verifier, chunk_aligned_inactive_peaks};
 use crate::qmdb::current::proof::window::Window;
 pub use crate::qmdb::current::required::{RequiredChunks, required_chunks};
 use crate::qmdb::current::root::canonical_root;
@@ -91,7 +91,11 @@ impl<F: Graftable, D: Digest> RangeProof<F, D> {
         let len = status.len();
         let leaves = plan.leaves().as_u64();
         let height = grafting::height::<N>();
-        let inactive = aligned_inactive::<F>(leaves, floor.as_u64().min(leaves), height);
+        let inactive = chunk_aligned_inactive_peaks::<F>(
+            leaves,
+            floor.as_u64().min(leaves),
+            height,
+        );
         let proof = match plan.build(alloc, &qmdb::hasher::<H>(), inactive, get_node) {
             Ok(proof) => proof,
             Err(merkle::Error::Memory) => return Err(Error::Memory),

@@ -8,7 +8,7 @@ ghost use Rattle.storage_current.specs.Snapshots.{Snapshot as SnapshotOf, grafti
 ghost use Rattle.storage_current.specs.WitnessWire.{witness_of};
 
 use crate::qmdb::current::chunks::{ChunkCounts, chunk_digest};
-use crate::qmdb::current::grafting::{self, aligned_inactive, exact_inactive};
+use crate::qmdb::current::grafting::{self, chunk_aligned_inactive_peaks, exact_inactive};
 use crate::qmdb::current::proof::OpsRootWitness;
 use crate::qmdb::current::root::canonical_root;
 use crate::qmdb::current::view::view_root;
@@ -53,7 +53,7 @@ impl<F: Graftable, D: Digest> Roots<F, D> {
         let height = grafting::height::<N>();
         let exact = exact_inactive::<F>(leaves, floor.as_u64());
         let ops_root = operations.root(&qmdb::hasher::<H>(), exact).unwrap();
-        let aligned = aligned_inactive::<F>(leaves, floor.as_u64(), height);
+        let aligned = chunk_aligned_inactive_peaks::<F>(leaves, floor.as_u64(), height);
         let grafted_root = view_root::<F, H>(operations, chunks, height, aligned);
         let counts = ChunkCounts::over::<F>(leaves, height);
         let pending = chunk_digest::<H, N>(counts.pending::<Prunable<N>, N>(status));

@@ -1,4 +1,4 @@
-use Rattle.storage_merkle.proofs.Ascending.{siblings_ascend}
+use Rattle.storage_merkle.proofs.SiblingOrder.{siblings_ascend}
 use Rattle.storage_merkle.proofs.laws.siblings_ascend.Goals as goal
 
 pub returns : goal.returns

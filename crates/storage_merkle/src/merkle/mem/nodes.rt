@@ -16,7 +16,7 @@ use storage_codec::digest::Digest;
 
 /// Lends the digest at `position`, where it is kept: in `pinned` those of the peaks over the leaves below `boundary`, in
 /// `nodes` those of the nodes from that leaf's position on.
-pub(crate) fn find<'a, F: Family, D: Digest>(
+pub(crate) fn node_at_position<'a, F: Family, D: Digest>(
     boundary: u64,
     pinned: &'a [D],
     nodes: &'a [D],
@@ -42,7 +42,7 @@ pub(crate) fn find<'a, F: Family, D: Digest>(
     None
 }
 
-/// The digest that [`find`] lends.
+/// The digest that [`node_at_position`] lends.
 pub(crate) fn look_up<F: Family, D: Digest>(
     boundary: u64,
     pinned: &[D],
@@ -53,13 +53,13 @@ pub(crate) fn look_up<F: Family, D: Digest>(
     requires pins { length pinned.now ≡ length (F.shape.peaks boundary) }
     ensures { result ≡ kept_at F.shape boundary pinned.now nodes.now position }
 {
-    find::<F, D>(boundary, pinned, nodes, position).copied()
+    node_at_position::<F, D>(boundary, pinned, nodes, position).copied()
 }
 
 /// The digest of the `offset`-th node, from 0, of those that are added with leaf number `leaves`, whose digest is `leaf`.
 // in place, as the digest function is, so that they are compiled for parts of known lengths
 #[inline(always)]
-pub(crate) fn born<F: Family, H: Hasher<F>>(
+pub(crate) fn digest_of_new_node<F: Family, H: Hasher<F>>(
     hasher: &H,
     leaves: u64,
     boundary: u64,
@@ -89,13 +89,13 @@ pub(crate) fn born<F: Family, H: Hasher<F>>(
         return leaf;
     }
     let half = power(height - 1);
-    let left = find::<F, H::Digest>(
+    let left = node_at_position::<F, H::Digest>(
         boundary,
         pinned,
         nodes,
         F::position(first, height - 1),
     ).unwrap();
-    let right = find::<F, H::Digest>(
+    let right = node_at_position::<F, H::Digest>(
         boundary,
         pinned,
         nodes,
@@ -139,14 +139,16 @@ pub(crate) fn grow<F: Family, H: Hasher<F>>(
     let more = F::nodes_over(leaves + 1) - F::nodes_over(leaves);
     nodes.reserve(more as usize)?;
     for offset in 0..more {
-        let digest = born::<F, H>(hasher, leaves, boundary, pinned, nodes, leaf, offset);
+        let digest = digest_of_new_node::<F, H>(
+            hasher, leaves, boundary, pinned, nodes, leaf, offset,
+        );
         nodes.push(digest).unwrap();
     }
     Ok(())
 }
 
 /// The digest of the node of height `height`, at least 1, over the leaf `place`, from the digests of its children.
-pub(crate) fn above<F: Family, H: Hasher<F>>(
+pub(crate) fn parent_digest<F: Family, H: Hasher<F>>(
     hasher: &H,
     leaves: u64,
     boundary: u64,
@@ -173,13 +175,13 @@ pub(crate) fn above<F: Family, H: Hasher<F>>(
     let half = power(height - 1);
     let first = place / power(height) * power(height);
     let position = F::position(first, height);
-    let left = find::<F, H::Digest>(
+    let left = node_at_position::<F, H::Digest>(
         boundary,
         pinned,
         nodes,
         F::position(first, height - 1),
     ).unwrap();
-    let right = find::<F, H::Digest>(
+    let right = node_at_position::<F, H::Digest>(
         boundary,
         pinned,
         nodes,
@@ -234,7 +236,7 @@ pub(crate) fn write_leaf<F: Family, H: Hasher<F>>(
         if F::birth(first, height) > leaves || is_below(next, first, height) {
             return;
         }
-        let digest = above::<F, H>(hasher, leaves, boundary, pinned, nodes, place, height);
+        let digest = parent_digest::<F, H>(hasher, leaves, boundary, pinned, nodes, place, height);
         nodes[(F::position(first, height) - start) as usize] = digest;
     }
 }

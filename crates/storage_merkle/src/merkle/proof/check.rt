@@ -164,7 +164,7 @@ impl<F: Family, D: Digest, E: AsSlice<u8>> Given<'_, F, D, E> {
             tops = after;
             rest = rest.next(height);
         }
-        let onto = self.unfolded(hasher, rest, tops, found)?;
+        let onto = self.fold_right(hasher, rest, tops, found)?;
         match folded {
             None => Ok(onto),
             Some(folded) => Ok(Some(join(hasher, &folded, onto))),
@@ -173,7 +173,7 @@ impl<F: Family, D: Digest, E: AsSlice<u8>> Given<'_, F, D, E> {
 
     /// What the peaks `rest` are folded into from the right, none for no peaks; `tops` has the digests of those apart
     /// from the range and of their fold.
-    fn unfolded<H: Hasher<F, Digest = D>>(
+    fn fold_right<H: Hasher<F, Digest = D>>(
         &self,
         hasher: &H,
         rest: Rest,
@@ -210,7 +210,7 @@ impl<F: Family, D: Digest, E: AsSlice<u8>> Given<'_, F, D, E> {
         }
         let height = F::first_peak(rest.left);
         let (item, tops) = self.item(hasher, rest.first, height, tops, found)?;
-        let onto = self.unfolded(hasher, rest.next(height), tops, found)?;
+        let onto = self.fold_right(hasher, rest.next(height), tops, found)?;
         Ok(Some(join(hasher, &item, onto)))
     }
 

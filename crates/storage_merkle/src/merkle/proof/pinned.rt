@@ -98,7 +98,10 @@ impl<F: Family, D: Digest> Proof<F, D> {
         let Some(tops) = after_fold(fold, tops) else {
             return Ok(false);
         };
-        Ok(pinned.give_peaks(hasher, rest, tops) && pinned.give_siblings(hasher, &siblings, beside))
+        Ok(
+            pinned.peaks_match(hasher, rest, tops)
+                && pinned.siblings_match(hasher, &siblings, beside),
+        )
     }
 }
 
@@ -150,7 +153,7 @@ impl<D: Digest> Pinned<'_, D> {
 
     /// Whether those of `digests`, which are of the peaks `rest` and folds apart from the range, that are of peaks ending
     /// at or before the start are as the pinned digests give them.
-    fn give_peaks<F: Family, H: Hasher<F, Digest = D>>(
+    fn peaks_match<F: Family, H: Hasher<F, Digest = D>>(
         &self,
         hasher: &H,
         rest: Rest,
@@ -179,12 +182,12 @@ impl<D: Digest> Pinned<'_, D> {
             return false;
         };
         self.node(hasher, rest.first, height) == *digest
-            && self.give_peaks(hasher, rest.next(height), later)
+            && self.peaks_match(hasher, rest.next(height), later)
     }
 
     /// Whether those of `digests`, which are of the siblings at `positions`, that are of leaves before the start are as
     /// the pinned digests give them.
-    fn give_siblings<F: Family, H: Hasher<F, Digest = D>>(
+    fn siblings_match<F: Family, H: Hasher<F, Digest = D>>(
         &self,
         hasher: &H,
         positions: &[Position<F>],

@@ -65,7 +65,7 @@ impl<F: Family, D: Digest> ProofStore<F, D> {
             return Err(Error::RootMismatch);
         }
         let past = Location::new(start.as_u64() + elements.len() as u64);
-        Ok(Self::of_checked(hasher, proof, start, past, kept)?)
+        Ok(Self::from_accepted_proof(hasher, proof, start, past, kept)?)
     }
 
     /// The store of the proof of no elements in the tree without leaves. Takes no memory.
@@ -96,7 +96,7 @@ impl<F: Family, D: Digest> ProofStore<F, D> {
 
     /// The store of `proof`, whose counts fit to the leaves from `start` to before `past`, from `found`, the digests that
     /// its check came upon.
-    fn of_checked<H: Hasher<F, Digest = D>>(
+    fn from_accepted_proof<H: Hasher<F, Digest = D>>(
         hasher: &H,
         proof: &Proof<F, D>,
         start: Location<F>,

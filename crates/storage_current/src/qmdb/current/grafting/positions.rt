@@ -63,12 +63,12 @@ pub fn exact_inactive<F: Family>(leaves: u64, floor: u64) -> usize
     requires { leaves ≤ max_leaves }
     ensures { IsExact F.shape leaves floor result }
 {
-    aligned_inactive::<F>(leaves, floor, 0)
+    chunk_aligned_inactive_peaks::<F>(leaves, floor, 0)
 }
 
 /// How many leading peaks of the tree over `leaves` leaves end at or before the leaf `floor`, up to the last of them that
 /// ends on a multiple of `2^height`.
-pub fn aligned_inactive<F: Family>(leaves: u64, floor: u64, height: u32) -> usize
+pub fn chunk_aligned_inactive_peaks<F: Family>(leaves: u64, floor: u64, height: u32) -> usize
     requires few { leaves ≤ max_leaves }
     requires high { height ≤ 62 }
     ensures { IsAligned F.shape leaves floor height result }

@@ -14,7 +14,7 @@ returns-clause-ok g c = λ last.
     let e : Keyed g.row.K.Denot g.row.V-Value.Denot
     = keyed_by g.K.Write.text g.V.Value.Write.text g.V.OperationCodec.operation_text g.K.Ord.cmp in
     let is : IsKeyed e = c.operations_settle_keys.ensures in
-    let found = rw c.in-Some.is at c.in_ok-relinked.ensures in
+    let found = rw c.in-Some.is at c.in_ok-predecessor_update.ensures in
     let entries = c.args.active.now.entries in
     let at : previous e.cmp entries c.args.key ≡ Some found.0 = sym c.previous-before.ensures.value ∙ found.1 in
     let more = c.set-in-Some.new.active.entries in
@@ -64,14 +64,14 @@ returns-in_err-bytes-clause-why g c =
     c.appended.result c.appended.ensures c.args.value c.requires)
     c.from_residual-in_err-bytes.result c.in_ok-make_room.ensures.few c.from_residual-in_err-bytes.ensures.1
 
-pub returns-in_err-relinked-clause-why : goal.returns-in_err-relinked-clause-why
-returns-in_err-relinked-clause-why g c =
+pub returns-in_err-predecessor_update-clause-why : goal.returns-in_err-predecessor_update-clause-why
+returns-in_err-predecessor_update-clause-why g c =
     let e : Keyed g.row.K.Denot g.row.V-Value.Denot
     = keyed_by g.K.Write.text g.V.Value.Write.text g.V.OperationCodec.operation_text g.K.Ord.cmp in
     no_memory c.args.log.now c.args.active.now.entries (λ x. put e x c.args.key c.args.value) c.appended.result
     (put_count e c.args.log.now c.args.active.now.entries c.args.key _ c.previous-before.result c.previous-before.ensures.value
     c.appended.result c.appended.ensures c.args.value c.requires)
-    c.from_residual-in_err-relinked.result c.in_ok-make_room.ensures.few c.from_residual-in_err-relinked.ensures.1
+    c.from_residual-in_err-predecessor_update.result c.in_ok-make_room.ensures.few c.from_residual-in_err-predecessor_update.ensures.1
 
 pub returns-in_err-set-in-None-clause-why : goal.returns-in_err-set-in-None-clause-why
 returns-in_err-set-in-None-clause-why g c =
@@ -112,6 +112,6 @@ pub returns-in_err-bytes-clause-err : goal.returns-in_err-bytes-clause-err
 returns-in_err-bytes-clause-err g c = on_err c.from_residual-in_err-bytes.result
     (same_database c.args.log.now c.make_room.new.self c.in_ok-make_room.ensures.operations c.in_ok-make_room.ensures.bits c.args.active.now.entries)
 
-pub returns-in_err-relinked-clause-err : goal.returns-in_err-relinked-clause-err
-returns-in_err-relinked-clause-err g c = on_err c.from_residual-in_err-relinked.result
+pub returns-in_err-predecessor_update-clause-err : goal.returns-in_err-predecessor_update-clause-err
+returns-in_err-predecessor_update-clause-err g c = on_err c.from_residual-in_err-predecessor_update.result
     (same_database c.args.log.now c.make_room.new.self c.in_ok-make_room.ensures.operations c.in_ok-make_room.ensures.bits c.args.active.now.entries)

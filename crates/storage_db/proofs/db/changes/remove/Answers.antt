@@ -14,25 +14,25 @@ returns-clause-ok g c = λ last.
     let e : Keyed g.row.K.Denot g.row.V-Value.Denot
     = keyed_by g.K.Write.text g.V.Value.Write.text g.V.OperationCodec.operation_text g.K.Ord.cmp in
     let is : IsKeyed e = c.operations_settle_keys.ensures in
-    let found = rw c.in-Some.is at c.in_ok-relinked.ensures in
+    let found = rw c.in-Some.is at c.in_ok-predecessor_update.ensures in
     let key = c.args.key.now in
     let entries = c.args.active.now.entries in
     let at : previous e.cmp entries key ≡ Some found.0 = sym c.previous-before.ensures.value ∙ found.1 in
-    let fewer = c.take_out-in-Some.new.active.entries in
+    let fewer = c.remove_active-in-Some.new.active.entries in
     let d : Database g.row.K.Denot g.row.V-Value.Denot = database_of c.args.log.now entries last in
     let next = next_key e.cmp entries key in
     let sorted = sorted_of e.cmp entries c.previous-before.ensures.ordered in
-    let first : database_of c.take_out-in-Some.new.log fewer last ≡ removed e d key
-    = removed_parts e c.make_room.new.self c.take_out-in-Some.new.log entries fewer last key c.in_ok-bytes.bytes
-    c.in_ok-bytes.ensures c.take_out-in-Some.ensures.operations c.take_out-in-Some.ensures.bits
-    c.take_out-in-Some.ensures.entries
+    let first : database_of c.remove_active-in-Some.new.log fewer last ≡ removed e d key
+    = removed_parts e c.make_room.new.self c.remove_active-in-Some.new.log entries fewer last key c.in_ok-bytes.bytes
+    c.in_ok-bytes.ensures c.remove_active-in-Some.ensures.operations c.remove_active-in-Some.ensures.bits
+    c.remove_active-in-Some.ensures.entries
     ∙ ap (λ (x : Database g.row.K.Denot g.row.V-Value.Denot). removed e x key)
     (same_database c.args.log.now c.make_room.new.self c.in_ok-make_room.ensures.operations
     c.in_ok-make_room.ensures.bits entries last) in
     let there : active_at e fewer found.0.0 ≡ Some found.0.1
     = ap (λ (x : Database g.row.K.Denot g.row.V-Value.Denot). active_at e x.entries found.0.0) first
     ∙ stays_removed e is d sorted key found.0 at in
-    renewed_parts e is c.take_out-in-Some.new.log c.renew.new.log fewer c.renew.new.active.entries last c.in-Some.previous
+    renewed_parts e is c.remove_active-in-Some.new.log c.renew.new.log fewer c.renew.new.active.entries last c.in-Some.previous
     found.0 c.in_ok-next_key.next_key next c.in-Some.link found.2 (sorted_of e.cmp fewer c.renew.ensures.ordered) there
     c.in_ok-next_key.ensures found.3 c.renew.ensures.operations c.renew.ensures.bits c.renew.ensures.entries
     ∙ ap (λ (x : Database g.row.K.Denot g.row.V-Value.Denot). updated e x found.0.0 found.0.1.value next) first
@@ -65,14 +65,14 @@ returns-in_err-bytes-clause-why g c =
     c.appended.result c.appended.ensures c.requires)
     c.from_residual-in_err-bytes.result c.in_ok-make_room.ensures.few c.from_residual-in_err-bytes.ensures.1
 
-pub returns-in_err-relinked-clause-why : goal.returns-in_err-relinked-clause-why
-returns-in_err-relinked-clause-why g c =
+pub returns-in_err-predecessor_update-clause-why : goal.returns-in_err-predecessor_update-clause-why
+returns-in_err-predecessor_update-clause-why g c =
     let e : Keyed g.row.K.Denot g.row.V-Value.Denot
     = keyed_by g.K.Write.text g.V.Value.Write.text g.V.OperationCodec.operation_text g.K.Ord.cmp in
     no_memory c.args.log.now c.args.active.now.entries (λ x. delete e x c.args.key.now) c.appended.result
     (delete_count e c.args.log.now c.args.active.now.entries c.args.key.now _ c.previous-before.result c.previous-before.ensures.value
     c.appended.result c.appended.ensures c.requires)
-    c.from_residual-in_err-relinked.result c.in_ok-make_room.ensures.few c.from_residual-in_err-relinked.ensures.1
+    c.from_residual-in_err-predecessor_update.result c.in_ok-make_room.ensures.few c.from_residual-in_err-predecessor_update.ensures.1
 
 pub returns-in-None-clause-ok : goal.returns-in-None-clause-ok
 returns-in-None-clause-ok g c = grind (arith, common_steps)
@@ -95,6 +95,6 @@ pub returns-in_err-bytes-clause-err : goal.returns-in_err-bytes-clause-err
 returns-in_err-bytes-clause-err g c = on_err c.from_residual-in_err-bytes.result
     (same_database c.args.log.now c.make_room.new.self c.in_ok-make_room.ensures.operations c.in_ok-make_room.ensures.bits c.args.active.now.entries)
 
-pub returns-in_err-relinked-clause-err : goal.returns-in_err-relinked-clause-err
-returns-in_err-relinked-clause-err g c = on_err c.from_residual-in_err-relinked.result
+pub returns-in_err-predecessor_update-clause-err : goal.returns-in_err-predecessor_update-clause-err
+returns-in_err-predecessor_update-clause-err g c = on_err c.from_residual-in_err-predecessor_update.result
     (same_database c.args.log.now c.make_room.new.self c.in_ok-make_room.ensures.operations c.in_ok-make_room.ensures.bits c.args.active.now.entries)

@@ -1,4 +1,4 @@
-use Rattle.storage_merkle.proofs.Retained.{retained}
+use Rattle.storage_merkle.proofs.MemBoundary.{retained}
 use Rattle.storage_merkle.proofs.laws.kept.trees_keep_the_nodes_of_their_list.Goals as goal
 
 pub returns : goal.returns

@@ -1,7 +1,7 @@
 use Rattle.std.proofs.Common.{arith, ℕ, ◌≡◌, ◌+◌, ◌<◌, List, ◌∷◌, drop, get_or, get_or-drop, slice_index, length, ap, ◌∙◌, sym}
 use Rattle.std.proofs.lemmas.List.{length-drop, drop_more}
 use Rattle.storage_merkle.specs.Kept.{pins}
-use Rattle.storage_merkle.proofs.Keeping.{length_pins}
+use Rattle.storage_merkle.proofs.MemNodes.{length_pins}
 use Rattle.storage_merkle.proofs.merkle.mem.needed.Goals as goal
 
 first_left : (xs rest : List ℕ) (k p : ℕ) → p ∷ rest ≡ drop k xs → p ≡ slice_index xs k

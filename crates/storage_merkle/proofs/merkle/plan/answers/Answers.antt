@@ -1,5 +1,5 @@
 use Rattle.std.proofs.Common.{inl, refl, Some}
-use Rattle.storage_merkle.proofs.Plan.Answers.{zips_start, zips_more, zips_end, skips_more, absent_at}
+use Rattle.storage_merkle.proofs.Plan.ByPosition.{zips_start, zips_more, zips_end, skips_more, absent_at}
 use Rattle.storage_merkle.proofs.merkle.plan.answers.Goals as goal
 
 pub loop-position-init : goal.loop-position-init

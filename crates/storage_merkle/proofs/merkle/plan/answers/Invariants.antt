@@ -1,5 +1,5 @@
 use Rattle.std.proofs.Common.{Some}
-use Rattle.storage_merkle.proofs.Plan.Answers.{Zips, Skips}
+use Rattle.storage_merkle.proofs.Plan.ByPosition.{Zips, Skips}
 use Rattle.storage_merkle.proofs.merkle.plan.answers.Given as goal
 
 abbrev pub invariant-loop-position : goal.invariant-loop-position

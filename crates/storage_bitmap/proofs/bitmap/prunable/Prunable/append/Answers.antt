@@ -14,8 +14,8 @@ overflow_sub-missing g c =
           c.div_ceil-chunks.result c.self.inside.bytes.items c.self.invariant (omega arith) at.0,
     )
 
-pub add_clear-requires : goal.add_clear-requires
-add_clear-requires g c =
+pub push_zero_bytes-requires : goal.push_zero_bytes-requires
+push_zero_bytes-requires g c =
     let few = rw (← c.self.view_is) at c.requires in
     let at = rounded_up g.row.N _ c.div_ceil-chunks.result (chunk_positive g.row.N c.self.invariant.size)
     c.div_ceil-chunks.ensures in
@@ -33,7 +33,7 @@ pub fill_all-requires-clause-within : goal.fill_all-requires-clause-within
 fill_all-requires-clause-within g c =
     let at = rounded_up g.row.N _ c.div_ceil-chunks.result (chunk_positive g.row.N c.self.invariant.size)
     c.div_ceil-chunks.ensures in
-    rw c.in_ok-add_clear.ensures.ok (omega (
+    rw c.in_ok-push_zero_bytes.ensures.ok (omega (
       arith,
       at.0,
       c.len.ensures,
@@ -43,7 +43,7 @@ fill_all-requires-clause-within g c =
 
 pub fill_all-requires-clause-clear : goal.fill_all-requires-clause-clear
 fill_all-requires-clause-clear g c i far =
-    rw c.in_ok-add_clear.ensures.ok (more_clear c.self.inside.bytes.items _ i ∙ c.self.invariant.clear i far)
+    rw c.in_ok-push_zero_bytes.ensures.ok (more_clear c.self.inside.bytes.items _ i ∙ c.self.invariant.clear i far)
 
 pub invariant_of-self-2 : goal.invariant_of-self-2
 invariant_of-self-2 g c =
@@ -54,13 +54,13 @@ invariant_of-self-2 g c =
     (c.self.inside.kept + length c.args.bits.now) c.div_ceil-chunks.result c.self.inside.bytes.items c.self.invariant
     (omega arith) at.0 in
     packed_append g.row.N c.self.inside.pruned c.self.inside.kept c.div_ceil-chunks.result
-    (c.div_ceil-chunks.result * g.row.N - c.len.result) c.self.inside.bytes.items c.add_clear.new.bytes.items
+    (c.div_ceil-chunks.result * g.row.N - c.len.result) c.self.inside.bytes.items c.push_zero_bytes.new.bytes.items
     c.fill_all.new.bytes.items c.args.bits.now c.self.invariant
-    (omega (arith, few, length-bits_in c.self.inside.bytes.items c.self.inside.kept)) c.in_ok-add_clear.ensures.ok
+    (omega (arith, few, length-bits_in c.self.inside.bytes.items c.self.inside.kept)) c.in_ok-push_zero_bytes.ensures.ok
     (omega (arith, c.len.ensures, within)) at.0 at.1 c.fill_all.ensures
 
 pub returns-clause-ok : goal.returns-clause-ok
 returns-clause-ok g c =
-    let same = rw (← c.in_ok-add_clear.ensures.ok) at
+    let same = rw (← c.in_ok-push_zero_bytes.ensures.ok) at
     (more_same c.self.inside.bytes.items (c.div_ceil-chunks.result * g.row.N - c.len.result) c.self.inside.kept) in
     rw (← c.self.view_is, c.fill_all.ensures.are, same) refl

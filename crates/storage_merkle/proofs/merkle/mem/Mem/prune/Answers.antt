@@ -2,7 +2,7 @@ use Rattle.std.proofs.Common.{arith, map, length, ◌≡◌, ◌+◌, ◌-◌, �
 use Rattle.std.proofs.lemmas.List.{drop-map, length-take-le}
 use Rattle.storage_merkle.specs.Shape.{size}
 use Rattle.storage_merkle.specs.Laws.Shape.{grows_at_most}
-use Rattle.storage_merkle.proofs.Keeping.{holds_pruned, holds_at, rotated}
+use Rattle.storage_merkle.proofs.MemNodes.{holds_pruned, holds_at, rotated}
 use Rattle.storage_merkle.proofs.merkle.mem.Mem.prune.Goals as goal
 
 pub peaks_over-digests-requires : goal.peaks_over-digests-requires

@@ -2,7 +2,7 @@ use Rattle.std.proofs.Common.{◌≡◌, [], length, ap, ◌∙◌, sym, refl, a
 use Rattle.storage_merkle.specs.Kept.{at_peaks}
 use Rattle.storage_merkle.specs.Hashing.{node_over, root_of}
 use Rattle.storage_merkle.specs.Laws.Shape.{no_peaks}
-use Rattle.storage_merkle.proofs.KeptRoots.{rooted}
+use Rattle.storage_merkle.proofs.MemRoots.{rooted}
 use Rattle.storage_merkle.proofs.merkle.mem.Mem.root.Goals as goal
 
 pub returns-then-inactive-gt0-clause-why : goal.returns-then-inactive-gt0-clause-why

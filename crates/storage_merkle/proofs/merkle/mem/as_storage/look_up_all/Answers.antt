@@ -1,6 +1,6 @@
 use Rattle.std.proofs.Common.{◌≡◌, ◌∙◌, ap, inl, refl, Some}
 use Rattle.storage_merkle.specs.Kept.{kept_at}
-use Rattle.storage_merkle.proofs.Plan.Answers.{zips_start, zips_more, zips_end, skips_more, absent_at}
+use Rattle.storage_merkle.proofs.Plan.ByPosition.{zips_start, zips_more, zips_end, skips_more, absent_at}
 use Rattle.storage_merkle.proofs.merkle.mem.as_storage.look_up_all.Goals as goal
 
 pub loop-position-init : goal.loop-position-init

@@ -1,6 +1,6 @@
 use Rattle.std.proofs.Common.{◌≡◌, Some}
 use Rattle.storage_merkle.specs.Kept.{kept_at}
-use Rattle.storage_merkle.proofs.Plan.Answers.{Zips, Skips}
+use Rattle.storage_merkle.proofs.Plan.ByPosition.{Zips, Skips}
 use Rattle.storage_merkle.proofs.merkle.mem.as_storage.look_up_all.Given as goal
 
 abbrev pub invariant-loop-position : goal.invariant-loop-position

@@ -3,7 +3,7 @@ use Rattle.std.proofs.lemmas.List.{length-map, map-append, length-append}
 use Rattle.storage_merkle.specs.Shape.{size}
 use Rattle.storage_merkle.specs.Nodes.{IsNode}
 use Rattle.storage_merkle.specs.Hashing.{node_over}
-use Rattle.storage_merkle.proofs.Keeping.{holds_old, holds_more, holds_at}
+use Rattle.storage_merkle.proofs.MemNodes.{holds_old, holds_more, holds_at}
 use Rattle.storage_merkle.proofs.merkle.mem.nodes.grow.Goals as goal
 
 pub loop-offset-init : goal.loop-offset-init
@@ -30,7 +30,7 @@ loop-offset-preserved g c =
     let n = c.args.leaves in
     let o = c.loop-offset.offset in
     let more = L.grows n in
-    let items : c.push.new.self.items ≡ c.loop-offset.nodes.items ++ c.born-digest.result ∷ [] =
+    let items : c.push.new.self.items ≡ c.loop-offset.nodes.items ++ c.digest_of_new_node-digest.result ∷ [] =
     rw c.unwrap.ensures at c.push.ensures.items in
     let len' : vec_len c.push.new.self ≡ vec_len c.loop-offset.nodes + 1 = rw c.unwrap.ensures at c.push.ensures.len in
     let within : size S n + o < size S (n + 1) =
@@ -45,14 +45,14 @@ loop-offset-preserved g c =
       held = λ list dirty len h.
           let before = c.loop-offset.invariant.held list dirty len h in
           let more = holds_more S L (N (list ++ leaf ∷ [])) dirty c.args.boundary (size S n + o) w.0 w.1
-          (map f c.args.pinned.now) (map f c.loop-offset.nodes.items) (f c.born-digest.result) before
+          (map f c.args.pinned.now) (map f c.loop-offset.nodes.items) (f c.digest_of_new_node-digest.result) before
           (rw length-map c.loop-offset.invariant.count) i
-          (c.born-digest.ensures list dirty len (rw c.deref.ensures.value before) w.0 w.1 i) in
+          (c.digest_of_new_node-digest.ensures list dirty len (rw c.deref.ensures.value before) w.0 w.1 i) in
           rw (items, map-append, ← next) more;
     }
 
-pub born-digest-requires-clause-takes : goal.born-digest-requires-clause-takes
-born-digest-requires-clause-takes g c a k inner =
+pub digest_of_new_node-digest-requires-clause-takes : goal.digest_of_new_node-digest-requires-clause-takes
+digest_of_new_node-digest-requires-clause-takes g c a k inner =
     let S = g.F.Family.shape in
     let within : size S c.args.leaves + c.loop-offset.offset < size S (c.args.leaves + 1) =
     omega (arith, c.nodes_over.ensures, c.nodes_over-2.ensures, c.loop-offset-test.true) in

@@ -2,7 +2,7 @@ use Rattle.std.proofs.Common.{arith, map, length, ◌≡◌, ◌+◌, [], ap, �
 use Rattle.std.proofs.lemmas.List.{length-map, length-set}
 use Rattle.storage_merkle.specs.Shape.{size}
 use Rattle.storage_merkle.specs.Laws.Shape.{no_peaks}
-use Rattle.storage_merkle.proofs.Keeping.{found, seen, value_of, kept_some_at, kept_is, clean_none}
+use Rattle.storage_merkle.proofs.MemNodes.{found, seen, value_of, kept_some_at, kept_is, clean_none}
 use Rattle.storage_merkle.proofs.Topmost.{walk_start, walk_next, walk_kept, walk_fits, walk_end, walk_more}
 use Rattle.storage_merkle.proofs.merkle.mem.nodes.peaks_over.Goals as goal
 

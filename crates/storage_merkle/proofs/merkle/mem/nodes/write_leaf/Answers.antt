@@ -61,8 +61,8 @@ returns-then-birth-leaves g c list rest is h e =
           (let r = w.is_below.ensures.0 (w.if-is_below.true) in (r.0, r.1, omega (arith, r.2), omega (arith, r.3))) below
     ]
 
-pub above-digest-requires-clause-takes : goal.above-digest-requires-clause-takes
-above-digest-requires-clause-takes g c =
+pub parent_digest-digest-requires-clause-takes : goal.parent_digest-digest-requires-clause-takes
+parent_digest-digest-requires-clause-takes g c =
     let k = c.loop-height.height in
     let f : c.args.place / c.power.result * c.power-in-loop-height.result ≡ over c.args.place k =
     ap₂ (λ x y. c.args.place / x * y) c.power.ensures c.power-in-loop-height.ensures in
@@ -158,7 +158,7 @@ loop-height-preserved g c list rest h e =
     let born : c.birth.result ≡ S.birth (over c.args.place k) k = c.birth.ensures ∙ ap (λ m. S.birth m k) f in
     let w = c.loop-height.invariant list rest h e in
     let more = written_more S L node rest c.args.boundary (size S c.args.leaves) c.args.place k
-    (map b c.args.pinned.now) (map b c.loop-height.nodes) (b c.above-digest.result) c.requires.kept
+    (map b c.args.pinned.now) (map b c.loop-height.nodes) (b c.parent_digest-digest.result) c.requires.kept
     (rw length-map (omega (
       arith,
       c.requires.count,
@@ -166,7 +166,7 @@ loop-height-preserved g c list rest h e =
       length-set c.args.nodes.now (c.nodes_over.result - c.nodes_over-start.result) c.args.digest,
     )))
     (place_early S L c.args.leaves c.args.place k (omega arith)) w
-    (λ clean. c.above-digest.ensures list rest w clean) in
+    (λ clean. c.parent_digest-digest.ensures list rest w clean) in
     rw (map-set, at, c.nodes_over-start.ensures) more
 
 pub returns : goal.returns

@@ -9,7 +9,7 @@ use Rattle.storage_merkle.proofs.Siblings.{not_both}
 use Rattle.storage_merkle.proofs.Pinned.Checks.{Agrees, again, digest, fold_of, nonempty, pinned_counted, siblings_low, siblings_at, enough, beside_are, fold_refused, left_are, agree_where, peaks_agree, siblings_agree}
 use Rattle.storage_merkle.proofs.merkle.proof.Proof.agrees_with.Given.{Over}
 use Rattle.storage_merkle.proofs.merkle.proof.Proof.agrees_with.Goals as goal
-use Rattle.storage_merkle.proofs.merkle.proof.Proof.agrees_with.Goals.{After-after_leading-rest, After-len-2, After-split_at, then-end-leaves-via-then-end-leaves, then-end-leaves-via-else-end-leaves+then-leaves-gt-MAX_LEAVES, then-end-leaves-via-else-end-leaves+else-leaves-gt-MAX_LEAVES+then-pinned-peak_count, then-give_peaks, else-give_peaks}
+use Rattle.storage_merkle.proofs.merkle.proof.Proof.agrees_with.Goals.{After-after_leading-rest, After-len-2, After-split_at, then-end-leaves-via-then-end-leaves, then-end-leaves-via-else-end-leaves+then-leaves-gt-MAX_LEAVES, then-end-leaves-via-else-end-leaves+else-leaves-gt-MAX_LEAVES+then-pinned-peak_count, then-peaks_match, else-peaks_match}
 
 -- the walk past the peaks that lead, for some elements
 abbrev walk : (g : Over) (c : After-after_leading-rest g) (elements : List (List ℕ)) → length elements ≡ c.args.count
@@ -124,10 +124,10 @@ returns-in_default-after_fold g c = λ elements as_many.
           (λ ds e. c.in_default-after_fold.ensures ds (front g at.After-split_at ∙ e)) ok),
     ))
 
-pub give_siblings-requires-clause-within : goal.give_siblings-requires-clause-within
-give_siblings-requires-clause-within g c =
+pub siblings_match-requires-clause-within : goal.siblings_match-requires-clause-within
+siblings_match-requires-clause-within g c =
     siblings_low g.F.Family.shape g.met.F.Family.laws c.as_u64-leaves.result c.as_u64-start.result c.in-Some.end
-    c.deref-then-give_peaks.result.now (c.deref-then-give_peaks.ensures.value ∙ c.in_ok-siblings.ensures)
+    c.deref-then-peaks_match.result.now (c.deref-then-peaks_match.ensures.value ∙ c.in_ok-siblings.ensures)
 
 pub returns : goal.returns
 returns g c = λ elements as_many.
@@ -150,27 +150,27 @@ returns g c = λ elements as_many.
     (let count : length c.args.pinned.now ≡ c.peak_count.result = c.if-pinned-peak_count.false in length-map c.args.pinned.now text ∙ count ∙ c.peak_count.ensures) in
     let left = map text c.in-Some-after_fold.tops.now in
     let starts = sym (front g at.After-split_at) ∙ c.in-Some-after_fold.ensures in
-    at_args g k (λ m start. Fits w m start → IsTrue c.if-give_peaks.result ↔ Agrees w pinned m start) (λ fit.
+    at_args g k (λ m start. Fits w m start → IsTrue c.if-peaks_match.result ↔ Agrees w pinned m start) (λ fit.
     let here = left_are w pinned fit apart count beside sum fold folds left starts in
-    let peaks = c.give_peaks.ensures c.in-Some.end (digest w pinned) (again w pinned) (nonempty w pinned fit)
+    let peaks = c.peaks_match.ensures c.in-Some.end (digest w pinned) (again w pinned) (nonempty w pinned fit)
     (λ a k. refl) here in
-    elim c.if-give_peaks.branch [
-      | then-give_peaks v ↦
+    elim c.if-peaks_match.branch [
+      | then-peaks_match v ↦
           let texts = back ∙ beside_are w pinned fit apart count beside sum in
           let places = siblings_at S g.met.F.Family.laws c.as_u64-leaves.result c.as_u64-start.result c.in-Some.end
-          v.deref-then-give_peaks.result.now (v.deref-then-give_peaks.ensures.value ∙ c.in_ok-siblings.ensures) in
-          let others = v.give_siblings.ensures
+          v.deref-then-peaks_match.result.now (v.deref-then-peaks_match.ensures.value ∙ c.in_ok-siblings.ensures) in
+          let others = v.siblings_match.ensures
           (sibling_sites (ungrafted S) c.as_u64-leaves.result c.as_u64-start.result c.in-Some.end)
           (digest w pinned) (again w pinned) places (λ a k. refl) texts in (
             λ y. agree_where w pinned fit apart count beside sum fold folds left starts counted
-                (peaks.0 v.if-give_peaks.true) (others.0 (sym v.result-is ∙ y)),
+                (peaks.0 v.if-peaks_match.true) (others.0 (sym v.result-is ∙ y)),
             λ ok. v.result-is
                 ∙ others.1 (siblings_agree w pinned fit apart count beside sum fold folds left starts ok),
           )
-      | else-give_peaks v ↦ (
-        λ y. absurd (not_both c.if-give_peaks.result y (v.result-is ∙ v.if-give_peaks.false)),
-        λ ok. absurd (not_both c.give_peaks.result
+      | else-peaks_match v ↦ (
+        λ y. absurd (not_both c.if-peaks_match.result y (v.result-is ∙ v.if-peaks_match.false)),
+        λ ok. absurd (not_both c.peaks_match.result
             (peaks.1 (peaks_agree w pinned fit apart count beside sum fold folds left starts ok))
-            v.if-give_peaks.false),
+            v.if-peaks_match.false),
       )
     ])

@@ -5,7 +5,7 @@ use Rattle.storage_merkle.specs.Shape.{Laws}
 use Rattle.storage_merkle.specs.Extracted.{checked_sites, digest_at, extracted, by_bytes}
 use Rattle.storage_merkle.specs.RangeProofs.{apart, check_values}
 use Rattle.storage_merkle.proofs.Extracted.{aligned_checked}
-use Rattle.storage_merkle.proofs.Handed.{sorted_entries, taken, on_proof}
+use Rattle.storage_merkle.proofs.ExtractedEntries.{sorted_entries, taken, on_proof}
 use Rattle.storage_merkle.proofs.merkle.proof.Proof.recompute_digests.Goals as goal
 
 pub returns-clause-root : goal.returns-clause-root

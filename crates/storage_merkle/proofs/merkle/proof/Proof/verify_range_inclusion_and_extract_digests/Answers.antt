@@ -3,7 +3,7 @@ use Rattle.storage_merkle.specs.Laws.ProofWire.{all_digests}
 use Rattle.storage_merkle.specs.Shape.{Laws}
 use Rattle.storage_merkle.specs.Extracted.{by_bytes}
 use Rattle.storage_merkle.proofs.Meaning.{no_elements, some_elements}
-use Rattle.storage_merkle.proofs.HandedOut.{handed_none, handed_some, misfit_none, other_root, other_root_none, differ, alike}
+use Rattle.storage_merkle.proofs.ExtractMeaning.{handed_none, handed_some, misfit_none, other_root, other_root_none, differ, alike}
 use Rattle.std.proofs.lemmas.Grind.{common_steps}
 use Rattle.storage_merkle.proofs.merkle.proof.Proof.verify_range_inclusion_and_extract_digests.Goals as goal
 

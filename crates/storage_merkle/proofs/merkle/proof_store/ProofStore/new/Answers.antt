@@ -4,9 +4,9 @@ use Rattle.storage_merkle.specs.Shape.{Laws}
 use Rattle.storage_merkle.specs.Extracted.{by_bytes}
 use Rattle.storage_merkle.specs.Laws.ProofWire.{all_digests}
 use Rattle.storage_merkle.proofs.Meaning.{no_elements, some_elements}
-use Rattle.storage_merkle.proofs.Handed.{taken}
-use Rattle.storage_merkle.proofs.HandedOut.{misfit, misfit_none, other_root, other_root_none, differ, alike}
-use Rattle.storage_merkle.proofs.Store.Answers.{made_some, made_nothing, not_lost}
+use Rattle.storage_merkle.proofs.ExtractedEntries.{taken}
+use Rattle.storage_merkle.proofs.ExtractMeaning.{misfit, misfit_none, other_root, other_root_none, differ, alike}
+use Rattle.storage_merkle.proofs.Store.Accepted.{made_some, made_nothing, not_lost}
 use Rattle.storage_merkle.proofs.merkle.proof_store.ProofStore.new.Goals.{in_default-via-in-Some+in_default, in_default-via-in_default}
 use Rattle.std.proofs.lemmas.Grind.{common_steps}
 use Rattle.storage_merkle.proofs.merkle.proof_store.ProofStore.new.Goals as goal
@@ -67,14 +67,14 @@ returns-clause-made g c =
     (ap (by_bytes text) c.new.ensures.items) c.in_ok-computed.ensures.found) in
     made_some _ _ _ _ _ _ (text c.args.root.now) g.D.Digest.size g.met.H.Hasher.sized
     (subst Laws (sym same) g.met.F.Family.laws) (all_digests text g.D.Digest.size g.met.D.Digest.sized
-    c.args.proof.now.digests.items) c.in_ok-of_checked.field-0 (text c.in-Some-Some.computed) r
+    c.args.proof.now.digests.items) c.in_ok-from_accepted_proof.field-0 (text c.in-Some-Some.computed) r
     (alike g.D.PartialEq.eq text g.met.D.Digest.same c.in-Some-Some.computed c.args.root.now c.if-ne.ensures)
-    (c.in_ok-of_checked.ensures (g.H.Hasher.layout c.args.hasher.now)
+    (c.in_ok-from_accepted_proof.ensures (g.H.Hasher.layout c.args.hasher.now)
     (record { elements = map g.E.AsSlice.items c.args.elements.now; chunk = g.H.Hasher.chunk c.args.hasher.now }) same
     (omega (arith, c.new-past.ensures, c.as_u64.ensures, length-map c.args.elements.now g.E.AsSlice.items)) found)
 
 pub overflow_add-as_u64 : goal.overflow_add-as_u64
 overflow_add-as_u64 g c = grind (arith, common_steps)
 
-pub of_checked-requires : goal.of_checked-requires
-of_checked-requires g c = grind (arith, common_steps)
+pub from_accepted_proof-requires : goal.from_accepted_proof-requires
+from_accepted_proof-requires g c = grind (arith, common_steps)

@@ -3,4 +3,4 @@ use Rattle.storage_current.proofs.qmdb.current.grafting.positions.exact_inactive
 
 pub returns : goal.returns
 returns g c =
-    unaligned g.F.Family.shape c.args.leaves c.args.floor c.aligned_inactive.result c.aligned_inactive.ensures
+    unaligned g.F.Family.shape c.args.leaves c.args.floor c.chunk_aligned_inactive_peaks.result c.chunk_aligned_inactive_peaks.ensures

@@ -44,9 +44,9 @@ returns-clause-own g c = λ s parts.
     c.min.ensures ∙ rw (c.as_u64.ensures, leaves) refl in
     let inactive = built_inactive text _ h G c.args.plan _ c.args.floor
     (text c.args.ops_root) s parts c.as_u64-leaves.result c.min.result c.height-height.result
-    c.aligned_inactive-inactive.result level leaves clamp c.aligned_inactive-inactive.ensures in
+    c.chunk_aligned_inactive_peaks-inactive.result level leaves clamp c.chunk_aligned_inactive_peaks-inactive.ensures in
     let range = built_range text _ h G c.args.plan _ c.args.floor (text c.args.ops_root) s parts c.hasher.result.bagging
-    c.aligned_inactive-inactive.result _ c.hasher.ensures inactive c.in-Ok.ensures.own in
+    c.chunk_aligned_inactive_peaks-inactive.result _ c.hasher.ensures inactive c.in-Ok.ensures.own in
     built_current text _ h G c.args.plan _ c.args.floor (text c.args.ops_root) s parts _ _ _ _ _ _ (rw leaves at counts)
     (omega (arith, c.if-pruned_chunks-counts.false, c.pruned_chunks.ensures.value)) c.over-counts.ensures.within
     range _ c.chunk_digest.ensures c.pending.ensures _ c.chunk_digest-2.ensures c.partial.ensures

@@ -69,8 +69,8 @@ returns g c s bits floor over nodes =
     c.over-counts.ensures.graftable c.over-counts.ensures.next_bit) in
     let exact : c.exact_inactive-exact.result ≡ exact_of h G s =
     exact_count h G s _ (rw (count, floor, ← c.as_u64.ensures) c.exact_inactive-exact.ensures) in
-    let aligned : c.aligned_inactive-aligned.result ≡ aligned_of h G s = aligned_count h G s r _
-    level (rw (count, floor, ← c.as_u64-2.ensures) c.aligned_inactive-aligned.ensures) in
+    let aligned : c.chunk_aligned_inactive_peaks-aligned.result ≡ aligned_of h G s = aligned_count h G s r _
+    level (rw (count, floor, ← c.as_u64-2.ensures) c.chunk_aligned_inactive_peaks-aligned.ensures) in
     let read = rw c.unwrap-ops_root.ensures at c.root.ensures.root in
     let ops_root : text c.unwrap-ops_root.result ≡ ops_root_of h G s =
     root_kept h S g.met.F.Family.laws s.operations c.exact_inactive-exact.result c.hasher.result.bagging _ c.hasher.ensures

@@ -1,6 +1,6 @@
 use Rattle.std.proofs.Common.{◌∷◌, [], ◌++◌, List, ap, ◌∙◌, refl, sym, append_assoc, append-nil}
 use Rattle.storage_merkle.specs.PlanParts.{StandsAt}
-use Rattle.storage_merkle.proofs.Plan.Answers.{zips_start, zips_more, zips_end, among_at}
+use Rattle.storage_merkle.proofs.Plan.ByPosition.{zips_start, zips_more, zips_end, among_at}
 use Rattle.storage_merkle.proofs.merkle.plan.digests.Nodes.add_all.Goals as goal
 
 pub loop-position-init : goal.loop-position-init

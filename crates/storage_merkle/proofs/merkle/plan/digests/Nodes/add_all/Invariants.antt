@@ -1,6 +1,6 @@
 use Rattle.std.proofs.Common.{◌≡◌, ◌++◌, List}
 use Rattle.storage_merkle.specs.PlanParts.{StandsAt}
-use Rattle.storage_merkle.proofs.Plan.Answers.{Zips}
+use Rattle.storage_merkle.proofs.Plan.ByPosition.{Zips}
 use Rattle.storage_merkle.proofs.merkle.plan.digests.Nodes.add_all.Given as goal
 
 abbrev pub invariant-loop-position : goal.invariant-loop-position

@@ -1,4 +1,4 @@
-use Rattle.storage_merkle.proofs.Plan.Answers.{not_found, found}
+use Rattle.storage_merkle.proofs.Plan.ByPosition.{not_found, found}
 use Rattle.storage_merkle.proofs.merkle.plan.digests.Nodes.digest.Goals as goal
 
 pub unreachable-requires : goal.unreachable-requires

@@ -63,8 +63,8 @@ loop-rest-preserved g c =
           );
     }
 
-pub unfolded-requires-clause-tops : goal.unfolded-requires-clause-tops
-unfolded-requires-clause-tops g c =
+pub fold_right-requires-clause-tops : goal.fold_right-requires-clause-tops
+fold_right-requires-clause-tops g c =
     let over : (c.loop-rest.rest.left ≤ 0) ⊎ (c.loop-rest.rest.folded ≤ 0) = elim c.loop-rest-test.branch [
       | then-loop-rest-test+else-rest-gt0-2 w ↦ inr w.if-rest-gt0-2.false
       | else-loop-rest-test w ↦ inl w.loop-rest-test.false

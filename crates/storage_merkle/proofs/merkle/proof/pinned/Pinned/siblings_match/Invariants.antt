@@ -3,7 +3,7 @@ use Rattle.storage_merkle.specs.Calc.{Site, node}
 use Rattle.storage_merkle.specs.PinnedParts.{AreNodesAt, digest_before}
 use Rattle.storage_merkle.specs.Shape.{size}
 use Rattle.storage_merkle.proofs.Pinned.Match.{Left}
-use Rattle.storage_merkle.proofs.merkle.proof.pinned.Pinned.give_siblings.Given as goal
+use Rattle.storage_merkle.proofs.merkle.proof.pinned.Pinned.siblings_match.Given as goal
 
 abbrev pub invariant-loop-position : goal.invariant-loop-position
 invariant-loop-position g l = record {

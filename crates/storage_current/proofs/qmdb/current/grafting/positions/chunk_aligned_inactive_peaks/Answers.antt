@@ -2,7 +2,7 @@ use Rattle.std.proofs.Common.{arith, ◌≡◌, ◌-◌, ◌^◌, refl}
 use Rattle.std.proofs.lemmas.Bool.{false≢true}
 use Rattle.std.proofs.lemmas.Nat.{pow_pos}
 use Rattle.storage_merkle.specs.Laws.Inactive.{at_start, at_next, stopped, past_end, aligned_found, best_start, best_new, best_old}
-use Rattle.storage_current.proofs.qmdb.current.grafting.positions.aligned_inactive.Goals as goal
+use Rattle.storage_current.proofs.qmdb.current.grafting.positions.chunk_aligned_inactive_peaks.Goals as goal
 
 pub loop-left-init : goal.loop-left-init
 loop-left-init g c = record {

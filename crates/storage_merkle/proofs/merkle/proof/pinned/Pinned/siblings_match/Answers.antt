@@ -3,8 +3,8 @@ use Rattle.std.proofs.lemmas.List.Elements.{All-head, All-tail}
 use Rattle.storage_merkle.specs.Shape.{size}
 use Rattle.storage_merkle.specs.Laws.Shape.{valid_size}
 use Rattle.storage_merkle.proofs.Pinned.Match.{passes, fails, none_left, differs, agrees}
-use Rattle.storage_merkle.proofs.merkle.proof.pinned.Pinned.give_siblings.Goals as goal
-use Rattle.storage_merkle.proofs.merkle.proof.pinned.Pinned.give_siblings.Goals.{else-first-power-via-then-first-power+else-ne, else-first-power-via-else-first-power}
+use Rattle.storage_merkle.proofs.merkle.proof.pinned.Pinned.siblings_match.Goals as goal
+use Rattle.storage_merkle.proofs.merkle.proof.pinned.Pinned.siblings_match.Goals.{else-first-power-via-then-first-power+else-ne, else-first-power-via-else-first-power}
 
 pub node_at-first-requires : goal.node_at-first-requires
 node_at-first-requires g c =

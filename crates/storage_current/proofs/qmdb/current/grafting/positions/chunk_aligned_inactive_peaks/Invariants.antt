@@ -1,6 +1,6 @@
 use Rattle.std.proofs.Common.{◌+◌, ◌-◌, ◌≤◌}
 use Rattle.storage_merkle.specs.Inactive.{Reached, Best}
-use Rattle.storage_current.proofs.qmdb.current.grafting.positions.aligned_inactive.Given as goal
+use Rattle.storage_current.proofs.qmdb.current.grafting.positions.chunk_aligned_inactive_peaks.Given as goal
 
 abbrev pub invariant-loop-left : goal.invariant-loop-left
 invariant-loop-left g l = record {

@@ -1,7 +1,7 @@
 use Rattle.std.proofs.Common.{arith, rules, refl, sym, ◌∙◌, ◌+◌, ◌≤◌, ◌^◌}
 use Rattle.storage_merkle.proofs.Walks.{peak_in_tree, peaks_next}
 use Rattle.storage_merkle.proofs.Pinned.Match.{match_none, match_past, none_missing, later_text, match_goes_on}
-use Rattle.storage_merkle.proofs.merkle.proof.pinned.Pinned.+give_peaks.Goals as goal
+use Rattle.storage_merkle.proofs.merkle.proof.pinned.Pinned.+peaks_match.Goals as goal
 
 pub returns-then-rest-eq0 : goal.returns-then-rest-eq0
 returns-then-rest-eq0 g t c = λ end digest recomputed some nodes texts. (
@@ -31,8 +31,8 @@ node-requires-clause-within g t c =
     peak_in_tree g.F.Family.shape g.met.F.Family.laws c.args.self.now.leaves c.args.rest.first c.args.rest.left
     c.first_peak-height.result c.requires.pinned.few c.requires.peaks c.first_peak-height.ensures.first
 
-pub give_peaks-requires : goal.give_peaks-requires
-give_peaks-requires g t c κs within =
+pub peaks_match-requires : goal.peaks_match-requires
+peaks_match-requires g t c κs within =
     let p = peaks_next g.F.Family.shape g.met.F.Family.laws c.args.self.now.leaves c.args.rest.first c.args.rest.left
     c.first_peak-height.result c.requires.pinned.few c.requires.peaks c.first_peak-height.ensures.first in
     rw (c.next.ensures.first, c.next.ensures.left) (search rules)
@@ -51,5 +51,5 @@ returns-then-eq g t c = λ end digest recomputed some nodes texts.
     c.next.result.left c.next.result.folded c.next.ensures.first c.next.ensures.left c.next.ensures.folded
     g.D.Digest.text c.in-Some.digest.now c.args.digests.now c.in-Some.later.now c.in-Some.ensures.cases.0 texts
     (g.D.Digest.text c.node.result) (nodes c.args.rest.first c.first_peak-height.result
-    ∙ sym c.node.ensures) ((g.met.D.Digest.same _ _).0 (sym c.if-eq.ensures)) c.give_peaks.result
-    (c.give_peaks.ensures end digest recomputed some nodes left)
+    ∙ sym c.node.ensures) ((g.met.D.Digest.same _ _).0 (sym c.if-eq.ensures)) c.peaks_match.result
+    (c.peaks_match.ensures end digest recomputed some nodes left)

@@ -10,11 +10,11 @@ use Rattle.storage_merkle.proofs.Check.Roots.{Walk, proof_over, after_all}
 use Rattle.storage_merkle.proofs.Store.Reads.{all_but_first, enough_some, enough_none, front_some, front_none, rest_digests, rest_some, rest_none, back_is, values}
 use Rattle.storage_merkle.proofs.Store.Steps.{positions_rise}
 use Rattle.storage_merkle.proofs.Store.Kept.{kept_sorted}
-use Rattle.storage_merkle.proofs.Store.Answers.{store_is, unwrapped}
-use Rattle.storage_merkle.proofs.merkle.proof_store.ProofStore.of_checked.Goals.{After-after_leading-rest, then-rest-gt0, else-rest-gt0}
+use Rattle.storage_merkle.proofs.Store.Accepted.{store_is, unwrapped}
+use Rattle.storage_merkle.proofs.merkle.proof_store.ProofStore.from_accepted_proof.Goals.{After-after_leading-rest, then-rest-gt0, else-rest-gt0}
 use Rattle.std.proofs.lemmas.Grind.{common_steps}
-use Rattle.storage_merkle.proofs.merkle.proof_store.ProofStore.of_checked.Given.{Over}
-use Rattle.storage_merkle.proofs.merkle.proof_store.ProofStore.of_checked.Goals as goal
+use Rattle.storage_merkle.proofs.merkle.proof_store.ProofStore.from_accepted_proof.Given.{Over}
+use Rattle.storage_merkle.proofs.merkle.proof_store.ProofStore.from_accepted_proof.Goals as goal
 
 -- the walk past the peaks that lead, for a claim over a range
 abbrev walk : (g : Over) (c : After-after_leading-rest g) (T : Layout) → T.shape ≡ g.F.Family.shape → (claim : Content)

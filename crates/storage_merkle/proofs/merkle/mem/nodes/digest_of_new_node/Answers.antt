@@ -3,8 +3,8 @@ use Rattle.std.proofs.lemmas.List.{length-map}
 use Rattle.storage_merkle.specs.Shape.{size}
 use Rattle.storage_merkle.specs.Hashing.{node_over}
 use Rattle.storage_merkle.specs.Kept.{IsClean}
-use Rattle.storage_merkle.proofs.Keeping.{found, lent_some, seen, value_of, kept_some_at, kept_is, children_kept, children_of, leaf_born, inner_born, clean_children, some_height, same_clean}
-use Rattle.storage_merkle.proofs.merkle.mem.nodes.born.Goals as goal
+use Rattle.storage_merkle.proofs.MemNodes.{found, lent_some, seen, value_of, kept_some_at, kept_is, children_kept, children_of, leaf_born, inner_born, clean_children, some_height, same_clean}
+use Rattle.storage_merkle.proofs.merkle.mem.nodes.digest_of_new_node.Goals as goal
 
 pub power-half-requires : goal.power-half-requires
 power-half-requires g c =
@@ -26,8 +26,8 @@ unwrap-left-requires g c =
     let d = kept_some_at S g.met.F.Family.laws c.args.boundary _ _ _ c.position.result
     (map g.H.Digest.Digest.text c.args.pinned.now) (map g.H.Digest.Digest.text c.args.nodes.now) c.position.ensures
     i.0 (rw length-map c.requires.count) (rw length-map c.requires.pins) in
-    lent_some (λ x. x.now) c.find.result (found g.H.Digest.Digest.text (option_map (λ x. x.now) c.find.result) _ d.0 (seen g.H.Digest.Digest.text g.F.Family.shape c.args.boundary
-    c.args.pinned.now c.args.nodes.now _ _ c.find.ensures) d.1)
+    lent_some (λ x. x.now) c.node_at_position.result (found g.H.Digest.Digest.text (option_map (λ x. x.now) c.node_at_position.result) _ d.0 (seen g.H.Digest.Digest.text g.F.Family.shape c.args.boundary
+    c.args.pinned.now c.args.nodes.now _ _ c.node_at_position.ensures) d.1)
 
 pub overflow_add-first : goal.overflow_add-first
 overflow_add-first g c =
@@ -56,8 +56,8 @@ unwrap-right-requires g c =
     (map g.H.Digest.Digest.text c.args.pinned.now) (map g.H.Digest.Digest.text c.args.nodes.now) (c.position-2.ensures
     ∙ ap (λ m. S.position (c.node_after-first.result.0 + m) (c.node_after-first.result.1 - 1)) c.power-half.ensures)
     i.1 (rw length-map c.requires.count) (rw length-map c.requires.pins) in
-    lent_some (λ x. x.now) c.find-2.result (found g.H.Digest.Digest.text (option_map (λ x. x.now) c.find-2.result) _ d.0 (seen g.H.Digest.Digest.text g.F.Family.shape c.args.boundary
-    c.args.pinned.now c.args.nodes.now _ _ c.find-2.ensures) d.1)
+    lent_some (λ x. x.now) c.node_at_position-2.result (found g.H.Digest.Digest.text (option_map (λ x. x.now) c.node_at_position-2.result) _ d.0 (seen g.H.Digest.Digest.text g.F.Family.shape c.args.boundary
+    c.args.pinned.now c.args.nodes.now _ _ c.node_at_position-2.ensures) d.1)
 
 pub returns-then-height-eq0 : goal.returns-then-height-eq0
 returns-then-height-eq0 g c list dirty len holds a k j clean =
@@ -94,10 +94,10 @@ returns g c list dirty len holds a k j clean =
     (rw length-map c.requires.count) holds down.1 in
     inner_born S L g.H.Hasher.hash_of T chunk grown p n.0 n.1 (f c.unwrap-left.result.now)
     (f c.unwrap-right.result.now) _ c.if-height-eq0.false c.node_after-first.ensures
-    (value_of f (option_map (λ x. x.now) c.find.result) _ _ _ (seen g.H.Digest.Digest.text g.F.Family.shape c.args.boundary c.args.pinned.now
-    c.args.nodes.now _ _ c.find.ensures) (ap (option_map (λ x. x.now)) c.unwrap-left.ensures) (rw c.position.ensures x))
-    (value_of f (option_map (λ x. x.now) c.find-2.result) _ _ _ (seen g.H.Digest.Digest.text g.F.Family.shape c.args.boundary c.args.pinned.now
-    c.args.nodes.now _ _ c.find-2.ensures) (ap (option_map (λ x. x.now)) c.unwrap-right.ensures)
+    (value_of f (option_map (λ x. x.now) c.node_at_position.result) _ _ _ (seen g.H.Digest.Digest.text g.F.Family.shape c.args.boundary c.args.pinned.now
+    c.args.nodes.now _ _ c.node_at_position.ensures) (ap (option_map (λ x. x.now)) c.unwrap-left.ensures) (rw c.position.ensures x))
+    (value_of f (option_map (λ x. x.now) c.node_at_position-2.result) _ _ _ (seen g.H.Digest.Digest.text g.F.Family.shape c.args.boundary c.args.pinned.now
+    c.args.nodes.now _ _ c.node_at_position-2.ensures) (ap (option_map (λ x. x.now)) c.unwrap-right.ensures)
     (rw (c.position-2.ensures, c.power-half.ensures) y))
     (c.node_digest.ensures n.0 n.1 (rw at c.node_after-first.ensures))
     a k j

@@ -6,7 +6,7 @@ use Rattle.std.proofs.lemmas.List.{length-map}
 use Rattle.storage_merkle.specs.Shape.{Shape, size}
 use Rattle.storage_merkle.specs.Nodes.{IsNode}
 use Rattle.storage_merkle.specs.Kept.{Kept, HoldsDigests, kept_at, paired, pins}
-use Rattle.storage_merkle.proofs.Keeping.{clean_none}
+use Rattle.storage_merkle.proofs.MemNodes.{clean_none}
 
 pub retained : {D : Type 0} (text : D → List ℕ) (S : Shape) (node : ℕ → ℕ → List ℕ) (list : List (List ℕ)) (m : Kept D)
     → length m.nodes + size S m.boundary ≡ size S m.leaves → m.leaves ≡ length list

@@ -1,6 +1,6 @@
 use Rattle.std.proofs.Common.{arith}
 use Rattle.storage_bitmap.proofs.Bits.{resized}
-use Rattle.storage_bitmap.proofs.bitmap.prunable.add_clear.Goals as goal
+use Rattle.storage_bitmap.proofs.bitmap.prunable.push_zero_bytes.Goals as goal
 
 pub returns-clause-ok : goal.returns-clause-ok
 returns-clause-ok c =

@@ -1,5 +1,5 @@
 use Rattle.std.proofs.Common.{rules}
-use Rattle.storage_db.proofs.db.changes.take_out.Goals as goal
+use Rattle.storage_db.proofs.db.changes.remove_active.Goals as goal
 
 pub returns-clause-bits : goal.returns-clause-bits
 returns-clause-bits g c = search rules

@@ -4,9 +4,9 @@ use Rattle.storage_merkle.specs.Shape.{size}
 use Rattle.storage_merkle.specs.Hashing.{node_over}
 use Rattle.storage_merkle.specs.Kept.{kept_at}
 use Rattle.storage_merkle.specs.Rewriting.{over}
-use Rattle.storage_merkle.proofs.Keeping.{found, lent_some, seen, value_of, kept_some_at, clean_children}
+use Rattle.storage_merkle.proofs.MemNodes.{found, lent_some, seen, value_of, kept_some_at, clean_children}
 use Rattle.storage_merkle.proofs.Rewriting.{over_is, room, children_over_at, child_value, above_is}
-use Rattle.storage_merkle.proofs.merkle.mem.nodes.above.Goals as goal
+use Rattle.storage_merkle.proofs.merkle.mem.nodes.parent_digest.Goals as goal
 
 pub position-position-requires-clause-aligned : goal.position-position-requires-clause-aligned
 position-position-requires-clause-aligned g c = let o = over_is c.args.place c.args.height in
@@ -39,9 +39,9 @@ unwrap-left-requires g c =
     let d = kept_some_at S g.met.F.Family.laws c.args.boundary (size S c.args.leaves) (over c.args.place c.args.height)
     (c.args.height - 1) c.position.result P Q (c.position.ensures ∙ ap (λ m. S.position m (c.args.height - 1)) f)
     i.0 (rw length-map c.requires.count) (rw length-map c.requires.pins) in
-    lent_some (λ x. x.now) c.find.result (found g.H.Digest.Digest.text (option_map (λ x. x.now) c.find.result) (kept_at S c.args.boundary P Q c.position.result) d.0
+    lent_some (λ x. x.now) c.node_at_position.result (found g.H.Digest.Digest.text (option_map (λ x. x.now) c.node_at_position.result) (kept_at S c.args.boundary P Q c.position.result) d.0
     (seen g.H.Digest.Digest.text g.F.Family.shape c.args.boundary c.args.pinned.now c.args.nodes.now _ _
-    c.find.ensures) d.1)
+    c.node_at_position.ensures) d.1)
 
 pub position-requires-2-clause-aligned : goal.position-requires-2-clause-aligned
 position-requires-2-clause-aligned g c = let r = room g.F.Family.shape g.met.F.Family.laws c.args.leaves c.args.place
@@ -66,9 +66,9 @@ unwrap-right-requires g c =
     (over c.args.place c.args.height + 2 ^ (c.args.height - 1)) (c.args.height - 1) c.position-2.result P Q
     (c.position-2.ensures ∙ ap₂ (λ m n. S.position (m + n) (c.args.height - 1)) f c.power-half.ensures) i.1
     (rw length-map c.requires.count) (rw length-map c.requires.pins) in
-    lent_some (λ x. x.now) c.find-2.result (found g.H.Digest.Digest.text (option_map (λ x. x.now) c.find-2.result) (kept_at S c.args.boundary P Q c.position-2.result) d.0
+    lent_some (λ x. x.now) c.node_at_position-2.result (found g.H.Digest.Digest.text (option_map (λ x. x.now) c.node_at_position-2.result) (kept_at S c.args.boundary P Q c.position-2.result) d.0
     (seen g.H.Digest.Digest.text g.F.Family.shape c.args.boundary c.args.pinned.now c.args.nodes.now _ _
-    c.find-2.ensures) d.1)
+    c.node_at_position-2.ensures) d.1)
 
 pub returns : goal.returns
 returns g c list rest w clean =
@@ -95,13 +95,13 @@ returns g c list rest w clean =
     (h - 1) P Q i.1 (rw length-map c.requires.count) w (omega (arith, c.requires.inner)) k.1 in
     above_is S L g.H.Hasher.hash_of T chunk list a h (b c.unwrap-left.result.now) (b c.unwrap-right.result.now)
     (b c.node_digest.result) c.requires.inner
-    (value_of b (option_map (λ x. x.now) c.find.result) (kept_at S c.args.boundary P Q c.position.result) _ c.unwrap-left.result.now
+    (value_of b (option_map (λ x. x.now) c.node_at_position.result) (kept_at S c.args.boundary P Q c.position.result) _ c.unwrap-left.result.now
     (seen g.H.Digest.Digest.text g.F.Family.shape c.args.boundary c.args.pinned.now c.args.nodes.now _ _
-    c.find.ensures) (ap (option_map (λ x. x.now)) c.unwrap-left.ensures)
+    c.node_at_position.ensures) (ap (option_map (λ x. x.now)) c.unwrap-left.ensures)
     (ap (kept_at S c.args.boundary P Q) (c.position.ensures ∙ ap (λ m. S.position m (h - 1)) f) ∙ x))
-    (value_of b (option_map (λ x. x.now) c.find-2.result) (kept_at S c.args.boundary P Q c.position-2.result) _ c.unwrap-right.result.now
+    (value_of b (option_map (λ x. x.now) c.node_at_position-2.result) (kept_at S c.args.boundary P Q c.position-2.result) _ c.unwrap-right.result.now
     (seen g.H.Digest.Digest.text g.F.Family.shape c.args.boundary c.args.pinned.now c.args.nodes.now _ _
-    c.find-2.ensures) (ap (option_map (λ x. x.now)) c.unwrap-right.ensures) (ap (kept_at S c.args.boundary P Q) (c.position-2.ensures
+    c.node_at_position-2.ensures) (ap (option_map (λ x. x.now)) c.unwrap-right.ensures) (ap (kept_at S c.args.boundary P Q) (c.position-2.ensures
     ∙ ap₂ (λ m n. S.position (m + n) (h - 1)) f c.power-half.ensures) ∙ y))
     (c.node_digest.ensures a h (record { aligned = o.aligned; at = sym at }))
 

@@ -1,6 +1,6 @@
 use Rattle.std.proofs.Common.{◌≡◌, ◌+◌, length, drop}
 use Rattle.storage_merkle.specs.Kept.{paired, pins}
-use Rattle.storage_merkle.proofs.merkle.mem.nodes.find.Given as goal
+use Rattle.storage_merkle.proofs.merkle.mem.nodes.node_at_position.Given as goal
 
 abbrev pub invariant-loop-at : goal.invariant-loop-at
 invariant-loop-at g l = record {

@@ -10,7 +10,7 @@ use Rattle.storage_merkle.proofs.Check.Nodes.{first_of}
 use Rattle.storage_merkle.proofs.Check.Tops.{first_and_others, tops_fold, present_first, present_others, some_top, tops_left, top_here, tops_after, right_step, right_end, right_fold}
 use Rattle.storage_merkle.specs.Laws.Shape.{no_peaks}
 use Rattle.storage_merkle.proofs.Found.{adds_nothing, adds_then, found_none, found_past, found_first}
-use Rattle.storage_merkle.proofs.merkle.proof.check.Given.+unfolded.Goals as goal
+use Rattle.storage_merkle.proofs.merkle.proof.check.Given.+fold_right.Goals as goal
 
 pub returns-then-rest-eq0 : goal.returns-then-rest-eq0
 returns-then-rest-eq0 g t c = λ digest serves is.
@@ -65,8 +65,8 @@ item-requires-clause-tops g t c =
     some_top g.F.Family.shape self.start self.end r.first r.left 0 _ _ _ _ c.first_peak-height.ensures.first refl refl
     refl (inr (omega arith, c.if-self-rest.false)) c.args.tops.now c.requires.tops
 
-pub unfolded-requires : goal.unfolded-requires
-unfolded-requires g t c κs within =
+pub fold_right-requires : goal.fold_right-requires
+fold_right-requires g t c κs within =
     let S = g.F.Family.shape in
     let self = c.args.self.now in
     let r = c.args.rest in
@@ -104,6 +104,6 @@ returns g t c = λ digest serves is.
           refl g.H.Hasher.hash_of (λ p. eval g.H.Hasher.hash_of v
           (part (g.H.Hasher.layout c.args.hasher.now) (apart self.start self.end) p)) (digest back) _ _
           c.if-self-rest.false item.0 onto.0,
-      adds_then _ c.args.found.now c.item.new.found c.unfolded.new.found _ _ _ (found_first g.H.Hasher.hash_of
+      adds_then _ c.args.found.now c.item.new.found c.fold_right.new.found _ _ _ (found_first g.H.Hasher.hash_of
           (g.H.Hasher.layout c.args.hasher.now) self.start self.end v k r.first _ _ opened) item.1 onto.1,
     )

@@ -1,6 +1,6 @@
 use Rattle.std.proofs.Common.{arith, length, ap, ◌∙◌, refl}
-use Rattle.storage_merkle.proofs.Keeping.{length_pins, look_hit, look_on}
-use Rattle.storage_merkle.proofs.merkle.mem.nodes.find.Goals as goal
+use Rattle.storage_merkle.proofs.MemNodes.{length_pins, look_hit, look_on}
+use Rattle.storage_merkle.proofs.merkle.mem.nodes.node_at_position.Goals as goal
 
 pub loop-at-init : goal.loop-at-init
 loop-at-init g c = record {
