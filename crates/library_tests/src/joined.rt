@@ -2,15 +2,17 @@
 //! tell that each is the snapshot's own, over a tree in memory and over one that keeps pins and leaves alone. The proofs of one
 //! snapshot are made too: a client accepts them.
 
-ghost use Rattle.std.specs.Prelude.{◌≡◌, ℕ, ◌+◌, ◌<◌, ◌≤◌, ◌^◌, [], List, length, map, get_or, option_map, IfOk, IfSome};
+ghost use Rattle.std.specs.Prelude.{◌≡◌, ℕ, ◌+◌, ◌<◌, ◌≤◌, ◌^◌, [], List, length, map, get_or, option_map, IfOk, IfSome, IsSome};
+ghost use Rattle.std.specs.List.{Contains};
 ghost use Rattle.storage_merkle.specs.Kept.{StandsFor};
+ghost use Rattle.storage_merkle.specs.Plans.{planned};
 ghost use Rattle.storage_merkle.specs.Shape.{size};
-ghost use Rattle.storage_bitmap.specs.Chunks.{IsChunkSize, bit_count};
-ghost use Rattle.storage_current.specs.CombinedViews.{AnswersAreTrue, AreAnswersOf, AreFirstGraftedLeaves, AreGraftedLeaves, EachIsCoverable, chunk_node, grafted_node, operations_node};
+ghost use Rattle.storage_bitmap.specs.Chunks.{IsChunkSize, Retained, bit_count};
+ghost use Rattle.storage_current.specs.CombinedViews.{AnswersAreTrue, AreAnswersOf, AreFirstGraftedLeaves, AreGraftedLeaves, EachIsCoverable, HavePlanned, chunk_node, grafted_node, operations_node};
 ghost use Rattle.storage_current.specs.GraftedTrees.{Keeps};
 ghost use Rattle.storage_current.specs.Held.{range_proof_of};
 ghost use Rattle.storage_current.specs.Served.{AreServedOf, end_of};
-ghost use Rattle.storage_current.specs.Snapshots.{Holds, IsServed, IsSnapshot, Snapshot, graftable, grafting_of, own_range_proof};
+ghost use Rattle.storage_current.specs.Snapshots.{Holds, IsServed, IsSnapshot, Snapshot, graftable, grafting_of, height, own_range_proof};
 ghost use Rattle.library_tests.specs.Joined.{AreOtherParts};
 
 use crate::grafted::{HEIGHT, append};
@@ -21,7 +23,10 @@ use std::process::Abort;
 use storage_bitmap::bitmap::{self, Prunable, Readable as _};
 use storage_codec::codec::FixedBytes;
 use storage_codec::digest::{Hasher, Sha256};
-use storage_current::laws::combined::{joined_trees_answer_the_view, joined_trees_are_the_view};
+use storage_current::laws::combined::{
+    combined_stores_serve_the_view, joined_trees_answer_the_view, joined_trees_are_the_view,
+    planned_nodes_serve_a_range,
+};
 use storage_current::laws::grafted_trees::{
     grafted_trees_keep_the_view, memory_trees_keep_the_view, nodes_inside_no_pin_are_coverable,
 };
@@ -407,6 +412,73 @@ fn node_from_unpruned<
     grafted_trees_keep_the_view::<F, H, N>(chunks);
     nodes_inside_no_pin_are_coverable(chunks);
     node_from::<F, H, GraftedTree<F, H::Digest>, S, N>(chunks, operations, position)
+}
+
+/// What `chunks` and `operations` as one have at `position`: where each node that is planned of a range is coverable, a digest at each
+/// planned position.
+fn planned_node_from<
+    F: Graftable,
+    H: Hasher,
+    C: Readable<Family = F, Digest = H::Digest>,
+    S: merkle::Storage<F, Digest = H::Digest>,
+    const N: usize,
+>(
+    chunks: &C,
+    operations: &mut S,
+    position: Position<F>,
+) -> Result<Option<H::Digest>, merkle::Error<F>>
+    requires size { IsChunkSize N }
+    requires fails { S.failed operations.old + 1 < 2 ^ 64 }
+    ensures { let g = grafting_of F.shape N in
+        IfOk result (λ node. (s : Snapshot) (status : Retained) (floor low high : ℕ)
+        (ops_root : List ℕ)
+        → AnswersAreTrue H.Digest.text F.shape (graftable g (length s.operations))
+        (grafted_node H.hash_of g s) (C.node chunks.now)
+        → AreOtherParts H.Digest.text H.hash_of g (S.nodes operations.old) (S.node operations.old)
+        status floor ops_root s
+        → HavePlanned F.shape (height g) (length s.operations) low high (C.node chunks.now)
+        (S.node operations.old)
+        → Contains (planned F.shape (length s.operations) low high) position
+        → IsSome node) }
+{
+    planned_nodes_serve_a_range::<F, H, N>();
+    let height = grafting::height::<N>();
+    let mut both = grafting::Storage::<F, H, C, S>::new(chunks, height, operations);
+    both.get_node(position)
+}
+
+/// The same where each node over chunks is coverable and each of the operations is had: a digest at each planned position, whatever
+/// the range.
+fn any_planned_node_from<
+    F: Graftable,
+    H: Hasher,
+    C: Readable<Family = F, Digest = H::Digest>,
+    S: merkle::Storage<F, Digest = H::Digest>,
+    const N: usize,
+>(
+    chunks: &C,
+    operations: &mut S,
+    position: Position<F>,
+) -> Result<Option<H::Digest>, merkle::Error<F>>
+    requires size { IsChunkSize N }
+    requires fails { S.failed operations.old + 1 < 2 ^ 64 }
+    ensures { let g = grafting_of F.shape N in
+        IfOk result (λ node. (s : Snapshot) (status : Retained) (floor low high : ℕ)
+        (ops_root : List ℕ)
+        → AnswersAreTrue H.Digest.text F.shape (graftable g (length s.operations))
+        (grafted_node H.hash_of g s) (C.node chunks.now)
+        → EachIsCoverable F.shape (graftable g (length s.operations)) (C.node chunks.now)
+        → AreOtherParts H.Digest.text H.hash_of g (S.nodes operations.old) (S.node operations.old)
+        status floor ops_root s
+        → AreAnswersOf H.Digest.text F.shape (length s.operations) (operations_node H.hash_of g s)
+        (S.node operations.old)
+        → Contains (planned F.shape (length s.operations) low high) position
+        → IsSome node) }
+{
+    combined_stores_serve_the_view::<F, H, N>();
+    let height = grafting::height::<N>();
+    let mut both = grafting::Storage::<F, H, C, S>::new(chunks, height, operations);
+    both.get_node(position)
 }
 
 /// The inactivity floor of the snapshot that is tried.
