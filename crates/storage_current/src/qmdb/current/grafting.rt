@@ -26,7 +26,6 @@ pub use positions::{
     ops_to_grafted_pos, up_and_down,
 };
 pub use storage::Storage;
-pub(crate) use storage::{Look, look_up};
 use storage_codec::digest::{Digest, Hasher};
 pub(crate) use storage_merkle::merkle::family::power;
 pub use tree::GraftedTree;
