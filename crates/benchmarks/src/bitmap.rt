@@ -27,12 +27,12 @@ type Digest = FixedBytes<32>;
 /// The ordinary hasher, which counts what it hashes.
 pub type Hasher = Counted<Standard<Sha256>>;
 
-/// That of an authenticated bitmap whose peaks are folded in this direction, before it hashed anything.
+/// Returns that of an authenticated bitmap whose peaks are folded in this direction, before it hashed anything.
 pub fn hasher(bagging: Bagging) -> Hasher {
     Counted::new(Standard::new(bagging))
 }
 
-/// The bitmap of no bits, open to changes.
+/// Returns the bitmap of no bits, open to changes.
 fn empty<const N: usize>(
     alloc: Global,
     hasher: &Hasher,
@@ -49,7 +49,7 @@ fn empty<const N: usize>(
     }
 }
 
-/// Appends four bits to `bitmap`, of which the first one is set; none where there is no memory for one.
+/// Appends four bits to `bitmap`, of which the first one is set; none if there is no memory for one.
 fn push_four<const N: usize>(bitmap: &mut UnmerkleizedBitMap<Digest, N>) -> Option<()>
     requires { bit_count N bitmap.old.retained + 4 ≤ max_leaves }
     ensures { IfSome result (λ _.
@@ -65,8 +65,8 @@ fn push_four<const N: usize>(bitmap: &mut UnmerkleizedBitMap<Digest, N>) -> Opti
     Some(())
 }
 
-/// Appends `count` bits to `bitmap`, of which each fourth one is set; none where there is no memory for one. Its code stands
-/// apart, so that what it takes does not depend on its caller.
+/// Appends `count` bits to `bitmap`, of which each fourth one is set; none if there is no memory for one. Its code
+/// stands apart, so that what it takes does not depend on its caller.
 #[inline(never)]
 fn push_all<const N: usize>(bitmap: &mut UnmerkleizedBitMap<Digest, N>, count: u64) -> Option<()>
     requires { bit_count N bitmap.old.retained + count ≤ max_leaves }
@@ -84,7 +84,7 @@ fn push_all<const N: usize>(bitmap: &mut UnmerkleizedBitMap<Digest, N>, count: u
     Some(())
 }
 
-/// The bitmap with its root under `hasher`.
+/// Returns the bitmap with its root under `hasher`.
 fn merkleized<const N: usize>(
     bitmap: UnmerkleizedBitMap<Digest, N>,
     hasher: &Hasher,
@@ -95,7 +95,7 @@ fn merkleized<const N: usize>(
     }
 }
 
-/// The bitmap of `count` bits, of which each fourth one is set, with its root.
+/// Returns the bitmap of `count` bits, of which each fourth one is set, with its root.
 pub fn pushed<const N: usize>(
     alloc: Global,
     hasher: &Hasher,
@@ -114,7 +114,7 @@ pub fn pushed<const N: usize>(
     merkleized(bitmap, hasher)
 }
 
-/// The bitmap with the bit number `bit` turned, with its new root.
+/// Returns the bitmap with the bit number `bit` turned, with its new root.
 fn turned<const N: usize>(
     bitmap: MerkleizedBitMap<Digest, N>,
     hasher: &Hasher,
@@ -131,8 +131,8 @@ fn turned<const N: usize>(
     merkleized(bitmap, hasher)
 }
 
-/// The root of the bitmap of `count` bits after `turns` of them, spread evenly, were turned, and how many strings were hashed at
-/// most for the root after one of them.
+/// Returns the root of the bitmap of `count` bits after `turns` of them, spread evenly, were turned, and how many
+/// strings were hashed at most for the root after one of them.
 fn all_turned<const N: usize>(
     mut bitmap: MerkleizedBitMap<Digest, N>,
     hasher: &Hasher,
@@ -147,7 +147,7 @@ fn all_turned<const N: usize>(
     Ok((bitmap.root(), most))
 }
 
-/// The lines to print for chunks of `N` bytes, `count` bits and `turns` turned ones.
+/// Returns the lines to print for chunks of `N` bytes, `count` bits and `turns` turned ones.
 fn report<const N: usize>(alloc: Global, count: u64, turns: u64) -> Result<String, Fault>
     requires { IsChunkSize N }
 {
@@ -159,7 +159,8 @@ fn report<const N: usize>(alloc: Global, count: u64, turns: u64) -> Result<Strin
     Ok(format!(in alloc; "{root}\nhashed for all: {whole}\nhashed for one bit: {most}")?)
 }
 
-/// The lines to print for `words`: the size of a chunk, how many bits there are, and how many of them are turned.
+/// Returns the lines to print for `words`: the size of a chunk, how many bits there are, and how many of them are
+/// turned.
 pub fn reply(alloc: Global, words: &[&str]) -> Result<String, Fault> {
     let [size, count, turns] = words else {
         return Err(Fault::Malformed);

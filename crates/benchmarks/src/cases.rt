@@ -26,7 +26,7 @@ enum Work {
     Share(u64),
 }
 
-/// How many of `count` checks of `bytes` answer yes.
+/// Returns how many of `count` checks of `bytes` answer yes.
 fn repeated<F: Graftable, H: Hasher>(
     alloc: Global,
     case: &Case<H::Digest>,
@@ -42,7 +42,7 @@ fn repeated<F: Graftable, H: Hasher>(
     Ok(accepted)
 }
 
-/// The same of the proof of an operation as shared bytes.
+/// Returns the same of the proof of an operation as shared bytes.
 fn shared<F: Graftable, H: Hasher>(
     alloc: Global,
     case: &Case<H::Digest>,
@@ -64,7 +64,7 @@ fn shared<F: Graftable, H: Hasher>(
     Ok(accepted)
 }
 
-/// What `work` on a case of the family `F` answers.
+/// Returns what `work` on a case of the family `F` answers.
 fn report<F: Graftable, H: Hasher>(
     alloc: Global,
     work: Work,
@@ -79,7 +79,8 @@ fn report<F: Graftable, H: Hasher>(
     Ok(format!(in alloc; "accepted {accepted} times of {count}")?)
 }
 
-/// What `work` on a case of that kind over the digest function `H` answers, whose columns begin with the family.
+/// Returns what `work` on a case of that kind over the digest function `H` answers, whose columns begin with the
+/// family.
 fn over<H: Hasher>(
     alloc: Global,
     work: Work,
@@ -97,9 +98,10 @@ fn over<H: Hasher>(
     }
 }
 
-/// The line to print for a proof of an operation that is checked many times. The words are how each check is given the proof,
-/// `repeated` as it is or `shared` as shared bytes that are lent anew, how often, and the columns of a case of the kind `proof` after its
-/// name; `sha512` stands before the family where the digests are of SHA-512 and not of SHA-256.
+/// Returns the line to print for a proof of an operation that is checked many times. The words are how each check is
+/// given the proof, `repeated` as it is or `shared` as shared bytes that are lent anew, how often, and the columns of a
+/// case of the kind `proof` after its name; `sha512` stands before the family where the digests are of SHA-512 and not
+/// of SHA-256.
 pub fn check(alloc: Global, words: &[&str]) -> Result<String, Fault> {
     let [work, count, columns @ ..] = words else {
         return Err(Fault::Malformed);
@@ -116,7 +118,7 @@ pub fn check(alloc: Global, words: &[&str]) -> Result<String, Fault> {
     }
 }
 
-/// The row, the kind and the name of a case over the digest function `H`, and its answer.
+/// Returns the row, the kind and the name of a case over the digest function `H`, and its answer.
 fn told<H: Hasher>(alloc: Global, row: &str, columns: &[&str]) -> Result<String, Fault> {
     let [kind, name, rest @ ..] = columns else {
         return Err(Fault::Malformed);
@@ -130,8 +132,8 @@ fn told<H: Hasher>(alloc: Global, row: &str, columns: &[&str]) -> Result<String,
     Ok(format!(in alloc; "{row} {kind} {name}: {answer}")?)
 }
 
-/// The line to print for a case of a row, whose columns are the kind of the case, its name and more. Its digests are those of SHA-256,
-/// but of SHA-512 where `sha512` stands before the kind.
+/// Returns the line to print for a case of a row, whose columns are the kind of the case, its name and more. Its
+/// digests are those of SHA-256, but of SHA-512 where `sha512` stands before the kind.
 pub fn reply(alloc: Global, row: &str, columns: &[&str]) -> Result<String, Fault> {
     match columns {
         ["sha512", rest @ ..] => {

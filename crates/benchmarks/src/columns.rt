@@ -33,7 +33,7 @@ impl From<NoMemory> for Fault {
 }
 
 impl Fault {
-    /// The fault of a call on a tree or a bitmap that was refused.
+    /// Returns the fault of a call on a tree or a bitmap that was refused.
     pub fn of_tree<F>(error: &merkle::Error<F>) -> Fault {
         match error {
             merkle::Error::Memory => Fault::Memory,
@@ -42,7 +42,7 @@ impl Fault {
     }
 }
 
-/// A number.
+/// Returns a number.
 pub fn number(column: &str) -> Result<u64, Fault> {
     match column.parse::<u64>() {
         Ok(number) => Ok(number),
@@ -59,7 +59,7 @@ pub fn bytes(alloc: Global, column: &str) -> Result<Vec<u8>, Fault> {
     }
 }
 
-/// A digest in hexadecimal.
+/// Returns a digest in hexadecimal.
 pub fn digest<D: Digest>(alloc: Global, column: &str) -> Result<D, Fault> {
     let bytes = bytes(alloc, column)?;
     match D::decode(alloc, bytes.as_slice()) {

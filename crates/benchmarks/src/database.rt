@@ -14,7 +14,7 @@ use std::alloc::Global;
 
 type Database = Ordered<Family, Sha256, FixedBytes<4>, FixedEncoding<u64>, 32>;
 
-/// The key number `index`: those of numbers side by side are far apart, and no two of them are the same.
+/// Returns the key number `index`: those of numbers side by side are far apart, and no two of them are the same.
 fn key(index: u32) -> FixedBytes<4> {
     FixedBytes {
         bytes: index.wrapping_mul(2_654_435_761).to_be_bytes(),
@@ -31,7 +31,7 @@ fn fill(database: &mut Database, count: u32) -> Result<(), Fault> {
     Ok(())
 }
 
-/// The canonical root after a commit.
+/// Returns the canonical root after a commit.
 fn root(alloc: Global, database: &mut Database) -> Result<String, Fault> {
     if database.commit(None).is_err() {
         return Err(Fault::Memory);
@@ -42,7 +42,7 @@ fn root(alloc: Global, database: &mut Database) -> Result<String, Fault> {
     }
 }
 
-/// The line to print of `database`, after `count` keys are put into it.
+/// Returns the line to print of `database`, after `count` keys are put into it.
 fn told(alloc: Global, database: &mut Database, work: &str, count: u32) -> Result<String, Fault> {
     fill(database, count)?;
     if work == "commit" {
@@ -54,7 +54,7 @@ fn told(alloc: Global, database: &mut Database, work: &str, count: u32) -> Resul
     }
 }
 
-/// The line to print for `words`: what is done, and how many keys are put.
+/// Returns the line to print for `words`: what is done, and how many keys are put.
 pub fn reply(alloc: Global, words: &[&str]) -> Result<String, Fault> {
     let [work, count] = words else {
         return Err(Fault::Malformed);

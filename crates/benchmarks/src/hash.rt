@@ -15,7 +15,7 @@ fn step<H: Hasher>(string: &mut [u8], digest: H::Digest) -> H::Digest {
     H::hash(&[string])
 }
 
-/// The last digest of `count` strings of `length` bytes, of which the first begins with `first`.
+/// Returns the last digest of `count` strings of `length` bytes, of which the first begins with `first`.
 fn hashed<H: Hasher>(
     alloc: Global,
     first: H::Digest,
@@ -30,7 +30,7 @@ fn hashed<H: Hasher>(
     Ok(digest)
 }
 
-/// The last digest of all `pairs`, in hexadecimal.
+/// Returns the last digest of all `pairs`, in hexadecimal.
 fn report<H: Hasher>(alloc: Global, pairs: &[&str]) -> Result<String, Fault> {
     let mut digest = H::fill(0);
     for pair in pairs.chunks(2) {
@@ -43,7 +43,7 @@ fn report<H: Hasher>(alloc: Global, pairs: &[&str]) -> Result<String, Fault> {
     Ok(hex::encode(alloc, digest.bytes())?)
 }
 
-/// The line to print for `words`: the pairs, and before them the digest function if it is not SHA-256.
+/// Returns the line to print for `words`: the pairs, and before them the digest function if it is not SHA-256.
 pub fn reply(alloc: Global, words: &[&str]) -> Result<String, Fault> {
     match words {
         [] => Err(Fault::Malformed),

@@ -14,7 +14,7 @@ use columns::Fault;
 use std::alloc::{AllocError, Global};
 use std::io::{self, BufRead, BufReader, BufWriter, ErrorKind, Write};
 
-/// What the work of `words` answers.
+/// Returns what the work of `words` answers.
 fn answer(alloc: Global, words: &[&str]) -> Result<String, Fault> {
     match words {
         ["hash", words @ ..] => hash::reply(alloc, words),
@@ -27,7 +27,7 @@ fn answer(alloc: Global, words: &[&str]) -> Result<String, Fault> {
     }
 }
 
-/// The lines to print for `line`, a line of the input.
+/// Returns the lines to print for `line`, a line of the input.
 fn reply(alloc: Global, line: &str) -> io::Result<String> {
     let words: Vec<&str> = line.split(' ').collect(alloc)?;
     match answer(alloc, &words) {

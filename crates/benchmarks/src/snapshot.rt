@@ -17,7 +17,7 @@ use std::alloc::Global;
 /// The bytes of an operation where their number is not said.
 const LENGTH: usize = 18;
 
-/// The tree over `count` operations of `length` bytes: the number of each, and a byte that fills it up.
+/// Returns the tree over `count` operations of `length` bytes: the number of each, and a byte that fills it up.
 fn tree(alloc: Global, count: u64, length: usize) -> Result<OperationTree<Family, Sha512>, Fault> {
     let mut operation = vec![in alloc; 0xd2u8; length]?;
     let mut tree = OperationTree::new(alloc);
@@ -44,7 +44,7 @@ fn bits(alloc: Global, count: u64) -> Result<Prunable<32>, Fault> {
     Ok(bits)
 }
 
-/// The snapshot's proof of the operation at `location`, in hexadecimal.
+/// Returns the snapshot's proof of the operation at `location`, in hexadecimal.
 fn proof(
     alloc: Global,
     snapshot: &Snapshot<Family, Sha512, 32>,
@@ -69,7 +69,8 @@ fn proof(
     }
 }
 
-/// The lines to print of `snapshot`, whose floor is `floor`: its root, and with `prove` its proof of the operation at `location`.
+/// Returns the lines to print of `snapshot`, whose floor is `floor`: its root, and with `prove` its proof of the
+/// operation at `location`.
 fn told(
     alloc: Global,
     work: &str,
@@ -85,7 +86,7 @@ fn told(
     Ok(format!(in alloc; "{root}\n{proof}")?)
 }
 
-/// The lines to print for `count` operations of `length` bytes.
+/// Returns the lines to print for `count` operations of `length` bytes.
 fn report(alloc: Global, work: &str, count: u64, length: usize) -> Result<String, Fault> {
     let floor = count / 2;
     let bits = bits(alloc, count)?;
@@ -96,7 +97,8 @@ fn report(alloc: Global, work: &str, count: u64, length: usize) -> Result<String
     }
 }
 
-/// The lines to print for `words`: what is made, of how many operations, and how many bytes each has if not `LENGTH`.
+/// Returns the lines to print for `words`: what is made, of how many operations, and how many bytes each has if not
+/// `LENGTH`.
 pub fn reply(alloc: Global, words: &[&str]) -> Result<String, Fault> {
     match words {
         [work, count] => report(alloc, *work, number(*count)?, LENGTH),

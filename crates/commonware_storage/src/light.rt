@@ -28,12 +28,13 @@ pub use text_error::TextError;
 /// The most digests that a proof may have. No tree needs more for one location.
 pub const MAX_DIGESTS: usize = 128;
 
-/// Whether the operation with the bytes `operation` stands at the location `loc` of the snapshot with the canonical root
-/// `root`, and is active. `proof` is an operation proof as it is written, over a chunk of `chunk_size` bytes.
+/// Returns whether the operation with the bytes `operation` stands at the location `loc` of the snapshot with the
+/// canonical root `root`, and is active. `proof` is an operation proof as it is written, over a chunk of `chunk_size`
+/// bytes.
 ///
-/// The answer is no where the bytes are not one whole proof with at most [`MAX_DIGESTS`] digests, where it is the proof of
-/// another location, and where no chunk has that size: this last no takes no memory. Else it is what the proof's `verify`
-/// answers.
+/// The answer is no if the bytes are not one whole proof with at most [`MAX_DIGESTS`] digests, if it is the proof of
+/// another location, and if no chunk has that size: this last no allocates nothing. Else it is what the proof's
+/// `verify` answers.
 pub fn check_operation<F: Graftable, H: Hasher>(
     alloc: Global,
     proof: &[u8],
@@ -55,7 +56,7 @@ pub fn check_operation<F: Graftable, H: Hasher>(
     operation_from::<F, H, &[u8]>(alloc, proof, chunk_size, loc, operation, root)
 }
 
-/// What [`check_operation`] answers for the bytes that `buf` holds.
+/// Returns what [`check_operation`] answers for the bytes that `buf` holds.
 fn operation_from<F: Graftable, H: Hasher, B: Buf>(
     alloc: Global,
     buf: B,
@@ -86,12 +87,13 @@ fn operation_from<F: Graftable, H: Hasher, B: Buf>(
     }
 }
 
-/// What [`check_operation`] answers for the bytes that `proof` and `operation` spell in hexadecimal, in either case.
+/// Returns what [`check_operation`] answers for the bytes that `proof` and `operation` spell in hexadecimal, in either
+/// case.
 ///
 /// # Errors
 ///
-/// The first of: `Operation` where the operation's text spells no bytes; `Proof` where the proof's does not, also for a
-/// chunk size that no chunk has; `Memory`, which may come at any point.
+/// The first of: `Operation` if the operation's text spells no bytes; `Proof` if the proof's does not, also for a chunk
+/// size that no chunk has; `Memory`, which may come at any point.
 pub fn check_text<F: Graftable, H: Hasher>(
     alloc: Global,
     proof: &str,
@@ -118,7 +120,7 @@ pub fn check_text<F: Graftable, H: Hasher>(
     Ok(yes)
 }
 
-/// The bytes that `text` spells in hexadecimal; `fault` where it spells none.
+/// Returns the bytes that `text` spells in hexadecimal; `fault` if it spells none.
 fn spelled(alloc: Global, text: &str, fault: TextError) -> Result<Vec<u8>, TextError>
     ensures bytes { IfOk result (λ bytes. decode_of text.now ≡ Ok bytes.items) }
     ensures why { IfErr result (λ error.

@@ -19,7 +19,8 @@ type Value = VariableEncoding<Vec<u8>>;
 /// What readers of keys and values are told: the lengths that they admit, in bytes.
 const CFG: (RangeCfg, ()) = (RangeCfg { min: 0, max: 1024 }, ());
 
-/// Whether `proof` shows that the key of `claim`, `KEY VALUE`, has this value in the database with the root `root`.
+/// Returns whether `proof` shows that the key of `claim`, `KEY VALUE`, has this value in the database with the root
+/// `root`.
 pub(crate) fn has_value(alloc: Global, claim: &str, proof: &[u8], root: &Root) -> Result<bool> {
     let (key, value) = claim.split_once(' ').context("no value")?;
     let key = key.as_bytes().to_vec(alloc)?;
@@ -27,7 +28,7 @@ pub(crate) fn has_value(alloc: Global, claim: &str, proof: &[u8], root: &Root) -
     Ok(check_value::<Family, Sha256, _, Value>(alloc, proof, CHUNK, &CFG, key, value, root)?)
 }
 
-/// Whether `proof` shows that `key` has no value in the database with the root `root`.
+/// Returns whether `proof` shows that `key` has no value in the database with the root `root`.
 pub(crate) fn is_absent(alloc: Global, key: &str, proof: &[u8], root: &Root) -> Result<bool> {
     let key = key.as_bytes().to_vec(alloc)?;
     // an absence is shown by an update, with its key and value, or by a commit, with its value

@@ -22,7 +22,8 @@ type Value = FixedEncoding<u64>;
 /// The update of the key 6 to the value 3, with the next key, 8: tag, key, value, next key, zeros.
 const UPDATE: [u8; 18] = [0xd2, 0, 0, 0, 6, 0, 0, 0, 0, 0, 0, 0, 3, 0, 0, 0, 8, 0];
 
-/// Whether `proof` shows what `asked` names: `operation`, `value` or `range`. Out of memory is an error, and so is another word.
+/// Returns whether `proof` shows what `asked` names: `operation`, `value` or `range`. Running out of memory is an
+/// error, and so is another word.
 pub(crate) fn answer(alloc: Global, asked: &str, proof: &[u8]) -> Result<bool> {
     let root = &root_of(ROOT)?;
     let (bytes, at) = ([0, 0, 0, 6], Location::new(3));

@@ -18,8 +18,8 @@ fn root_of(word: &str) -> Result<FixedBytes<32>> {
     Ok(FixedBytes { bytes })
 }
 
-/// Checks a line `value KEY VALUE PROOF`, `absence KEY PROOF` or `demo QUESTION PROOF`: whether its proof shows it. Out of memory is an
-/// error, and so is any other line.
+/// Checks a line `value KEY VALUE PROOF`, `absence KEY PROOF` or `demo QUESTION PROOF`: whether its proof shows it.
+/// Running out of memory is an error, and so is any other line.
 fn is_shown(alloc: Global, line: &str, root: &FixedBytes<32>) -> Result<bool> {
     let (claim, proof) = line.rsplit_once(' ').context("no proof")?;
     let proof = hex::decode(alloc, proof)?;

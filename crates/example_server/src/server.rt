@@ -77,7 +77,7 @@ impl Server {
         Ok(format!(in self.alloc; "absence {key} {proof}")?)
     }
 
-    /// The bytes of `text`, as a key or a value of the database.
+    /// Returns the bytes of `text`, as a key or a value of the database.
     fn bytes(&self, text: &str) -> Result<Vec<u8>> {
         Ok(text.as_bytes().to_vec(self.alloc)?)
     }

@@ -16,7 +16,7 @@ use storage_ops::qmdb::operation::Key;
 
 /// A key or a value for each number, and for no other number below 2^32 the same one.
 trait Numbered: PartialEq + Sized {
-    /// That of `number`.
+    /// Returns that of `number`.
     fn numbered(alloc: Global, number: u64) -> Result<Self, AllocError>;
 }
 
@@ -75,7 +75,7 @@ struct Plain {
     committed: [Option<u64>; 256],
 }
 
-/// The next of some numbers that look random, the high bits most.
+/// Returns the next of some numbers that look random, the high bits most.
 fn next_number(number: u64) -> u64 {
     number
         .wrapping_mul(6_364_136_223_846_793_005)
@@ -109,26 +109,26 @@ trait ByNumber: Sized {
     /// Commits with this value, or none.
     fn end(&mut self, value: Option<Self::Value>) -> Told;
 
-    /// The value of `key` now.
+    /// Returns the value of `key` now.
     fn now(&self, key: &Self::Key) -> Option<&Self::Value>;
 
-    /// The value of `key` at the last commit.
+    /// Returns the value of `key` at the last commit.
     fn then(&self, key: &Self::Key) -> Option<&Self::Value>;
 
-    /// How many keys have a value now.
+    /// Returns how many keys have a value now.
     fn count(&self) -> usize;
 
-    /// The floor of the last commit.
+    /// Returns the floor of the last commit.
     fn last_floor(&self) -> Option<u64>;
 
-    /// The value of the last commit.
+    /// Returns the value of the last commit.
     fn last_value(&self) -> Option<&Self::Value>;
 
-    /// The canonical root of the last commit.
+    /// Returns the canonical root of the last commit.
     fn last_root(&self) -> Option<Self::Root>;
 
-    /// Whether it answers rightly what value `key` had at the last commit: by that and a proof, which is accepted, or that it had
-    /// none.
+    /// Returns whether it answers rightly what value `key` had at the last commit: by that and a proof, which is
+    /// accepted, or that it had none.
     fn proves_value(
         &self,
         alloc: Global,
@@ -138,7 +138,8 @@ trait ByNumber: Sized {
     ) -> Told
         requires { Self.is_sized };
 
-    /// Whether it answers rightly if `key` had no value at the last commit: by a proof, which is accepted, or that it had one.
+    /// Returns whether it answers rightly if `key` had no value at the last commit: by a proof, which is accepted, or
+    /// that it had one.
     fn proves_absence(
         &self,
         alloc: Global,
@@ -251,7 +252,7 @@ where
     }
 }
 
-/// Whether two values are the same one, or both none.
+/// Returns whether two values are the same one, or both none.
 fn is_same<T: PartialEq>(left: Option<&T>, right: Option<&T>) -> bool {
     match (left, right) {
         (Some(left), Some(right)) => *left == *right,
@@ -260,7 +261,7 @@ fn is_same<T: PartialEq>(left: Option<&T>, right: Option<&T>) -> bool {
     }
 }
 
-/// The key or the value of `number`.
+/// Returns the key or the value of `number`.
 fn of_number<T: Numbered>(rt: &impl Abort, alloc: Global, number: u64) -> T {
     match T::numbered(alloc, number) {
         Ok(numbered) => numbered,
@@ -268,7 +269,7 @@ fn of_number<T: Numbered>(rt: &impl Abort, alloc: Global, number: u64) -> T {
     }
 }
 
-/// The value of a number, where there is one.
+/// Returns the value of a number, if there is one.
 fn of_option<T: Numbered>(rt: &impl Abort, alloc: Global, number: Option<u64>) -> Option<T> {
     match number {
         Some(number) => Some(of_number(rt, alloc, number)),
@@ -276,7 +277,7 @@ fn of_option<T: Numbered>(rt: &impl Abort, alloc: Global, number: Option<u64>) -
     }
 }
 
-/// Ends the test where memory is refused to it, or where `told` is not what is right.
+/// Ends the test if memory is refused to it, or if `told` is not what is right.
 fn see(rt: &impl Abort, told: Told, right: bool) {
     match told {
         Told::Yes => assert!(rt; right),
@@ -286,7 +287,7 @@ fn see(rt: &impl Abort, told: Told, right: bool) {
     }
 }
 
-/// The database has what the map has at the number `key`, now and at the last commit.
+/// Returns the database has what the map has at the number `key`, now and at the last commit.
 fn compare<D: ByNumber>(rt: &impl Abort, alloc: Global, database: &D, plain: &Plain, key: u8) {
     let now = of_option::<D::Value>(rt, alloc, plain.now[key as usize]);
     let then = of_option::<D::Value>(rt, alloc, plain.committed[key as usize]);
@@ -295,7 +296,7 @@ fn compare<D: ByNumber>(rt: &impl Abort, alloc: Global, database: &D, plain: &Pl
     assert!(rt; is_same(database.then(&key), then.as_ref()));
 }
 
-/// A put or a deletion at the number `key`, as `draw` says: both answer alike.
+/// Returns a put or a deletion at the number `key`, as `draw` says: both answer alike.
 fn change<D: ByNumber>(
     rt: &impl Abort,
     alloc: Global,
@@ -316,7 +317,7 @@ fn change<D: ByNumber>(
     }
 }
 
-/// The database proves what the map had at the last commit at the number `key`.
+/// Returns the database proves what the map had at the last commit at the number `key`.
 fn prove<D: ByNumber>(
     rt: &impl Abort,
     alloc: Global,
@@ -341,7 +342,8 @@ fn prove<D: ByNumber>(
     );
 }
 
-/// The database proves what the map had at the last commit at eight numbers from `first` on, around past `last`.
+/// Returns the database proves what the map had at the last commit at eight numbers from `first` on, around past
+/// `last`.
 fn prove_eight<D: ByNumber>(
     rt: &impl Abort,
     alloc: Global,
@@ -367,7 +369,8 @@ fn prove_eight<D: ByNumber>(
     }
 }
 
-/// A commit with the value of `draw`, or none. Proofs are compared before and after it, and then all keys up to `last`.
+/// Returns a commit with the value of `draw`, or none. Proofs are compared before and after it, and then all keys up to
+/// `last`.
 fn commit_and_compare<D: ByNumber>(
     rt: &impl Abort,
     alloc: Global,
@@ -393,8 +396,8 @@ fn commit_and_compare<D: ByNumber>(
     }
 }
 
-/// The command after `count` others over the keys up to `last`, all of whose bits are set: a put or a deletion, or two in `count` times a
-/// commit. Two keys are compared after it.
+/// Returns the command after `count` others over the keys up to `last`, all of whose bits are set: a put or a deletion,
+/// or two in `count` times a commit. Two keys are compared after it.
 fn step<D: ByNumber>(
     rt: &impl Abort,
     alloc: Global,
@@ -416,7 +419,7 @@ fn step<D: ByNumber>(
     compare(rt, alloc, database, plain, second & last);
 }
 
-/// A commit and 2,500 commands, which `seed` settles, of a database without operations, beside a plain map.
+/// Returns a commit and 2,500 commands, which `seed` settles, of a database without operations, beside a plain map.
 fn run<D: ByNumber + Drop>(rt: &impl Abort, alloc: Global, seed: u64, last: u8)
     requires { D.is_sized }
 {
@@ -482,7 +485,7 @@ fn tells<D: ByNumber>(
     assert!(rt; is_same(database.last_value(), value.as_ref()));
 }
 
-/// A database without operations in which the keys 5 and 9 are put and committed.
+/// Returns a database without operations in which the keys 5 and 9 are put and committed.
 fn two_keys<D: ByNumber + Drop>(rt: &impl Abort, alloc: Global) -> D
     requires { D.is_sized }
 {
@@ -509,14 +512,14 @@ fn one_key_deleted<D: ByNumber + Drop>(rt: &impl Abort, alloc: Global) -> D
     database
 }
 
-/// The root of the commit with the value 1.
+/// Returns the root of the commit with the value 1.
 fn root_with_value<D: ByNumber + Drop>(rt: &impl Abort, alloc: Global) -> Option<D::Root>
     requires { D.is_sized }
 {
     one_key_deleted::<D>(rt, alloc).last_root()
 }
 
-/// The key 5 has the value of `now`, and had that of `then` at the last commit.
+/// Returns the key 5 has the value of `now`, and had that of `then` at the last commit.
 fn five_has<D: ByNumber>(
     rt: &impl Abort,
     alloc: Global,
@@ -531,7 +534,7 @@ fn five_has<D: ByNumber>(
     assert!(rt; is_same(database.then(&five), then.as_ref()));
 }
 
-/// The last key, 5, is deleted: until the next commit it has the value 7 at the last one.
+/// Returns the last key, 5, is deleted: until the next commit it has the value 7 at the last one.
 fn emptied<D: ByNumber + Drop>(rt: &impl Abort, alloc: Global)
     requires { D.is_sized }
 {

@@ -16,7 +16,7 @@ use storage_merkle::merkle::{Bagging, Location, MAX_LEAVES, Proof, mmb, mmr};
 
 type Digest = FixedBytes<32>;
 
-/// The bytes of a hexadecimal text.
+/// Returns the bytes of a hexadecimal text.
 fn bytes(rt: &impl Abort, alloc: Global, text: &str) -> Vec<u8> {
     match hex::decode(alloc, text) {
         Ok(bytes) => bytes,
@@ -35,7 +35,7 @@ pub fn strings(rt: &impl Abort, alloc: Global, text: &str) -> Vec<Vec<u8>> {
     strings
 }
 
-/// The digest of a hexadecimal text.
+/// Returns the digest of a hexadecimal text.
 fn digest(rt: &impl Abort, text: &str) -> Digest {
     match <[u8; 32] as FromHex>::from_hex(text) {
         Ok(bytes) => FixedBytes { bytes },
@@ -103,7 +103,7 @@ fn own_multi_proof_by_the_definitions(rt: HostRuntime) {
 /// The root of a belt of ten elements, three of whose peaks are inactive, folded from the left.
 const TEN: &str = "07fdb9950553b39693e66402421d5dc41c5f4bb5b16c3531d442163ef889684c";
 
-/// A proof over that belt, of these digests.
+/// Returns a proof over that belt, of these digests.
 fn over_ten(rt: &impl Abort, alloc: Global, text: &str) -> Proof<mmb::Family, Digest> {
     Proof {
         leaves: Location::new(10),

@@ -66,7 +66,7 @@ pub fn append<F: Graftable, H: Hasher>(
     tree.update_leaves(&hasher, updates)
 }
 
-/// Whether the nodes of `tree` are these, by their positions.
+/// Returns whether the nodes of `tree` are these, by their positions.
 fn has_nodes(tree: &Tree, nodes: &[Option<Digest>]) -> bool {
     let mut place = 0u64;
     let mut same = true;
@@ -77,13 +77,13 @@ fn has_nodes(tree: &Tree, nodes: &[Option<Digest>]) -> bool {
     same
 }
 
-/// The digest of a leaf.
+/// Returns the digest of a leaf.
 fn leaf(byte: u8) -> Digest {
     FixedBytes { bytes: [byte; 32] }
 }
 
-/// The digests of the nodes over the first two chunks, over the next two and over all four, whose leaves are `leaf(1)` to `leaf(4)`:
-/// from an independent program, which hashes each node with its position over the operations.
+/// Returns the digests of the nodes over the first two chunks, over the next two and over all four, whose leaves are
+/// `leaf(1)` to `leaf(4)`: from an independent program, which hashes each node with its position over the operations.
 fn nodes_over_chunks() -> [Digest; 3] {
     [
         FixedBytes {

@@ -41,7 +41,7 @@ use storage_merkle::merkle::{
 
 type Digest = FixedBytes<32>;
 
-/// The proof of the operations at the locations of `range`, from `storage`; none where it is refused.
+/// Returns the proof of the operations at the locations of `range`, from `storage`; none if it is refused.
 fn proof_served<
     F: Graftable,
     H: Hasher,
@@ -70,7 +70,8 @@ fn proof_served<
     }
 }
 
-/// The proof of the operations that `spec` asks for, from `storage`, with these from `log`; none where it is refused.
+/// Returns the proof of the operations that `spec` asks for, from `storage`, with these from `log`; none if it is
+/// refused.
 fn proof_with_operations_served<
     F: Graftable,
     H: Hasher,
@@ -104,7 +105,7 @@ fn proof_with_operations_served<
     }
 }
 
-/// The proof of the operations at the locations of `range`, from `chunks` and `operations`, read as one.
+/// Returns the proof of the operations at the locations of `range`, from `chunks` and `operations`, read as one.
 fn proof_from<
     F: Graftable,
     H: Hasher,
@@ -138,7 +139,8 @@ fn proof_from<
     proof_served::<F, H, _, B, N>(alloc, status, &mut both, floor, range, ops_root)
 }
 
-/// The proof of the operations that `spec` asks for, with these from `log`, from `chunks` and `operations`, read as one.
+/// Returns the proof of the operations that `spec` asks for, with these from `log`, from `chunks` and `operations`,
+/// read as one.
 fn proof_with_operations_from<
     F: Graftable,
     H: Hasher,
@@ -176,7 +178,7 @@ fn proof_with_operations_from<
     proof_with_operations_served::<F, H, _, B, L, N>(alloc, status, &mut both, log, spec)
 }
 
-/// The same from a tree in memory over the graftable chunks.
+/// Returns the same from a tree in memory over the graftable chunks.
 fn proof_from_memory<
     F: Graftable,
     H: Hasher,
@@ -210,7 +212,7 @@ fn proof_from_memory<
     )
 }
 
-/// The same, with the operations.
+/// Returns the same, with the operations.
 fn proof_with_operations_from_memory<
     F: Graftable,
     H: Hasher,
@@ -248,7 +250,7 @@ fn proof_with_operations_from_memory<
     )
 }
 
-/// The same from a tree over the first graftable chunks that keeps pins and leaves alone.
+/// Returns the same from a tree over the first graftable chunks that keeps pins and leaves alone.
 fn proof_from_pruned<
     F: Graftable,
     H: Hasher,
@@ -282,7 +284,7 @@ fn proof_from_pruned<
     )
 }
 
-/// The same, with the operations.
+/// Returns the same, with the operations.
 fn proof_with_operations_from_pruned<
     F: Graftable,
     H: Hasher,
@@ -320,8 +322,8 @@ fn proof_with_operations_from_pruned<
     )
 }
 
-/// What `chunks` and `operations` as one have at `position`: where the one covers each node over chunks and the other has each of
-/// its nodes, the digest of the grafted view.
+/// Returns what `chunks` and `operations` as one have at `position`: where the one covers each node over chunks and the
+/// other has each of its nodes, the digest of the grafted view.
 fn node_from<
     F: Graftable,
     H: Hasher,
@@ -353,7 +355,7 @@ fn node_from<
     both.get_node(position)
 }
 
-/// The same from a tree in memory that has forgotten nothing.
+/// Returns the same from a tree in memory that has forgotten nothing.
 fn node_from_memory<
     F: Graftable,
     H: Hasher,
@@ -383,7 +385,7 @@ fn node_from_memory<
     node_from::<F, H, Mem<F, H::Digest>, S, N>(chunks, operations, position)
 }
 
-/// The same from a tree of which nothing is pruned.
+/// Returns the same from a tree of which nothing is pruned.
 fn node_from_unpruned<
     F: Graftable,
     H: Hasher,
@@ -414,8 +416,8 @@ fn node_from_unpruned<
     node_from::<F, H, GraftedTree<F, H::Digest>, S, N>(chunks, operations, position)
 }
 
-/// What `chunks` and `operations` as one have at `position`: where each node that is planned of a range is coverable, a digest at each
-/// planned position.
+/// Returns what `chunks` and `operations` as one have at `position`: where each node that is planned of a range is
+/// coverable, a digest at each planned position.
 fn planned_node_from<
     F: Graftable,
     H: Hasher,
@@ -447,8 +449,8 @@ fn planned_node_from<
     both.get_node(position)
 }
 
-/// The same where each node over chunks is coverable and each of the operations is had: a digest at each planned position, whatever
-/// the range.
+/// Returns the same where each node over chunks is coverable and each of the operations is had: a digest at each
+/// planned position, whatever the range.
 fn any_planned_node_from<
     F: Graftable,
     H: Hasher,
@@ -484,7 +486,7 @@ fn any_planned_node_from<
 /// The inactivity floor of the snapshot that is tried.
 const FLOOR: u64 = 17;
 
-/// The operations of the snapshot that is tried: three complete chunks of them, and three more.
+/// Returns the operations of the snapshot that is tried: three complete chunks of them, and three more.
 fn operations() -> [[u8; 1]; 27] {
     [
         0, 1, 2, 3, 4, 5, 6, 7, 8, 9, 10, 11, 12, 13, 14, 15, 16, 17, 18, 19, 20, 21, 22, 23, 24,
@@ -493,7 +495,7 @@ fn operations() -> [[u8; 1]; 27] {
     .map(|byte| [byte])
 }
 
-/// The snapshot of `operations`, of which every third is active.
+/// Returns the snapshot of `operations`, of which every third is active.
 fn snapshot_of(
     rt: &impl Abort,
     alloc: Global,
@@ -513,7 +515,7 @@ fn snapshot_of(
     }
 }
 
-/// The tree in memory over the chunks of `snapshot` that are grafted at `positions`.
+/// Returns the tree in memory over the chunks of `snapshot` that are grafted at `positions`.
 fn tree_over_chunks(
     rt: &impl Abort,
     alloc: Global,
@@ -533,7 +535,7 @@ fn tree_over_chunks(
     tree
 }
 
-/// The tree in memory over `operations`.
+/// Returns the tree in memory over `operations`.
 fn tree_over(rt: &impl Abort, alloc: Global, operations: &[[u8; 1]]) -> Mem<mmr::Family, Digest> {
     let hasher = Standard::<Sha256>::new(Bagging::BackwardFold);
     let mut tree = Mem::new(alloc);

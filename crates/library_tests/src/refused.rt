@@ -88,7 +88,8 @@ fn set(rt: &impl Abort, bitmap: &mut UnmerkleizedBitMap<Digest, 1>, bit: u64, va
     }
 }
 
-/// The bitmap with a bit more for each of `digits`, of which some are changed then. Of one whose root is refused nothing is left.
+/// Returns the bitmap with a bit more for each of `digits`, of which some are changed then. Of one whose root is
+/// refused nothing is left.
 fn grown(
     rt: &impl Abort,
     bitmap: MerkleizedBitMap<Digest, 1>,
@@ -107,7 +108,7 @@ fn grown(
     }
 }
 
-/// A bitmap of 31 bits, of which some were changed.
+/// Returns a bitmap of 31 bits, of which some were changed.
 fn thirty_one_bits(
     rt: &impl Abort,
     alloc: Global,

@@ -3,7 +3,7 @@
 use std::fmt::Debug;
 use std::process::Abort;
 
-/// Ends the test where memory is refused to it.
+/// Ends the test if memory is refused to it.
 pub fn out_of_memory(rt: &impl Abort) -> ! {
     panic!(rt; "error: Memory")
 }

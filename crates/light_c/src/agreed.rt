@@ -29,7 +29,7 @@ pub enum Root {
     Of512(FixedBytes<64>),
 }
 
-/// The root as a digest, or the first that is refused of the family, the digest function and the root.
+/// Returns the root as a digest, or the first that is refused of the family, the digest function and the root.
 pub fn trusted(family: u32, hash: u32, root: &[u8]) -> Result<Root, Fault>
     ensures { MatchResult result
         (λ digest. (agreed_refusal family hash root.now ≡ None) × IsRoot hash root.now digest)

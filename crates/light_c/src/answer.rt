@@ -57,7 +57,7 @@ pub enum Fault {
     OtherValue,
 }
 
-/// What an answer is told as.
+/// Returns what an answer is told as.
 pub fn told(answer: Result<bool, Fault>) -> i32
     ensures { result ≡ code_of answer }
 {
@@ -74,7 +74,7 @@ pub fn told(answer: Result<bool, Fault>) -> i32
     }
 }
 
-/// A check's answer, as one that could have been a refusal.
+/// Returns a check's answer, as one that could have been a refusal.
 pub fn checked(answer: Result<bool, NoMemory>) -> Result<bool, Fault>
     ensures { result ≡ of_check answer }
 {

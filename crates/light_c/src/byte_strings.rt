@@ -19,7 +19,7 @@ pub struct Joined<'a> {
     pub ghost whole: { sum lengths.now ≡ length bytes.now },
 }
 
-/// Whether the lengths add up to `total`. Takes no memory.
+/// Returns whether the lengths add up to `total`. Allocates nothing.
 #[tactic(auto, using(crate::proofs::Pieces::sum_step))]
 pub fn adds_up(lengths: &[usize], total: usize) -> bool
     ensures { IsTrue result ↔ (sum lengths.now ≡ total) }
@@ -34,7 +34,7 @@ pub fn adds_up(lengths: &[usize], total: usize) -> bool
     rest == 0
 }
 
-/// The strings, each by itself.
+/// Returns the strings, each by itself.
 #[tactic(auto, using(crate::proofs::Pieces::sum_step, crate::proofs::Pieces::cut_step))]
 pub fn cut_up<'a>(alloc: Global, joined: &Joined<'a>) -> Result<Vec<&'a [u8]>, NoMemory>
     ensures { IfOk result (λ strings.

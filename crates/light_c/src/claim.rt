@@ -22,7 +22,7 @@ pub trait Claim {
     /// Where the check accepts for a key of some type, all of whose keys have one size, and what its yes means.
     ghost asked: { Self → (K X : Type 0) → Keys K X → ℕ → K → Setting → Statement };
 
-    /// The answer for a key, over a family and a digest function, against a digest.
+    /// Returns the answer for a key, over a family and a digest function, against a digest.
     fn of<F: Graftable, H: Hasher, K: Key + Small + Read<Cfg = ()>>(
         &self,
         alloc: Global,

@@ -75,7 +75,7 @@ impl Claim for FixedAbsence {
     ghost first = { λ _ _. refl };
 }
 
-/// What `check_value` answers.
+/// Returns what `check_value` answers.
 fn value_of<F: Graftable, H: Hasher, K: Key + Small + Read<Cfg = ()>, V: any::FixedValue>(
     alloc: Global,
     chunk_size: usize,
@@ -93,7 +93,7 @@ fn value_of<F: Graftable, H: Hasher, K: Key + Small + Read<Cfg = ()>, V: any::Fi
     check_value::<F, H, K, FixedEncoding<V>>(alloc, proof, chunk_size, &(), key, value, root)
 }
 
-/// What `check_absence` answers.
+/// Returns what `check_absence` answers.
 fn absence_of<F: Graftable, H: Hasher, K: Key + Small + Read<Cfg = ()>, V: any::FixedValue>(
     alloc: Global,
     chunk_size: usize,
@@ -110,7 +110,7 @@ fn absence_of<F: Graftable, H: Hasher, K: Key + Small + Read<Cfg = ()>, V: any::
     check_absence::<F, H, K, FixedEncoding<V>>(alloc, proof, chunk_size, &((), ()), key, root)
 }
 
-/// What `check_value` answers for a value of one size.
+/// Returns what `check_value` answers for a value of one size.
 fn filled_value<F: Graftable, H: Hasher, K: Key + Small + Read<Cfg = ()>>(
     alloc: Global,
     chunk_size: usize,
@@ -141,7 +141,7 @@ fn filled_value<F: Graftable, H: Hasher, K: Key + Small + Read<Cfg = ()>>(
     }
 }
 
-/// What `check_absence` answers over values of one size.
+/// Returns what `check_absence` answers over values of one size.
 fn filled_absence<F: Graftable, H: Hasher, K: Key + Small + Read<Cfg = ()>>(
     alloc: Global,
     chunk_size: usize,

@@ -16,9 +16,9 @@ use crate::variable::{Absence, SizedAbsence, SizedValue, Value};
 use commonware_storage::codec::RangeCfg;
 use std::alloc::Global;
 
-/// Whether the key with the bytes `key` has the value with the bytes `value` in the snapshot with the canonical root `root`.
-/// `proof` is a key-value proof as it is written, over a chunk of `chunk_size` bytes. Keys have 4, 8, 20 or 32 bytes, and are
-/// written as they are; values have any length, and it is written before them.
+/// Returns whether the key with the bytes `key` has the value with the bytes `value` in the snapshot with the canonical
+/// root `root`. `proof` is a key-value proof as it is written, over a chunk of `chunk_size` bytes. Keys have 4, 8, 20
+/// or 32 bytes, and are written as they are; values have any length, and it is written before them.
 ///
 /// The answer is one of those of `answer`.
 #[unsafe(no_mangle)]
@@ -51,11 +51,12 @@ pub extern "C" fn gawerunoa_check_value(
     told(ask(alloc, family, hash, chunk_size, proof, &question, root))
 }
 
-/// Whether the key with the bytes `key` has no value in the snapshot with the canonical root `root`. `proof` is an exclusion
-/// proof as it is written, over a chunk of `chunk_size` bytes. Keys have 4, 8, 20 or 32 bytes, and are written as they are; values
-/// have from `min_value_length` to `max_value_length` bytes, and their length is written before them.
+/// Returns whether the key with the bytes `key` has no value in the snapshot with the canonical root `root`. `proof` is
+/// an exclusion proof as it is written, over a chunk of `chunk_size` bytes. Keys have 4, 8, 20 or 32 bytes, and are
+/// written as they are; values have from `min_value_length` to `max_value_length` bytes, and their length is written
+/// before them.
 ///
-/// The answer is one of those of `answer`. A no for a chunk size that no chunk has takes no memory.
+/// The answer is one of those of `answer`. A no for a chunk size that no chunk has allocates nothing.
 #[unsafe(no_mangle)]
 pub extern "C" fn gawerunoa_check_absence(
     alloc: Global,
@@ -94,11 +95,11 @@ pub extern "C" fn gawerunoa_check_absence(
     told(ask(alloc, family, hash, chunk_size, proof, &question, root))
 }
 
-/// Whether the key with the bytes `key` has the value with the bytes `value` in the snapshot with the canonical root `root`.
-/// `proof` is a key-value proof as it is written, over a chunk of `chunk_size` bytes. Keys have 4, 8, 20 or 32 bytes, and so
-/// have values. Both are written as they are, and operations are as long as their parts.
+/// Returns whether the key with the bytes `key` has the value with the bytes `value` in the snapshot with the canonical
+/// root `root`. `proof` is a key-value proof as it is written, over a chunk of `chunk_size` bytes. Keys have 4, 8, 20
+/// or 32 bytes, and so have values. Both are written as they are, and operations are as long as their parts.
 ///
-/// The answer is one of those of `answer`. A no for a chunk size that no chunk has takes no memory.
+/// The answer is one of those of `answer`. A no for a chunk size that no chunk has allocates nothing.
 #[unsafe(no_mangle)]
 pub extern "C" fn gawerunoa_check_sized_value(
     alloc: Global,
@@ -130,11 +131,11 @@ pub extern "C" fn gawerunoa_check_sized_value(
     told(ask(alloc, family, hash, chunk_size, proof, &question, root))
 }
 
-/// Whether the key with the bytes `key` has no value in the snapshot with the canonical root `root`. `proof` is an exclusion
-/// proof as it is written, over a chunk of `chunk_size` bytes. Keys have 4, 8, 20 or 32 bytes, and so have values, each of them
-/// `value_size`. Both are written as they are, and operations are as long as their parts.
+/// Returns whether the key with the bytes `key` has no value in the snapshot with the canonical root `root`. `proof` is
+/// an exclusion proof as it is written, over a chunk of `chunk_size` bytes. Keys have 4, 8, 20 or 32 bytes, and so have
+/// values, each of them `value_size`. Both are written as they are, and operations are as long as their parts.
 ///
-/// The answer is one of those of `answer`. A no for a chunk size that no chunk has takes no memory.
+/// The answer is one of those of `answer`. A no for a chunk size that no chunk has allocates nothing.
 #[unsafe(no_mangle)]
 pub extern "C" fn gawerunoa_check_sized_absence(
     alloc: Global,
@@ -166,11 +167,11 @@ pub extern "C" fn gawerunoa_check_sized_absence(
     told(ask(alloc, family, hash, chunk_size, proof, &question, root))
 }
 
-/// Whether the key with the bytes `key` has the value with the bytes `value` in the snapshot with the canonical root `root`.
-/// `proof` is a key-value proof as it is written, over a chunk of `chunk_size` bytes. Keys have 4, 8, 20 or 32 bytes, and so
-/// have values. Both are written as they are, and operations are filled up with zeros to one size.
+/// Returns whether the key with the bytes `key` has the value with the bytes `value` in the snapshot with the canonical
+/// root `root`. `proof` is a key-value proof as it is written, over a chunk of `chunk_size` bytes. Keys have 4, 8, 20
+/// or 32 bytes, and so have values. Both are written as they are, and operations are filled up with zeros to one size.
 ///
-/// The answer is one of those of `answer`. A no for a chunk size that no chunk has takes no memory.
+/// The answer is one of those of `answer`. A no for a chunk size that no chunk has allocates nothing.
 #[unsafe(no_mangle)]
 pub extern "C" fn gawerunoa_check_fixed_value(
     alloc: Global,
@@ -202,11 +203,12 @@ pub extern "C" fn gawerunoa_check_fixed_value(
     told(ask(alloc, family, hash, chunk_size, proof, &question, root))
 }
 
-/// Whether the key with the bytes `key` has no value in the snapshot with the canonical root `root`. `proof` is an exclusion
-/// proof as it is written, over a chunk of `chunk_size` bytes. Keys have 4, 8, 20 or 32 bytes, and so have values, each of them
-/// `value_size`. Both are written as they are, and operations are filled up with zeros to one size.
+/// Returns whether the key with the bytes `key` has no value in the snapshot with the canonical root `root`. `proof` is
+/// an exclusion proof as it is written, over a chunk of `chunk_size` bytes. Keys have 4, 8, 20 or 32 bytes, and so have
+/// values, each of them `value_size`. Both are written as they are, and operations are filled up with zeros to one
+/// size.
 ///
-/// The answer is one of those of `answer`. A no for a chunk size that no chunk has takes no memory.
+/// The answer is one of those of `answer`. A no for a chunk size that no chunk has allocates nothing.
 #[unsafe(no_mangle)]
 pub extern "C" fn gawerunoa_check_fixed_absence(
     alloc: Global,

@@ -15,10 +15,10 @@ use commonware_storage::light::check_operation;
 use commonware_storage::merkle::{Graftable, Location};
 use std::alloc::Global;
 
-/// Whether the operation with the bytes `operation` stands at `location` of the snapshot with the canonical root `root`, and is
-/// active. `proof` is an operation proof as it is written, over a chunk of `chunk_size` bytes.
+/// Returns whether the operation with the bytes `operation` stands at `location` of the snapshot with the canonical
+/// root `root`, and is active. `proof` is an operation proof as it is written, over a chunk of `chunk_size` bytes.
 ///
-/// The answer is one of those of `answer`. A no for a chunk size that no chunk has takes no memory.
+/// The answer is one of those of `answer`. A no for a chunk size that no chunk has allocates nothing.
 #[unsafe(no_mangle)]
 pub extern "C" fn gawerunoa_check_operation(
     alloc: Global,

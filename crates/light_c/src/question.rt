@@ -18,7 +18,7 @@ pub trait Question {
     /// Where the check accepts, and what its yes means.
     ghost asked: { Self → Setting → Statement };
 
-    /// The answer over a family and a digest function, against a digest.
+    /// Returns the answer over a family and a digest function, against a digest.
     fn answer<F: Graftable, H: Hasher>(
         &self,
         alloc: Global,
@@ -34,7 +34,7 @@ pub trait Question {
     ghost first: { (code : ℤ) (it : Self) → refusal (Some code) it ≡ Some code };
 }
 
-/// The answer over what is agreed; the first refusal is that of the family, the digest function or the root.
+/// Returns the answer over what is agreed; the first refusal is that of the family, the digest function or the root.
 pub fn ask<Q: Question>(
     alloc: Global,
     family: u32,
@@ -59,7 +59,7 @@ pub fn ask<Q: Question>(
     }
 }
 
-/// The same over a digest function, against a digest.
+/// Returns the same over a digest function, against a digest.
 fn of_family<Q: Question, H: Hasher>(
     alloc: Global,
     family: u32,

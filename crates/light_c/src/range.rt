@@ -19,10 +19,10 @@ use commonware_storage::merkle::{Graftable, Location};
 use commonware_storage::qmdb::current::grafting::chunk_height;
 use std::alloc::Global;
 
-/// Whether the given operations stand at the locations from `start` on of the snapshot with the canonical root `root`, and the
-/// chunks of activity bits that they touch are the given ones. `proof` is a range proof as it is written, over chunks of
-/// `chunk_size` bytes, with at most `max_digests` digests. Operations and chunks are each one byte string, and the length of
-/// each of its parts.
+/// Returns whether the given operations stand at the locations from `start` on of the snapshot with the canonical root
+/// `root`, and the chunks of activity bits that they touch are the given ones. `proof` is a range proof as it is
+/// written, over chunks of `chunk_size` bytes, with at most `max_digests` digests. Operations and chunks are each one
+/// byte string, and the length of each of its parts.
 ///
 /// The answer is one of those of `answer`.
 #[unsafe(no_mangle)]
@@ -133,7 +133,7 @@ impl Question for Range<'_> {
     ghost first = { λ _ _. refl };
 }
 
-/// What `check_range` answers for the strings, each by itself.
+/// Returns what `check_range` answers for the strings, each by itself.
 fn cut_range<F: Graftable, H: Hasher>(
     alloc: Global,
     chunk_size: usize,

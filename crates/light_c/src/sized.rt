@@ -21,7 +21,7 @@ pub enum SizedBytes {
     Of32(FixedBytes<32>),
 }
 
-/// The string with these bytes; none where they have no such size. Takes no memory.
+/// Returns the string with these bytes; none if they have no such size. Allocates nothing.
 pub fn of_bytes(bytes: &[u8]) -> Option<SizedBytes>
     ensures { MatchOption result (is_size (length bytes.now) ≡ false)
         (λ sized. (is_size (length bytes.now) ≡ true) × (bytes_of sized ≡ bytes.now)) }
@@ -55,7 +55,7 @@ pub enum Size {
     ThirtyTwo,
 }
 
-/// The size of `bytes` bytes; none where that is no such size.
+/// Returns the size of `bytes` bytes; none if that is no such size.
 pub fn size_of(bytes: usize) -> Option<Size>
     ensures { MatchOption result (is_size bytes ≡ false)
         (λ size. (is_size bytes ≡ true) × (size_in_bytes size ≡ bytes)) }

@@ -14,12 +14,12 @@ use crate::strings::{StringAbsence, StringSizedAbsence, StringSizedValue, String
 use commonware_storage::codec::RangeCfg;
 use std::alloc::Global;
 
-/// Whether the key with the bytes `key` has the value with the bytes `value` in the snapshot with the canonical root `root`.
-/// `proof` is a key-value proof as it is written, over a chunk of `chunk_size` bytes, whose next key has from `min_key_length`
-/// to `max_key_length` bytes. Keys and values have any length, and it is written before them.
+/// Returns whether the key with the bytes `key` has the value with the bytes `value` in the snapshot with the canonical
+/// root `root`. `proof` is a key-value proof as it is written, over a chunk of `chunk_size` bytes, whose next key has
+/// from `min_key_length` to `max_key_length` bytes. Keys and values have any length, and it is written before them.
 ///
-/// The answer is one of those of `answer`. A no for a chunk size that no chunk has takes no memory; else the key and the value
-/// are copied.
+/// The answer is one of those of `answer`. A no for a chunk size that no chunk has allocates nothing; else the key and
+/// the value are copied.
 #[unsafe(no_mangle)]
 pub extern "C" fn gawerunoa_check_string_value(
     alloc: Global,
@@ -56,11 +56,13 @@ pub extern "C" fn gawerunoa_check_string_value(
     told(ask(alloc, family, hash, chunk_size, proof, &question, root))
 }
 
-/// Whether the key with the bytes `key` has no value in the snapshot with the canonical root `root`. `proof` is an exclusion
-/// proof as it is written, over a chunk of `chunk_size` bytes, whose keys have from `min_key_length` to `max_key_length` bytes,
-/// and its value from `min_value_length` to `max_value_length`. Their lengths are written before them.
+/// Returns whether the key with the bytes `key` has no value in the snapshot with the canonical root `root`. `proof` is
+/// an exclusion proof as it is written, over a chunk of `chunk_size` bytes, whose keys have from `min_key_length` to
+/// `max_key_length` bytes, and its value from `min_value_length` to `max_value_length`. Their lengths are written
+/// before them.
 ///
-/// The answer is one of those of `answer`. A no for a chunk size that no chunk has takes no memory; else the key is copied.
+/// The answer is one of those of `answer`. A no for a chunk size that no chunk has allocates nothing; else the key is
+/// copied.
 #[unsafe(no_mangle)]
 pub extern "C" fn gawerunoa_check_string_absence(
     alloc: Global,
@@ -102,12 +104,13 @@ pub extern "C" fn gawerunoa_check_string_absence(
     told(ask(alloc, family, hash, chunk_size, proof, &question, root))
 }
 
-/// Whether the key with the bytes `key` has the value with the bytes `value` in the snapshot with the canonical root `root`.
-/// `proof` is a key-value proof as it is written, over a chunk of `chunk_size` bytes, whose next key has from `min_key_length`
-/// to `max_key_length` bytes. Keys have any length, and it is written before them; values have 4, 8, 20 or 32 bytes, and are
-/// written as they are.
+/// Returns whether the key with the bytes `key` has the value with the bytes `value` in the snapshot with the canonical
+/// root `root`. `proof` is a key-value proof as it is written, over a chunk of `chunk_size` bytes, whose next key has
+/// from `min_key_length` to `max_key_length` bytes. Keys have any length, and it is written before them; values have 4,
+/// 8, 20 or 32 bytes, and are written as they are.
 ///
-/// The answer is one of those of `answer`. A no for a chunk size that no chunk has takes no memory; else the key is copied.
+/// The answer is one of those of `answer`. A no for a chunk size that no chunk has allocates nothing; else the key is
+/// copied.
 #[unsafe(no_mangle)]
 pub extern "C" fn gawerunoa_check_string_sized_value(
     alloc: Global,
@@ -149,11 +152,13 @@ pub extern "C" fn gawerunoa_check_string_sized_value(
     told(ask(alloc, family, hash, chunk_size, proof, &question, root))
 }
 
-/// Whether the key with the bytes `key` has no value in the snapshot with the canonical root `root`. `proof` is an exclusion
-/// proof as it is written, over a chunk of `chunk_size` bytes, whose keys have from `min_key_length` to `max_key_length` bytes;
-/// their length is written before them. Values have 4, 8, 20 or 32 bytes, each of them `value_size`, and are written as they are.
+/// Returns whether the key with the bytes `key` has no value in the snapshot with the canonical root `root`. `proof` is
+/// an exclusion proof as it is written, over a chunk of `chunk_size` bytes, whose keys have from `min_key_length` to
+/// `max_key_length` bytes; their length is written before them. Values have 4, 8, 20 or 32 bytes, each of them
+/// `value_size`, and are written as they are.
 ///
-/// The answer is one of those of `answer`. A no for a chunk size that no chunk has takes no memory; else the key is copied.
+/// The answer is one of those of `answer`. A no for a chunk size that no chunk has allocates nothing; else the key is
+/// copied.
 #[unsafe(no_mangle)]
 pub extern "C" fn gawerunoa_check_string_sized_absence(
     alloc: Global,

@@ -136,7 +136,7 @@ impl Claim for SizedAbsence {
     ghost first = { λ _ _. refl };
 }
 
-/// What `check_value` answers; `cfg` is what the reader of the proof's next key is told.
+/// Returns what `check_value` answers; `cfg` is what the reader of the proof's next key is told.
 fn value_of<F: Graftable, H: Hasher, K: Key, V: VariableValue>(
     alloc: Global,
     chunk_size: usize,
@@ -155,7 +155,8 @@ fn value_of<F: Graftable, H: Hasher, K: Key, V: VariableValue>(
     check_value::<F, H, K, VariableEncoding<V>>(alloc, proof, chunk_size, cfg, key, value, root)
 }
 
-/// What `check_absence` answers; `cfgs` is what the readers of the proof's update and value are told, which of the values is one.
+/// Returns what `check_absence` answers; `cfgs` is what the readers of the proof's update and value are told, which of
+/// the values is one.
 pub fn absence_of<F: Graftable, H: Hasher, K: Key, V: VariableValue>(
     alloc: Global,
     chunk_size: usize,
@@ -173,7 +174,8 @@ pub fn absence_of<F: Graftable, H: Hasher, K: Key, V: VariableValue>(
     check_absence::<F, H, K, VariableEncoding<V>>(alloc, proof, chunk_size, cfgs, key, root)
 }
 
-/// What `check_value` answers for a copy of the value; `cfg` is what the reader of the proof's next key is told.
+/// Returns what `check_value` answers for a copy of the value; `cfg` is what the reader of the proof's next key is
+/// told.
 pub fn vector_value<F: Graftable, H: Hasher, K: Key>(
     alloc: Global,
     chunk_size: usize,
@@ -195,7 +197,8 @@ pub fn vector_value<F: Graftable, H: Hasher, K: Key>(
     value_of::<F, H, K, Vec<u8>>(alloc, chunk_size, proof, cfg, key, value, root)
 }
 
-/// What `check_value` answers for a value of one size; `cfg` is what the reader of the proof's next key is told.
+/// Returns what `check_value` answers for a value of one size; `cfg` is what the reader of the proof's next key is
+/// told.
 pub fn sized_value<F: Graftable, H: Hasher, K: Key>(
     alloc: Global,
     chunk_size: usize,
@@ -226,7 +229,8 @@ pub fn sized_value<F: Graftable, H: Hasher, K: Key>(
     }
 }
 
-/// What `check_absence` answers over values of one size; `cfgs` is what the readers of the proof's update and value are told.
+/// Returns what `check_absence` answers over values of one size; `cfgs` is what the readers of the proof's update and
+/// value are told.
 pub fn sized_absence<F: Graftable, H: Hasher, K: Key>(
     alloc: Global,
     chunk_size: usize,

@@ -21,7 +21,7 @@ use std::alloc::{AllocError, Global};
 use storage_codec::digest::Hasher;
 use storage_merkle::merkle::{Bagging, Location, Proof, mmr};
 
-/// How many bits a chunk of `size` bytes has.
+/// Returns how many bits a chunk of `size` bytes has.
 fn bits_per_chunk(size: usize) -> u64
     requires { IsChunkSize size }
     ensures value { result ≡ 8 * size }
@@ -54,7 +54,7 @@ fn push_chunks(
     Ok(())
 }
 
-/// The complete chunks of `bits`, of `size` bytes each. Fails only where memory runs out.
+/// Returns the complete chunks of `bits`, of `size` bytes each. Fails only if memory runs out.
 fn complete(alloc: Global, size: usize, bits: &[bool]) -> Result<Vec<Vec<u8>>, AllocError>
     requires { IsChunkSize size }
     ensures { IfOk result (λ chunks. map (λ c. c.items) chunks.items
@@ -66,7 +66,8 @@ fn complete(alloc: Global, size: usize, bits: &[bool]) -> Result<Vec<Vec<u8>>, A
     Ok(chunks)
 }
 
-/// The root of the tree over the complete chunks of `bits`, of `size` bytes each. Fails only where memory runs out.
+/// Returns the root of the tree over the complete chunks of `bits`, of `size` bytes each. Fails only if memory runs
+/// out.
 fn chunks_root<H: Hasher>(
     alloc: Global,
     bagging: Bagging,
@@ -85,8 +86,8 @@ fn chunks_root<H: Hasher>(
     Ok(root)
 }
 
-/// The digest of the chunk of `bits` after the complete ones, of `size` bytes, filled up with zeros. Fails only where memory
-/// runs out.
+/// Returns the digest of the chunk of `bits` after the complete ones, of `size` bytes, filled up with zeros. Fails only
+/// if memory runs out.
 fn partial_digest<H: Hasher>(
     alloc: Global,
     size: usize,
@@ -100,8 +101,8 @@ fn partial_digest<H: Hasher>(
     Ok(string_digest::<H>(&bytes))
 }
 
-/// The root of `length` bits that do not fill their chunks: `root` is that of the tree over the complete chunks, `last` the
-/// digest of the last one. Fails only where memory runs out.
+/// Returns the root of `length` bits that do not fill their chunks: `root` is that of the tree over the complete
+/// chunks, `last` the digest of the last one. Fails only if memory runs out.
 fn partial_root<H: Hasher>(
     alloc: Global,
     root: &H::Digest,
@@ -115,7 +116,7 @@ fn partial_root<H: Hasher>(
     Ok(string_digest::<H>(&string))
 }
 
-/// The root of `bits`, with chunks of `size` bytes. Fails only where memory runs out.
+/// Returns the root of `bits`, with chunks of `size` bytes. Fails only if memory runs out.
 pub fn bit_root<H: Hasher>(
     alloc: Global,
     bagging: Bagging,
@@ -135,7 +136,7 @@ pub fn bit_root<H: Hasher>(
     partial_root::<H>(alloc, &root, length, &last)
 }
 
-/// The digests that `bits` themselves have for the bits of chunk number `place`. Fails only where memory runs out.
+/// Returns the digests that `bits` themselves have for the bits of chunk number `place`. Fails only if memory runs out.
 fn own_bit_digests<H: Hasher>(
     alloc: Global,
     bagging: Bagging,
@@ -171,7 +172,8 @@ fn own_bit_digests<H: Hasher>(
     Ok(digests)
 }
 
-/// The proof that `bits` themselves have of bit number `bit`, with chunks of `size` bytes. Fails only where memory runs out.
+/// Returns the proof that `bits` themselves have of bit number `bit`, with chunks of `size` bytes. Fails only if memory
+/// runs out.
 pub fn own_bit_proof<H: Hasher>(
     alloc: Global,
     bagging: Bagging,
@@ -192,8 +194,8 @@ pub fn own_bit_proof<H: Hasher>(
     })
 }
 
-/// The root of the tree over `complete` chunks that the check of `digests`, the proof that chunk number `place` is `bytes`,
-/// recomputes; none where a count does not fit. Fails only where memory runs out.
+/// Returns the root of the tree over `complete` chunks that the check of `digests`, the proof that chunk number `place`
+/// is `bytes`, recomputes; none if a count does not fit. Fails only if memory runs out.
 fn recomputed_chunks_root<H: Hasher>(
     alloc: Global,
     bagging: Bagging,
@@ -223,8 +225,8 @@ fn recomputed_chunks_root<H: Hasher>(
     )
 }
 
-/// The root that the check of `proof`, of bit number `bit` in the chunk `bytes` of `size` bytes, computes; none where a count
-/// does not fit. Fails only where memory runs out.
+/// Returns the root that the check of `proof`, of bit number `bit` in the chunk `bytes` of `size` bytes, computes; none
+/// if a count does not fit. Fails only if memory runs out.
 fn computed_root<H: Hasher>(
     alloc: Global,
     bagging: Bagging,
@@ -261,8 +263,8 @@ fn computed_root<H: Hasher>(
     }
 }
 
-/// Whether the check of `proof`, of bit number `bit` in the chunk `bytes` of `size` bytes, accepts it against `root`. Fails
-/// only where memory runs out.
+/// Returns whether the check of `proof`, of bit number `bit` in the chunk `bytes` of `size` bytes, accepts it against
+/// `root`. Fails only if memory runs out.
 pub fn is_bit_accepted<H: Hasher>(
     alloc: Global,
     bagging: Bagging,

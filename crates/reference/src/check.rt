@@ -36,14 +36,15 @@ pub(crate) struct Claim<'a, D, E> {
     pub elements: &'a [E],
 }
 
-/// The digest of no bytes.
+/// Returns the digest of no bytes.
 fn no_bytes<H: Hasher>() -> H::Digest
     ensures { H.Digest.text result ≡ H.hash_of [] }
 {
     H::hash(&[])
 }
 
-/// The digest of `digests` that stands for `site`, which is looked up in `sites`; that of no bytes where none does.
+/// Returns the digest of `digests` that stands for `site`, which is looked up in `sites`; that of no bytes where none
+/// does.
 pub(crate) fn look_up<H: Hasher>(sites: &[Site], digests: &[H::Digest], site: Site) -> H::Digest
     ensures { H.Digest.text result ≡ look_up (H.hash_of []) (map site_of sites.now)
         (map H.Digest.text digests.now) (site_of site) }
@@ -122,8 +123,8 @@ fn push_back_fold<H: Hasher, E: AsSlice<u8>>(
     Ok(())
 }
 
-/// The root that the check of `proof`, of `elements` from the location `start` on, recomputes; none where its counts do not
-/// fit. Fails only where memory runs out.
+/// Returns the root that the check of `proof`, of `elements` from the location `start` on, recomputes; none if its
+/// counts do not fit. Fails only if memory runs out.
 pub fn recomputed_root<F: Digits, H: Hasher, G: Grafts<H>, E: AsSlice<u8>>(
     alloc: Global,
     grafts: &G,
@@ -164,7 +165,7 @@ pub fn recomputed_root<F: Digits, H: Hasher, G: Grafts<H>, E: AsSlice<u8>>(
     Ok(Some(root_over::<F, H>(bagging, leaves, inactive, bag)))
 }
 
-/// What the peaks are bagged into, `left` folded from the left and `right` from the right, from `claim`.
+/// Returns what the peaks are bagged into, `left` folded from the left and `right` from the right, from `claim`.
 fn claimed_bag<F: Digits, H: Hasher, G: Grafts<H>, E: AsSlice<u8>>(
     alloc: Global,
     grafts: &G,
@@ -190,9 +191,9 @@ fn claimed_bag<F: Digits, H: Hasher, G: Grafts<H>, E: AsSlice<u8>>(
     Ok(bag::<H>(&front, &rest))
 }
 
-/// Whether the check of `proof`, of `elements` from the location `start` on, accepts it against `root`: where its counts fit
-/// and `root` is the one that is recomputed; with no elements, where it is the empty proof and `root` that of the empty
-/// tree. Fails only where memory runs out.
+/// Returns whether the check of `proof`, of `elements` from the location `start` on, accepts it against `root`: where
+/// its counts fit and `root` is the one that is recomputed; with no elements, if it is the empty proof and `root` that
+/// of the empty tree. Fails only if memory runs out.
 pub fn is_accepted<F: Digits, H: Hasher, G: Grafts<H>, E: AsSlice<u8>>(
     alloc: Global,
     grafts: &G,
@@ -216,7 +217,7 @@ pub fn is_accepted<F: Digits, H: Hasher, G: Grafts<H>, E: AsSlice<u8>>(
     }
 }
 
-/// Whether `proof`, of elements from the location `start` on, is the one of the empty tree, and `start` is 0.
+/// Returns whether `proof`, of elements from the location `start` on, is the one of the empty tree, and `start` is 0.
 fn is_empty<F: Digits, D: Digest>(proof: &Proof<F, D>, start: u64) -> bool
     ensures { IsTrue result ↔ ((proof.now.leaves ≡ 0) × (proof.now.inactive_peaks ≡ 0) × (start ≡ 0)
         × (map D.text proof.now.digests.items ≡ [])) }

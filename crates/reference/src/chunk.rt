@@ -10,7 +10,7 @@ use crate::shape::power;
 use std::alloc::{AllocError, Global};
 use storage_codec::digest::{Digest, Hasher};
 
-/// Chunk number `index` of `bits`, of `size` bytes: what is past the bits is 0. Fails only where memory runs out.
+/// Chunk number `index` of `bits`, of `size` bytes: what is past the bits is 0. Fails only if memory runs out.
 pub fn chunk(alloc: Global, size: usize, bits: &[bool], index: u64) -> Result<Vec<u8>, AllocError>
     requires each { 8 * size < 2 ^ 64 }
     requires start { index * (8 * size) < 2 ^ 64 }
@@ -22,7 +22,7 @@ pub fn chunk(alloc: Global, size: usize, bits: &[bool], index: u64) -> Result<Ve
     Ok(bytes)
 }
 
-/// Those of `bits` after the first `count`.
+/// Returns those of `bits` after the first `count`.
 fn skipped(bits: &[bool], count: u64) -> &[bool]
     ensures { result.now ≡ drop count bits.now }
 {
@@ -45,7 +45,8 @@ fn push_bytes(bytes: &mut Vec<u8>, count: usize, bits: &[bool]) -> Result<(), Al
     Ok(())
 }
 
-/// The number whose `places` lowest binary digits are the first of `bits`, low to high, where missing bits are 0.
+/// Returns the number whose `places` lowest binary digits are the first of `bits`, low to high, where missing bits are
+/// 0.
 fn number_of(bits: &[bool], places: u32) -> u64
     requires { places ≤ 8 }
     ensures value { result ≡ number_of places bits.now }
@@ -68,7 +69,7 @@ fn bit_value(bit: bool) -> u64
     if bit { 1 } else { 0 }
 }
 
-/// Whether all `bytes` are zero.
+/// Returns whether all `bytes` are zero.
 fn is_zero(bytes: &[u8]) -> bool
     ensures { result ≡ is_zero bytes.now }
 {
@@ -78,7 +79,8 @@ fn is_zero(bytes: &[u8]) -> bool
     }
 }
 
-/// The digest of a node with `chunk` grafted over it, from `inner`, its own digest: an all-zero chunk is not hashed.
+/// Returns the digest of a node with `chunk` grafted over it, from `inner`, its own digest: an all-zero chunk is not
+/// hashed.
 fn grafted_digest<H: Hasher>(chunk: &[u8], inner: H::Digest) -> H::Digest
     ensures { H.Digest.text result ≡ grafted_digest H.hash_of chunk.now (H.Digest.text inner) }
 {
@@ -89,7 +91,7 @@ fn grafted_digest<H: Hasher>(chunk: &[u8], inner: H::Digest) -> H::Digest
     }
 }
 
-/// The digest of `first` and `second`, joined.
+/// Returns the digest of `first` and `second`, joined.
 fn hash_two<H: Hasher>(first: &[u8], second: &[u8]) -> H::Digest
     ensures { H.Digest.text result ≡ H.hash_of (first.now ++ second.now) }
 {
@@ -111,7 +113,7 @@ pub(crate) struct Chunks<'a> {
 }
 
 impl Chunks<'_> {
-    /// Whether the node `place` has a chunk grafted.
+    /// Returns whether the node `place` has a chunk grafted.
     fn is_grafted(&self, place: Node) -> bool
         ensures { result ≡ grafted_over self.now.height self.now.count place.first place.height }
     {

@@ -8,8 +8,8 @@ ghost use Rattle.storage_current.specs.Snapshots.{aligned, exact, graftable_at, 
 use crate::shape::{Digits, highest_place, power};
 use std::alloc::{AllocError, Global};
 
-/// The height of a node over as many operations as a chunk of `chunk_size` bytes has bits: the base-2 logarithm of
-/// `8 * chunk_size`.
+/// Returns the height of a node over as many operations as a chunk of `chunk_size` bytes has bits: the base-2 logarithm
+/// of `8 * chunk_size`.
 pub(crate) fn height(chunk_size: usize) -> u32
     requires { IsChunkSize chunk_size }
     ensures value { (S : Shape) → result ≡ height (grafting_of S chunk_size) }
@@ -19,7 +19,7 @@ pub(crate) fn height(chunk_size: usize) -> u32
     highest_place(63, 8 * chunk_size as u64)
 }
 
-/// How many chunks of `2^height` leaves lie inside one peak of the tree over `leaves` leaves.
+/// Returns how many chunks of `2^height` leaves lie inside one peak of the tree over `leaves` leaves.
 pub fn graftable<F: Digits>(leaves: u64, height: u32) -> u64
     requires { height ≤ 62 }
     ensures { result ≡ graftable_at F.shape height leaves }
@@ -32,8 +32,8 @@ pub fn graftable<F: Digits>(leaves: u64, height: u32) -> u64
     }
 }
 
-/// How many leading peaks of the tree over `leaves` leaves end at or before the leaf `floor`. Fails only where memory
-/// runs out.
+/// Returns how many leading peaks of the tree over `leaves` leaves end at or before the leaf `floor`. Fails only if
+/// memory runs out.
 pub(crate) fn exact<F: Digits>(alloc: Global, leaves: u64, floor: u64) -> Result<usize, AllocError>
     requires { leaves ≤ max_leaves }
     ensures { IfOk result (λ count. count ≡ exact F.shape leaves floor) }
@@ -42,8 +42,8 @@ pub(crate) fn exact<F: Digits>(alloc: Global, leaves: u64, floor: u64) -> Result
     Ok(most_exact(&heights, floor, heights.len()))
 }
 
-/// The most leading peaks of the tree over `leaves` leaves that end at or before the leaf `floor` and on a multiple
-/// of `2^height`. Fails only where memory runs out.
+/// Returns the most leading peaks of the tree over `leaves` leaves that end at or before the leaf `floor` and on a
+/// multiple of `2^height`. Fails only if memory runs out.
 pub(crate) fn aligned<F: Digits>(
     alloc: Global,
     leaves: u64,
@@ -58,7 +58,7 @@ pub(crate) fn aligned<F: Digits>(
     Ok(most_aligned(&heights, floor, height, heights.len()))
 }
 
-/// The most of the first `bound` peaks, of the heights `heights`, that end at or before the leaf `floor`.
+/// Returns the most of the first `bound` peaks, of the heights `heights`, that end at or before the leaf `floor`.
 fn most_exact(heights: &[u32], floor: u64, bound: usize) -> usize
     requires few { leaves_under heights.now ≤ max_leaves }
     requires within { bound ≤ length heights.now }
@@ -75,8 +75,8 @@ fn most_exact(heights: &[u32], floor: u64, bound: usize) -> usize
     most_exact(heights, floor, bound - 1)
 }
 
-/// The most of the first `bound` peaks, of the heights `heights`, that end at or before the leaf `floor` and on a
-/// multiple of `2^height`.
+/// Returns the most of the first `bound` peaks, of the heights `heights`, that end at or before the leaf `floor` and on
+/// a multiple of `2^height`.
 fn most_aligned(heights: &[u32], floor: u64, height: u32, bound: usize) -> usize
     requires few { leaves_under heights.now ≤ max_leaves }
     requires within { bound ≤ length heights.now }
@@ -95,7 +95,7 @@ fn most_aligned(heights: &[u32], floor: u64, height: u32, bound: usize) -> usize
     most_aligned(heights, floor, height, bound - 1)
 }
 
-/// Whether the leaf `end` is at or before the leaf `floor` and a multiple of `2^height`.
+/// Returns whether the leaf `end` is at or before the leaf `floor` and a multiple of `2^height`.
 fn is_aligned(end: u64, floor: u64, height: u32) -> bool
     requires { height ≤ 62 }
     ensures { result ≡ (leb end floor && eqb (end % 2 ^ height) 0) }
@@ -103,7 +103,7 @@ fn is_aligned(end: u64, floor: u64, height: u32) -> bool
     end <= floor && end % power(height) == 0
 }
 
-/// How many leaves peaks of the heights `heights` are over.
+/// Returns how many leaves peaks of the heights `heights` are over.
 fn leaves_of(heights: &[u32]) -> u64
     requires { leaves_under heights.now ≤ max_leaves }
     ensures { result ≡ leaves_under heights.now }

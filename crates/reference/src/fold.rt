@@ -33,14 +33,14 @@ pub fn fold_backward<H: Hasher>(first: H::Digest, others: &[H::Digest]) -> H::Di
     }
 }
 
-/// The fold of two items: the digest of `left` and `right`, joined.
+/// Returns the fold of two items: the digest of `left` and `right`, joined.
 fn fold_two<H: Hasher>(left: &H::Digest, right: &H::Digest) -> H::Digest
     ensures { H.Digest.text result ≡ H.hash_of (H.Digest.text left.now ++ H.Digest.text right.now) }
 {
     H::hash(&[left.bytes(), right.bytes()])
 }
 
-/// `front` folded from the left into one item, and that and `rest` from the right; none where both are empty.
+/// Returns `front` folded from the left into one item, and that and `rest` from the right; none if both are empty.
 pub fn bag<H: Hasher>(front: &[H::Digest], rest: &[H::Digest]) -> Option<H::Digest>
     ensures { or_nothing (option_map H.Digest.text result)
         ≡ bagged H.hash_of (map H.Digest.text front.now) (map H.Digest.text rest.now) }
@@ -77,8 +77,9 @@ pub fn bag_peaks<H: Hasher>(
     }
 }
 
-/// The root of the tree over `leaves` leaves whose first `inactive` peaks are inactive: the digest of the bytes of the
-/// family and of `bagging`, both numbers in eight bytes, highest first, and `bag`, what the peaks are bagged into.
+/// Returns the root of the tree over `leaves` leaves whose first `inactive` peaks are inactive: the digest of the bytes
+/// of the family and of `bagging`, both numbers in eight bytes, highest first, and `bag`, what the peaks are bagged
+/// into.
 #[tactic(auto, unfolding(storage_merkle::specs::Calc::be8))]
 pub fn root_over<F: Family, H: Hasher>(
     bagging: Bagging,
@@ -95,7 +96,7 @@ pub fn root_over<F: Family, H: Hasher>(
     hash_four::<H>(&head, &leaves, &inactive, bag_bytes(&bag))
 }
 
-/// The bytes of the digest `bag`; no bytes for none.
+/// Returns the bytes of the digest `bag`; no bytes for none.
 fn bag_bytes<D: Digest>(bag: &Option<D>) -> &[u8]
     ensures { result.now ≡ or_nothing (option_map D.text bag.now) }
 {
@@ -105,7 +106,7 @@ fn bag_bytes<D: Digest>(bag: &Option<D>) -> &[u8]
     }
 }
 
-/// The digest of the four parts, joined.
+/// Returns the digest of the four parts, joined.
 fn hash_four<H: Hasher>(first: &[u8], second: &[u8], third: &[u8], fourth: &[u8]) -> H::Digest
     ensures { H.Digest.text result
         ≡ H.hash_of (first.now ++ (second.now ++ (third.now ++ fourth.now))) }

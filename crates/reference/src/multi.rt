@@ -23,7 +23,7 @@ use std::convert::AsSlice;
 use storage_codec::digest::{Digest, Hasher};
 use storage_merkle::merkle::{Bagging, Family, Location, MAX_LEAVES, Proof};
 
-/// Whether one of `locations` is a leaf of the node `place`.
+/// Returns whether one of `locations` is a leaf of the node `place`.
 fn is_touched(locations: &[u64], place: Node) -> bool
     ensures { result ≡ touched locations.now place.first place.height }
 {
@@ -49,8 +49,8 @@ impl Cut for Untouched<'_> {
     }
 }
 
-/// The sites of the digests of a proof of `locations`, in order: of the greatest nodes over `leaves` leaves that hold none
-/// of them, by position. Fails only where memory runs out.
+/// Returns the sites of the digests of a proof of `locations`, in order: of the greatest nodes over `leaves` leaves
+/// that hold none of them, by position. Fails only if memory runs out.
 fn needed_sites<F: Digits>(
     alloc: Global,
     locations: &[u64],
@@ -89,7 +89,7 @@ fn push_tree_digests<F: Digits, H: Hasher, G: Grafts<H>, E: AsSlice<u8>>(
     Ok(())
 }
 
-/// The digest that the tree over `elements` has at `site`; that of no bytes for a fold.
+/// Returns the digest that the tree over `elements` has at `site`; that of no bytes for a fold.
 fn tree_digest<F: Digits, H: Hasher, G: Grafts<H>, E: AsSlice<u8>>(
     alloc: Global,
     grafts: &G,
@@ -109,8 +109,8 @@ fn tree_digest<F: Digits, H: Hasher, G: Grafts<H>, E: AsSlice<u8>>(
     }
 }
 
-/// The own proof of the elements at `locations` of the tree over `elements` whose first `inactive` peaks are inactive. Fails
-/// only where memory runs out.
+/// Returns the own proof of the elements at `locations` of the tree over `elements` whose first `inactive` peaks are
+/// inactive. Fails only if memory runs out.
 pub fn own_multi_proof<F: Digits, H: Hasher, G: Grafts<H>, E: AsSlice<u8>>(
     alloc: Global,
     grafts: &G,
@@ -134,7 +134,7 @@ pub fn own_multi_proof<F: Digits, H: Hasher, G: Grafts<H>, E: AsSlice<u8>>(
     })
 }
 
-/// The element that `claims` have at `location`; no bytes where they have none.
+/// Returns the element that `claims` have at `location`; no bytes if they have none.
 fn element_at<F: Family, E: AsSlice<u8>>(claims: &[(E, Location<F>)], location: u64) -> &[u8]
     ensures { result.now ≡ element_at (claims_of E.items claims.now) location }
 {
@@ -166,7 +166,7 @@ fn push_locations<F: Family, E: AsSlice<u8>>(
     Ok(())
 }
 
-/// Whether `locations` ascend, each once, from `first` on and below `leaves`.
+/// Returns whether `locations` ascend, each once, from `first` on and below `leaves`.
 fn ascend(first: u64, leaves: u64, locations: &[u64]) -> bool
     ensures { IsTrue result ↔ Ascend first leaves locations.now }
 {
@@ -213,7 +213,7 @@ impl<F: Family, H: Hasher, E: AsSlice<u8>> Source<H> for Claimed<'_, F, H::Diges
     }
 }
 
-/// What the peaks are bagged into, `left` folded from the left and `right` from the right, from `source`.
+/// Returns what the peaks are bagged into, `left` folded from the left and `right` from the right, from `source`.
 fn part_bag<F: Digits, H: Hasher, S: Source<H>, G: Grafts<H>>(
     alloc: Global,
     source: &S,
@@ -234,8 +234,8 @@ fn part_bag<F: Digits, H: Hasher, S: Source<H>, G: Grafts<H>>(
     Ok(bag::<H>(&front, &rest))
 }
 
-/// The root that the check of `proof`, of `claims`, elements with their locations, recomputes; none where its counts do not
-/// fit or the locations do not ascend. Fails only where memory runs out.
+/// Returns the root that the check of `proof`, of `claims`, elements with their locations, recomputes; none if its
+/// counts do not fit or the locations do not ascend. Fails only if memory runs out.
 fn recomputed_root<F: Digits, H: Hasher, G: Grafts<H>, E: AsSlice<u8>>(
     alloc: Global,
     grafts: &G,
@@ -274,9 +274,9 @@ fn recomputed_root<F: Digits, H: Hasher, G: Grafts<H>, E: AsSlice<u8>>(
     Ok(Some(root_over::<F, H>(bagging, leaves, inactive, bag)))
 }
 
-/// Whether the check of `proof`, of `claims`, elements with their locations, accepts it against `root`: where its counts fit,
-/// the locations ascend and `root` is the one that is recomputed; with no claims, where it is the empty proof and `root` that
-/// of the empty tree. Fails only where memory runs out.
+/// Returns whether the check of `proof`, of `claims`, elements with their locations, accepts it against `root`: where
+/// its counts fit, the locations ascend and `root` is the one that is recomputed; with no claims, if it is the empty
+/// proof and `root` that of the empty tree. Fails only if memory runs out.
 pub fn is_multi_accepted<F: Digits, H: Hasher, G: Grafts<H>, E: AsSlice<u8>>(
     alloc: Global,
     grafts: &G,
@@ -300,7 +300,7 @@ pub fn is_multi_accepted<F: Digits, H: Hasher, G: Grafts<H>, E: AsSlice<u8>>(
     }
 }
 
-/// Whether `proof` is the one of nothing.
+/// Returns whether `proof` is the one of nothing.
 fn is_default<F: Digits, D: Digest>(proof: &Proof<F, D>) -> bool
     ensures { IsTrue result ↔ (proof_of D.text proof.now ≡ default_proof) }
 {

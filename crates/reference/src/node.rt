@@ -35,7 +35,7 @@ impl Model for Node {
 }
 
 impl Node {
-    /// The node of height `height` over the leaves from `first` on.
+    /// Returns the node of height `height` over the leaves from `first` on.
     pub fn new(first: u64, height: u32) -> Self
         requires { first + 2 ^ height ≤ max_leaves }
         ensures { result ≡ record { first = first; height = height } }
@@ -43,14 +43,14 @@ impl Node {
         Node { first, height }
     }
 
-    /// The node's first leaf.
+    /// Returns the node's first leaf.
     pub fn first(&self) -> u64
         ensures { result ≡ self.now.first }
     {
         self.first
     }
 
-    /// The node's height, from 0 for a leaf.
+    /// Returns the node's height, from 0 for a leaf.
     pub fn height(&self) -> u32
         ensures value { result ≡ self.now.height }
         ensures within { self.now.first + 2 ^ self.now.height ≤ max_leaves }
@@ -58,14 +58,14 @@ impl Node {
         self.height
     }
 
-    /// The leaf after the node's last one.
+    /// Returns the leaf after the node's last one.
     pub fn end(&self) -> u64
         ensures { result ≡ self.now.first + 2 ^ self.now.height }
     {
         self.first + power(self.height)
     }
 
-    /// The node's left half, where its height is at least 1.
+    /// Returns the node's left half, where its height is at least 1.
     pub fn left(&self) -> Self
         requires { 0 < self.now.height }
         ensures { result ≡ record { first = self.now.first; height = self.now.height - 1 } }
@@ -76,7 +76,7 @@ impl Node {
         }
     }
 
-    /// The node's right half, where its height is at least 1.
+    /// Returns the node's right half, where its height is at least 1.
     pub fn right(&self) -> Self
         requires { 0 < self.now.height }
         ensures { result ≡ record {
@@ -102,13 +102,13 @@ pub(crate) trait Source<H: Hasher> {
     /// The elements.
     ghost item: { Self → ℕ → List ℕ };
 
-    /// The digest of the node `place`, where it is given.
+    /// Returns the digest of the node `place`, if it is given.
     fn given(&self, place: Node) -> Option<H::Digest>
         ensures { MatchOption result (cut self.now place.first place.height ≡ false) (λ d.
             (cut self.now place.first place.height ≡ true)
             × (H.Digest.text d ≡ digest self.now (node place.first place.height))) };
 
-    /// The element at `location`; no bytes where there is none.
+    /// Returns the element at `location`; no bytes if there is none.
     fn element(&self, location: u64) -> &[u8]
         ensures { result.now ≡ item self.now location };
 }
@@ -121,8 +121,8 @@ pub trait Grafts<H: Hasher> {
     /// The chunk from a leaf on.
     ghost chunk: { Self → ℕ → List ℕ };
 
-    /// The digest of the node `place` from `inner`, the one that it has with no chunk: `inner` where no chunk is
-    /// grafted over it or the chunk is all zero, else that of the chunk and `inner`. Fails only where memory runs out.
+    /// Returns the digest of the node `place` from `inner`, the one that it has with no chunk: `inner` if no chunk is
+    /// grafted over it or the chunk is all zero, else that of the chunk and `inner`. Fails only if memory runs out.
     fn graft(&self, alloc: Global, place: Node, inner: H::Digest) -> Result<H::Digest, AllocError>
         ensures { IfOk result (λ d. H.Digest.text d ≡ if grafted self.now place.first place.height
             then grafted_digest H.hash_of (chunk self.now place.first) (H.Digest.text inner)
@@ -175,8 +175,8 @@ impl<H: Hasher, E: AsSlice<u8>> Source<H> for Whole<'_, E> {
     }
 }
 
-/// The digest of the node `place`: the one that is given, else that of its position in eight bytes, highest first, and
-/// the element, or the digests of its halves. Fails only where memory runs out.
+/// Returns the digest of the node `place`: the one that is given, else that of its position in eight bytes, highest
+/// first, and the element, or the digests of its halves. Fails only if memory runs out.
 pub(crate) fn node_digest<F: Digits, H: Hasher, S: Source<H>, G: Grafts<H>>(
     alloc: Global,
     source: &S,
@@ -203,7 +203,7 @@ pub(crate) fn node_digest<F: Digits, H: Hasher, S: Source<H>, G: Grafts<H>>(
     Ok(digest)
 }
 
-/// The digest of `position` in eight bytes, highest first, and `element`.
+/// Returns the digest of `position` in eight bytes, highest first, and `element`.
 #[tactic(auto, unfolding(storage_merkle::specs::Calc::be8))]
 fn leaf_digest<H: Hasher>(position: u64, element: &[u8]) -> H::Digest
     ensures { H.Digest.text result ≡ H.hash_of (be8 position ++ element.now) }
@@ -211,7 +211,7 @@ fn leaf_digest<H: Hasher>(position: u64, element: &[u8]) -> H::Digest
     H::hash(&[&position.to_be_bytes(), element])
 }
 
-/// The digest of `position` in eight bytes, highest first, and the digests `left` and `right`.
+/// Returns the digest of `position` in eight bytes, highest first, and the digests `left` and `right`.
 #[tactic(auto, unfolding(storage_merkle::specs::Calc::be8))]
 fn pair_digest<H: Hasher>(position: u64, left: &H::Digest, right: &H::Digest) -> H::Digest
     ensures { H.Digest.text result
@@ -220,7 +220,7 @@ fn pair_digest<H: Hasher>(position: u64, left: &H::Digest, right: &H::Digest) ->
     H::hash(&[&position.to_be_bytes(), left.bytes(), right.bytes()])
 }
 
-/// Appends to `digests` those of `nodes`. Fails only where memory runs out.
+/// Appends to `digests` those of `nodes`. Fails only if memory runs out.
 pub(crate) fn push_digests<F: Digits, H: Hasher, S: Source<H>, G: Grafts<H>>(
     digests: &mut Vec<H::Digest>,
     source: &S,

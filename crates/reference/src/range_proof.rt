@@ -33,7 +33,7 @@ pub struct Tree<'a, G, E> {
     pub inactive: usize,
 }
 
-/// `items` folded from the left; the digest of no bytes for no items.
+/// Returns `items` folded from the left; the digest of no bytes for no items.
 fn forward_digest<H: Hasher>(items: &[H::Digest]) -> H::Digest
     ensures { H.Digest.text result ≡ forward_digest H.hash_of (map H.Digest.text items.now) }
 {
@@ -43,7 +43,7 @@ fn forward_digest<H: Hasher>(items: &[H::Digest]) -> H::Digest
     }
 }
 
-/// `items` folded from the right; the digest of no bytes for no items.
+/// Returns `items` folded from the right; the digest of no bytes for no items.
 fn backward_digest<H: Hasher>(items: &[H::Digest]) -> H::Digest
     ensures { H.Digest.text result ≡ backward_digest H.hash_of (map H.Digest.text items.now) }
 {
@@ -53,8 +53,8 @@ fn backward_digest<H: Hasher>(items: &[H::Digest]) -> H::Digest
     }
 }
 
-/// The digest that `tree` has at `site` of the range of leaves from `low` to before `high`. Fails only where memory
-/// runs out.
+/// Returns the digest that `tree` has at `site` of the range of leaves from `low` to before `high`. Fails only if
+/// memory runs out.
 pub fn own_digest<F: Digits, H: Hasher, G: Grafts<H>, E: AsSlice<u8>>(
     alloc: Global,
     tree: &Tree<'_, G, E>,
@@ -120,7 +120,7 @@ fn push_own<F: Digits, H: Hasher, G: Grafts<H>, E: AsSlice<u8>>(
     Ok(())
 }
 
-/// The own proof of `tree` of the elements from `low` to before `high`. Fails only where memory runs out.
+/// Returns the own proof of `tree` of the elements from `low` to before `high`. Fails only if memory runs out.
 pub fn own_proof<F: Digits, H: Hasher, G: Grafts<H>, E: AsSlice<u8>>(
     alloc: Global,
     tree: &Tree<'_, G, E>,

@@ -11,25 +11,26 @@ use storage_merkle::merkle::{Family, mmb, mmr};
 
 /// A family whose shape is computed from binary digits.
 pub trait Digits: Family {
-    /// The heights of the peaks of the tree over `leaves` leaves, fewer than `2^63`, from the first leaf on. Fails only
-    /// where memory runs out.
+    /// Returns the heights of the peaks of the tree over `leaves` leaves, fewer than `2^63`, from the first leaf on.
+    /// Fails only if memory runs out.
     fn peak_heights(alloc: Global, leaves: u64) -> Result<Vec<u32>, AllocError>
         requires { leaves < 2 ^ 63 }
         ensures { IfOk result (λ heights. heights.items ≡ Self.shape.peaks leaves) };
 
-    /// The least number of leaves whose tree has the node of height `height` over the leaves from `first` on.
+    /// Returns the least number of leaves whose tree has the node of height `height` over the leaves from `first` on.
     fn leaves_at_birth(first: u64, height: u32) -> u64
         requires { first + 2 ^ height ≤ max_leaves + 2 ^ 61 }
         ensures { result ≡ Self.shape.birth first height };
 
-    /// The position of the node of height `height` over the leaves from `first` on. Fails only where memory runs out.
+    /// Returns the position of the node of height `height` over the leaves from `first` on. Fails only if memory runs
+    /// out.
     fn place(alloc: Global, first: u64, height: u32) -> Result<u64, AllocError>
         requires { first + 2 ^ height ≤ max_leaves + 2 ^ 61 }
         ensures { IfOk result (λ place. place ≡ Self.shape.position first height) };
 }
 
-/// How many nodes the tree over `leaves` leaves, fewer than `2^63`, has: twice the leaves, less the peaks. Fails only
-/// where memory runs out.
+/// Returns how many nodes the tree over `leaves` leaves, fewer than `2^63`, has: twice the leaves, less the peaks.
+/// Fails only if memory runs out.
 pub fn node_count<F: Digits>(alloc: Global, leaves: u64) -> Result<u64, AllocError>
     requires { leaves < 2 ^ 63 }
     ensures { IfOk result (λ count. count ≡ size F.shape leaves) }
@@ -37,7 +38,7 @@ pub fn node_count<F: Digits>(alloc: Global, leaves: u64) -> Result<u64, AllocErr
     Ok(without_peaks(leaves, F::peak_heights(alloc, leaves)?.len()))
 }
 
-/// Twice `leaves`, less `peaks`, and 0 where they are more.
+/// Twice `leaves`, less `peaks`, and 0 if they are more.
 fn without_peaks(leaves: u64, peaks: usize) -> u64
     requires { leaves < 2 ^ 63 }
     ensures { result ≡ 2 * leaves - peaks }
@@ -84,7 +85,7 @@ impl Digits for mmb::Family {
     }
 }
 
-/// The places of the digits 1 of `leaves`, below `2^63`, in binary, highest first.
+/// Returns the places of the digits 1 of `leaves`, below `2^63`, in binary, highest first.
 fn mmr_heights(alloc: Global, leaves: u64) -> Result<Vec<u32>, AllocError>
     requires { leaves < 2 ^ 63 }
     ensures { IfOk result (λ heights. heights.items ≡ mmr.peaks leaves) }
@@ -94,8 +95,8 @@ fn mmr_heights(alloc: Global, leaves: u64) -> Result<Vec<u32>, AllocError>
     Ok(heights)
 }
 
-/// For each place below the highest binary digit of `leaves + 1`, where `leaves` is below `2^63`, highest first: the
-/// place and the digit there, added.
+/// For each place below the highest binary digit of `leaves + 1`, if `leaves` is below `2^63`, highest first: the place
+/// and the digit there, added.
 fn mmb_heights(alloc: Global, leaves: u64) -> Result<Vec<u32>, AllocError>
     requires { leaves < 2 ^ 63 }
     ensures { IfOk result (λ heights. heights.items ≡ mmb.peaks leaves) }
@@ -133,7 +134,7 @@ fn push_mmb_digits(heights: &mut Vec<u32>, places: u32, number: u64) -> Result<(
     push_mmb_digits(heights, places - 1, number)
 }
 
-/// The binary digit of `number` at `place`.
+/// Returns the binary digit of `number` at `place`.
 fn digit(number: u64, place: u32) -> u64
     requires { place ≤ 63 }
     ensures value { result ≡ digit number place }
@@ -142,7 +143,7 @@ fn digit(number: u64, place: u32) -> u64
     number / power(place) % 2
 }
 
-/// The place of the highest binary digit 1 of `number`, which is not 0; it is at most `place`.
+/// Returns the place of the highest binary digit 1 of `number`, which is not 0; it is at most `place`.
 pub(crate) fn highest_place(place: u32, number: u64) -> u32
     requires few { place ≤ 63 }
     requires some { 0 < number }
@@ -156,7 +157,7 @@ pub(crate) fn highest_place(place: u32, number: u64) -> u32
     highest_place(place - 1, number)
 }
 
-/// `2^exponent`, for `exponent` of at most 63.
+/// Returns `2^exponent`, for `exponent` of at most 63.
 pub fn power(exponent: u32) -> u64
     requires { exponent ≤ 63 }
     ensures { result ≡ 2 ^ exponent }

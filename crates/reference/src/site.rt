@@ -25,7 +25,7 @@ pub enum Site {
     Inner(Node),
 }
 
-/// Whether the node `place` has no leaf from `low` to before `high`.
+/// Returns whether the node `place` has no leaf from `low` to before `high`.
 pub fn is_apart(low: u64, high: u64, place: Node) -> bool
     ensures { result ≡ apart low high place.first place.height }
 {
@@ -37,7 +37,7 @@ pub(crate) trait Cut {
     /// The nodes that are given.
     ghost cut: { Self → ℕ → ℕ → Bool };
 
-    /// Whether the node `place` is given.
+    /// Returns whether the node `place` is given.
     fn is_given(&self, place: Node) -> bool
         ensures { result ≡ cut self.now place.first place.height };
 }
@@ -57,7 +57,7 @@ impl Cut for Apart {
     }
 }
 
-/// Whether `left` and `right` are one site.
+/// Returns whether `left` and `right` are one site.
 pub fn is_same(left: Site, right: Site) -> bool
     ensures { result ≡ same_site (site_of left) (site_of right) }
 {
@@ -71,8 +71,8 @@ pub fn is_same(left: Site, right: Site) -> bool
     }
 }
 
-/// Those of `peaks`, of which the first `inactive` are inactive, that are folded from the left under `bagging`, and those
-/// that are folded from the right.
+/// Returns those of `peaks`, of which the first `inactive` are inactive, that are folded from the left under `bagging`,
+/// and those that are folded from the right.
 pub fn split_folded(bagging: Bagging, inactive: usize, peaks: &[Node]) -> (&[Node], &[Node])
     requires { inactive ≤ length peaks.now }
     ensures left { result.0.now ≡ folded bagging inactive peaks.now }
@@ -84,7 +84,7 @@ pub fn split_folded(bagging: Bagging, inactive: usize, peaks: &[Node]) -> (&[Nod
     }
 }
 
-/// Those of `peaks` in front that end at or before `low`, and the others.
+/// Returns those of `peaks` in front that end at or before `low`, and the others.
 pub fn split_leading(low: u64, peaks: &[Node]) -> (&[Node], &[Node])
     ensures front { result.0.now ≡ leading low peaks.now }
     ensures others { result.1.now ≡ not_leading low peaks.now }
@@ -92,7 +92,7 @@ pub fn split_leading(low: u64, peaks: &[Node]) -> (&[Node], &[Node])
     peaks.split_at(leading_count(low, peaks))
 }
 
-/// How many of `peaks` in front end at or before `low`.
+/// Returns how many of `peaks` in front end at or before `low`.
 fn leading_count(low: u64, peaks: &[Node]) -> usize
     ensures within { result ≤ length peaks.now }
     ensures front { take result peaks.now ≡ leading low peaks.now }
@@ -104,7 +104,7 @@ fn leading_count(low: u64, peaks: &[Node]) -> usize
     }
 }
 
-/// Those of `peaks` up to the first one that begins at `high` or past it, and the others.
+/// Returns those of `peaks` up to the first one that begins at `high` or past it, and the others.
 pub fn split_up_to(high: u64, peaks: &[Node]) -> (&[Node], &[Node])
     ensures front { result.0.now ≡ up_to high peaks.now }
     ensures others { result.1.now ≡ trailing high peaks.now }
@@ -112,7 +112,7 @@ pub fn split_up_to(high: u64, peaks: &[Node]) -> (&[Node], &[Node])
     peaks.split_at(up_to_count(high, peaks))
 }
 
-/// How many of `peaks` in front begin before `high`.
+/// Returns how many of `peaks` in front begin before `high`.
 fn up_to_count(high: u64, peaks: &[Node]) -> usize
     ensures within { result ≤ length peaks.now }
     ensures front { take result peaks.now ≡ up_to high peaks.now }
@@ -158,7 +158,7 @@ pub(crate) fn push_sites_in<C: Cut>(
     Ok(())
 }
 
-/// The position of the node at `site`; 0 for a fold.
+/// Returns the position of the node at `site`; 0 for a fold.
 fn position_of<F: Digits>(alloc: Global, site: Site) -> Result<u64, AllocError>
     ensures { IfOk result (λ position. (grafted : ℕ → ℕ → Bool)
         → position ≡ position_of (laid_out F.shape grafted) (site_of site)) }
@@ -194,7 +194,7 @@ fn push_placed<F: Digits>(
     Ok(())
 }
 
-/// The `sites` in ascending order of their positions.
+/// Returns the `sites` in ascending order of their positions.
 pub(crate) fn by_position<F: Digits>(alloc: Global, sites: &[Site]) -> Result<Vec<Site>, AllocError>
     ensures { IfOk result (λ sorted. (grafted : ℕ → ℕ → Bool) → map site_of sorted.items
         ≡ by_position (laid_out F.shape grafted) (map site_of sites.now)) }
@@ -230,10 +230,10 @@ fn push_back_fold(sites: &mut Vec<Site>, peaks: &[Node]) -> Result<(), AllocErro
     Ok(())
 }
 
-/// The sites of the digests of a proof of the leaves from `low` to before `high`, in the tree over `leaves` leaves whose
-/// first `inactive` peaks are inactive, in order: before the range, one fold of the peaks that are folded from the left
-/// and each of the others; past it, each of the first and one fold of the others; then the siblings inside the peaks that
-/// share a leaf with the range, by position.
+/// Returns the sites of the digests of a proof of the leaves from `low` to before `high`, in the tree over `leaves`
+/// leaves whose first `inactive` peaks are inactive, in order: before the range, one fold of the peaks that are folded
+/// from the left and each of the others; past it, each of the first and one fold of the others; then the siblings
+/// inside the peaks that share a leaf with the range, by position.
 pub fn sites<F: Digits>(
     alloc: Global,
     low: u64,
@@ -252,8 +252,8 @@ pub fn sites<F: Digits>(
     sites_over::<F>(alloc, low, high, left, right)
 }
 
-/// The sites of a proof of the leaves from `low` to before `high`, where the peaks `left` are folded from the left and
-/// `right` from the right.
+/// Returns the sites of a proof of the leaves from `low` to before `high`, where the peaks `left` are folded from the
+/// left and `right` from the right.
 fn sites_over<F: Digits>(
     alloc: Global,
     low: u64,
@@ -280,8 +280,8 @@ fn sites_over<F: Digits>(
     Ok(sites)
 }
 
-/// The siblings of the leaves from `low` to before `high` inside those of the peaks `left` and `right` that have one, by
-/// position.
+/// Returns the siblings of the leaves from `low` to before `high` inside those of the peaks `left` and `right` that
+/// have one, by position.
 fn siblings<F: Digits>(
     alloc: Global,
     low: u64,

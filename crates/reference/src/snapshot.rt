@@ -35,7 +35,7 @@ pub struct Snapshot<'a, E> {
     pub chunk_size: usize,
 }
 
-/// The root of the tree over the operations of the snapshot `of`. Fails only where memory runs out.
+/// Returns the root of the tree over the operations of the snapshot `of`. Fails only if memory runs out.
 fn ops_root<F: Digits, H: Hasher, E: AsSlice<u8>>(
     alloc: Global,
     of: &Snapshot<'_, E>,
@@ -56,7 +56,7 @@ fn ops_root<F: Digits, H: Hasher, E: AsSlice<u8>>(
     Ok(root)
 }
 
-/// The root of the grafted view of the snapshot `of`. Fails only where memory runs out.
+/// Returns the root of the grafted view of the snapshot `of`. Fails only if memory runs out.
 fn grafted_root<F: Digits, H: Hasher, E: AsSlice<u8>>(
     alloc: Global,
     of: &Snapshot<'_, E>,
@@ -87,8 +87,8 @@ fn grafted_root<F: Digits, H: Hasher, E: AsSlice<u8>>(
     Ok(root)
 }
 
-/// The range proof of the operations from `low` to before `high` of the grafted view of the snapshot `of`. Fails only where
-/// memory runs out.
+/// Returns the range proof of the operations from `low` to before `high` of the grafted view of the snapshot `of`.
+/// Fails only if memory runs out.
 fn own_range<F: Digits, H: Hasher, E: AsSlice<u8>>(
     alloc: Global,
     of: &Snapshot<'_, E>,
@@ -120,8 +120,8 @@ fn own_range<F: Digits, H: Hasher, E: AsSlice<u8>>(
     Ok(proof)
 }
 
-/// The own proof of the snapshot `of` of the operations from `low` to before `high`, and of their activity. Fails only where
-/// memory runs out.
+/// Returns the own proof of the snapshot `of` of the operations from `low` to before `high`, and of their activity.
+/// Fails only if memory runs out.
 pub fn own_current<F: Digits, H: Hasher, E: AsSlice<u8>>(
     alloc: Global,
     of: &Snapshot<'_, E>,
@@ -150,8 +150,8 @@ pub fn own_current<F: Digits, H: Hasher, E: AsSlice<u8>>(
     })
 }
 
-/// The digest of the pending chunk, number `graftable`, of `bits` in chunks of `size` bytes; none where all `complete` chunks
-/// are graftable. Fails only where memory runs out.
+/// Returns the digest of the pending chunk, number `graftable`, of `bits` in chunks of `size` bytes; none if all
+/// `complete` chunks are graftable. Fails only if memory runs out.
 fn pending<H: Hasher>(
     alloc: Global,
     size: usize,
@@ -171,8 +171,8 @@ fn pending<H: Hasher>(
     Ok(None)
 }
 
-/// The digest of the chunk after the `complete` ones, of `bits` in chunks of `size` bytes; none where `next_bit`, how many
-/// bits it has, is 0. Fails only where memory runs out.
+/// Returns the digest of the chunk after the `complete` ones, of `bits` in chunks of `size` bytes; none if `next_bit`,
+/// how many bits it has, is 0. Fails only if memory runs out.
 fn partial<H: Hasher>(
     alloc: Global,
     size: usize,
@@ -192,7 +192,7 @@ fn partial<H: Hasher>(
     Ok(Some(string_digest::<H>(&bytes)))
 }
 
-/// The canonical root of the snapshot `of`. Fails only where memory runs out.
+/// Returns the canonical root of the snapshot `of`. Fails only if memory runs out.
 pub fn canonical_root<F: Digits, H: Hasher, E: AsSlice<u8>>(
     alloc: Global,
     of: &Snapshot<'_, E>,

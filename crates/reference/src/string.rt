@@ -8,7 +8,7 @@ ghost use Rattle.storage_merkle.specs.Calc.{be8};
 use std::alloc::{AllocError, Global};
 use storage_codec::digest::{Digest, Hasher};
 
-/// The digest of the bytes `string`.
+/// Returns the digest of the bytes `string`.
 pub(crate) fn string_digest<H: Hasher>(string: &[u8]) -> H::Digest
     ensures { H.Digest.text result ≡ H.hash_of string.now }
 {
@@ -26,7 +26,7 @@ fn push_counted<D: Digest>(string: &mut Vec<u8>, count: u64, digest: &D) -> Resu
     Ok(())
 }
 
-/// Appends to `string` the slot of `digest`: the digest, where there is one.
+/// Appends to `string` the slot of `digest`: the digest, if there is one.
 fn push_slot<D: Digest>(string: &mut Vec<u8>, digest: &Option<D>) -> Result<(), AllocError>
     ensures { OnOk result
         (string.new.items ≡ string.old.items ++ slot (option_map D.text digest.now)) }
@@ -37,7 +37,7 @@ fn push_slot<D: Digest>(string: &mut Vec<u8>, digest: &Option<D>) -> Result<(), 
     Ok(())
 }
 
-/// Appends to `string` the slot of `digest` with `count` before it: both, where there is a digest.
+/// Appends to `string` the slot of `digest` with `count` before it: both, if there is a digest.
 fn push_counted_slot<D: Digest>(
     string: &mut Vec<u8>,
     count: u64,
@@ -52,8 +52,8 @@ fn push_counted_slot<D: Digest>(
     Ok(())
 }
 
-/// The string of a canonical root: the digests `ops_root` and `grafted_root`, the slot of `pending`, and the slot of
-/// `partial` with `next_bit`, how many bits the partial chunk has, before it. Fails only where memory runs out.
+/// Returns the string of a canonical root: the digests `ops_root` and `grafted_root`, the slot of `pending`, and the
+/// slot of `partial` with `next_bit`, how many bits the partial chunk has, before it. Fails only if memory runs out.
 pub(crate) fn canonical_string<D: Digest>(
     alloc: Global,
     ops_root: &D,
@@ -74,8 +74,8 @@ pub(crate) fn canonical_string<D: Digest>(
     Ok(string)
 }
 
-/// The string of the root of bits that do not fill their chunks: `root`, that of the tree over the complete chunks,
-/// `length`, the number of bits, and `last`, the digest of the last chunk. Fails only where memory runs out.
+/// Returns the string of the root of bits that do not fill their chunks: `root`, that of the tree over the complete
+/// chunks, `length`, the number of bits, and `last`, the digest of the last chunk. Fails only if memory runs out.
 pub(crate) fn partial_string<D: Digest>(
     alloc: Global,
     root: &D,

@@ -13,7 +13,8 @@ use std::convert::AsSlice;
 use storage_codec::digest::Hasher;
 use storage_merkle::merkle::Bagging;
 
-/// The peaks of the tree over `leaves` leaves, at most `2^62`, from the first leaf on. Fails only where memory runs out.
+/// Returns the peaks of the tree over `leaves` leaves, at most `2^62`, from the first leaf on. Fails only if memory
+/// runs out.
 pub fn peaks<F: Digits>(alloc: Global, leaves: u64) -> Result<Vec<Node>, AllocError>
     requires { leaves ≤ max_leaves }
     ensures { IfOk result (λ peaks. peaks.items ≡ places 0 (F.shape.peaks leaves)) }
@@ -36,8 +37,8 @@ fn push_places(nodes: &mut Vec<Node>, first: u64, heights: &[u32]) -> Result<(),
     push_places(nodes, first + power(*height), rest)
 }
 
-/// The root of the tree over `elements`, whose first `inactive` peaks are inactive, by its definition. Fails only where
-/// memory runs out.
+/// Returns the root of the tree over `elements`, whose first `inactive` peaks are inactive, by its definition. Fails
+/// only if memory runs out.
 pub(crate) fn tree_root<F: Digits, H: Hasher, G: Grafts<H>, E: AsSlice<u8>>(
     alloc: Global,
     grafts: &G,

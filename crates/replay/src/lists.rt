@@ -16,13 +16,13 @@ use replay_trees::{
 };
 use std::alloc::Global;
 
-/// The text of a case. Where it is worked by hand, the row's name, a colon and a blank stand before it.
+/// Returns the text of a case. Where it is worked by hand, the row's name, a colon and a blank stand before it.
 fn without_row_name(line: &str) -> &str {
     line.split_once(": ").map_or(line, |(_, case)| case)
 }
 
-/// The answer to a line: the list's name, then the columns of the case, with blanks between them. The digests of a list are
-/// those of SHA-256, but of SHA-512 where `sha512` stands before its name.
+/// Returns the answer to a line: the list's name, then the columns of the case, with blanks between them. The digests
+/// of a list are those of SHA-256, but of SHA-512 where `sha512` stands before its name.
 pub fn answer(alloc: Global, line: &str) -> Result<String, Fault> {
     let columns: Vec<&str> = without_row_name(line).split(' ').collect(alloc)?;
     match columns.as_slice() {
@@ -32,7 +32,7 @@ pub fn answer(alloc: Global, line: &str) -> Result<String, Fault> {
     }
 }
 
-/// The answer of a list of that name, with the digests of `H`, which have `D` bytes.
+/// Returns the answer of a list of that name, with the digests of `H`, which have `D` bytes.
 fn over<H: Hasher<Digest = FixedBytes<D>>, const D: usize>(
     alloc: Global,
     list: &str,
@@ -77,7 +77,7 @@ where
     }
 }
 
-/// The answer of a list whose first column is the family.
+/// Returns the answer of a list whose first column is the family.
 fn by_family<H: Hasher>(alloc: Global, list: &str, columns: &[&str]) -> Result<String, Fault> {
     match columns {
         ["mmr", columns @ ..] => of_shapes::<mmr::Family, H>(alloc, list, columns),
@@ -86,7 +86,7 @@ fn by_family<H: Hasher>(alloc: Global, list: &str, columns: &[&str]) -> Result<S
     }
 }
 
-/// The answer of a list on the arithmetic of a family, or of another one.
+/// Returns the answer of a list on the arithmetic of a family, or of another one.
 fn of_shapes<F: Graftable, H: Hasher>(
     alloc: Global,
     list: &str,
@@ -108,7 +108,7 @@ fn of_shapes<F: Graftable, H: Hasher>(
     }
 }
 
-/// The answer of a list on trees and their proofs.
+/// Returns the answer of a list on trees and their proofs.
 fn of_proofs<F: Graftable, H: Hasher>(
     alloc: Global,
     list: &str,
@@ -140,7 +140,7 @@ fn of_proofs<F: Graftable, H: Hasher>(
     }
 }
 
-/// The answer of a list on chunks whose size is the first column.
+/// Returns the answer of a list on chunks whose size is the first column.
 fn by_chunk<F: Graftable, H: Hasher>(
     alloc: Global,
     list: &str,

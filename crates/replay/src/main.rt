@@ -10,7 +10,7 @@ use std::alloc::{AllocError, Global};
 use std::io;
 use std::io::{BufRead, BufReader, BufWriter, Write};
 
-/// The line to print for a line of the lists.
+/// Returns the line to print for a line of the lists.
 fn reply(alloc: Global, line: &str) -> Result<String, AllocError> {
     match lists::answer(alloc, line) {
         Ok(answer) => Ok(answer),

@@ -13,7 +13,7 @@ pub trait Answer: Sized {
     fn tell(&self, alloc: Global, out: &mut String) -> Result<(), Fault>;
 }
 
-/// The text of an answer.
+/// Returns the text of an answer.
 pub fn told<A: Answer + Drop>(alloc: Global, answer: A) -> Result<String, Fault> {
     let mut text = String::new(alloc);
     answer.tell(alloc, &mut text)?;
@@ -169,17 +169,17 @@ impl<A: Answer, B: Answer, C: Answer, D: Answer> Answer for (A, B, C, D) {
     }
 }
 
-/// A text of its own.
+/// Returns a text of its own.
 pub fn owned(alloc: Global, text: &str) -> Result<String, Fault> {
     Ok(String::from_str(alloc, text)?)
 }
 
-/// The bytes of what is written, in hexadecimal.
+/// Returns the bytes of what is written, in hexadecimal.
 pub fn encoded<T: EncodeSize>(alloc: Global, value: &T) -> Result<String, Fault> {
     Ok(hex::encode(alloc, value.encode(alloc)?)?)
 }
 
-/// A text with `_` for each blank.
+/// Returns a text with `_` for each blank.
 pub fn unblanked(alloc: Global, text: &str) -> Result<String, Fault> {
     let mut answer = String::new(alloc);
     for character in text.chars() {
@@ -238,12 +238,12 @@ impl Series {
         Ok(())
     }
 
-    /// The text; `none` where there are no answers.
+    /// Returns the text; `none` if there are no answers.
     pub fn finish(self) -> Result<String, AllocError> {
         self.finish_or("none")
     }
 
-    /// The text, or another one where there are no answers.
+    /// Returns the text, or another one if there are no answers.
     pub fn finish_or(mut self, none: &str) -> Result<String, AllocError> {
         if self.text.is_empty() {
             self.text.push_str(none)?;

@@ -49,7 +49,8 @@ impl From<codec::Error> for Fault {
 
 /// Why a call was refused.
 pub trait Refusal {
-    /// Why a line has no answer where no case of the list is refused: for want of memory, or its columns are other ones.
+    /// Returns why a line has no answer if no case of the list is refused: for want of memory, or its columns are other
+    /// ones.
     fn fault(&self) -> Fault;
 }
 
@@ -72,7 +73,7 @@ impl<F> Refusal for qmdb::Error<F> {
     }
 }
 
-/// What a call gives that no case of the list refuses.
+/// Returns what a call gives that no case of the list refuses.
 pub fn or_fault<T, E: Refusal + Drop>(given: Result<T, E>) -> Result<T, Fault> {
     match given {
         Ok(value) => Ok(value),
@@ -88,7 +89,7 @@ pub struct Columns<'a> {
 }
 
 impl<'a> Columns<'a> {
-    /// The next column.
+    /// Returns the next column.
     pub fn text(&mut self) -> Result<&'a str, Fault> {
         match self.texts.get(self.next) {
             Some(text) => {
@@ -120,7 +121,7 @@ pub fn parse<T: Column>(alloc: Global, columns: &[&str]) -> Result<T, Fault> {
     }
 }
 
-/// A number.
+/// Returns a number.
 pub fn number(text: &str) -> Result<u64, Fault> {
     match text.parse::<u64>() {
         Ok(number) => Ok(number),
@@ -148,13 +149,13 @@ pub fn array<const N: usize>(text: &str) -> Result<[u8; N], Fault> {
     }
 }
 
-/// A digest in hexadecimal.
+/// Returns a digest in hexadecimal.
 pub fn digest<D: Digest>(alloc: Global, text: &str) -> Result<D, Fault> {
     let bytes = bytes(alloc, text)?;
     Ok(D::decode(alloc, bytes.as_slice())?)
 }
 
-/// Digests with commas between them, where `none` is none, or with another separator, where `-` is none.
+/// Digests with commas between them, if `none` is none, or with another separator, if `-` is none.
 pub fn digests_between<D: Digest>(
     alloc: Global,
     text: &str,
@@ -169,7 +170,7 @@ pub fn digests_between<D: Digest>(
     Ok(digests)
 }
 
-/// What stands between commas, where `none` is nothing, or between other separators, where `-` is nothing.
+/// Returns what stands between commas, if `none` is nothing, or between other separators, if `-` is nothing.
 pub fn parts_between<T: Column>(
     alloc: Global,
     text: &str,
@@ -184,7 +185,7 @@ pub fn parts_between<T: Column>(
     Ok(parts)
 }
 
-/// Whether a text stands for no parts with a separator between them.
+/// Returns whether a text stands for no parts with a separator between them.
 fn is_none(text: &str, separator: char) -> bool {
     if separator == ',' {
         text == "none"
@@ -193,12 +194,12 @@ fn is_none(text: &str, separator: char) -> bool {
     }
 }
 
-/// What a text has before and after the first separator.
+/// Returns what a text has before and after the first separator.
 pub fn halves(text: &str, separator: char) -> Result<(&str, &str), Fault> {
     text.split_once(separator).ok_or(Fault::Malformed)
 }
 
-/// Each of some byte strings, as a slice of it.
+/// Returns each of some byte strings, as a slice of it.
 pub fn lent(alloc: Global, strings: &[Vec<u8>]) -> Result<Vec<&[u8]>, Fault> {
     let mut lent = Vec::new(alloc);
     for string in strings {
@@ -207,7 +208,7 @@ pub fn lent(alloc: Global, strings: &[Vec<u8>]) -> Result<Vec<&[u8]>, Fault> {
     Ok(lent)
 }
 
-/// What stands from one place to before another.
+/// Returns what stands from one place to before another.
 pub fn places<T>(items: &[T], start: u64, end: u64) -> Result<&[T], Fault> {
     items
         .get(start as usize..end as usize)

@@ -7,7 +7,7 @@ use std::alloc::Global;
 use storage_bitmap::bitmap::{Prunable, Readable};
 use storage_merkle::merkle::MAX_LEAVES;
 
-/// A bit for each digit; `-` is none.
+/// Returns a bit for each digit; `-` is none.
 pub fn bits_of<const N: usize>(alloc: Global, digits: &str) -> Result<Prunable<N>, Fault>
     requires { IsChunkSize N }
 {
@@ -24,7 +24,7 @@ pub fn bits_of<const N: usize>(alloc: Global, digits: &str) -> Result<Prunable<N
     Ok(bits)
 }
 
-/// The digits in chunks, the last one filled up with zeros.
+/// Returns the digits in chunks, the last one filled up with zeros.
 pub fn chunks_of<const N: usize>(alloc: Global, digits: &str) -> Result<Vec<[u8; N]>, Fault>
     requires { IsChunkSize N }
 {

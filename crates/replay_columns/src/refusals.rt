@@ -8,19 +8,19 @@ use storage_codec::codec;
 use storage_merkle::merkle;
 use storage_ops::qmdb;
 
-/// A name and the number that goes with it.
+/// Returns a name and the number that goes with it.
 fn numbered<T: Display>(alloc: Global, name: &str, number: &T) -> Result<String, Fault> {
     Ok(format!(in alloc; "{name}({number})")?)
 }
 
-/// The name of a reader's refusal of what is read at a place.
+/// Returns the name of a reader's refusal of what is read at a place.
 fn invalid(alloc: Global, place: &str, reason: &str) -> Result<String, Fault> {
     let place = unblanked(alloc, place)?;
     let reason = unblanked(alloc, reason)?;
     Ok(format!(in alloc; "C6({place}|{reason})")?)
 }
 
-/// The name of a reader's refusal.
+/// Returns the name of a reader's refusal.
 pub fn codec_refusal(alloc: Global, error: codec::Error) -> Result<String, Fault> {
     match error {
         codec::Error::EndOfBuffer => owned(alloc, "C1"),
@@ -34,12 +34,12 @@ pub fn codec_refusal(alloc: Global, error: codec::Error) -> Result<String, Fault
     }
 }
 
-/// The name of the refusal of a bit past a length.
+/// Returns the name of the refusal of a bit past a length.
 fn bit_out_of_bounds(alloc: Global, bit: u64, length: u64) -> Result<String, Fault> {
     Ok(format!(in alloc; "E7({bit},{length})")?)
 }
 
-/// The name of a refusal of a call over trees.
+/// Returns the name of a refusal of a call over trees.
 pub fn merkle_refusal<F>(alloc: Global, error: &merkle::Error<F>) -> Result<String, Fault> {
     match error {
         merkle::Error::Empty => owned(alloc, "E1"),
@@ -59,13 +59,13 @@ pub fn merkle_refusal<F>(alloc: Global, error: &merkle::Error<F>) -> Result<Stri
     }
 }
 
-/// The name of a database's refusal for a refusal of a call over its tree.
+/// Returns the name of a database's refusal for a refusal of a call over its tree.
 fn nested<F>(alloc: Global, error: &merkle::Error<F>) -> Result<String, Fault> {
     let refusal = merkle_refusal(alloc, error)?;
     Ok(format!(in alloc; "Q3({refusal})")?)
 }
 
-/// The name of a refusal of a call over a database.
+/// Returns the name of a refusal of a call over a database.
 pub fn database_refusal<F>(alloc: Global, error: &qmdb::Error<F>) -> Result<String, Fault> {
     match error {
         qmdb::Error::DataCorrupted(_) => owned(alloc, "Q1"),

@@ -24,7 +24,7 @@ pub struct Given<D> {
 }
 
 impl<D: Digest> Given<D> {
-    /// Whether they prove the operation at a location.
+    /// Returns whether they prove the operation at a location.
     pub fn shows_operation<F: Graftable, H: Hasher<Digest = D>>(
         &self,
         alloc: Global,
@@ -38,7 +38,7 @@ impl<D: Digest> Given<D> {
         agreed(yes, other)
     }
 
-    /// Whether they prove that a key has a value. Key and value are given for each call.
+    /// Returns whether they prove that a key has a value. Key and value are given for each call.
     pub fn shows_value<
         F: Graftable,
         H: Hasher<Digest = D>,
@@ -60,7 +60,7 @@ impl<D: Digest> Given<D> {
         agreed(yes, other)
     }
 
-    /// Whether they prove that a key has no value.
+    /// Returns whether they prove that a key has no value.
     pub fn shows_absence<
         F: Graftable,
         H: Hasher<Digest = D>,
@@ -80,7 +80,7 @@ impl<D: Digest> Given<D> {
     }
 }
 
-/// An answer where another one is the same.
+/// Returns an answer where another one is the same.
 pub fn agreed(yes: bool, other: bool) -> Result<bool, Fault> {
     if yes == other {
         Ok(yes)

@@ -48,8 +48,9 @@ pub fn ranges_checks<F: Graftable, H: Hasher>(
     told(alloc, agreed(yes, other)?)
 }
 
-/// `leaves operation proof root label`: whether the bytes, read as the proof of an operation and said to be over that number of
-/// leaves, or over as many as they say where that is `-`, are accepted; or why they are none. The label says how the case was made.
+/// `leaves operation proof root label`: whether the bytes, read as the proof of an operation and said to be over that
+/// number of leaves, or over as many as they say if that is `-`, are accepted; or why they are none. The label says how
+/// the case was made.
 pub fn operation_checks<F: Graftable, H: Hasher>(
     alloc: Global,
     chunk_size: usize,
@@ -77,7 +78,8 @@ pub fn operation_checks<F: Graftable, H: Hasher>(
     }
 }
 
-/// Whether a proof shows an operation, by the check of its bytes and, as a copy, by that of the operation that is written so.
+/// Returns whether a proof shows an operation, by the check of its bytes and, as a copy, by that of the operation that
+/// is written so.
 fn is_shown<F: Graftable, H: Hasher>(
     alloc: Global,
     proof: &OperationProof<F, H::Digest>,

@@ -35,8 +35,8 @@ pub struct Faulty<D> {
 }
 
 impl<D: Digest> Faulty<D> {
-    /// The store of `nodes`, which says to have `size` of them, lacks the one at `lacks`, and answers `left` of them; then it
-    /// fails with `code`.
+    /// Returns the store of `nodes`, which says to have `size` of them, lacks the one at `lacks`, and answers `left` of
+    /// them; then it fails with `code`.
     pub fn new(nodes: Vec<D>, size: u64, lacks: u64, left: u64, code: u32) -> Self
         ensures { result.failures ≡ 0 }
     {
@@ -51,17 +51,17 @@ impl<D: Digest> Faulty<D> {
         }
     }
 
-    /// How often it failed.
+    /// Returns how often it failed.
     pub fn failed(&self) -> u64 {
         self.failures
     }
 
-    /// How often it was asked.
+    /// Returns how often it was asked.
     pub fn calls(&self) -> u64 {
         self.calls
     }
 
-    /// Whether `count` more digests are answered. Counts a call.
+    /// Returns whether `count` more digests are answered. Counts a call.
     fn takes(&mut self, count: u64) -> bool
         ensures nodes { self.new.nodes ≡ self.old.nodes }
         ensures size { self.new.size ≡ self.old.size }
@@ -78,7 +78,7 @@ impl<D: Digest> Faulty<D> {
         true
     }
 
-    /// The digest at a position.
+    /// Returns the digest at a position.
     fn look_up<F: Family>(&self, position: Position<F>) -> Option<D>
         ensures { result ≡ (if eqb position self.now.lacks then None
             else slice_get self.now.nodes.items position) }
@@ -90,7 +90,7 @@ impl<D: Digest> Faulty<D> {
         }
     }
 
-    /// The digests at positions, as far as they are there.
+    /// Returns the digests at positions, as far as they are there.
     fn look_up_all<F: Family>(
         &self,
         alloc: Global,
@@ -200,7 +200,8 @@ pub struct Log {
 }
 
 impl Log {
-    /// The log of the locations from `first` to before `past`, which answers `left` of them; then it fails with `code`.
+    /// Returns the log of the locations from `first` to before `past`, which answers `left` of them; then it fails with
+    /// `code`.
     pub fn new(first: u64, past: u64, left: u64, code: u32) -> Self
         ensures { result.failures ≡ 0 }
     {

@@ -36,20 +36,21 @@ type Values = FixedEncoding<u64>;
 
 /// What the lists ask of a snapshot.
 pub trait Asked {
-    /// How many operations it has.
+    /// Returns how many operations it has.
     fn count(&self) -> u64;
 
-    /// The canonical root; and the root of the operations, the grafted root, and the bytes of the witness.
+    /// Returns the canonical root; and the root of the operations, the grafted root, and the bytes of the witness.
     fn roots(&self, alloc: Global) -> Result<(String, String), Fault>;
 
-    /// What a client answers that is given the bytes of its own proof of the operation at a location.
+    /// Returns what a client answers that is given the bytes of its own proof of the operation at a location.
     fn shows_operation(&self, alloc: Global, location: u64) -> Result<bool, Fault>;
 
-    /// What a client answers that is given the bytes of its own proof of the operations from `start` to before `end`.
+    /// Returns what a client answers that is given the bytes of its own proof of the operations from `start` to before
+    /// `end`.
     fn shows_range(&self, alloc: Global, start: u64, end: u64) -> Result<bool, Fault>;
 
-    /// What a client answers that is given the bytes of a copy of the proof that the operation at a location gives a key this
-    /// value, and how many these are.
+    /// Returns what a client answers that is given the bytes of a copy of the proof that the operation at a location
+    /// gives a key this value, and how many these are.
     fn shows_value(
         &self,
         alloc: Global,
@@ -58,10 +59,10 @@ pub trait Asked {
         value: u64,
     ) -> Result<(bool, usize), Fault>;
 
-    /// The same of the proof that by this operation the key has no value.
+    /// Returns the same of the proof that by this operation the key has no value.
     fn shows_absence(&self, alloc: Global, location: u64, key: Key) -> Result<(bool, usize), Fault>;
 
-    /// What is told where a store and a log have so many answers.
+    /// Returns what is told where a store and a log have so many answers.
     fn fetch(&self, alloc: Global, call: &Call, left: Left) -> Result<Told, Fault>;
 }
 
@@ -79,7 +80,7 @@ pub struct Kept<F: Graftable, H: Hasher, const N: usize> {
 }
 
 impl<F: Graftable, H: Hasher, const N: usize> Kept<F, H, N> {
-    /// The snapshot of operations whose activity bits are digits.
+    /// Returns the snapshot of operations whose activity bits are digits.
     pub fn of(
         alloc: Global,
         floor: u64,
@@ -105,7 +106,7 @@ impl<F: Graftable, H: Hasher, const N: usize> Kept<F, H, N> {
         })
     }
 
-    /// The operation with a key at a location.
+    /// Returns the operation with a key at a location.
     fn operation(&self, alloc: Global, location: u64) -> Result<Ordered<F, Key, Values>, Fault> {
         let Some(operation) = self.operations.get(location as usize) else {
             return Err(Fault::Malformed);
@@ -220,7 +221,7 @@ impl<F: Graftable + Countable, H: Hasher, const N: usize> Asked for Kept<F, H, N
     }
 }
 
-/// The snapshot's proof of the operation at a location.
+/// Returns the snapshot's proof of the operation at a location.
 fn operation_proof<F: Graftable + Countable, H: Hasher, const N: usize>(
     alloc: Global,
     kept: &Kept<F, H, N>,
@@ -243,7 +244,7 @@ fn operation_proof<F: Graftable + Countable, H: Hasher, const N: usize>(
     }
 }
 
-/// What a client answers that is given the bytes of a proof of the value of a key, and how many these are.
+/// Returns what a client answers that is given the bytes of a proof of the value of a key, and how many these are.
 fn value_shown<F: Graftable, H: Hasher, const N: usize>(
     alloc: Global,
     proof: &KeyValueProof<F, Key, H::Digest, N>,
@@ -266,7 +267,7 @@ fn value_shown<F: Graftable, H: Hasher, const N: usize>(
     Ok((yes, bytes.len()))
 }
 
-/// The same of a proof that a key has no value.
+/// Returns the same of a proof that a key has no value.
 fn absence_shown<F: Graftable, H: Hasher, const N: usize>(
     alloc: Global,
     proof: &ExclusionProof<F, Key, Values, H::Digest, N>,
@@ -287,7 +288,7 @@ fn absence_shown<F: Graftable, H: Hasher, const N: usize>(
     Ok((yes, bytes.len()))
 }
 
-/// Each of some chunks, as a slice of it.
+/// Returns each of some chunks, as a slice of it.
 fn arrays_lent<const N: usize>(alloc: Global, chunks: &[[u8; N]]) -> Result<Vec<&[u8]>, Fault> {
     let mut lent = Vec::new(alloc);
     for chunk in chunks {
@@ -296,7 +297,7 @@ fn arrays_lent<const N: usize>(alloc: Global, chunks: &[[u8; N]]) -> Result<Vec<
     Ok(lent)
 }
 
-/// The digest at a position.
+/// Returns the digest at a position.
 fn digest_at<F: Graftable, D: Digest>(nodes: &[D], position: Position<F>) -> Option<D> {
     nodes.get(position.as_u64() as usize).copied()
 }

@@ -10,7 +10,7 @@ use replay_columns::columns::{Fault, Hex, bytes, halves, number, parse};
 use replay_columns::shared::Given;
 use std::alloc::Global;
 
-/// A check of a key, by its bytes: its value by its encoding, and none where the key is to have no value.
+/// A check of a key, by its bytes: its value by its encoding, and none if the key is to have no value.
 #[derive(Drop)]
 struct Case<D> {
     given: Given<D>,
@@ -48,7 +48,7 @@ pub fn answer<F: Graftable, H: Hasher>(
     told(alloc, by_type::<F, H>(alloc, kind, &case)?)
 }
 
-/// The encoding of a number; none for `absent`.
+/// Returns the encoding of a number; none for `absent`.
 fn encoded_number(alloc: Global, text: &str) -> Result<Option<Vec<u8>>, Fault> {
     if text == "absent" {
         return Ok(None);
@@ -57,7 +57,7 @@ fn encoded_number(alloc: Global, text: &str) -> Result<Option<Vec<u8>>, Fault> {
     Ok(Some(Vec::from_slice(alloc, &number.to_be_bytes())?))
 }
 
-/// The answer for a type `ordered-ENCODING/KEY/VALUE`.
+/// Returns the answer for a type `ordered-ENCODING/KEY/VALUE`.
 fn by_type<F: Graftable, H: Hasher>(
     alloc: Global,
     kind: &str,
@@ -104,7 +104,7 @@ fn by_type<F: Graftable, H: Hasher>(
     }
 }
 
-/// The lengths of a type `vec:LEAST:MOST`.
+/// Returns the lengths of a type `vec:LEAST:MOST`.
 fn lengths(kind: &str) -> Result<(RangeCfg, ()), Fault> {
     let rest = kind.strip_prefix("vec:").ok_or(Fault::Malformed)?;
     let (min, max) = halves(rest, ':')?;
@@ -115,7 +115,7 @@ fn lengths(kind: &str) -> Result<(RangeCfg, ()), Fault> {
     Ok((lengths, ()))
 }
 
-/// The key or value that claimed bytes are; none where they are not one whole of its type.
+/// Returns the key or value that claimed bytes are; none if they are not one whole of its type.
 fn claimed<T: Read>(alloc: Global, bytes: &[u8], cfg: &T::Cfg) -> Result<Option<T>, Fault> {
     match T::decode_cfg(alloc, bytes, cfg) {
         Ok(value) => Ok(Some(value)),
@@ -142,7 +142,7 @@ fn fixed<F: Graftable, H: Hasher, K: Key + Small + Read<Cfg = ()>>(
     given.shows_value::<F, H, K, FixedEncoding<u64>>(alloc, &(), (key, value), (again, value))
 }
 
-/// The answer where the key and the value alone, which are read as `own` says, may have any length.
+/// Returns the answer where the key and the value alone, which are read as `own` says, may have any length.
 fn variable<F: Graftable, H: Hasher, K: Key, V: VariableValue>(
     alloc: Global,
     cfgs: &((K::Cfg, V::Cfg), V::Cfg),

@@ -11,8 +11,8 @@ use commonware_storage::merkle::{Countable, Graftable, mmb, mmr};
 use replay_columns::columns::{Fault, List, number, parse};
 use std::alloc::Global;
 
-/// The answer of a list of that name, whose first columns are the family and the size of a chunk, with the digests of `H`,
-/// which have `D` bytes.
+/// Returns the answer of a list of that name, whose first columns are the family and the size of a chunk, with the
+/// digests of `H`, which have `D` bytes.
 pub fn answer<H: Hasher<Digest = FixedBytes<D>>, const D: usize>(
     alloc: Global,
     list: &str,
@@ -59,7 +59,7 @@ where
     }
 }
 
-/// The answer of a list on checks of bytes, whose chunks may be said to have any size.
+/// Returns the answer of a list on checks of bytes, whose chunks may be said to have any size.
 fn of_bytes<F: Graftable, H: Hasher>(
     alloc: Global,
     list: &str,
@@ -74,7 +74,8 @@ fn of_bytes<F: Graftable, H: Hasher>(
     }
 }
 
-/// The answer of a list on a snapshot, whose next columns are its floor, its activity bits as digits and its operations.
+/// Returns the answer of a list on a snapshot, whose next columns are its floor, its activity bits as digits and its
+/// operations.
 fn of_snapshot<
     F: Graftable + Countable,
     H: Hasher<Digest = FixedBytes<D>>,
@@ -97,7 +98,7 @@ where
     of_kept(alloc, &kept, list, columns)
 }
 
-/// The answer of a list on a snapshot that is there.
+/// Returns the answer of a list on a snapshot that is there.
 fn of_kept<S: Asked>(
     alloc: Global,
     kept: &S,

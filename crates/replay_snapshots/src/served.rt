@@ -23,7 +23,7 @@ use std::alloc::Global;
 /// More failures than a case has.
 const MANY: u64 = 1000;
 
-/// What is told where the store has the digests of the grafted view.
+/// Returns what is told where the store has the digests of the grafted view.
 pub fn from_view<F: Graftable + Countable, H: Hasher, const N: usize>(
     alloc: Global,
     kept: &Kept<F, H, N>,
@@ -54,8 +54,8 @@ pub fn from_view<F: Graftable + Countable, H: Hasher, const N: usize>(
     })
 }
 
-/// What is told where the store is a tree over the chunks, of which the first `pruned` are pruned or which has no nodes, and one over
-/// the operations.
+/// Returns what is told where the store is a tree over the chunks, of which the first `pruned` are pruned or which has
+/// no nodes, and one over the operations.
 pub fn from_trees<F: Graftable + Countable, H: Hasher, const N: usize>(
     alloc: Global,
     kept: &Kept<F, H, N>,
@@ -88,8 +88,8 @@ pub fn from_trees<F: Graftable + Countable, H: Hasher, const N: usize>(
     })
 }
 
-/// What a store tells of a snapshot with these bits, this floor, this root of its operations and these nodes, and how often the log
-/// failed.
+/// Returns what a store tells of a snapshot with these bits, this floor, this root of its operations and these nodes,
+/// and how often the log failed.
 fn told_by<
     F: Graftable + Countable,
     H: Hasher,
@@ -127,8 +127,8 @@ fn told_by<
     }
 }
 
-/// How many nodes a store has, where each read of them is answered as `own` says, and after them there is none; else the first
-/// position whose read fails, with this code, and how many do.
+/// Returns how many nodes a store has, where each read of them is answered as `own` says, and after them there is none;
+/// else the first position whose read fails, with this code, and how many do.
 fn nodes_text<F: Graftable, S: merkle::Storage<F>>(
     alloc: Global,
     own: &[S::Digest],
@@ -149,7 +149,8 @@ fn nodes_text<F: Graftable, S: merkle::Storage<F>>(
     }
 }
 
-/// Whether a store answers with the digest `own` at a position; else it tells its fault, with this code, and counts one.
+/// Returns whether a store answers with the digest `own` at a position; else it tells its fault, with this code, and
+/// counts one.
 fn is_answered<F: Graftable, S: merkle::Storage<F>>(
     store: &mut S,
     position: Position<F>,
@@ -169,7 +170,7 @@ fn is_answered<F: Graftable, S: merkle::Storage<F>>(
     }
 }
 
-/// The proof of the operation at a location from a store, or the refusal.
+/// Returns the proof of the operation at a location from a store, or the refusal.
 fn operation_text<
     F: Graftable + Countable,
     H: Hasher,
@@ -200,7 +201,7 @@ fn operation_text<
     }
 }
 
-/// The proof of the operations from `range.0` to before `range.1` from a store, or the refusal.
+/// Returns the proof of the operations from `range.0` to before `range.1` from a store, or the refusal.
 fn range_text<
     F: Graftable + Countable,
     H: Hasher,
@@ -230,8 +231,9 @@ fn range_text<
     }
 }
 
-/// The proof of at most `range.1` operations from `range.0` on from a store, with these and their chunks, or the refusal; and how often
-/// the log failed, which begins at `log.0`, has `log.1` answers, and then fails with the code `log.2`.
+/// Returns the proof of at most `range.1` operations from `range.0` on from a store, with these and their chunks, or
+/// the refusal; and how often the log failed, which begins at `log.0`, has `log.1` answers, and then fails with the
+/// code `log.2`.
 fn with_operations_text<
     F: Graftable + Countable,
     H: Hasher,

@@ -24,13 +24,14 @@ impl Column for Span {
     }
 }
 
-/// The bytes of a proof from the nodes of the grafted view.
+/// Returns the bytes of a proof from the nodes of the grafted view.
 fn own<S: Asked>(alloc: Global, kept: &S, wanted: Wanted) -> Result<String, Fault> {
     Ok(kept.fetch(alloc, &Call::of(Nodes::View, wanted), ALL)?.text)
 }
 
-/// `start count`: the canonical root, that of the operations, the grafted root, the witness, the proof of `count` operations from
-/// `start` on, `-` where they are none, and that of the operation at `start` where it is the only one, else `-`.
+/// `start count`: the canonical root, that of the operations, the grafted root, the witness, the proof of `count`
+/// operations from `start` on, `-` if they are none, and that of the operation at `start` if it is the only one, else
+/// `-`.
 pub fn golden<S: Asked>(alloc: Global, kept: &S, columns: &[&str]) -> Result<String, Fault> {
     let Span { start, count, end } = parse(alloc, columns)?;
     let range = match count {
@@ -52,8 +53,8 @@ pub fn ranges<S: Asked>(alloc: Global, kept: &S, columns: &[&str]) -> Result<Str
     told(alloc, (proof, root, kept.shows_range(alloc, start, end)?))
 }
 
-/// A digit for each location, 1 where the snapshot's own proof of the operation there, which is built, written and checked from the
-/// bytes, is accepted.
+/// Returns a digit for each location, 1 where the snapshot's own proof of the operation there, which is built, written
+/// and checked from the bytes, is accepted.
 pub fn each_operation<S: Asked>(alloc: Global, kept: &S) -> Result<String, Fault> {
     let mut digits = String::new(alloc);
     for location in 0..kept.count() {
@@ -76,8 +77,8 @@ pub fn each_range<S: Asked>(alloc: Global, kept: &S) -> Result<String, Fault> {
     told(alloc, shown)
 }
 
-/// `location key value`: whether the operation at the location shows that the key, of four bytes, has the value, a number, or none
-/// where that is `absent`; and how many bytes the proof has.
+/// `location key value`: whether the operation at the location shows that the key, of four bytes, has the value, a
+/// number, or none if that is `absent`; and how many bytes the proof has.
 pub fn keyed<S: Asked>(alloc: Global, kept: &S, columns: &[&str]) -> Result<String, Fault> {
     let (location, key, value): (u64, Key, String) = parse(alloc, columns)?;
     let shown = match value.as_str() {

@@ -51,7 +51,7 @@ pub struct Call {
 }
 
 impl Call {
-    /// What is asked for of these nodes, where no chunk of the status is pruned.
+    /// Returns what is asked for of these nodes, if no chunk of the status is pruned.
     pub fn of(nodes: Nodes, wanted: Wanted) -> Self {
         Call {
             wanted,
@@ -80,7 +80,7 @@ impl Column for Call {
     }
 }
 
-/// The number that a text is, if it is not this word.
+/// Returns the number that a text is, if it is not this word.
 fn unless(word: &str, text: &str) -> Result<Option<u64>, Fault> {
     if text == word {
         Ok(None)
@@ -133,8 +133,8 @@ pub fn combined<S: Asked>(alloc: Global, kept: &S, columns: &[&str]) -> Result<S
     Ok(kept.fetch(alloc, &call, ALL)?.text)
 }
 
-/// The same with a last column, how many digests the tree over the operations answers: the proof or the refusal, and how often
-/// that tree was asked and failed.
+/// Returns the same with a last column, how many digests the tree over the operations answers: the proof or the
+/// refusal, and how often that tree was asked and failed.
 pub fn combined_asked<S: Asked>(
     alloc: Global,
     kept: &S,
@@ -150,7 +150,8 @@ pub fn combined_asked<S: Asked>(
     told(alloc, (asked.text, asked.calls, asked.failures))
 }
 
-/// How many nodes both trees have, where each is that of the snapshot's grafted view, and there are none after them.
+/// Returns how many nodes both trees have, where each is that of the snapshot's grafted view, and there are none after
+/// them.
 pub fn combined_views<S: Asked>(alloc: Global, kept: &S) -> Result<String, Fault> {
     let call = Call::of(TREES, Wanted::Nodes);
     Ok(kept.fetch(alloc, &call, ALL)?.text)
@@ -190,8 +191,8 @@ pub fn combined_marks<S: Asked>(
     told(alloc, (operation, range, rows))
 }
 
-/// `start most`: the operations that both trees and a log serve, their chunks, and whether the proof is accepted, where it is also
-/// the one without operations and the snapshot's own.
+/// `start most`: the operations that both trees and a log serve, their chunks, and whether the proof is accepted, if it
+/// is also the one without operations and the snapshot's own.
 pub fn combined_ranges<S: Asked>(
     alloc: Global,
     kept: &S,
@@ -212,10 +213,11 @@ pub fn combined_ranges<S: Asked>(
     told(alloc, (owned(alloc, parts)?, yes))
 }
 
-/// `pruned nodes first start most`: what is answered where `pruned` chunks of the status are pruned, the store says to have `nodes`
-/// nodes, or as many as it has where that is `-`, the log begins at `first`, and at most `most` operations from `start` on are asked
-/// for: the proof, the operations and their chunks, or the refusal. Then, for each number of answers of the store from 0 to 7, and in
-/// it of the log, what is told: the fault of the store, `s`, that of the log, `l`, or the same, `=`.
+/// `pruned nodes first start most`: what is answered where `pruned` chunks of the status are pruned, the store says to
+/// have `nodes` nodes, or as many as it has if that is `-`, the log begins at `first`, and at most `most` operations
+/// from `start` on are asked for: the proof, the operations and their chunks, or the refusal. Then, for each number of
+/// answers of the store from 0 to 7, and in it of the log, what is told: the fault of the store, `s`, that of the log,
+/// `l`, or the same, `=`.
 pub fn fetched_ranges<S: Asked>(
     alloc: Global,
     kept: &S,
@@ -234,7 +236,7 @@ pub fn fetched_ranges<S: Asked>(
     told(alloc, (own, rows))
 }
 
-/// What is told for each number of answers of the store, with this number as its code.
+/// Returns what is told for each number of answers of the store, with this number as its code.
 fn row<S: Asked>(alloc: Global, kept: &S, call: &Call) -> Result<String, Fault> {
     let own = kept.fetch(alloc, call, ALL)?.text;
     let mut row = String::new(alloc);
@@ -246,8 +248,8 @@ fn row<S: Asked>(alloc: Global, kept: &S, call: &Call) -> Result<String, Fault> 
     Ok(row)
 }
 
-/// What is told for each number of answers of the store, and in it of the log, where `own` is told with all of them. Where no codes
-/// are said both numbers are.
+/// Returns what is told for each number of answers of the store, and in it of the log, if `own` is told with all of
+/// them. Where no codes are said both numbers are.
 fn rows<S: Asked>(
     alloc: Global,
     kept: &S,
@@ -272,8 +274,8 @@ fn rows<S: Asked>(
     Ok(rows.finish()?)
 }
 
-/// `s` where the store's one fault is told, `l` where the log's is, with their codes, `=` where neither failed and the answer is
-/// `own`.
+/// `s` if the store's one fault is told, `l` if the log's is, with their codes, `=` where neither failed and the answer
+/// is `own`.
 fn mark(alloc: Global, told: &Told, own: &str, codes: (u32, u32)) -> Result<char, Fault> {
     let of_store = format!(in alloc; "Q3(E13({}))", codes.0)?;
     let of_log = format!(in alloc; "Q4({})", codes.1)?;

@@ -21,7 +21,7 @@ use std::alloc::Global;
 /// More chunks than a case has.
 const MANY: u64 = 1000;
 
-/// A bit for each digit, with the first `pruned` chunks pruned; zeros fill up the last of these.
+/// Returns a bit for each digit, with the first `pruned` chunks pruned; zeros fill up the last of these.
 pub fn status_of<const N: usize>(
     alloc: Global,
     digits: &str,
@@ -46,7 +46,7 @@ pub fn status_of<const N: usize>(
     Ok(status)
 }
 
-/// The digests of a snapshot's grafted view.
+/// Returns the digests of a snapshot's grafted view.
 pub fn view_nodes<F: Graftable, H: Hasher, const N: usize>(
     alloc: Global,
     snapshot: &Snapshot<F, H, N>,
@@ -61,7 +61,7 @@ pub fn view_nodes<F: Graftable, H: Hasher, const N: usize>(
     Ok(nodes)
 }
 
-/// The nodes of the tree over operations.
+/// Returns the nodes of the tree over operations.
 pub fn operations_nodes<F: Graftable, H: Hasher>(
     alloc: Global,
     operations: &[Vec<u8>],
@@ -80,7 +80,8 @@ pub fn operations_nodes<F: Graftable, H: Hasher>(
     Ok(nodes)
 }
 
-/// The tree over the graftable chunks of a snapshot, the first `pruned` of them pruned; one without nodes where none is said.
+/// Returns the tree over the graftable chunks of a snapshot, the first `pruned` of them pruned; one without nodes where
+/// none is said.
 pub fn grafted_tree<F: Graftable, H: Hasher, const N: usize>(
     alloc: Global,
     snapshot: &Snapshot<F, H, N>,
@@ -126,7 +127,7 @@ fn hasher<F: Graftable, H: Hasher>(height: u32) -> GraftedHasher<F, Standard<H>>
     GraftedHasher::new(Standard::new(Bagging::BackwardFold), height)
 }
 
-/// The digest that a snapshot's grafted view has of a chunk's node.
+/// Returns the digest that a snapshot's grafted view has of a chunk's node.
 fn chunk_digest<F: Graftable, H: Hasher, const N: usize>(
     snapshot: &Snapshot<F, H, N>,
     chunk: u64,
@@ -146,7 +147,7 @@ fn chunk_digest<F: Graftable, H: Hasher, const N: usize>(
     }
 }
 
-/// The position of the node of a height with this first leaf.
+/// Returns the position of the node of a height with this first leaf.
 fn position_over<F: Graftable>(first: u64, height: u32) -> Position<F>
     requires aligned { first % 2 ^ height ≡ 0 }
     requires early { first ≤ max_leaves }

@@ -51,7 +51,7 @@ where
     }
 }
 
-/// The operation of a spelling.
+/// Returns the operation of a spelling.
 fn parsed<S: Update + Spell>(alloc: Global, text: &str) -> Result<Operation<mmr::Family, S>, Fault>
 where
     S::Key: Spell,

@@ -85,7 +85,7 @@ where
     described(alloc, &bitmap, proofs)
 }
 
-/// What stands in a bitmap, with proofs of some bits.
+/// Returns what stands in a bitmap, with proofs of some bits.
 fn described<D: Digest, const N: usize>(
     alloc: Global,
     bitmap: &MerkleizedBitMap<D, N>,
@@ -140,7 +140,7 @@ where
     root_and_proof(alloc, hasher, &bitmap, bit)
 }
 
-/// The root of a bitmap, and the digests of its proof of a bit, or the refusal.
+/// Returns the root of a bitmap, and the digests of its proof of a bit, or the refusal.
 fn root_and_proof<H: Hasher, const N: usize>(
     alloc: Global,
     hasher: &Standard<H>,

@@ -32,7 +32,7 @@ pub fn both_chunks<F: Graftable, H: Hasher>(
     told(alloc, yes)
 }
 
-/// The value that bytes are, which is written as these bytes, or the name of the refusal.
+/// Returns the value that bytes are, which is written as these bytes, or the name of the refusal.
 fn read<T: Read + Write, B: Buf>(
     alloc: Global,
     buf: B,
@@ -52,7 +52,7 @@ fn read<T: Read + Write, B: Buf>(
     }
 }
 
-/// Whether a proof is accepted, read by either of two types, or refused by both alike.
+/// Returns whether a proof is accepted, read by either of two types, or refused by both alike.
 fn same(one: Result<bool, String>, other: Result<bool, String>) -> Result<bool, Fault> {
     if one == other {
         Ok(one.unwrap_or(false))
@@ -106,7 +106,7 @@ fn range_shown<F: Graftable, H: Hasher>(
     agreed(yes, other)
 }
 
-/// The same chunks, cut from one buffer of shared bytes.
+/// Returns the same chunks, cut from one buffer of shared bytes.
 fn cut_chunks(alloc: Global, chunks: &[[u8; 1]]) -> Result<Vec<Bytes>, Fault> {
     let mut joined = Vec::new(alloc);
     for chunk in chunks {

@@ -121,7 +121,7 @@ pub fn multi_checks<F: Family, H: Hasher>(
     told(alloc, yes)
 }
 
-/// Whether a proof is accepted for claims of operations.
+/// Returns whether a proof is accepted for claims of operations.
 fn operations_shown<F: Family, H: Hasher>(
     alloc: Global,
     proof: &Proof<F, H::Digest>,
@@ -138,7 +138,7 @@ fn operations_shown<F: Family, H: Hasher>(
     Ok(verify_multi_proof::<H, F, _>(alloc, proof, &operations, root)?)
 }
 
-/// Whether a proof is accepted for claims of elements.
+/// Returns whether a proof is accepted for claims of elements.
 fn elements_shown<F: Family, H: Hasher>(
     alloc: Global,
     hasher: &Standard<H>,

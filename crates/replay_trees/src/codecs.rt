@@ -19,7 +19,7 @@ pub fn varints(alloc: Global, columns: &[&str]) -> Result<String, Fault> {
     told(alloc, (varint, location))
 }
 
-/// The varint in front, and how many bytes are left.
+/// Returns the varint in front, and how many bytes are left.
 fn front_varint(alloc: Global, mut input: &[u8]) -> Result<(String, Option<usize>), Fault> {
     match UInt::read_cfg(alloc, &mut input, &()) {
         Ok(UInt(value)) => Ok((told(alloc, value)?, Some(input.len()))),

@@ -27,7 +27,7 @@ pub fn errors(alloc: Global, columns: &[&str]) -> Result<String, Fault> {
     other(alloc, code, (first % 1000) as u32)
 }
 
-/// The text of a refusal of texts, of a log, or for want of memory alone.
+/// Returns the text of a refusal of texts, of a log, or for want of memory alone.
 fn other(alloc: Global, code: &str, fault: u32) -> Result<String, Fault> {
     match code {
         "M" => displayed(alloc, &Some(NoMemory)),
@@ -40,7 +40,7 @@ fn other(alloc: Global, code: &str, fault: u32) -> Result<String, Fault> {
     }
 }
 
-/// The text of a refusal, with `_` for each blank.
+/// Returns the text of a refusal, with `_` for each blank.
 fn displayed<E: Display>(alloc: Global, error: &Option<E>) -> Result<String, Fault> {
     let Some(error) = error else {
         return Err(Fault::Malformed);

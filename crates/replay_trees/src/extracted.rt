@@ -117,7 +117,7 @@ pub fn recomputed<F: Family, H: Hasher>(alloc: Global, columns: &[&str]) -> Resu
     told(alloc, (Hex(own), digests))
 }
 
-/// The refusal of a proof that gives no root.
+/// Returns the refusal of a proof that gives no root.
 fn no_root<F: Family, D: Digest>(alloc: Global, root: Option<D>) -> Result<String, Fault> {
     if root.is_some() {
         return Err(Fault::Differs);
@@ -125,7 +125,8 @@ fn no_root<F: Family, D: Digest>(alloc: Global, root: Option<D>) -> Result<Strin
     merkle_refusal(alloc, &Error::<F>::InvalidProof)
 }
 
-/// The root that a proof gives, and that the same proof gives with its digests lent; none where the proof is refused.
+/// Returns the root that a proof gives, and that the same proof gives with its digests lent; none if the proof is
+/// refused.
 fn root_of<F: Family, H: Hasher>(
     alloc: Global,
     hasher: &Standard<H>,

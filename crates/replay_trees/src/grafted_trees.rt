@@ -39,7 +39,7 @@ pub fn grafted_trees<F: Graftable, H: Hasher>(
     }
 }
 
-/// What is left of a tree after prunings.
+/// Returns what is left of a tree after prunings.
 fn pruned_to<F: Graftable, H: Hasher>(
     alloc: Global,
     mut tree: GraftedTree<F, H::Digest>,
@@ -90,7 +90,7 @@ fn pruned<F: Graftable, H: Hasher>(
     }
 }
 
-/// The digests at all positions and at the next two.
+/// Returns the digests at all positions and at the next two.
 fn nodes<F: Graftable, D: Digest>(
     alloc: Global,
     tree: &GraftedTree<F, D>,

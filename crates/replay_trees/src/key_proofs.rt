@@ -20,7 +20,7 @@ type Absence<F, D, C> = ExclusionProof<F, Key, FixedEncoding<u64>, D, C>;
 
 /// A proof that gives a copy of itself.
 trait OwnCopy: Sized {
-    /// A copy.
+    /// Returns a copy.
     fn own_copy(&self) -> Result<Self, Fault>;
 }
 
@@ -58,7 +58,7 @@ pub fn key_proofs<F: Graftable, H: Hasher>(
     }
 }
 
-/// What is in front of the bytes, and what all of them are: `same` for a proof that is written as they are.
+/// Returns what is in front of the bytes, and what all of them are: `same` for a proof that is written as they are.
 fn read<T: Read + EncodeSize + OwnCopy + PartialEq>(
     alloc: Global,
     input: &[u8],
@@ -73,7 +73,7 @@ fn read<T: Read + EncodeSize + OwnCopy + PartialEq>(
     told(alloc, (front, whole))
 }
 
-/// The bytes of a copy of the proof in front, which is equal, and how many are left; or the refusal.
+/// Returns the bytes of a copy of the proof in front, which is equal, and how many are left; or the refusal.
 fn front<T: Read + EncodeSize + OwnCopy + PartialEq>(
     alloc: Global,
     mut input: &[u8],

@@ -23,7 +23,7 @@ pub fn mem_init<F: Family, H: Hasher>(alloc: Global, columns: &[&str]) -> Result
     }
 }
 
-/// How many nodes a tree has, its root, and what adding a leaf of no bytes answers; or the root's refusal.
+/// Returns how many nodes a tree has, its root, and what adding a leaf of no bytes answers; or the root's refusal.
 fn begun<F: Family, H: Hasher>(
     alloc: Global,
     hasher: &Standard<H>,
@@ -132,7 +132,7 @@ fn updates<F: Family, D: Digest>(
     Ok(updates)
 }
 
-/// How many leaves and nodes a tree has, its roots, and the digests at all positions and at the next two.
+/// Returns how many leaves and nodes a tree has, its roots, and the digests at all positions and at the next two.
 fn grown<F: Family, H: Hasher>(
     alloc: Global,
     hasher: &Standard<H>,
@@ -146,7 +146,7 @@ fn grown<F: Family, H: Hasher>(
     told(alloc, (tree.leaves(), tree.size(), roots, nodes.finish()?))
 }
 
-/// The roots with none of the peaks inactive, with one, and so on up to the refusal.
+/// Returns the roots with none of the peaks inactive, with one, and so on up to the refusal.
 fn roots<F: Family, H: Hasher>(
     alloc: Global,
     hasher: &Standard<H>,

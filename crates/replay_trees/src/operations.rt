@@ -33,7 +33,7 @@ pub fn written(alloc: Global, columns: &[&str]) -> Result<String, Fault> {
     by_type(alloc, kind.as_str(), &Job::Write(operation))
 }
 
-/// The answer for a type `ORDER-ENCODING/KEY/VALUE`.
+/// Returns the answer for a type `ORDER-ENCODING/KEY/VALUE`.
 fn by_type(alloc: Global, kind: &str, job: &Job) -> Result<String, Fault> {
     let (shape, types) = halves(kind, '/')?;
     let (key, value) = halves(types, '/')?;
@@ -52,7 +52,7 @@ fn by_type(alloc: Global, kind: &str, job: &Job) -> Result<String, Fault> {
     }
 }
 
-/// The lengths of a type `vec:LEAST:MOST`.
+/// Returns the lengths of a type `vec:LEAST:MOST`.
 fn lengths(kind: &str) -> Result<RangeCfg, Fault> {
     let rest = kind.strip_prefix("vec:").ok_or(Fault::Malformed)?;
     let (min, max) = halves(rest, ':')?;
@@ -113,7 +113,7 @@ fn variable<K: Key + Spell, V: VariableValue + Spell>(
     }
 }
 
-/// The answer over one type of operations, which may all have one size.
+/// Returns the answer over one type of operations, which may all have one size.
 fn done<O: Codec + EncodeSize + Spell + Show>(
     alloc: Global,
     cfg: &O::Cfg,
@@ -130,7 +130,7 @@ fn done<O: Codec + EncodeSize + Spell + Show>(
     }
 }
 
-/// The bytes of an operation, and its text.
+/// Returns the bytes of an operation, and its text.
 fn text_of<O: Codec + EncodeSize + Show>(
     alloc: Global,
     operation: &O,
@@ -152,7 +152,7 @@ fn read<O: Read + Spell>(alloc: Global, input: &[u8], cfg: &O::Cfg) -> Result<St
     told(alloc, (front, whole))
 }
 
-/// The operation in front, and how many bytes are left.
+/// Returns the operation in front, and how many bytes are left.
 fn front<O: Read + Spell>(
     alloc: Global,
     mut input: &[u8],

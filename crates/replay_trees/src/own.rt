@@ -21,7 +21,7 @@ struct Grown<F: Family, H: Hasher> {
 }
 
 impl<F: Family, H: Hasher> Grown<F, H> {
-    /// The tree over elements with that many inactive peaks.
+    /// Returns the tree over elements with that many inactive peaks.
     fn new(
         alloc: Global,
         bagging: Bagging,
@@ -42,13 +42,13 @@ impl<F: Family, H: Hasher> Grown<F, H> {
         })
     }
 
-    /// The tree's own proof of a range.
+    /// Returns the tree's own proof of a range.
     fn proof(&self, start: u64, end: u64) -> Result<Proof<F, H::Digest>, Fault> {
         let range = Location::new(start)..Location::new(end);
         or_fault(self.mem.range_proof(&self.hasher, range, self.inactive))
     }
 
-    /// The store of the tree's own proof of a range.
+    /// Returns the store of the tree's own proof of a range.
     fn store(
         &self,
         alloc: Global,
@@ -63,7 +63,7 @@ impl<F: Family, H: Hasher> Grown<F, H> {
         or_fault(ProofStore::new(alloc, &self.hasher, &proof, claimed, first, &root))
     }
 
-    /// Whether a store gives the tree's own proof of a range.
+    /// Returns whether a store gives the tree's own proof of a range.
     fn is_given(
         &self,
         alloc: Global,
@@ -76,7 +76,8 @@ impl<F: Family, H: Hasher> Grown<F, H> {
         Ok(given == self.proof(start, end)?)
     }
 
-    /// How many ranges there are from `start` to before `end`, and of how many of them a store gives the tree's own proof.
+    /// Returns how many ranges there are from `start` to before `end`, and of how many of them a store gives the tree's
+    /// own proof.
     fn given(
         &self,
         alloc: Global,
@@ -122,7 +123,7 @@ pub fn served<F: Family, H: Hasher>(alloc: Global, columns: &[&str]) -> Result<S
     }
 }
 
-/// Whether a tree serves these digests one by one too.
+/// Returns whether a tree serves these digests one by one too.
 fn compare_each<F: Family, D: Digest>(
     mem: &mut Mem<F, D>,
     positions: &[Position<F>],
@@ -141,7 +142,7 @@ fn compare_each<F: Family, D: Digest>(
     Ok(())
 }
 
-/// The digest at a position among some.
+/// Returns the digest at a position among some.
 fn at<F: Family, D: Digest>(nodes: &[(Position<F>, D)], position: Position<F>) -> Option<D> {
     for node in nodes {
         if node.0 == position {

@@ -11,10 +11,10 @@ use storage_ops::qmdb::operation::{Committable, Floored, Key, Operation as _};
 
 /// A value that is spelled in a list.
 pub trait Spell: Sized {
-    /// Its spelling.
+    /// Returns its spelling.
     fn spell(&self, alloc: Global) -> Result<String, Fault>;
 
-    /// The value of a spelling.
+    /// Returns the value of a spelling.
     fn parse(alloc: Global, text: &str) -> Result<Self, Fault>;
 }
 
@@ -111,13 +111,13 @@ where
     }
 }
 
-/// A kind of operation, and what it is about.
+/// Returns a kind of operation, and what it is about.
 fn spell_kind<T: Spell>(alloc: Global, kind: &str, value: &T) -> Result<String, Fault> {
     let value = value.spell(alloc)?;
     Ok(format!(in alloc; "{kind}:{value}")?)
 }
 
-/// A commit with its value and its floor.
+/// Returns a commit with its value and its floor.
 fn spell_commit<V: Spell>(alloc: Global, value: Option<&V>, floor: u64) -> Result<String, Fault> {
     let value = match value {
         Some(value) => value.spell(alloc)?,
@@ -126,7 +126,7 @@ fn spell_commit<V: Spell>(alloc: Global, value: Option<&V>, floor: u64) -> Resul
     Ok(format!(in alloc; "commit:{value}:{floor}")?)
 }
 
-/// The value of a commit and its floor.
+/// Returns the value of a commit and its floor.
 fn parse_commit<V: Spell>(alloc: Global, text: &str) -> Result<(Option<V>, u64), Fault> {
     let (value, floor) = halves(text, ':')?;
     let floor = number(floor)?;
@@ -167,7 +167,7 @@ where
 
 /// An operation that is displayed.
 pub trait Show {
-    /// Its text.
+    /// Returns its text.
     fn show(&self, alloc: Global) -> Result<String, Fault>;
 }
 
@@ -179,13 +179,13 @@ impl<S: Update> Show for Operation<mmr::Family, S> {
 
 /// An operation that is asked what it is.
 pub trait Ask: Sized {
-    /// A copy.
+    /// Returns a copy.
     fn copied(&self) -> Result<Self, Fault>;
 
-    /// What it is, its key, its floor, and the key that it gives up; `-` for none.
+    /// Returns what it is, its key, its floor, and the key that it gives up; `-` for none.
     fn asked(self, alloc: Global) -> Result<String, Fault>;
 
-    /// The value that the key of an update gets, as it is lent and as it is given up.
+    /// Returns the value that the key of an update gets, as it is lent and as it is given up.
     fn valued(self, alloc: Global) -> Result<String, Fault>;
 }
 
@@ -212,7 +212,7 @@ where
     }
 }
 
-/// The value of an update, as it is lent and as it is given up.
+/// Returns the value of an update, as it is lent and as it is given up.
 fn value_text<S: Update>(alloc: Global, update: S) -> Result<String, Fault>
 where
     S::Value: Spell,
@@ -222,7 +222,7 @@ where
     told(alloc, (lent, given))
 }
 
-/// What an operation is, its key and its floor; `-` for none.
+/// Returns what an operation is, its key and its floor; `-` for none.
 fn described<S: Update>(
     alloc: Global,
     operation: &Operation<mmr::Family, S>,
@@ -241,7 +241,7 @@ where
     told(alloc, (kinds, key, operation.has_floor()))
 }
 
-/// A key; `-` is none.
+/// Returns a key; `-` is none.
 fn spell_key<K: Spell>(alloc: Global, key: Option<&K>) -> Result<String, Fault> {
     match key {
         Some(key) => key.spell(alloc),

@@ -36,7 +36,7 @@ pub fn stores<F: Family, H: Hasher>(alloc: Global, columns: &[&str]) -> Result<S
     }
 }
 
-/// The positions of the peaks inside the fold of those past the range, and what a call answers.
+/// Returns the positions of the peaks inside the fold of those past the range, and what a call answers.
 fn told_of<F: Family, H: Hasher>(
     alloc: Global,
     hasher: &Standard<H>,
@@ -51,8 +51,8 @@ fn told_of<F: Family, H: Hasher>(
     told(alloc, (suffix.finish()?, answer))
 }
 
-/// What a call gives: `range:START:END` is a proof of a range, and `multi:LOCATION/..:POSITION=DIGEST/..` one of some locations, with
-/// peaks that are handed in.
+/// Returns what a call gives: `range:START:END` is a proof of a range, and `multi:LOCATION/..:POSITION=DIGEST/..` one
+/// of some locations, with peaks that are handed in.
 fn called<F: Family, H: Hasher>(
     alloc: Global,
     hasher: &Standard<H>,
@@ -70,7 +70,7 @@ fn called<F: Family, H: Hasher>(
     Ok(create_multi_proof(alloc, store, &locations, &peaks))
 }
 
-/// The digests of a proof, or the refusal.
+/// Returns the digests of a proof, or the refusal.
 pub fn digests_of<F, D: Digest>(
     made: Result<Proof<F, D>, Error<F>>,
 ) -> Result<Digests<D>, Error<F>> {

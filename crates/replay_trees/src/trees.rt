@@ -18,7 +18,7 @@ use storage_merkle::merkle::{
     ElementPlan, Error, Family, Graftable, Location, MAX_LEAVES, Position, RangePlan,
 };
 
-/// The number of nodes over the most leaves.
+/// Returns the number of nodes over the most leaves.
 fn most_nodes<F: Graftable>() -> u64
     ensures { result ≡ size F.shape max_leaves }
 {
@@ -36,7 +36,7 @@ pub fn families<F: Graftable>(alloc: Global, columns: &[&str]) -> Result<String,
     told(alloc, (F::nodes_over(leaves), peaks, pins))
 }
 
-/// The peaks' heights and positions.
+/// Returns the peaks' heights and positions.
 fn peaks<F: Graftable>(alloc: Global, leaves: u64) -> Result<(String, String), Fault>
     requires { leaves ≤ max_leaves }
 {
@@ -49,7 +49,7 @@ fn peaks<F: Graftable>(alloc: Global, leaves: u64) -> Result<(String, String), F
     Ok((heights.finish()?, positions.finish()?))
 }
 
-/// The positions to pin.
+/// Returns the positions to pin.
 fn pins<F: Graftable>(alloc: Global, leaves: u64) -> Result<String, Fault>
     requires { leaves ≤ max_leaves }
 {

@@ -52,7 +52,7 @@ fn through<T: Codec + EncodeSize + PartialEq + Drop>(
     Ok(format!(in alloc; "{bytes} {from_slice} {from_shared}")?)
 }
 
-/// Whether the bytes are this value.
+/// Returns whether the bytes are this value.
 fn is_read<T: Read + PartialEq + Drop, B: Buf>(
     alloc: Global,
     buf: B,

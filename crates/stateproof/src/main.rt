@@ -7,7 +7,7 @@ use std::env;
 use std::io::{self, ErrorKind};
 use std::process::ExitCode;
 
-/// The arguments, the program's own name left out. One that is not UTF-8 is none that the program takes.
+/// Returns the arguments, the program's own name left out. One that is not UTF-8 is none that the program takes.
 fn words(rt: &HostRuntime) -> Result<Vec<String>, Fault> {
     let mut words = Vec::new(rt.alloc());
     for word in env::args(rt).map_err(fault)?.skip(1) {
@@ -16,7 +16,7 @@ fn words(rt: &HostRuntime) -> Result<Vec<String>, Fault> {
     Ok(words)
 }
 
-/// The fault where the arguments can't be read.
+/// Returns the fault where the arguments can't be read.
 fn fault(error: io::Error) -> Fault {
     match error.kind() {
         ErrorKind::OutOfMemory => Fault::Memory,

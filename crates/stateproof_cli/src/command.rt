@@ -51,7 +51,7 @@ pub struct Command {
 }
 
 impl Tree {
-    /// The family that `word` names.
+    /// Returns the family that `word` names.
     fn named(word: &str) -> Option<Tree> {
         match word {
             "mmr" => Some(Tree::Mmr),
@@ -62,7 +62,7 @@ impl Tree {
 }
 
 impl Chunk {
-    /// The chunk size that `word` writes.
+    /// Returns the chunk size that `word` writes.
     fn named(word: &str) -> Option<Chunk> {
         match word {
             "1" => Some(Chunk::One),
@@ -73,7 +73,7 @@ impl Chunk {
 }
 
 impl Action {
-    /// What the first word `word` and `rest`, the words after family and chunk, ask for.
+    /// Returns what the first word `word` and `rest`, the words after family and chunk, ask for.
     fn named(word: &str, rest: &[String]) -> Option<Action> {
         match (word, rest) {
             ("root", [floor]) => Some(Action::Root {
@@ -94,7 +94,7 @@ impl Action {
 }
 
 impl Command {
-    /// Reads the arguments `words`; none where the program takes no such words.
+    /// Reads the arguments `words`; none if the program takes no such words.
     pub fn parse(words: &[String]) -> Option<Command> {
         let [action, tree, chunk, rest @ ..] = words else {
             return None;
@@ -110,7 +110,7 @@ impl Command {
     }
 }
 
-/// The number that `word` writes in 1 to 20 decimal digits, where it is below `2^64`.
+/// Returns the number that `word` writes in 1 to 20 decimal digits, if it is below `2^64`.
 pub fn number(word: &str) -> Option<u64>
     ensures { SomeIff result (IsNumber word.now) (digits_value 10 word.now) }
 {
@@ -120,7 +120,7 @@ pub fn number(word: &str) -> Option<u64>
     word.parse::<u64>().ok()
 }
 
-/// The digest that `word` writes in 64 hexadecimal digits, in either case.
+/// Returns the digest that `word` writes in 64 hexadecimal digits, in either case.
 pub fn digest(word: &str) -> Option<FixedBytes<32>> {
     let bytes = <[u8; 32] as FromHex>::from_hex(word).ok()?;
     Some(FixedBytes { bytes })

@@ -14,7 +14,7 @@ use storage_ops::qmdb::any::FixedEncoding;
 /// The database of the program: keys of 4 bytes, numbers as values.
 type Database<F, const N: usize> = Ordered<F, Sha256, Key, FixedEncoding<u64>, N>;
 
-/// What a new database answers to `steps`, one after the other: a line for each, but none for a put.
+/// Returns what a new database answers to `steps`, one after the other: a line for each, but none for a put.
 pub(crate) fn answers<F: Graftable, const N: usize>(
     alloc: Global,
     steps: &[Step],
@@ -59,7 +59,7 @@ fn put<F: Graftable, const N: usize>(
     }
 }
 
-/// Takes `key` out: `yes` where it had a value, else `no`.
+/// Takes `key` out: `yes` if it had a value, else `no`.
 fn delete<F: Graftable, const N: usize>(
     database: &mut Database<F, N>,
     key: &Key,
@@ -89,7 +89,7 @@ fn commit<F: Graftable, const N: usize>(
     Ok(())
 }
 
-/// The value that `key` has at the last commit, a blank and its proof; `absent` where it has none.
+/// Returns the value that `key` has at the last commit, a blank and its proof; `absent` if it has none.
 fn value<F: Graftable, const N: usize>(
     alloc: Global,
     database: &Database<F, N>,
@@ -110,7 +110,7 @@ fn value<F: Graftable, const N: usize>(
     Ok(())
 }
 
-/// The proof that `key` has no value at the last commit; `present` where it has one.
+/// Returns the proof that `key` has no value at the last commit; `present` if it has one.
 fn absence<F: Graftable, const N: usize>(
     alloc: Global,
     database: &Database<F, N>,

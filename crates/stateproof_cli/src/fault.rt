@@ -56,7 +56,7 @@ impl<T: Drop> From<AllocFailed<T>> for Fault {
 }
 
 impl Fault {
-    /// The fault of a snapshot, or of a proof of it, that was refused; it has as many operations as bits.
+    /// Returns the fault of a snapshot, or of a proof of it, that was refused; it has as many operations as bits.
     pub(crate) fn of_snapshot<F>(error: &qmdb::Error<F>) -> Fault {
         match error {
             qmdb::Error::Merkle(error) => Fault::of_plan(error),
@@ -64,7 +64,7 @@ impl Fault {
         }
     }
 
-    /// The fault of a database that could not do what it was told.
+    /// Returns the fault of a database that could not do what it was told.
     pub(crate) fn of_database<F>(error: &db::Error<F>) -> Fault {
         match error {
             db::Error::Full(_) => Fault::Range,
@@ -72,7 +72,7 @@ impl Fault {
         }
     }
 
-    /// The fault where the input can't be read.
+    /// Returns the fault where the input can't be read.
     pub(crate) fn of_input(error: &io::Error) -> Fault {
         match error.kind() {
             ErrorKind::OutOfMemory => Fault::Memory,
@@ -80,7 +80,7 @@ impl Fault {
         }
     }
 
-    /// The fault of a plan or of a floor that was refused.
+    /// Returns the fault of a plan or of a floor that was refused.
     pub(crate) fn of_plan<F>(error: &merkle::Error<F>) -> Fault {
         match error {
             merkle::Error::RangeOutOfBounds(_) | merkle::Error::LocationOverflow(_) => Fault::Range,

@@ -17,9 +17,9 @@ use reply::Reply;
 use std::alloc::Global;
 use std::io::{self, Read, Write};
 
-/// Runs the program over `words`, its arguments, and answers the exit status: 0, or 1 for a no. After a fault `output` has
-/// nothing, `errors` one line, and the status is 2. After a failed write it is 2 as well, and nothing more is written. So
-/// one of the two writers is never written to, and `errors` is not where there is an answer.
+/// Runs the program over `words`, its arguments, and answers the exit status: 0, or 1 for a no. After a fault `output`
+/// has nothing, `errors` one line, and the status is 2. After a failed write it is 2 as well, and nothing more is
+/// written. So one of the two writers is never written to, and `errors` is not if there is an answer.
 pub fn run<R: Read + Drop, O: Write, E: Write>(
     alloc: Global,
     words: &[String],

@@ -47,7 +47,8 @@ fn decode(digits: &[u8], bytes: &mut Vec<u8>) -> Result<bool, AllocError>
 /// How many bytes are read at once.
 const READ_AT_ONCE: usize = 65_536;
 
-/// The lines of an input, one at a time. A line ends at its LF, and what follows the last LF is a line where it is not empty.
+/// The lines of an input, one at a time. A line ends at its LF, and what follows the last LF is a line if it is not
+/// empty.
 #[derive(Drop)]
 pub(crate) struct Lines<R> {
     input: BufReader<R>,
@@ -55,7 +56,7 @@ pub(crate) struct Lines<R> {
 }
 
 impl<R: Read + Drop> Lines<R> {
-    /// The lines of `input`, before the first one.
+    /// Returns the lines of `input`, before the first one.
     pub(crate) fn of(alloc: Global, input: R) -> Result<Lines<R>, Fault> {
         match BufReader::with_capacity(alloc, READ_AT_ONCE, input) {
             Ok(input) => Ok(Lines {
@@ -75,7 +76,7 @@ impl<R: Read + Drop> Lines<R> {
         }
     }
 
-    /// The line, its LF left out.
+    /// Returns the line, its LF left out.
     pub(crate) fn line(&self) -> &[u8] {
         match self.line.as_slice() {
             [line @ .., b'\n'] => line,
@@ -83,8 +84,8 @@ impl<R: Read + Drop> Lines<R> {
         }
     }
 
-    /// The fault where line number `number` is bad and those before it are not: that line; but the input comes first, where
-    /// this line or what follows it can't be read or is not UTF-8.
+    /// Returns the fault where line number `number` is bad and those before it are not: that line; but the input comes
+    /// first, where this line or what follows it can't be read or is not UTF-8.
     pub(crate) fn fault(mut self, number: u64) -> Fault {
         for _ in 0..u64::MAX {
             if str::from_utf8(&self.line).is_err() {
@@ -141,7 +142,7 @@ impl<const N: usize> Operations<N> {
         Ok(())
     }
 
-    /// The plan of a proof of the operation at `location`.
+    /// Returns the plan of a proof of the operation at `location`.
     pub fn plan<F: Graftable>(
         &self,
         alloc: Global,
@@ -154,7 +155,8 @@ impl<const N: usize> Operations<N> {
         }
     }
 
-    /// The snapshot of the operations with the floor `floor`. Where that is past them, it is refused before a tree is hashed.
+    /// Returns the snapshot of the operations with the floor `floor`. Where that is past them, it is refused before a
+    /// tree is hashed.
     pub fn snapshot<F: Graftable>(
         self,
         alloc: Global,
@@ -173,8 +175,8 @@ impl<const N: usize> Operations<N> {
     }
 }
 
-/// The tree over `count` byte strings that stand in `written` one behind the other, each with its length in front. They are
-/// lent one by one, and not copied.
+/// Returns the tree over `count` byte strings that stand in `written` one behind the other, each with its length in
+/// front. They are lent one by one, and not copied.
 fn tree_over<F: Graftable>(
     alloc: Global,
     written: &[u8],
@@ -194,8 +196,8 @@ fn tree_over<F: Graftable>(
     Ok(tree)
 }
 
-/// The first of the byte strings that stand in `written` one behind the other, each with its length in front, and what
-/// follows it; none where none is whole.
+/// Returns the first of the byte strings that stand in `written` one behind the other, each with its length in front,
+/// and what follows it; none if none is whole.
 fn first<'a>(alloc: Global, written: &'a [u8]) -> Option<(&'a [u8], &'a [u8])> {
     let mut rest = written;
     let UInt(length) = UInt::read_cfg(alloc, &mut rest, &()).ok()?;

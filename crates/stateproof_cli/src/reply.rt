@@ -28,7 +28,7 @@ pub(crate) struct Reply {
 }
 
 impl Reply {
-    /// The reply to the arguments `words` and the input. The input is read where the words are good.
+    /// Returns the reply to the arguments `words` and the input. The input is read where the words are good.
     pub(crate) fn of<R: Read + Drop>(
         alloc: Global,
         words: &[String],
@@ -44,12 +44,12 @@ impl Reply {
     }
 }
 
-/// All of `input` as text.
+/// Returns all of `input` as text.
 fn text_of<R: Read + Drop>(alloc: Global, input: R) -> Result<String, Fault> {
     io::read_to_string(alloc, input).map_err(|error| Fault::of_input(&error))
 }
 
-/// The reply to `command`, which names the chunk size, over trees of the family `F`.
+/// Returns the reply to `command`, which names the chunk size, over trees of the family `F`.
 fn over_tree<F: Graftable, R: Read + Drop>(
     alloc: Global,
     command: &Command,
@@ -61,7 +61,7 @@ fn over_tree<F: Graftable, R: Read + Drop>(
     }
 }
 
-/// The reply to `action`, over trees of the family `F` and chunks of `N` bytes.
+/// Returns the reply to `action`, over trees of the family `F` and chunks of `N` bytes.
 fn over_chunk<F: Graftable, R: Read + Drop, const N: usize>(
     alloc: Global,
     action: &Action,
@@ -80,7 +80,7 @@ fn over_chunk<F: Graftable, R: Read + Drop, const N: usize>(
     }
 }
 
-/// The canonical root of the operations on the lines of `input`, with the floor `floor`.
+/// Returns the canonical root of the operations on the lines of `input`, with the floor `floor`.
 fn root<F: Graftable, R: Read + Drop, const N: usize>(
     alloc: Global,
     input: R,
@@ -97,8 +97,8 @@ fn root<F: Graftable, R: Read + Drop, const N: usize>(
     })
 }
 
-/// The canonical root of the operations on the lines of `input`, with the floor `floor`, and the proof of the one at
-/// `location`.
+/// Returns the canonical root of the operations on the lines of `input`, with the floor `floor`, and the proof of the
+/// one at `location`.
 fn prove<F: Graftable, R: Read + Drop, const N: usize>(
     alloc: Global,
     input: R,
@@ -113,7 +113,8 @@ fn prove<F: Graftable, R: Read + Drop, const N: usize>(
     root_and_proof(alloc, &snapshot, plan, floor)
 }
 
-/// The canonical root of `snapshot`, which has the floor `floor`, and the proof of the operation that `plan` is for.
+/// Returns the canonical root of `snapshot`, which has the floor `floor`, and the proof of the operation that `plan` is
+/// for.
 fn root_and_proof<F: Graftable, const N: usize>(
     alloc: Global,
     snapshot: &Snapshot<F, Sha256, N>,
@@ -131,7 +132,7 @@ fn root_and_proof<F: Graftable, const N: usize>(
     })
 }
 
-/// The proof of the operation that `plan` is for, of `snapshot`, which has the floor `floor`.
+/// Returns the proof of the operation that `plan` is for, of `snapshot`, which has the floor `floor`.
 fn proof_of<F: Graftable, const N: usize>(
     alloc: Global,
     snapshot: &Snapshot<F, Sha256, N>,
@@ -150,8 +151,8 @@ fn proof_of<F: Graftable, const N: usize>(
     }
 }
 
-/// Whether the proof on the second line of `text` shows the operation on the first one at `location`, under the root
-/// `root`.
+/// Returns whether the proof on the second line of `text` shows the operation on the first one at `location`, under the
+/// root `root`.
 fn check<F: Graftable>(
     alloc: Global,
     text: &str,
@@ -183,7 +184,7 @@ fn check<F: Graftable>(
     })
 }
 
-/// What a database answers to the steps on the lines of `input`. All are read before the first one is taken.
+/// Returns what a database answers to the steps on the lines of `input`. All are read before the first one is taken.
 fn database<F: Graftable, R: Read + Drop, const N: usize>(
     alloc: Global,
     input: R,

@@ -31,8 +31,8 @@ pub(crate) enum Step {
 }
 
 impl Step {
-    /// The step that `line` writes: words with one blank between them. None where it writes no step; that this is said of no other
-    /// line is only tested.
+    /// Returns the step that `line` writes: words with one blank between them. None where it writes no step; that this
+    /// is said of no other line is only tested.
     fn parse(line: &str) -> Option<Step>
         ensures { IfSome result (IsStepLine line.now) }
     {
@@ -55,7 +55,7 @@ impl Step {
     }
 }
 
-/// The key that `word` writes in 8 hexadecimal digits, in either case.
+/// Returns the key that `word` writes in 8 hexadecimal digits, in either case.
 fn key(word: &str) -> Option<Key>
     ensures { IfSome result (λ key. decode_sized word.now 4 ≡ Ok key.bytes) }
 {
@@ -63,7 +63,7 @@ fn key(word: &str) -> Option<Key>
     Some(FixedBytes { bytes })
 }
 
-/// The steps on the lines of `input`.
+/// Returns the steps on the lines of `input`.
 pub(crate) fn steps<R: Read + Drop>(alloc: Global, input: R) -> Result<Vec<Step>, Fault> {
     let mut steps = Vec::new(alloc);
     let mut lines = Lines::of(alloc, input)?;
@@ -79,7 +79,7 @@ pub(crate) fn steps<R: Read + Drop>(alloc: Global, input: R) -> Result<Vec<Step>
     Err(Fault::Memory)
 }
 
-/// The step that the bytes of a line write.
+/// Returns the step that the bytes of a line write.
 fn step_of(line: &[u8]) -> Option<Step> {
     Step::parse(str::from_utf8(line).ok()?)
 }

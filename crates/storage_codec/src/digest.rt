@@ -28,17 +28,17 @@ pub trait Digest: Copy + Eq {
     /// How many bytes each digest has.
     ghost size: { ℕ };
 
-    /// The bytes of the digest. Takes no memory.
+    /// Returns the bytes of the digest. Allocates nothing.
     fn bytes(&self) -> &[u8]
         ensures { result.now ≡ text self.now };
 
-    /// How many bytes a digest has: 32 or 64 for the digests that there are. Takes no memory.
+    /// Returns how many bytes a digest has: 32 or 64 for the digests that there are. Allocates nothing.
     fn size() -> usize
         ensures value { result ≡ size }
         ensures small { size ≤ 2 ^ 32 };
 
-    /// Reads the next digest from the front of `buf`, seen by its bytes. Refuses `EndOfBuffer` where fewer bytes are
-    /// left than a digest has; then `buf` is at an ending of what it held.
+    /// Reads the next digest from the front of `buf`, seen by its bytes. Refuses `EndOfBuffer` if fewer bytes are left
+    /// than a digest has; then `buf` is at an ending of what it held.
     fn read<B: Buf>(alloc: Global, buf: &mut B) -> Result<Self, Error>
         ensures gives { Gives Self.text result (B.unread buf.new)
             (front_at Self.size (B.unread buf.old)) }
@@ -59,8 +59,8 @@ pub trait Digest: Copy + Eq {
         Ok(digest)
     }
 
-    /// Reads an option of a digest from the front of `buf`: a truth value, then the digest where it is true. Refuses
-    /// as they do; then `buf` is at an ending of what it held.
+    /// Reads an option of a digest from the front of `buf`: a truth value, then the digest if it is true. Refuses as
+    /// they do; then `buf` is at an ending of what it held.
     #[tactic(auto, using(crate::specs::Laws::Parts::ends_then))]
     final fn read_option<B: Buf>(alloc: Global, buf: &mut B) -> Result<Option<Self>, Error>
         ensures gives { Gives (option_map Self.text) result (B.unread buf.new)
@@ -75,8 +75,8 @@ pub trait Digest: Copy + Eq {
         }
     }
 
-    /// Appends to `out` what an option of a digest is written as: a truth value, then the digest's bytes where there is
-    /// one. `NoMemory` comes only where `out` was refused a growth; then it holds its old bytes and a beginning of these.
+    /// Appends to `out` what an option of a digest is written as: a truth value, then the digest's bytes if there is
+    /// one. `NoMemory` comes only if `out` was refused a growth; then it holds its old bytes and a beginning of these.
     #[tactic(auto, using(crate::specs::Laws::Parts::starts_cons))]
     final fn write_option(digest: &Option<Self>, out: &mut Vec<u8>) -> Result<(), NoMemory>
         ensures ok { OnOk result (out.new.items ≡ out.old.items ++ option_text Self.text digest.now) }
@@ -95,7 +95,7 @@ pub trait Digest: Copy + Eq {
     /// Each digest has as many bytes.
     ghost sized: { (x : Self) → length (Self.text x) ≡ Self.size };
 
-    /// Digests are equal exactly where their bytes are.
+    /// Digests are equal exactly if their bytes are.
     ghost same: { (x y : Self) → Self.PartialEq.eq x y ≡ true ↔ Self.text x ≡ Self.text y };
 
     /// A digest is nothing but its bytes.
@@ -119,11 +119,11 @@ pub trait Hasher {
     /// The digest of each byte string as a value.
     ghost digest_of: { List ℕ → Self.Digest };
 
-    /// The digest of `parts`, joined one after the other. Takes no memory.
+    /// Returns the digest of `parts`, joined one after the other. Allocates nothing.
     fn hash(parts: &[&[u8]]) -> Self::Digest
         ensures { Self.Digest.text result ≡ hash_of (flat_map (λ part. part.now) parts.now) };
 
-    /// The digest whose bytes all are `byte`. Takes no memory.
+    /// Returns the digest whose bytes all are `byte`. Allocates nothing.
     fn fill(byte: u8) -> Self::Digest
         ensures { Self.Digest.text result ≡ replicate Self.Digest.size byte };
 

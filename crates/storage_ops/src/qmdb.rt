@@ -12,7 +12,7 @@ pub use error::Error;
 use storage_merkle::merkle::Bagging;
 use storage_merkle::merkle::hasher::Standard;
 
-/// The hasher of database trees: the ordinary one, which folds active peaks from the right.
+/// Returns the hasher of database trees: the ordinary one, which folds active peaks from the right.
 pub fn hasher<H>() -> Standard<H>
     ensures { result.bagging ≡ BackwardFold }
 {

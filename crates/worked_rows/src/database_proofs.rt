@@ -21,14 +21,14 @@ type Value = FixedEncoding<u64>;
 
 type Database = Ordered<Family, Sha256, Key, Value, 1>;
 
-/// The key of a number.
+/// Returns the key of a number.
 fn key(number: u8) -> Key {
     FixedBytes {
         bytes: [0, 0, 0, number],
     }
 }
 
-/// A database that has committed the value 7 of the key 5, and 8 of 9.
+/// Returns a database that has committed the value 7 of the key 5, and 8 of 9.
 fn two_keys(alloc: Global) -> Result<Database, Fail> {
     let mut database = Database::new(alloc);
     database.commit(None)?;
@@ -38,7 +38,7 @@ fn two_keys(alloc: Global) -> Result<Database, Fail> {
     Ok(database)
 }
 
-/// Whether a client that trusts `root` takes from `proof` that the key of `number` has the value `value`.
+/// Returns whether a client that trusts `root` takes from `proof` that the key of `number` has the value `value`.
 fn shows_value(
     alloc: Global,
     proof: &[u8],
@@ -49,7 +49,7 @@ fn shows_value(
     check_value::<Family, Sha256, Key, Value>(alloc, proof, 1, &(), key(number), value, root)
 }
 
-/// Whether it takes from `proof` that the key of `number` has no value.
+/// Returns whether it takes from `proof` that the key of `number` has no value.
 fn shows_absence(alloc: Global, proof: &[u8], number: u8, root: &Digest) -> Result<bool, NoMemory> {
     check_absence::<Family, Sha256, Key, Value>(alloc, proof, 1, &((), ()), &key(number), root)
 }

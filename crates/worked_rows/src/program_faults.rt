@@ -6,7 +6,7 @@ use std::io::{self, ErrorKind, Read};
 use std::test::Fail;
 use storage_codec::NoMemory;
 
-/// The words of a command line.
+/// Returns the words of a command line.
 fn words(alloc: Global) -> Result<Vec<String>, Fail> {
     let mut words = Vec::new(alloc);
     for word in ["root", "mmr", "1", "0"] {

@@ -16,7 +16,7 @@ pub struct Counted<H> {
 }
 
 impl<H> Counted<H> {
-    /// The hasher `hasher`, before it hashed anything.
+    /// Returns the hasher `hasher`, before it hashed anything.
     pub fn new(hasher: H) -> Self {
         Counted {
             hasher,
@@ -24,7 +24,7 @@ impl<H> Counted<H> {
         }
     }
 
-    /// How many strings were hashed since this was asked last.
+    /// Returns how many strings were hashed since this was asked last.
     pub fn take(&self) -> u64 {
         self.strings.replace(0)
     }

@@ -54,7 +54,7 @@ fn longer<F: Graftable, H: Hasher>(
     Ok(tally)
 }
 
-/// What is answered for `bytes` as they are, and how many of the altered ones are accepted.
+/// Returns what is answered for `bytes` as they are, and how many of the altered ones are accepted.
 pub fn report<F: Graftable, H: Hasher>(
     alloc: Global,
     case: &Case<H::Digest>,

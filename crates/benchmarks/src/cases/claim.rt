@@ -105,7 +105,7 @@ impl<D: Digest> Case<D> {
         Ok((Case { claim, root }, bytes))
     }
 
-    /// What a client answers that is given `bytes` in the place of the case's own.
+    /// Returns what a client answers that is given `bytes` in the place of the case's own.
     pub fn accepts<F: Graftable, H: Hasher<Digest = D>>(
         &self,
         alloc: Global,
@@ -143,7 +143,7 @@ impl<D: Digest> Case<D> {
     }
 }
 
-/// A key in hexadecimal.
+/// Returns a key in hexadecimal.
 fn key_of(column: &str) -> Result<Key, Fault> {
     match <[u8; 4] as FromHex>::from_hex(column) {
         Ok(bytes) => Ok(Key { bytes }),
@@ -151,7 +151,7 @@ fn key_of(column: &str) -> Result<Key, Fault> {
     }
 }
 
-/// Whether `bytes` are a witness that the snapshot with the root `root` has that operations root.
+/// Returns whether `bytes` are a witness that the snapshot with the root `root` has that operations root.
 fn witnessed<F: Graftable, H: Hasher>(
     alloc: Global,
     bytes: &[u8],

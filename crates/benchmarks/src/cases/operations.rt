@@ -18,7 +18,7 @@ struct Counts {
     same: u64,
 }
 
-/// The operation with these bytes; none where they are refused.
+/// Returns the operation with these bytes; none if they are refused.
 fn decoded<O: Read<Cfg = ()>>(alloc: Global, bytes: &[u8]) -> Result<Option<O>, NoMemory> {
     match O::decode_cfg(alloc, bytes, &()) {
         Ok(operation) => Ok(Some(operation)),
@@ -53,7 +53,7 @@ fn altered<O: Read<Cfg = ()> + PartialEq + Drop>(
     Ok(counts)
 }
 
-/// What is found for the operation of the type `O` with the bytes `bytes`.
+/// Returns what is found for the operation of the type `O` with the bytes `bytes`.
 fn over<O: Read<Cfg = ()> + PartialEq + Drop>(
     alloc: Global,
     bytes: &mut [u8],
@@ -68,18 +68,18 @@ fn over<O: Read<Cfg = ()> + PartialEq + Drop>(
     )?)
 }
 
-/// What is found for an operation of a database of ordered keys.
+/// Returns what is found for an operation of a database of ordered keys.
 fn ordered(alloc: Global, bytes: &mut [u8]) -> Result<String, Fault> {
     over::<Ordered<mmr::Family, Key, FixedEncoding<u64>>>(alloc, bytes)
 }
 
-/// What is found for an operation of a database of unordered keys.
+/// Returns what is found for an operation of a database of unordered keys.
 fn unordered(alloc: Global, bytes: &mut [u8]) -> Result<String, Fault> {
     over::<Unordered<mmr::Family, Key, FixedEncoding<u64>>>(alloc, bytes)
 }
 
-/// What is found for the operation with the bytes of `columns`, of keys of four bytes and values that are numbers; `kind` is
-/// `ordered` or `unordered`.
+/// Returns what is found for the operation with the bytes of `columns`, of keys of four bytes and values that are
+/// numbers; `kind` is `ordered` or `unordered`.
 pub fn report(alloc: Global, kind: &str, columns: &[&str]) -> Result<String, Fault> {
     let [column] = columns else {
         return Err(Fault::Malformed);

@@ -23,7 +23,7 @@ struct Shape {
 }
 
 impl Shape {
-    /// The last chunk of so many bits that may be partial where there are at most `count` bits.
+    /// Returns the last chunk of so many bits that may be partial if there are at most `count` bits.
     fn last(self, count: u64, bits: u64) -> u64 {
         count
             .saturating_sub(self.tail)
@@ -32,7 +32,7 @@ impl Shape {
     }
 }
 
-/// The place of a bit in chunks of that many bits, or the greatest number.
+/// Returns the place of a bit in chunks of that many bits, or the greatest number.
 fn bit_at(chunk: u64, bits: u64, offset: u64) -> u64 {
     chunk.saturating_mul(bits).saturating_add(offset)
 }
@@ -51,7 +51,8 @@ struct Rooted {
     root: Digest,
 }
 
-/// The bitmap's proof of the first bit of its partial chunk, and that chunk; the full ones are pruned before where that is said.
+/// Returns the bitmap's proof of the first bit of its partial chunk, and that chunk; the full ones are pruned before if
+/// that is said.
 fn prove<const N: usize>(
     bitmap: &mut MerkleizedBitMap<Digest, N>,
     hasher: &Hasher,
@@ -79,7 +80,7 @@ fn prove<const N: usize>(
     }
 }
 
-/// The same of the bitmap of a shape, and its root.
+/// Returns the same of the bitmap of a shape, and its root.
 fn proved<const N: usize>(
     alloc: Global,
     hasher: &Hasher,
@@ -126,8 +127,8 @@ impl Rooted {
         Ok(())
     }
 
-    /// The answers for each chunk that the partial one is said to be: those up to the one behind it, one further on, and the last ones
-    /// that counts of bits reach.
+    /// Returns the answers for each chunk that the partial one is said to be: those up to the one behind it, one
+    /// further on, and the last ones that counts of bits reach.
     fn answers<const N: usize>(
         &self,
         alloc: Global,
@@ -155,7 +156,7 @@ impl Rooted {
     }
 }
 
-/// The answers for the proof of the first bit of the partial chunk of a bitmap of that shape.
+/// Returns the answers for the proof of the first bit of the partial chunk of a bitmap of that shape.
 fn over<const N: usize>(alloc: Global, hasher: &Hasher, shape: Shape) -> Result<String, Fault>
     requires { IsChunkSize N }
 {
@@ -169,8 +170,9 @@ fn over<const N: usize>(alloc: Global, hasher: &Hasher, shape: Shape) -> Result<
     )?)
 }
 
-/// What is answered for a bitmap with chunks of `chunk_size` bytes, where the proof is said to be of another chunk or bit. The columns
-/// are the direction of folds, how many chunks are full, how many bits the partial one has, and whether the full ones are `pruned`.
+/// Returns what is answered for a bitmap with chunks of `chunk_size` bytes, where the proof is said to be of another
+/// chunk or bit. The columns are the direction of folds, how many chunks are full, how many bits the partial one has,
+/// and whether the full ones are `pruned`.
 pub fn report(alloc: Global, chunk_size: &str, columns: &[&str]) -> Result<String, Fault> {
     let [direction, full, tail, pruned] = columns else {
         return Err(Fault::Malformed);

@@ -20,11 +20,11 @@ use storage_ops::qmdb::any::operation::OperationCodec;
 use storage_ops::qmdb::any::operation::update::Ordered;
 use storage_ops::qmdb::operation::Key;
 
-/// Whether `key` has the value `value` in the snapshot with the canonical root `root`. `proof` is a key-value proof as it is
-/// written, over a chunk of `chunk_size` bytes, and `cfg` is what the reader of its next key is told.
+/// Returns whether `key` has the value `value` in the snapshot with the canonical root `root`. `proof` is a key-value
+/// proof as it is written, over a chunk of `chunk_size` bytes, and `cfg` is what the reader of its next key is told.
 ///
-/// The answer is no where the bytes are not one whole proof with at most [`MAX_DIGESTS`] digests, and where no chunk has that
-/// size: this last no takes no memory. Else it is what the proof's `verify` answers.
+/// The answer is no if the bytes are not one whole proof with at most [`MAX_DIGESTS`] digests, and if no chunk has that
+/// size: this last no allocates nothing. Else it is what the proof's `verify` answers.
 pub fn check_value<F: Graftable, H: Hasher, K: Key, V: OperationCodec<F, Ordered<K, V>>>(
     alloc: Global,
     proof: &[u8],
@@ -48,7 +48,7 @@ pub fn check_value<F: Graftable, H: Hasher, K: Key, V: OperationCodec<F, Ordered
     value_from::<F, H, K, V, &[u8]>(alloc, proof, chunk_size, cfg, key, value, root)
 }
 
-/// What [`check_value`] answers for the bytes that `buf` holds.
+/// Returns what [`check_value`] answers for the bytes that `buf` holds.
 pub(crate) fn value_from<
     F: Graftable,
     H: Hasher,
@@ -86,11 +86,12 @@ pub(crate) fn value_from<
     }
 }
 
-/// Whether `key` has no value in the snapshot with the canonical root `root`. `proof` is an exclusion proof as it is written,
-/// over a chunk of `chunk_size` bytes, and `cfgs` are what the readers of its update and of its value are told.
+/// Returns whether `key` has no value in the snapshot with the canonical root `root`. `proof` is an exclusion proof as
+/// it is written, over a chunk of `chunk_size` bytes, and `cfgs` are what the readers of its update and of its value
+/// are told.
 ///
-/// The answer is no where the bytes are not one whole proof with at most [`MAX_DIGESTS`] digests, and where no chunk has that
-/// size: this last no takes no memory. Else it is what the proof's `verify` answers.
+/// The answer is no if the bytes are not one whole proof with at most [`MAX_DIGESTS`] digests, and if no chunk has that
+/// size: this last no allocates nothing. Else it is what the proof's `verify` answers.
 pub fn check_absence<
     F: Graftable,
     H: Hasher,
@@ -120,7 +121,7 @@ pub fn check_absence<
     absence_from::<F, H, K, V, &[u8]>(alloc, proof, chunk_size, cfgs, key, root)
 }
 
-/// What [`check_absence`] answers for the bytes that `buf` holds.
+/// Returns what [`check_absence`] answers for the bytes that `buf` holds.
 pub(crate) fn absence_from<
     F: Graftable,
     H: Hasher,

@@ -13,12 +13,12 @@ use storage_current::qmdb::current::grafting;
 use storage_current::qmdb::current::proof::RangeProof;
 use storage_merkle::merkle::{Graftable, Location};
 
-/// Whether the operations with the bytes `operations` stand at the locations from `start` on of the snapshot with the
-/// canonical root `root`, and the chunks of activity bits that they touch are `chunks`. `proof` is a range proof as it is
-/// written, over chunks of `chunk_size` bytes.
+/// Returns whether the operations with the bytes `operations` stand at the locations from `start` on of the snapshot
+/// with the canonical root `root`, and the chunks of activity bits that they touch are `chunks`. `proof` is a range
+/// proof as it is written, over chunks of `chunk_size` bytes.
 ///
-/// The answer is no where the bytes are not one whole proof with at most `max_digests` digests, and where no chunk has that
-/// size: this last no takes no memory. Else it is what the proof's `verify_encoded` answers.
+/// The answer is no if the bytes are not one whole proof with at most `max_digests` digests, and if no chunk has that
+/// size: this last no allocates nothing. Else it is what the proof's `verify_encoded` answers.
 pub fn check_range<F: Graftable, H: Hasher>(
     alloc: Global,
     proof: &[u8],

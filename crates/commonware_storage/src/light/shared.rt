@@ -23,7 +23,7 @@ use storage_ops::qmdb::any::operation::OperationCodec;
 use storage_ops::qmdb::any::operation::update::Ordered;
 use storage_ops::qmdb::operation::Key;
 
-/// What [`check_operation`](crate::light::check_operation) answers for the same bytes.
+/// Returns what [`check_operation`](crate::light::check_operation) answers for the same bytes.
 pub fn check_operation_shared<F: Graftable, H: Hasher>(
     alloc: Global,
     proof: Bytes,
@@ -49,12 +49,12 @@ pub fn check_operation_shared<F: Graftable, H: Hasher>(
     operation_from::<F, H, Bytes>(alloc, proof, chunk_size, loc, operation, root)
 }
 
-/// Each byte is below 256.
+/// Returns each byte is below 256.
 fn are_bytes(bytes: &[u8])
     ensures { IsBytes bytes.now }
 {}
 
-/// What [`check_value`](crate::light::check_value) answers for the same bytes.
+/// Returns what [`check_value`](crate::light::check_value) answers for the same bytes.
 pub fn check_value_shared<F: Graftable, H: Hasher, K: Key, V: OperationCodec<F, Ordered<K, V>>>(
     alloc: Global,
     proof: Bytes,
@@ -82,7 +82,7 @@ pub fn check_value_shared<F: Graftable, H: Hasher, K: Key, V: OperationCodec<F, 
     value_from::<F, H, K, V, Bytes>(alloc, proof, chunk_size, cfg, key, value, root)
 }
 
-/// What [`check_absence`](crate::light::check_absence) answers for the same bytes.
+/// Returns what [`check_absence`](crate::light::check_absence) answers for the same bytes.
 pub fn check_absence_shared<
     F: Graftable,
     H: Hasher,

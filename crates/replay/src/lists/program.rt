@@ -16,7 +16,7 @@ struct Outcome {
     errors: String,
 }
 
-/// A run over the words of a command line and an input. Want of memory is no outcome.
+/// Returns a run over the words of a command line and an input. Want of memory is no outcome.
 fn outcome_of(alloc: Global, words: &[String], input: &[u8]) -> Result<Outcome, Fault> {
     let mut output = Vec::new(alloc);
     let mut errors = Vec::new(alloc);
@@ -42,7 +42,7 @@ fn owned_words(alloc: Global, line: &[&str]) -> Result<Vec<String>, Fault> {
     Ok(words)
 }
 
-/// What the program writes for the words of a command line and an input.
+/// Returns what the program writes for the words of a command line and an input.
 fn output_of(alloc: Global, line: &[&str], input: &str) -> Result<String, Fault> {
     let words = owned_words(alloc, line)?;
     let outcome = outcome_of(alloc, &words, input.as_bytes())?;
@@ -75,7 +75,7 @@ pub fn db(alloc: Global, columns: &[&str]) -> Result<String, Fault> {
     )
 }
 
-/// The lines of a text as a column; none for no text.
+/// Returns the lines of a text as a column; none for no text.
 fn column(alloc: Global, text: &str) -> Result<Option<String>, Fault> {
     if text.is_empty() {
         return Ok(None);
@@ -84,7 +84,7 @@ fn column(alloc: Global, text: &str) -> Result<Option<String>, Fault> {
     Ok(Some(unblanked(alloc, line.as_str())?))
 }
 
-/// The lines of a text with a blank in place of the feed between two of them.
+/// Returns the lines of a text with a blank in place of the feed between two of them.
 fn unended(alloc: Global, text: &str) -> Result<String, Fault> {
     let mut answer = String::new(alloc);
     for line in text.split_terminator('\n') {
@@ -124,7 +124,7 @@ pub fn program(alloc: Global, columns: &[&str]) -> Result<String, Fault> {
     told(alloc, (root, made, answer))
 }
 
-/// The lines to check: the operation at a location, and the proof behind the root that `prove` wrote.
+/// Returns the lines to check: the operation at a location, and the proof behind the root that `prove` wrote.
 fn claim(alloc: Global, operations: &str, location: &str, made: &str) -> Result<String, Fault> {
     let location: usize = parse(alloc, &[location])?;
     let operation = operations.split(',').nth(location).ok_or(Fault::Malformed)?;
@@ -133,7 +133,7 @@ fn claim(alloc: Global, operations: &str, location: &str, made: &str) -> Result<
     Ok(format!(in alloc; "{claimed}\n{proof}\n")?)
 }
 
-/// A line for each operation.
+/// Returns a line for each operation.
 fn lines(alloc: Global, operations: &str) -> Result<String, Fault> {
     let mut lines = String::new(alloc);
     for operation in operations.split(',') {

@@ -21,7 +21,7 @@ pub enum Stage<D: Digest, const N: usize> {
     Unmerkleized(UnmerkleizedBitMap<D, N>),
 }
 
-/// The bitmap after calls, which begins without bits.
+/// Returns the bitmap after calls, which begins without bits.
 pub fn after<H: Hasher<Digest = FixedBytes<D>>, const D: usize, const N: usize>(
     alloc: Global,
     hasher: &Standard<H>,
@@ -42,7 +42,7 @@ where
     }
 }
 
-/// The bitmap without bits.
+/// Returns the bitmap without bits.
 pub fn begun<H: Hasher, const N: usize>(
     alloc: Global,
     hasher: &Standard<H>,
@@ -52,7 +52,7 @@ pub fn begun<H: Hasher, const N: usize>(
     Ok(Stage::Merkleized(restored(alloc, hasher, "0:-")?))
 }
 
-/// What a bitmap is after a call.
+/// Returns what a bitmap is after a call.
 pub fn called<H: Hasher, const N: usize>(
     alloc: Global,
     hasher: &Standard<H>,
@@ -68,8 +68,8 @@ pub fn called<H: Hasher, const N: usize>(
     }
 }
 
-/// The bitmap after a call: `d` opens it to changes, `x:BIT` prunes up to a bit, `init:COUNT:DIGESTS` takes another one, and `r` the
-/// one of what this one hands out.
+/// Returns the bitmap after a call: `d` opens it to changes, `x:BIT` prunes up to a bit, `init:COUNT:DIGESTS` takes
+/// another one, and `r` the one of what this one hands out.
 fn merkleized<H: Hasher, const N: usize>(
     alloc: Global,
     hasher: &Standard<H>,
@@ -105,7 +105,7 @@ fn prune<D: Digest, const N: usize>(
     }
 }
 
-/// The bitmap of `COUNT:DIGESTS`: that many chunks, all of them pruned, of which these digests are kept.
+/// Returns the bitmap of `COUNT:DIGESTS`: that many chunks, all of them pruned, of which these digests are kept.
 fn restored<H: Hasher, const N: usize>(
     alloc: Global,
     hasher: &Standard<H>,
@@ -121,7 +121,7 @@ fn restored<H: Hasher, const N: usize>(
     or_fault(BitMap::init(alloc, hasher, state))
 }
 
-/// The bitmap after a call: `p:BITS` appends bits, `s:BIT:VALUE` changes a bit, and `m` hashes what changed.
+/// Returns the bitmap after a call: `p:BITS` appends bits, `s:BIT:VALUE` changes a bit, and `m` hashes what changed.
 fn unmerkleized<H: Hasher, const N: usize>(
     hasher: &Standard<H>,
     mut bitmap: UnmerkleizedBitMap<H::Digest, N>,
@@ -205,7 +205,7 @@ impl<D: Digest> History<D> {
         Ok(())
     }
 
-    /// The place of a root among the roots, to which it is added where it is new.
+    /// Returns the place of a root among the roots, to which it is added if it is new.
     fn place_of(&mut self, root: D) -> Result<u64, Fault> {
         let mut place: u64 = 0;
         for known in &self.roots {
@@ -219,7 +219,7 @@ impl<D: Digest> History<D> {
     }
 }
 
-/// What stands in a bitmap with its root, whose place among the roots is given.
+/// Returns what stands in a bitmap with its root, whose place among the roots is given.
 fn stage_text<D: Digest, const N: usize>(
     alloc: Global,
     bitmap: &MerkleizedBitMap<D, N>,
@@ -232,7 +232,7 @@ fn stage_text<D: Digest, const N: usize>(
     Ok(format!(in alloc; "{length}:{pruned}:{size}:{chunk}:{count}:{kept}:{place}")?)
 }
 
-/// What is kept of the pruned chunks: their number and the digests of the peaks over them.
+/// Returns what is kept of the pruned chunks: their number and the digests of the peaks over them.
 pub fn kept<D: Digest, const N: usize>(
     alloc: Global,
     bitmap: &MerkleizedBitMap<D, N>,
@@ -252,7 +252,7 @@ fn joined<D: Digest>(alloc: Global, digests: &[D]) -> Result<String, Fault> {
     Ok(series.finish_or("-")?)
 }
 
-/// The proofs of bits: each bit with the number of leaves, the digests, and the bit's chunk.
+/// Returns the proofs of bits: each bit with the number of leaves, the digests, and the bit's chunk.
 pub fn bits_proved<H: Hasher, const N: usize>(
     alloc: Global,
     hasher: &Standard<H>,
@@ -267,7 +267,7 @@ pub fn bits_proved<H: Hasher, const N: usize>(
     Ok(series.finish_or("-")?)
 }
 
-/// The number of leaves and the digests of the proof of a bit, and its chunk.
+/// Returns the number of leaves and the digests of the proof of a bit, and its chunk.
 fn bit_proved<H: Hasher, const N: usize>(
     alloc: Global,
     hasher: &Standard<H>,
@@ -284,7 +284,7 @@ fn bit_proved<H: Hasher, const N: usize>(
     Ok(format!(in alloc; "{leaves}:{digests}:{chunk}")?)
 }
 
-/// The digests at all positions.
+/// Returns the digests at all positions.
 pub fn nodes<D: Digest, const N: usize>(
     alloc: Global,
     bitmap: &MerkleizedBitMap<D, N>,

@@ -38,7 +38,7 @@ where
     told(alloc, (size, bits, chunks))
 }
 
-/// How many bits there are, how many chunks of them are pruned, and those that are left.
+/// Returns how many bits there are, how many chunks of them are pruned, and those that are left.
 fn by_chunk<const N: usize, R: Readable<N>>(alloc: Global, bits: &R) -> Result<String, Fault>
     requires { IsChunkSize N }
 {
@@ -46,7 +46,7 @@ fn by_chunk<const N: usize, R: Readable<N>>(alloc: Global, bits: &R) -> Result<S
     told(alloc, (bits.len(), bits.pruned_chunks(), chunks))
 }
 
-/// The chunks that are left.
+/// Returns the chunks that are left.
 fn chunks_left<const N: usize, R: Readable<N>>(alloc: Global, bits: &R) -> Result<String, Fault>
     requires { IsChunkSize N }
 {
@@ -103,7 +103,7 @@ where
     nodes_text(alloc, &mut bitmap, &positions)
 }
 
-/// How many nodes a bitmap has, and those at positions, one by one and in one call.
+/// Returns how many nodes a bitmap has, and those at positions, one by one and in one call.
 fn nodes_text<D: Digest, const N: usize>(
     alloc: Global,
     bitmap: &mut MerkleizedBitMap<D, N>,

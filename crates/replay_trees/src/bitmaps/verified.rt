@@ -36,7 +36,7 @@ where
     Ok(answers.finish()?)
 }
 
-/// The numbers of leaves with which a claim is accepted.
+/// Returns the numbers of leaves with which a claim is accepted.
 fn accepted<H: Hasher, const N: usize>(
     alloc: Global,
     hasher: &Standard<H>,

@@ -42,7 +42,7 @@ pub struct BitMap<D: Digest, const N: usize, M: State<D>> {
     alloc: Global,
 }
 
-/// A chunk without a set bit, which is lent where no chunk is left.
+/// A chunk without a set bit, which is lent if no chunk is left.
 #[derive(Drop)]
 struct Clear<const N: usize> {
     bytes: [u8; N],
@@ -66,7 +66,7 @@ impl<D: Digest, const N: usize, M: State<D>> Model for BitMap<D, N, M> {
 }
 
 impl<D: Digest, const N: usize, M: State<D>> BitMap<D, N, M> {
-    /// How many bits a chunk has: `8 * N`.
+    /// Returns how many bits a chunk has: `8 * N`.
     pub fn chunk_size_bits() -> u64
         requires { IsChunkSize N }
         ensures { result ≡ 8 * N }
@@ -74,15 +74,15 @@ impl<D: Digest, const N: usize, M: State<D>> BitMap<D, N, M> {
         8 * N as u64
     }
 
-    /// The size of the tree as a node position: how many nodes it has, not how many bits there are. The tree is over the
-    /// chunks that were complete when the root was last calculated.
+    /// Returns the size of the tree as a node position: how many nodes it has, not how many bits there are. The tree is
+    /// over the chunks that were complete when the root was last calculated.
     pub fn size(&self) -> Position<mmr::Family>
         ensures { result ≡ size mmr self.now.tree.leaves }
     {
         self.tree.size()
     }
 
-    /// How many bits there are, the pruned ones among them.
+    /// Returns how many bits there are, the pruned ones among them.
     pub fn len(&self) -> u64
         ensures value { result ≡ bit_count N self.now.retained }
         ensures size { IsChunkSize N }
@@ -90,21 +90,22 @@ impl<D: Digest, const N: usize, M: State<D>> BitMap<D, N, M> {
         self.bits.len()
     }
 
-    /// Whether there are no bits.
+    /// Returns whether there are no bits.
     pub fn is_empty(&self) -> bool
         ensures { IsTrue result ↔ (bit_count N self.now.retained ≡ 0) }
     {
         self.len() == 0
     }
 
-    /// How many bits are pruned: all of the pruned chunks.
+    /// Returns how many bits are pruned: all of the pruned chunks.
     pub fn pruned_bits(&self) -> u64
         ensures { result ≡ self.now.retained.pruned * (8 * N) }
     {
         self.bits.pruned_chunks() as u64 * (8 * N as u64)
     }
 
-    /// The last chunk that is not pruned, and how many bits it has, from 1 on; a clear chunk and 0 where none is left.
+    /// Returns the last chunk that is not pruned, and how many bits it has, from 1 on; a clear chunk and 0 where none
+    /// is left.
     pub fn last_chunk(&self) -> (&[u8; N], u64)
         ensures chunk { result.0.now
             ≡ chunk_of N self.now.retained.bits ((length self.now.retained.bits - 1) / (8 * N)) }
@@ -119,7 +120,7 @@ impl<D: Digest, const N: usize, M: State<D>> BitMap<D, N, M> {
         (last, (left - 1) % chunk_size + 1)
     }
 
-    /// The chunk of the bit number `bit`, which is there and not pruned. What is past the bits is 0.
+    /// Returns the chunk of the bit number `bit`, which is there and not pruned. What is past the bits is 0.
     pub fn get_chunk_containing(&self, bit: u64) -> &[u8; N]
         requires kept { self.now.retained.pruned * (8 * N) ≤ bit }
         requires within { bit < bit_count N self.now.retained }
@@ -129,7 +130,7 @@ impl<D: Digest, const N: usize, M: State<D>> BitMap<D, N, M> {
         self.bits.lend_chunk((bit / (8 * N as u64)) as usize)
     }
 
-    /// The bit number `bit`, which is there and not pruned.
+    /// Returns the bit number `bit`, which is there and not pruned.
     pub fn get_bit(&self, bit: u64) -> bool
         requires kept { self.now.retained.pruned * (8 * N) ≤ bit }
         requires within { bit < bit_count N self.now.retained }
@@ -139,7 +140,7 @@ impl<D: Digest, const N: usize, M: State<D>> BitMap<D, N, M> {
         self.bits.get_bit(bit)
     }
 
-    /// The bit number `bit` among all bits, from `chunk`, the chunk that it stands in.
+    /// Returns the bit number `bit` among all bits, from `chunk`, the chunk that it stands in.
     pub fn get_bit_from_chunk(chunk: &[u8; N], bit: u64) -> bool
         requires { IsChunkSize N }
         ensures value { result ≡ bit_in chunk.now (bit % (8 * N)) }

@@ -29,7 +29,7 @@ impl<const N: usize> Model for Prunable<N> {
 }
 
 impl<const N: usize> Prunable<N> {
-    /// No bits. It takes no memory.
+    /// Returns no bits. It allocates nothing.
     pub fn new(alloc: Global) -> Self
         requires { IsChunkSize N }
         ensures { result ≡ record { pruned = 0; bits = [] } }
@@ -41,7 +41,7 @@ impl<const N: usize> Prunable<N> {
         }
     }
 
-    /// No bits past `chunks` chunks, all of them pruned. It takes no memory.
+    /// Returns no bits past `chunks` chunks, all of them pruned. It allocates nothing.
     pub(crate) fn pruned(alloc: Global, chunks: usize) -> Self
         requires size { IsChunkSize N }
         requires few { chunks * (8 * N) ≤ max_leaves }
@@ -54,7 +54,7 @@ impl<const N: usize> Prunable<N> {
         }
     }
 
-    /// Appends `bit`. Out of memory, `NoMemory`, changes nothing.
+    /// Appends `bit`. If memory runs out (`NoMemory`), nothing changes.
     pub fn push(&mut self, bit: bool) -> Result<(), NoMemory>
         requires { bit_count N self.old < max_leaves }
         ensures ok { OnOk result (self.new ≡ record self.old { bits = self.old.bits ++ bit ∷ [] }) }
@@ -67,7 +67,7 @@ impl<const N: usize> Prunable<N> {
         Ok(())
     }
 
-    /// Appends `bits` in their order. Out of memory, `NoMemory`, changes nothing.
+    /// Appends `bits` in their order. If memory runs out (`NoMemory`), nothing changes.
     pub fn append(&mut self, bits: &[bool]) -> Result<(), NoMemory>
         requires { bit_count N self.old + length bits.now ≤ max_leaves }
         ensures ok { OnOk result (self.new ≡ record self.old { bits = self.old.bits ++ bits.now }) }
@@ -83,7 +83,7 @@ impl<const N: usize> Prunable<N> {
         Ok(())
     }
 
-    /// Sets the bit number `bit` among all bits to `value`. It must be there and not be pruned. It takes no memory.
+    /// Sets the bit number `bit` among all bits to `value`. It must be there and not be pruned. It allocates nothing.
     pub fn set_bit(&mut self, bit: u64, value: bool)
         requires kept { self.old.pruned * (8 * N) ≤ bit }
         requires within { bit < bit_count N self.old }
@@ -96,7 +96,7 @@ impl<const N: usize> Prunable<N> {
         write(&mut self.bytes, place, value);
     }
 
-    /// The bit number `bit` among all bits. It must be there and not be pruned. It takes no memory.
+    /// Returns the bit number `bit` among all bits. It must be there and not be pruned. It allocates nothing.
     pub fn get_bit(&self, bit: u64) -> bool
         requires kept { self.now.pruned * (8 * N) ≤ bit }
         requires within { bit < bit_count N self.now }
@@ -116,7 +116,7 @@ impl<const N: usize> Prunable<N> {
         self.bytes[start..].first_chunk().unwrap()
     }
 
-    /// The last chunk that is not pruned; `None` where there is none. What is past the bits is 0.
+    /// Returns the last chunk that is not pruned; `None` if there is none. What is past the bits is 0.
     pub fn last_chunk(&self) -> Option<&[u8; N]>
         ensures { MatchOption result (self.now.bits ≡ []) (λ last. (self.now.bits ≢ [])
             × (last.now ≡ chunk N self.now.bits ((length self.now.bits - 1) / (8 * N)))) }
@@ -124,7 +124,7 @@ impl<const N: usize> Prunable<N> {
         self.bytes.last_chunk()
     }
 
-    /// Forgets the chunks below that of the bit number `bit`, which may be one past the last bit. It takes no memory.
+    /// Forgets the chunks below that of the bit number `bit`, which may be one past the last bit. It allocates nothing.
     pub fn prune_to_bit(&mut self, bit: u64)
         requires { bit ≤ bit_count N self.old }
         ensures { self.new ≡ pruned_to N self.old (bit / (8 * N)) }
@@ -157,7 +157,7 @@ impl<const N: usize> Readable<N> for Prunable<N> {
     }
 }
 
-/// How many bits `chunks` chunks have.
+/// Returns how many bits `chunks` chunks have.
 fn pruned_bits<const N: usize>(chunks: usize) -> u64
     requires size { N ≤ 2 ^ 59 }
     requires few { chunks * (8 * N) ≤ max_leaves }
@@ -166,7 +166,7 @@ fn pruned_bits<const N: usize>(chunks: usize) -> u64
     chunks as u64 * (8 * N as u64)
 }
 
-/// Makes room in `bytes`, which have `kept` bits, for one bit more: appends a clear chunk, where they are full.
+/// Makes room in `bytes`, which have `kept` bits, for one bit more: appends a clear chunk, if they are full.
 fn make_room<const N: usize>(bytes: &mut Vec<u8>, kept: u64) -> Result<(), NoMemory>
     requires few { 8 * (length bytes.old.items + N) < 2 ^ 64 }
     requires whole { (kept % (8 * N) ≡ 0) ↔ (kept ≡ 8 * length bytes.old.items) }
@@ -233,7 +233,7 @@ fn fill_all(bytes: &mut Vec<u8>, place: u64, bits: &[bool])
     }
 }
 
-/// `byte` with its bit number `place`, from the lowest, set to `bit`.
+/// Returns `byte` with its bit number `place`, from the lowest, set to `bit`.
 fn with_bit(byte: u8, place: u32, bit: bool) -> u8
     requires { place < 8 }
     ensures there { bit_at result place ≡ digit_of bit }

@@ -9,12 +9,12 @@ pub trait Readable<const N: usize> {
     /// The bits that are left, and how many chunks before them are pruned.
     ghost retained: { Self → Retained };
 
-    /// How many bits there are, the pruned ones among them.
+    /// Returns how many bits there are, the pruned ones among them.
     fn len(&self) -> u64
         ensures value { result ≡ bit_count N (retained self.now) }
         ensures size { IsChunkSize N };
 
-    /// How many chunks are pruned: those in front.
+    /// Returns how many chunks are pruned: those in front.
     fn pruned_chunks(&self) -> usize
         ensures value { result ≡ (retained self.now).pruned }
         ensures size { IsChunkSize N };

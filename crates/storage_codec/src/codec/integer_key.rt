@@ -19,7 +19,7 @@ use std::alloc::Global;
 pub struct U64(pub FixedBytes<8>);
 
 impl U64 {
-    /// The key of `number`: its eight bytes, highest first. Takes no memory.
+    /// Returns the key of `number`: its eight bytes, highest first. Allocates nothing.
     pub fn new(number: u64) -> U64
         ensures { result.0.bytes ≡ to_be_bytes w64 number }
     {
@@ -28,14 +28,14 @@ impl U64 {
         })
     }
 
-    /// The number that the eight bytes give. Takes no memory.
+    /// Returns the number that the eight bytes give. Allocates nothing.
     pub fn number(&self) -> u64
         ensures { result ≡ from_be_bytes w64 self.now.0.bytes }
     {
         u64::from_be_bytes(self.0.bytes)
     }
 
-    /// The eight bytes, highest first. Takes no memory.
+    /// Returns the eight bytes, highest first. Allocates nothing.
     pub fn bytes(&self) -> &[u8]
         ensures { result.now ≡ self.now.0.bytes }
     {
@@ -82,7 +82,7 @@ impl Read for U64 {
 
     ghost parse = { λ _. front_at 8 };
 
-    /// Refuses `EndOfBuffer` exactly where fewer than eight bytes are left. Takes no memory.
+    /// Refuses `EndOfBuffer` exactly if fewer than eight bytes are left. Allocates nothing.
     fn read_cfg<B: Buf>(alloc: Global, buf: &mut B, _cfg: &()) -> Result<U64, Error>
         ensures gives { Gives (λ x. x.0.bytes) result (B.unread buf.new)
             (front_at 8 (B.unread buf.old)) }

@@ -8,8 +8,8 @@ ghost use Rattle.storage_codec.specs.Padding.{zeros_at};
 use crate::NoMemory;
 use crate::codec::{Buf, Error};
 
-/// Appends `n` zero bytes to `out`. `NoMemory` comes only where `out` was refused a growth; then it holds its old
-/// bytes and fewer zeros.
+/// Appends `n` zero bytes to `out`. `NoMemory` comes only if `out` was refused a growth; then it holds its old bytes
+/// and fewer zeros.
 #[tactic(auto, using(crate::proofs::Zeros::zeros_start, crate::proofs::Zeros::zeros_push))]
 pub fn put_zeros(out: &mut Vec<u8>, n: usize) -> Result<(), NoMemory>
     ensures ok { OnOk result (out.new.items ≡ out.old.items ++ replicate n 0) }
@@ -21,7 +21,7 @@ pub fn put_zeros(out: &mut Vec<u8>, n: usize) -> Result<(), NoMemory>
     Ok(())
 }
 
-/// Reads one byte from the front of `buf`. Refuses `EndOfBuffer` where there is none. Takes no memory.
+/// Reads one byte from the front of `buf`. Refuses `EndOfBuffer` if there is none. Allocates nothing.
 pub fn byte<B: Buf>(buf: &mut B) -> Result<u8, Error>
     ensures gives { Answers (λ b. b) result (B.unread buf.new) (byte_at (B.unread buf.old)) }
     ensures ends { IsEnding (B.unread buf.old) (B.unread buf.new) }
@@ -33,7 +33,7 @@ pub fn byte<B: Buf>(buf: &mut B) -> Result<u8, Error>
 }
 
 /// Reads `n` zero bytes from the front of `buf`, as an operation of fixed size is filled up with. Refuses the first
-/// other byte as nonzero padding of such an operation, and `EndOfBuffer` where the bytes end first. Takes no memory.
+/// other byte as nonzero padding of such an operation, and `EndOfBuffer` if the bytes end first. Allocates nothing.
 #[tactic(auto, using(crate::proofs::Zeros::zeros_step, crate::proofs::Zeros::zeros_done, crate::specs::Laws::Parts::ends_same, crate::specs::Laws::Parts::ends_then))]
 pub fn ensure_zeros<B: Buf>(buf: &mut B, n: usize) -> Result<(), Error>
     ensures gives { Answers (λ _. tt) result (B.unread buf.new) (zeros_at n (B.unread buf.old)) }

@@ -15,7 +15,7 @@ pub(crate) struct Active<W> {
     pub(crate) location: u64,
 }
 
-/// The other active key that comes first after `key`, around past the greatest; none where there is no other.
+/// Returns the other active key that comes first after `key`, around past the greatest; none if there is no other.
 pub(crate) fn next_key<'a, K: Ord, W>(active: &'a BTreeMap<K, Active<W>>, key: &K) -> Option<&'a K>
     ensures { option_map (λ k. k.now) result
         ≡ option_map (λ c. c.0) (slice_get (around K.cmp active.now.entries key.now) 0) }
@@ -35,8 +35,8 @@ pub(crate) fn next_key<'a, K: Ord, W>(active: &'a BTreeMap<K, Active<W>>, key: &
     }
 }
 
-/// The other active key that comes last before `key`, around past the least, with what it has; none where there is no
-/// other.
+/// Returns the other active key that comes last before `key`, around past the least, with what it has; none if there is
+/// no other.
 pub(crate) fn previous<'a, K: Ord, W>(
     active: &'a BTreeMap<K, Active<W>>,
     key: &K,
@@ -56,7 +56,7 @@ pub(crate) fn previous<'a, K: Ord, W>(
     }
 }
 
-/// The least location of an active update; `end` where no key is active.
+/// Returns the least location of an active update; `end` if no key is active.
 pub(crate) fn least_location<K: Ord, W>(active: &BTreeMap<K, Active<W>>, end: u64) -> u64
     ensures { result ≡ least_location active.now.entries end }
 {

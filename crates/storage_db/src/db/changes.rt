@@ -139,8 +139,8 @@ pub(crate) fn remove<F: Family, K: Key, V: OperationCodec<F, Update<K, V>>>(
     }
 }
 
-/// Appends the commit with the value `metadata`, and clears the bit of the commit before it, which stands at `before`. Its
-/// floor is the least location of an active update, or its own where no key is active. What is kept of it.
+/// Appends the commit with the value `metadata`, and clears the bit of the commit before it, which stands at `before`.
+/// Its floor is the least location of an active update, or its own if no key is active. What is kept of it.
 pub(crate) fn put_commit<
     F: Graftable,
     H: Hasher,
@@ -185,8 +185,8 @@ pub(crate) fn put_commit<
     Ok(commit)
 }
 
-/// How many operations a put of a new key or a deletion appends: its own, and where there is a key before, that key's
-/// update.
+/// Returns how many operations a put of a new key or a deletion appends: its own, and if there is a key before, that
+/// key's update.
 fn appended<T>(before: &Option<T>) -> usize
     ensures { result ≡ (if is_some before.now then 2 else 1) }
 {

@@ -71,8 +71,8 @@ impl<F: Graftable, H: Hasher, K: Key, V: OperationCodec<F, Update<K, V>>, const 
     V,
     N,
 > {
-    /// The commit that is written as `bytes`, after the operations of `log`, with the value `metadata` and the floor
-    /// `floor`; `before` is where the commit before it stands.
+    /// Returns the commit that is written as `bytes`, after the operations of `log`, with the value `metadata` and the
+    /// floor `floor`; `before` is where the commit before it stands.
     pub(crate) fn after(
         alloc: Global,
         log: &Log,
@@ -112,35 +112,35 @@ impl<F: Graftable, H: Hasher, K: Key, V: OperationCodec<F, Update<K, V>>, const 
         })
     }
 
-    /// The location of the commit itself.
+    /// Returns the location of the commit itself.
     pub(crate) fn location(&self) -> u64
         ensures { result ≡ self.now.count - 1 }
     {
         self.length - 1
     }
 
-    /// The floor of the commit.
+    /// Returns the floor of the commit.
     pub(crate) fn floor(&self) -> Location<F>
         ensures { result ≡ self.now.floor }
     {
         self.floor
     }
 
-    /// The value of the commit; none where it has none.
+    /// Returns the value of the commit; none if it has none.
     pub(crate) fn metadata(&self) -> Option<&V::Value>
         ensures { option_map (λ v. v.now) result ≡ self.now.metadata }
     {
         self.metadata.as_ref()
     }
 
-    /// The snapshot of the operations up to the commit.
+    /// Returns the snapshot of the operations up to the commit.
     pub(crate) fn snapshot(&self) -> &Snapshot<F, H, N>
         ensures { result.now ≡ self.now.snapshot }
     {
         &self.snapshot
     }
 
-    /// The value that `key` had.
+    /// Returns the value that `key` had.
     pub(crate) fn get(&self, key: &K) -> Option<&V::Value>
         ensures { let e = keyed_by K.text V.Value.text V.operation_text K.cmp in
             option_map (λ v. v.now) result ≡ value_at e self.now.entries key.now }
@@ -151,7 +151,7 @@ impl<F: Graftable, H: Hasher, K: Key, V: OperationCodec<F, Update<K, V>>, const 
         }
     }
 
-    /// The snapshot's own proof of the operation at `location`.
+    /// Returns the snapshot's own proof of the operation at `location`.
     fn proof(
         &self,
         alloc: Global,
@@ -169,7 +169,7 @@ impl<F: Graftable, H: Hasher, K: Key, V: OperationCodec<F, Update<K, V>>, const 
         own_proof(alloc, &self.snapshot, leaves, self.floor, location)
     }
 
-    /// The value of `key`, and the proof of it.
+    /// Returns the value of `key`, and the proof of it.
     pub(crate) fn prove_value(
         &self,
         alloc: Global,
@@ -201,7 +201,8 @@ impl<F: Graftable, H: Hasher, K: Key, V: OperationCodec<F, Update<K, V>>, const 
         Ok((value, KeyValueProof { proof, next_key }))
     }
 
-    /// The proof that `key` has no value: by the update whose span holds it, or by the commit where no key is active.
+    /// Returns the proof that `key` has no value: by the update whose span holds it, or by the commit if no key is
+    /// active.
     pub(crate) fn prove_absence(
         &self,
         alloc: Global,
@@ -229,8 +230,8 @@ impl<F: Graftable, H: Hasher, K: Key, V: OperationCodec<F, Update<K, V>>, const 
         }
     }
 
-    /// The proof that the other keys of the span of `start` have no value: by its active update, of which `start` and `entry`
-    /// are copies.
+    /// Returns the proof that the other keys of the span of `start` have no value: by its active update, of which
+    /// `start` and `entry` are copies.
     fn absence_by_update(
         &self,
         alloc: Global,
@@ -255,7 +256,7 @@ impl<F: Graftable, H: Hasher, K: Key, V: OperationCodec<F, Update<K, V>>, const 
         Ok(ExclusionProof::KeyValue(proof, update))
     }
 
-    /// The proof that no key has a value: by the commit itself.
+    /// Returns the proof that no key has a value: by the commit itself.
     fn absence_by_commit(
         &self,
         alloc: Global,

@@ -28,7 +28,7 @@ pub(crate) struct Log {
 }
 
 impl Log {
-    /// No operations. It takes no memory.
+    /// No operations. It allocates nothing.
     pub(crate) fn new(alloc: Global) -> Self
         ensures operations { result.operations.items ≡ [] }
         ensures bits { result.bits.items ≡ [] }
@@ -39,7 +39,7 @@ impl Log {
         }
     }
 
-    /// How many operations there are: the location of the next one.
+    /// Returns how many operations there are: the location of the next one.
     pub(crate) fn len(&self) -> u64
         ensures count { result ≡ length self.now.operations.items }
         ensures few { result ≤ max_leaves }
@@ -52,7 +52,7 @@ impl Log {
     ///
     /// # Errors
     ///
-    /// The first of: `Full` where there would be more than 2^62 operations; `Memory`.
+    /// The first of: `Full` if there would be more than 2^62 operations; `Memory`.
     pub(crate) fn make_room<F>(&mut self, count: usize) -> Result<(), Error<F>>
         ensures operations { self.new.operations.items ≡ self.old.operations.items }
         ensures bits { self.new.bits.items ≡ self.old.bits.items }
@@ -97,7 +97,7 @@ impl Log {
         }
     }
 
-    /// Appends `operation`, a commit, for which there is room, and clears the bit of that at `before`, where there is one.
+    /// Appends `operation`, a commit, for which there is room, and clears the bit of that at `before`, if there is one.
     pub(crate) fn append_commit(&mut self, operation: Vec<u8>, before: Option<u64>)
         requires room { HaveRoom 1 (vec_len self.old.operations)
             (vec_capacity self.old.operations) (vec_capacity self.old.bits) }
@@ -112,7 +112,7 @@ impl Log {
         self.append(operation, true);
     }
 
-    /// The tree over the operations and then `last`.
+    /// Returns the tree over the operations and then `last`.
     pub(crate) fn tree_with<F: Graftable, H: Hasher>(
         &self,
         alloc: Global,
@@ -133,7 +133,7 @@ impl Log {
         }
     }
 
-    /// The activity bits, that at `cleared` clear where there is such a location, and then a set one.
+    /// Returns the activity bits, that at `cleared` clear if there is such a location, and then a set one.
     pub(crate) fn status_with<const N: usize>(
         &self,
         alloc: Global,

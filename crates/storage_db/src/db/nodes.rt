@@ -23,7 +23,7 @@ pub(crate) struct Planned<F, D> {
 }
 
 impl<F: Family, D: Digest> Planned<F, D> {
-    /// The digest at `position`; none where it is not planned.
+    /// Returns the digest at `position`; none if it is not planned.
     fn get(&self, position: Position<F>) -> Option<D>
         ensures { IfSome result (λ d. (i : ℕ)
             × (slice_get self.now.positions.items i ≡ Some position)
@@ -36,7 +36,7 @@ impl<F: Family, D: Digest> Planned<F, D> {
     }
 }
 
-/// Those of `snapshot` that the proof of the leaf `start`, before `end`, needs, of a tree of `leaves` leaves.
+/// Returns those of `snapshot` that the proof of the leaf `start`, before `end`, needs, of a tree of `leaves` leaves.
 fn digests_of<F: Graftable, H: Hasher, const N: usize>(
     alloc: Global,
     snapshot: &Snapshot<F, H, N>,
@@ -62,7 +62,7 @@ fn digests_of<F: Graftable, H: Hasher, const N: usize>(
     Ok(Planned { positions, digests })
 }
 
-/// The proof of the location of `plan`, from the digests `planned`, and the parts of the snapshot.
+/// Returns the proof of the location of `plan`, from the digests `planned`, and the parts of the snapshot.
 fn operation_proof<F: Graftable, D: Digest, H: Hasher<Digest = D>, const N: usize>(
     alloc: Global,
     status: &Prunable<N>,
@@ -96,7 +96,8 @@ fn operation_proof<F: Graftable, D: Digest, H: Hasher<Digest = D>, const N: usiz
     }
 }
 
-/// The own proof of the operation at `location` of `snapshot`, which has `leaves` operations and the floor `floor`.
+/// Returns the own proof of the operation at `location` of `snapshot`, which has `leaves` operations and the floor
+/// `floor`.
 pub(crate) fn own_proof<F: Graftable, H: Hasher, const N: usize>(
     alloc: Global,
     snapshot: &Snapshot<F, H, N>,

@@ -62,7 +62,8 @@ impl<F: Graftable, H: Hasher, K: Key, V: OperationCodec<F, Update<K, V>>, const 
     V,
     N,
 > {
-    /// The database with no operations and no commit. It takes no memory; what its calls take is from `alloc`.
+    /// Returns the database with no operations and no commit. It allocates nothing; what its calls take is from
+    /// `alloc`.
     pub fn new(alloc: Global) -> Self
         requires { IsChunkSize N }
         ensures keeps { let e = keyed_by K.text V.Value.text V.operation_text K.cmp in
@@ -82,7 +83,7 @@ impl<F: Graftable, H: Hasher, K: Key, V: OperationCodec<F, Update<K, V>>, const 
     ///
     /// # Errors
     ///
-    /// The first of: `Full` where the operations with the one or two that are appended would pass 2^62; `Memory`.
+    /// The first of: `Full` if the operations with the one or two that are appended would pass 2^62; `Memory`.
     pub fn put(&mut self, key: K, value: V::Value) -> Result<(), Error<F>>
         ensures ok { let e = keyed_by K.text V.Value.text V.operation_text K.cmp in OnOk result
             (IsDone e V.Value.view H.hash_of (grafting_of F.shape N) self.old self.new (Put key value)) }
@@ -104,7 +105,7 @@ impl<F: Graftable, H: Hasher, K: Key, V: OperationCodec<F, Update<K, V>>, const 
     ///
     /// # Errors
     ///
-    /// Where the key has a value, the first of: `Full` where the operations with the one or two that are appended would
+    /// Where the key has a value, the first of: `Full` if the operations with the one or two that are appended would
     /// pass 2^62; `Memory`.
     pub fn delete(&mut self, key: &K) -> Result<bool, Error<F>>
         ensures ok { let e = keyed_by K.text V.Value.text V.operation_text K.cmp in OnOk result
@@ -132,11 +133,11 @@ impl<F: Graftable, H: Hasher, K: Key, V: OperationCodec<F, Update<K, V>>, const 
     }
 
     /// Commits what has been put and deleted since the last commit, with `metadata` as the value of the commit. The
-    /// floor is the least location of an active update, or the commit's own where no key is active.
+    /// floor is the least location of an active update, or the commit's own if no key is active.
     ///
     /// # Errors
     ///
-    /// The first of: `Full` where there are 2^62 operations already; `Memory`.
+    /// The first of: `Full` if there are 2^62 operations already; `Memory`.
     pub fn commit(&mut self, metadata: Option<V::Value>) -> Result<(), Error<F>>
         ensures ok { let e = keyed_by K.text V.Value.text V.operation_text K.cmp in OnOk result
             (IsDone e V.Value.view H.hash_of (grafting_of F.shape N) self.old self.new (Committing metadata)) }
@@ -153,7 +154,7 @@ impl<F: Graftable, H: Hasher, K: Key, V: OperationCodec<F, Update<K, V>>, const 
         Ok(())
     }
 
-    /// The value that `key` has now; none where it has none. Takes no memory.
+    /// Returns the value that `key` has now; none if it has none. Allocates nothing.
     pub fn get(&self, key: &K) -> Option<&V::Value>
         ensures { let e = keyed_by K.text V.Value.text V.operation_text K.cmp in
             (d : Database K V.Value) → Keeps e V.Value.view H.hash_of (grafting_of F.shape N) self.now d
@@ -165,7 +166,7 @@ impl<F: Graftable, H: Hasher, K: Key, V: OperationCodec<F, Update<K, V>>, const 
         }
     }
 
-    /// How many keys have a value now. Takes no memory.
+    /// Returns how many keys have a value now. Allocates nothing.
     pub fn len(&self) -> usize
         ensures { let e = keyed_by K.text V.Value.text V.operation_text K.cmp in
             (d : Database K V.Value)
@@ -175,7 +176,8 @@ impl<F: Graftable, H: Hasher, K: Key, V: OperationCodec<F, Update<K, V>>, const 
         self.active.len()
     }
 
-    /// The value that `key` had at the last commit; none where it had none, and before the first commit. Takes no memory.
+    /// Returns the value that `key` had at the last commit; none if it had none, and before the first commit. Allocates
+    /// nothing.
     pub fn get_committed(&self, key: &K) -> Option<&V::Value>
         ensures value { let e = keyed_by K.text V.Value.text V.operation_text K.cmp in
             (d : Database K V.Value)
@@ -194,8 +196,8 @@ impl<F: Graftable, H: Hasher, K: Key, V: OperationCodec<F, Update<K, V>>, const 
         }
     }
 
-    /// The floor of the last commit: the least location of an active update at that commit, or the commit's own where no key was
-    /// active; none before the first commit. Takes no memory.
+    /// Returns the floor of the last commit: the least location of an active update at that commit, or the commit's own
+    /// if no key was active; none before the first commit. Allocates nothing.
     pub fn floor(&self) -> Option<Location<F>>
         ensures { let e = keyed_by K.text V.Value.text V.operation_text K.cmp in
             (d : Database K V.Value)
@@ -208,7 +210,7 @@ impl<F: Graftable, H: Hasher, K: Key, V: OperationCodec<F, Update<K, V>>, const 
         }
     }
 
-    /// The value of the last commit; none where it has none, and before the first commit. Takes no memory.
+    /// Returns the value of the last commit; none if it has none, and before the first commit. Allocates nothing.
     pub fn metadata(&self) -> Option<&V::Value>
         ensures { let e = keyed_by K.text V.Value.text V.operation_text K.cmp in
             (d : Database K V.Value)
@@ -222,7 +224,7 @@ impl<F: Graftable, H: Hasher, K: Key, V: OperationCodec<F, Update<K, V>>, const 
         }
     }
 
-    /// The canonical root of the last commit's snapshot; none before the first commit. Takes no memory.
+    /// Returns the canonical root of the last commit's snapshot; none before the first commit. Allocates nothing.
     pub fn root(&self) -> Option<H::Digest>
         ensures { let e = keyed_by K.text V.Value.text V.operation_text K.cmp in
             let g = grafting_of F.shape N in
@@ -236,7 +238,7 @@ impl<F: Graftable, H: Hasher, K: Key, V: OperationCodec<F, Update<K, V>>, const 
         }
     }
 
-    /// The snapshot of the last commit; none before the first commit. Takes no memory.
+    /// Returns the snapshot of the last commit; none before the first commit. Allocates nothing.
     pub fn snapshot(&self) -> Option<&Snapshot<F, H, N>>
         ensures { let e = keyed_by K.text V.Value.text V.operation_text K.cmp in
             let g = grafting_of F.shape N in
@@ -250,11 +252,11 @@ impl<F: Graftable, H: Hasher, K: Key, V: OperationCodec<F, Update<K, V>>, const 
         }
     }
 
-    /// The value that `key` had at the last commit, and the proof of it against the last commit's root.
+    /// Returns the value that `key` had at the last commit, and the proof of it against the last commit's root.
     ///
     /// # Errors
     ///
-    /// The first of: `NotCommitted` before the first commit; `Absent` where the key had no value; `Memory`.
+    /// The first of: `NotCommitted` before the first commit; `Absent` if the key had no value; `Memory`.
     pub fn prove_value(
         &self,
         key: &K,
@@ -282,12 +284,12 @@ impl<F: Graftable, H: Hasher, K: Key, V: OperationCodec<F, Update<K, V>>, const 
         }
     }
 
-    /// The proof against the last commit's root that `key` had no value then: by the update whose span holds the key, or
-    /// by the commit where no key was active.
+    /// Returns the proof against the last commit's root that `key` had no value then: by the update whose span holds
+    /// the key, or by the commit if no key was active.
     ///
     /// # Errors
     ///
-    /// The first of: `NotCommitted` before the first commit; `Present` where the key had a value; `Memory`.
+    /// The first of: `NotCommitted` before the first commit; `Present` if the key had a value; `Memory`.
     pub fn prove_absence(&self, key: &K) -> Result<ExclusionProof<F, K, V, H::Digest, N>, Error<F>>
         ensures own { let e = keyed_by K.text V.Value.text V.operation_text K.cmp in
             let g = grafting_of F.shape N in

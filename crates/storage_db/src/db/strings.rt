@@ -15,7 +15,7 @@ use storage_ops::qmdb::any::operation::{Operation, OperationCodec};
 use storage_ops::qmdb::any::value::ValueEncoding;
 use storage_ops::qmdb::operation::Key;
 
-/// What `operation` is written as.
+/// Returns what `operation` is written as.
 fn written<F: Family, K: Key, V: OperationCodec<F, Update<K, V>>>(
     alloc: Global,
     operation: &Operation<F, Update<K, V>>,
@@ -29,7 +29,7 @@ fn written<F: Family, K: Key, V: OperationCodec<F, Update<K, V>>>(
     Ok(bytes)
 }
 
-/// The update of `key` to `value` that names `next_key`, as it is written.
+/// Returns the update of `key` to `value` that names `next_key`, as it is written.
 pub(crate) fn written_update<F: Family, K: Key, V: OperationCodec<F, Update<K, V>>>(
     alloc: Global,
     key: &K,
@@ -47,7 +47,7 @@ pub(crate) fn written_update<F: Family, K: Key, V: OperationCodec<F, Update<K, V
     written::<F, K, V>(alloc, &operation)
 }
 
-/// The deletion of `key`, as it is written.
+/// Returns the deletion of `key`, as it is written.
 pub(crate) fn written_delete<F: Family, K: Key, V: OperationCodec<F, Update<K, V>>>(
     alloc: Global,
     key: &K,
@@ -58,7 +58,7 @@ pub(crate) fn written_delete<F: Family, K: Key, V: OperationCodec<F, Update<K, V
     written::<F, K, V>(alloc, &operation)
 }
 
-/// The commit with the value `metadata` and the floor `floor`, as it is written.
+/// Returns the commit with the value `metadata` and the floor `floor`, as it is written.
 pub(crate) fn written_commit<F: Family, K: Key, V: OperationCodec<F, Update<K, V>>>(
     alloc: Global,
     metadata: &Option<V::Value>,
@@ -72,7 +72,7 @@ pub(crate) fn written_commit<F: Family, K: Key, V: OperationCodec<F, Update<K, V
     written::<F, K, V>(alloc, &operation)
 }
 
-/// A copy of the value of a commit, which is written as it; none for none.
+/// Returns a copy of the value of a commit, which is written as it; none for none.
 pub(crate) fn value_copy<V: ValueEncoding>(
     value: &Option<V::Value>,
 ) -> Result<Option<V::Value>, NoMemory>
@@ -85,7 +85,8 @@ pub(crate) fn value_copy<V: ValueEncoding>(
     }
 }
 
-/// A copy of the other active key that comes first after `key`, around past the greatest; of `key` where there is none.
+/// Returns a copy of the other active key that comes first after `key`, around past the greatest; of `key` if there is
+/// none.
 pub(crate) fn next_or_own<K: Key, W>(
     active: &BTreeMap<K, Active<W>>,
     key: &K,
@@ -98,8 +99,8 @@ pub(crate) fn next_or_own<K: Key, W>(
     }
 }
 
-/// The key of `before`, which is an active one, and its update, its value kept, that names `next_key`, as it is written;
-/// none for none.
+/// Returns the key of `before`, which is an active one, and its update, its value kept, that names `next_key`, as it is
+/// written; none for none.
 pub(crate) fn predecessor_update<F: Family, K: Key, V: OperationCodec<F, Update<K, V>>>(
     alloc: Global,
     before: Option<(&K, &Active<V::Value>)>,

@@ -15,7 +15,8 @@ pub enum Bagging {
 }
 
 impl Bagging {
-    /// The byte that stands for the direction in the string of a root: 0 for `ForwardFold`, 1 for `BackwardFold`.
+    /// Returns the byte that stands for the direction in the string of a root: 0 for `ForwardFold`, 1 for
+    /// `BackwardFold`.
     pub fn byte(self) -> u8
         ensures { result ≡ bagging_byte self }
     {

@@ -7,15 +7,15 @@ use crate::merkle::{Family, Location, Position};
 
 /// A family that knows the largest `n` whose tree has a number of nodes that fits `u64`.
 pub trait Countable: Family {
-    /// The largest `n` for which the tree over `n` leaves has fewer than `2^64` nodes. Takes no memory.
+    /// Returns the largest `n` for which the tree over `n` leaves has fewer than `2^64` nodes. Allocates nothing.
     fn most_leaves() -> u64
         ensures small { result + 1 < 2 ^ 64 }
         ensures fits { size Self.shape result < 2 ^ 64 }
         ensures most { 2 ^ 64 ≤ size Self.shape (result + 1) };
 }
 
-/// How many leaves the tree with `nodes` nodes has, also past [`MAX_LEAVES`](crate::merkle::MAX_LEAVES); `None` where no
-/// tree has exactly `nodes` nodes. Takes no memory.
+/// Returns how many leaves the tree with `nodes` nodes has, also past [`MAX_LEAVES`](crate::merkle::MAX_LEAVES); `None`
+/// if no tree has exactly `nodes` nodes. Allocates nothing.
 pub fn leaves_of<F: Countable>(nodes: Position<F>) -> Option<Location<F>>
     ensures { MatchOption result ((n : ℕ) → size F.shape n ≡ nodes → ⊥)
         (λ n. size F.shape n ≡ nodes) }
@@ -29,8 +29,8 @@ pub fn leaves_of<F: Countable>(nodes: Position<F>) -> Option<Location<F>>
     }
 }
 
-/// How many leaves the largest tree with at most `nodes` nodes has, also past
-/// [`MAX_LEAVES`](crate::merkle::MAX_LEAVES). Takes no memory.
+/// Returns how many leaves the largest tree with at most `nodes` nodes has, also past
+/// [`MAX_LEAVES`](crate::merkle::MAX_LEAVES). Allocates nothing.
 pub(crate) fn most_leaves_within<F: Countable>(nodes: u64) -> u64
     ensures small { result + 1 < 2 ^ 64 }
     ensures low { size F.shape result ≤ nodes }

@@ -28,25 +28,25 @@ use storage_codec::codec::{self, Buf, Read};
 use storage_codec::digest::Digest;
 
 /// A family of append-only trees: where the nodes stand that cover given leaves. A tree over `n` leaves is cut into
-/// perfect trees, its peaks; a node is known by its first leaf and its height, from 0 for a leaf, and has a position among
-/// the nodes, which never changes while the tree grows. No call takes memory.
+/// perfect trees, its peaks; a node is known by its first leaf and its height, from 0 for a leaf, and has a position
+/// among the nodes, which never changes while the tree grows. No call allocates.
 ///
 /// A family gives the first six calls; all others stand on them and are written once.
 pub trait Family: Copy {
     /// The family's peaks, positions and births.
     ghost shape: { Shape };
 
-    /// The byte that stands for the family in the string of a root: 0 for the MMR, 1 for the MMB.
+    /// Returns the byte that stands for the family in the string of a root: 0 for the MMR, 1 for the MMB.
     fn byte() -> u8
         ensures { result ≡ shape.byte };
 
-    /// How many nodes the tree over `leaves` leaves has.
+    /// Returns how many nodes the tree over `leaves` leaves has.
     fn nodes_over(leaves: u64) -> u64
         requires { size shape leaves < 2 ^ 64 }
         ensures { result ≡ size shape leaves };
 
-    /// The height of the first peak of the tree over `leaves` leaves. The peaks after it are those of the tree over the
-    /// leaves that are left, `leaves` less 2 to the power of that height.
+    /// Returns the height of the first peak of the tree over `leaves` leaves. The peaks after it are those of the tree
+    /// over the leaves that are left, `leaves` less 2 to the power of that height.
     fn first_peak(leaves: u64) -> u32
         requires some { 0 < leaves }
         requires few { leaves ≤ max_leaves }
@@ -54,24 +54,26 @@ pub trait Family: Copy {
         ensures within { 2 ^ result ≤ leaves }
         ensures small { result ≤ 62 };
 
-    /// The least number of leaves whose tree has the node of height `height` over the leaves from `first` on.
+    /// Returns the least number of leaves whose tree has the node of height `height` over the leaves from `first` on.
     fn birth(first: u64, height: u32) -> u64
         requires { shape.birth first height < 2 ^ 64 }
         ensures { result ≡ shape.birth first height };
 
-    /// The position of the node of height `height` over the leaves from `first` on; `first` is a multiple of `2^height`.
+    /// Returns the position of the node of height `height` over the leaves from `first` on; `first` is a multiple of
+    /// `2^height`.
     fn position(first: u64, height: u32) -> u64
         requires aligned { first % 2 ^ height ≡ 0 }
         requires fits { shape.position first height < 2 ^ 64 }
         ensures { result ≡ shape.position first height };
 
-    /// The `offset`-th node, from 0, of those that are added with leaf number `leaves`, as (first leaf, height).
+    /// Returns the `offset`-th node, from 0, of those that are added with leaf number `leaves`, as (first leaf,
+    /// height).
     fn node_after(leaves: u64, offset: u64) -> (u64, u32)
         requires few { leaves ≤ max_leaves }
         requires within { size shape leaves + offset < size shape (leaves + 1) }
         ensures { IsNode shape (size shape leaves + offset) result.0 result.1 };
 
-    /// The height of the node at the valid position `position`, from 0 for a leaf.
+    /// Returns the height of the node at the valid position `position`, from 0 for a leaf.
     final fn pos_to_height(position: Position<Self>) -> u32
     where
         Self: Sized,
@@ -83,8 +85,8 @@ pub trait Family: Copy {
         height
     }
 
-    /// The peaks of the tree with `nodes` nodes, from the first leaf on, each as (position, height). `nodes` is the number
-    /// of nodes of some tree over at most [`MAX_LEAVES`](crate::merkle::MAX_LEAVES) leaves.
+    /// Returns the peaks of the tree with `nodes` nodes, from the first leaf on, each as (position, height). `nodes` is
+    /// the number of nodes of some tree over at most [`MAX_LEAVES`](crate::merkle::MAX_LEAVES) leaves.
     final fn peaks(nodes: Position<Self>) -> Peaks<Self>
     where
         Self: Sized,
@@ -95,8 +97,8 @@ pub trait Family: Copy {
         Peaks::over(leaves_within::<Self>(nodes.as_u64()))
     }
 
-    /// The positions of the left and the right child of the node at the valid position `position`, whose own height is
-    /// `height`, at least 1.
+    /// Returns the positions of the left and the right child of the node at the valid position `position`, whose own
+    /// height is `height`, at least 1.
     final fn children(position: Position<Self>, height: u32) -> (Position<Self>, Position<Self>)
     where
         Self: Sized,
@@ -113,8 +115,8 @@ pub trait Family: Copy {
         (Position::new(left), Position::new(right))
     }
 
-    /// The positions of the nodes that are kept when the leaves below `location` are pruned: the peaks over those leaves,
-    /// from the first leaf on.
+    /// Returns the positions of the nodes that are kept when the leaves below `location` are pruned: the peaks over
+    /// those leaves, from the first leaf on.
     final fn nodes_to_pin(location: Location<Self>) -> NodesToPin<Self>
     where
         Self: Sized,
@@ -134,8 +136,8 @@ pub trait Graftable: Countable {
     /// Whether a tree of the family may have a pending chunk.
     ghost has_pending: { Bool };
 
-    /// The first leaf under the node at `position`, whose own height is `height`. A tree whose leaves are counted in 64
-    /// digits has that node.
+    /// Returns the first leaf under the node at `position`, whose own height is `height`. A tree whose leaves are
+    /// counted in 64 digits has that node.
     final fn leftmost_leaf(position: Position<Self>, height: u32) -> Location<Self>
     where
         Self: Sized,
@@ -147,7 +149,8 @@ pub trait Graftable: Countable {
         Location::new(birth - Self::birth(0, height))
     }
 
-    /// The position of the node of height `height` over the leaves from `first` on; `first` is a multiple of `2^height`.
+    /// Returns the position of the node of height `height` over the leaves from `first` on; `first` is a multiple of
+    /// `2^height`.
     final fn subtree_root_position(first: Location<Self>, height: u32) -> Position<Self>
     where
         Self: Sized,
@@ -158,7 +161,8 @@ pub trait Graftable: Countable {
         Position::new(Self::position(first.as_u64(), height))
     }
 
-    /// The least number of leaves whose tree has the node at `position`, whose own height is `height`, at least 1.
+    /// Returns the least number of leaves whose tree has the node at `position`, whose own height is `height`, at least
+    /// 1.
     final fn peak_birth_size(position: Position<Self>, height: u32) -> u64
     where
         Self: Sized,
@@ -171,13 +175,13 @@ pub trait Graftable: Countable {
         Self::birth(first.as_u64(), height)
     }
 
-    /// Whether the family may have a pending chunk: a complete chunk that lies in no single peak, for whose digest there
-    /// is a slot.
+    /// Returns whether the family may have a pending chunk: a complete chunk that lies in no single peak, for whose
+    /// digest there is a slot.
     fn has_pending() -> bool
         ensures { result ≡ has_pending };
 
-    /// Appends to `out` what `slot`, the digest of the pending chunk or none, is written as: nothing where the family has
-    /// no pending chunks, whatever `slot` is, else an option of a digest. `NoMemory` where `out` was refused a growth;
+    /// Appends to `out` what `slot`, the digest of the pending chunk or none, is written as: nothing if the family has
+    /// no pending chunks, whatever `slot` is, else an option of a digest. `NoMemory` if `out` was refused a growth;
     /// then it holds its old bytes and a beginning of these.
     final fn write_pending<D: Digest>(slot: &Option<D>, out: &mut Vec<u8>) -> Result<(), NoMemory>
     where
@@ -193,12 +197,12 @@ pub trait Graftable: Countable {
         Ok(())
     }
 
-    /// Reads the digest of the pending chunk or none from the front of `buf`: always `None`, and no byte taken, where the
+    /// Reads the digest of the pending chunk or none from the front of `buf`: always `None`, and no byte taken, if the
     /// family has no pending chunks. After a refusal `buf` is at an ending of what it held.
     ///
     /// # Errors
     ///
-    /// `EndOfBuffer` where bytes are missing; `InvalidBool` where the first one is neither 0 nor 1; `Memory`.
+    /// `EndOfBuffer` if bytes are missing; `InvalidBool` if the first one is neither 0 nor 1; `Memory`.
     #[tactic(auto, using(storage_codec::specs::Laws::Parts::ends_then))]
     final fn read_pending<D: Digest, B: Buf>(
         alloc: Global,
@@ -217,7 +221,7 @@ pub trait Graftable: Countable {
         Ok(Some(D::read(alloc, buf)?))
     }
 
-    /// How many bytes [`write_pending`](Self::write_pending) appends for `slot`. Takes no memory.
+    /// Returns how many bytes [`write_pending`](Self::write_pending) appends for `slot`. Allocates nothing.
     final fn pending_size<D: Digest>(slot: &Option<D>) -> u64
     where
         Self: Sized,
@@ -243,8 +247,8 @@ pub trait Graftable: Countable {
     ghost stays_within: { (height : ℕ) → 2 ≤ height → height ≤ 62 → ChunksStayWithin Self.shape height };
 }
 
-/// How many leaves the largest tree with at most `nodes` nodes has. `nodes` is at most the number of nodes of the tree
-/// over [`MAX_LEAVES`](crate::merkle::MAX_LEAVES) leaves. Takes no memory.
+/// Returns how many leaves the largest tree with at most `nodes` nodes has. `nodes` is at most the number of nodes of
+/// the tree over [`MAX_LEAVES`](crate::merkle::MAX_LEAVES) leaves. Allocates nothing.
 pub fn leaves_within<F: Family>(nodes: u64) -> u64
     requires { nodes ≤ size F.shape max_leaves }
     ensures few { result ≤ max_leaves }
@@ -265,7 +269,7 @@ pub fn leaves_within<F: Family>(nodes: u64) -> u64
     low
 }
 
-/// The node at the valid position `position`, as (first leaf, height). Takes no memory.
+/// Returns the node at the valid position `position`, as (first leaf, height). Allocates nothing.
 pub fn node_at<F: Family>(position: u64) -> (u64, u32)
     requires { position ≤ size F.shape max_leaves }
     ensures node { IsNode F.shape position result.0 result.1 }
@@ -277,7 +281,7 @@ pub fn node_at<F: Family>(position: u64) -> (u64, u32)
     F::node_after(leaves, position - F::nodes_over(leaves))
 }
 
-/// `2^exponent`, for `exponent` of at most 63. Takes no memory.
+/// Returns `2^exponent`, for `exponent` of at most 63. Allocates nothing.
 pub fn power(exponent: u32) -> u64
     requires { exponent ≤ 63 }
     ensures { result ≡ 2 ^ exponent }

@@ -45,11 +45,11 @@ pub trait Hasher<F: Family> {
     /// The positions whose node digests may be asked for.
     ghost takes: { Self → ℕ → Type 0 };
 
-    /// The digest of `parts`, joined one after another.
+    /// Returns the digest of `parts`, joined one after another.
     fn hash(&self, parts: &[&[u8]]) -> Self::Digest
         ensures { Self.Digest.text result ≡ hash_of (flat_map (λ part. part.now) parts.now) };
 
-    /// The digest of `bytes`.
+    /// Returns the digest of `bytes`.
     final fn digest(&self, bytes: &[u8]) -> Self::Digest
     where
         Self: Sized,
@@ -58,11 +58,11 @@ pub trait Hasher<F: Family> {
         self.hash(&[bytes])
     }
 
-    /// The direction in which peaks are folded.
+    /// Returns the direction in which peaks are folded.
     fn root_bagging(&self) -> Bagging
         ensures { result ≡ bagging self.now };
 
-    /// The digest of the leaf at `position`: of `position` in eight bytes, highest first, and then `element`.
+    /// Returns the digest of the leaf at `position`: of `position` in eight bytes, highest first, and then `element`.
     #[tactic(auto, unfolding(crate::specs::Calc::be8))]
     final fn leaf_digest(&self, position: Position<F>, element: &[u8]) -> Self::Digest
     where
@@ -72,8 +72,8 @@ pub trait Hasher<F: Family> {
         self.hash(&[&position.as_u64().to_be_bytes(), element])
     }
 
-    /// The digest of the node at `position`: of `position` in eight bytes, highest first, and the digests `left` and `right` of
-    /// its children; where a chunk is grafted over it, of the chunk and that digest.
+    /// Returns the digest of the node at `position`: of `position` in eight bytes, highest first, and the digests
+    /// `left` and `right` of its children; if a chunk is grafted over it, of the chunk and that digest.
     fn node_digest(
         &self,
         position: Position<F>,
@@ -85,9 +85,9 @@ pub trait Hasher<F: Family> {
             → Self.Digest.text result ≡ join_digest hash_of (layout self.now) (chunk self.now) first
             height (Self.Digest.text left.now) (Self.Digest.text right.now) };
 
-    /// The digest of the node of height `height` over the leaves from `first` on, from `left` and `right`, those of its
-    /// children: what [`node_digest`](Self::node_digest) answers at its position. A hasher that asks which leaves a node
-    /// covers need not find them by the position here.
+    /// Returns the digest of the node of height `height` over the leaves from `first` on, from `left` and `right`,
+    /// those of its children: what [`node_digest`](Self::node_digest) answers at its position. A hasher that asks which
+    /// leaves a node covers need not find them by the position here.
     #[inline(always)]
     fn node_digest_over(
         &self,
@@ -105,7 +105,7 @@ pub trait Hasher<F: Family> {
         self.node_digest(Position::new(F::position(first, height)), left, right)
     }
 
-    /// The digests of two nodes, each given as (position, digest of the left child, digest of the right child).
+    /// Returns the digests of two nodes, each given as (position, digest of the left child, digest of the right child).
     final fn node_digest_pair(
         &self,
         nodes: &[(Position<F>, &Self::Digest, &Self::Digest); 2],
@@ -125,9 +125,9 @@ pub trait Hasher<F: Family> {
         ]
     }
 
-    /// The root of the tree over `leaves` leaves whose first `inactive` peaks are inactive, from `peaks`, the digests of its
-    /// peaks in leaf order: the digest of the family's byte, the bagging's byte, `leaves` and `inactive` in eight bytes each,
-    /// highest first, and the bagged peaks, no bytes where there are none. Takes no memory.
+    /// Returns the root of the tree over `leaves` leaves whose first `inactive` peaks are inactive, from `peaks`, the
+    /// digests of its peaks in leaf order: the digest of the family's byte, the bagging's byte, `leaves` and `inactive`
+    /// in eight bytes each, highest first, and the bagged peaks, no bytes if there are none. Allocates nothing.
     final fn root(
         &self,
         leaves: Location<F>,
@@ -151,7 +151,7 @@ pub trait Hasher<F: Family> {
     ghost over: { (s : Self) → (layout s).shape ≡ F.shape };
 }
 
-/// The fold of two items: the digest of `left` and `right` joined.
+/// Returns the fold of two items: the digest of `left` and `right` joined.
 pub(crate) fn fold<F: Family, H: Hasher<F>>(
     hasher: &H,
     left: &H::Digest,
@@ -162,8 +162,8 @@ pub(crate) fn fold<F: Family, H: Hasher<F>>(
     hasher.hash(&[left.bytes(), right.bytes()])
 }
 
-/// The digests `peaks`, bagged in the hasher's direction after the first `inactive` of them are folded into one item; none for no
-/// peaks.
+/// Returns the digests `peaks`, bagged in the hasher's direction after the first `inactive` of them are folded into one
+/// item; none for no peaks.
 fn bag_peaks<F: Family, H: Hasher<F>>(
     hasher: &H,
     inactive: usize,
@@ -182,7 +182,8 @@ fn bag_peaks<F: Family, H: Hasher<F>>(
     }
 }
 
-/// `front` folded from the left into one item, and then that item and `rest` folded from the right; none where both are empty.
+/// Returns `front` folded from the left into one item, and then that item and `rest` folded from the right; none if
+/// both are empty.
 fn bag_digests<F: Family, H: Hasher<F>>(
     hasher: &H,
     front: &[H::Digest],
@@ -198,7 +199,7 @@ fn bag_digests<F: Family, H: Hasher<F>>(
     }
 }
 
-/// `items` folded from the left; none for no items.
+/// Returns `items` folded from the left; none for no items.
 pub(crate) fn fold_forward<F: Family, H: Hasher<F>>(
     hasher: &H,
     items: &[H::Digest],
@@ -214,7 +215,7 @@ pub(crate) fn fold_forward<F: Family, H: Hasher<F>>(
     Some(folded)
 }
 
-/// `items` folded from the right onto `onto`, which is what the items after them are folded into, or none.
+/// Returns `items` folded from the right onto `onto`, which is what the items after them are folded into, or none.
 pub(crate) fn fold_onto<F: Family, H: Hasher<F>>(
     hasher: &H,
     items: &[H::Digest],
@@ -232,7 +233,7 @@ pub(crate) fn fold_onto<F: Family, H: Hasher<F>>(
     folded
 }
 
-/// `folded`, what the items before `item` are folded into, folded with it; `item` alone where there are none before it.
+/// `folded`, what the items before `item` are folded into, folded with it; `item` alone if there are none before it.
 pub(crate) fn append<F: Family, H: Hasher<F>>(
     hasher: &H,
     folded: Option<H::Digest>,
@@ -247,7 +248,7 @@ pub(crate) fn append<F: Family, H: Hasher<F>>(
     }
 }
 
-/// `item` folded with `onto`, what the items after it are folded into; `item` alone where there are none after it.
+/// Returns `item` folded with `onto`, what the items after it are folded into; `item` alone if there are none after it.
 pub(crate) fn join<F: Family, H: Hasher<F>>(
     hasher: &H,
     item: &H::Digest,
@@ -262,8 +263,8 @@ pub(crate) fn join<F: Family, H: Hasher<F>>(
     }
 }
 
-/// The root of the tree over `leaves` leaves with `inactive` inactive peaks, from `bag`, what its peaks are bagged into, none
-/// where it has no peaks.
+/// Returns the root of the tree over `leaves` leaves with `inactive` inactive peaks, from `bag`, what its peaks are
+/// bagged into, none if it has no peaks.
 #[tactic(auto, unfolding(crate::specs::Calc::be8))]
 pub(crate) fn bagged_root<F: Family, H: Hasher<F>>(
     hasher: &H,
@@ -280,7 +281,7 @@ pub(crate) fn bagged_root<F: Family, H: Hasher<F>>(
     hash_parts(hasher, &head, &leaves, &inactive, bag_bytes(&bag))
 }
 
-/// The digest of the string of a root: of `head`, `leaves`, `inactive` and `bag`, joined.
+/// Returns the digest of the string of a root: of `head`, `leaves`, `inactive` and `bag`, joined.
 fn hash_parts<F: Family, H: Hasher<F>>(
     hasher: &H,
     head: &[u8],
@@ -294,7 +295,7 @@ fn hash_parts<F: Family, H: Hasher<F>>(
     hasher.hash(&[head, leaves, inactive, bag])
 }
 
-/// The bytes of the digest `bag`; no bytes for none.
+/// Returns the bytes of the digest `bag`; no bytes for none.
 fn bag_bytes<D: Digest>(bag: &Option<D>) -> &[u8]
     ensures { result.now ≡ or_nothing (option_map D.text bag.now) }
 {
@@ -313,7 +314,7 @@ pub struct Standard<H> {
 }
 
 impl<H> Standard<H> {
-    /// The ordinary hasher whose roots fold the peaks in the direction `bagging`.
+    /// Returns the ordinary hasher whose roots fold the peaks in the direction `bagging`.
     pub fn new(bagging: Bagging) -> Self
         ensures { result.bagging ≡ bagging }
     {
@@ -367,8 +368,8 @@ impl<F: Family, H: digest::Hasher> Hasher<F> for Standard<H> {
 /// Parts of at most this many bytes together are joined before they are hashed.
 const JOINED: usize = 64;
 
-/// The digest of `parts`, joined one after another. Where they are short the digest function is given them at once, since each part
-/// that it takes costs it more than to join them here.
+/// Returns the digest of `parts`, joined one after another. Where they are short the digest function is given them at
+/// once, since each part that it takes costs it more than to join them here.
 #[inline(always)]
 fn hash_joined<H: digest::Hasher>(parts: &[&[u8]]) -> H::Digest
     ensures { H.Digest.text result ≡ H.hash_of (flat_map (λ part. part.now) parts.now) }

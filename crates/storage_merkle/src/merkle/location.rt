@@ -15,8 +15,8 @@ use std::marker::{Model, PhantomData};
 use storage_codec::NoMemory;
 use storage_codec::codec::{Buf, Canonical, Codec, EncodeSize, Error, Read, UInt, Write};
 
-/// The place of a leaf of a tree of the family `F`, counted from 0; also a number of leaves. Locations compare as
-/// their numbers and are displayed as them in decimal. No call takes memory, but writing one to a vector.
+/// The place of a leaf of a tree of the family `F`, counted from 0; also a number of leaves. Locations compare as their
+/// numbers and are displayed as them in decimal. No call allocates, but writing one to a vector.
 #[derive(Drop)]
 #[derive_where(Clone, Copy, PartialEq, Eq, PartialOrd, Ord, Hash, Debug)]
 pub struct Location<F> {
@@ -34,7 +34,7 @@ impl<F> Model for Location<F> {
 }
 
 impl<F> Location<F> {
-    /// The location with the number `value`.
+    /// Returns the location with the number `value`.
     pub fn new(value: u64) -> Self
         ensures { result ≡ value }
     {
@@ -44,21 +44,21 @@ impl<F> Location<F> {
         }
     }
 
-    /// The number of the location.
+    /// Returns the number of the location.
     pub fn as_u64(self) -> u64
         ensures { result ≡ self }
     {
         self.value
     }
 
-    /// Whether it is at most [`MAX_LEAVES`], so that, as a number of leaves, it is that of some tree.
+    /// Returns whether it is at most [`MAX_LEAVES`], so that, as a number of leaves, it is that of some tree.
     pub fn is_valid(self) -> bool
         ensures { IsTrue result ↔ (self ≤ max_leaves) }
     {
         self.value <= MAX_LEAVES
     }
 
-    /// The location `by` leaves further on; `None` where its number passes `u64::MAX`.
+    /// Returns the location `by` leaves further on; `None` if its number passes `u64::MAX`.
     pub fn checked_add(self, by: u64) -> Option<Self>
         ensures { MatchOption result (2 ^ 64 ≤ self + by) (λ l. l ≡ self + by) }
     {
@@ -66,7 +66,7 @@ impl<F> Location<F> {
         Some(Location::new(value))
     }
 
-    /// The location `by` leaves further on, or the location `u64::MAX` where its number passes that.
+    /// Returns the location `by` leaves further on, or the location `u64::MAX` where its number passes that.
     pub fn saturating_add(self, by: u64) -> Self
         ensures { result ≡ min (self + by) (2 ^ 64 - 1) }
     {
@@ -98,7 +98,7 @@ impl<F> EncodeSize for Location<F> {
     }
 }
 
-/// Refuses what is no shortest spelling of a number, then a number past [`MAX_LEAVES`]. Takes no memory.
+/// Refuses what is no shortest spelling of a number, then a number past [`MAX_LEAVES`]. Allocates nothing.
 // Callers take the answer apart by `match`: the borrow checker does not cover a `?` on it yet.
 impl<F> Read for Location<F> {
     type Cfg = ();

@@ -48,7 +48,7 @@ impl<F: Family, D: Digest> Model for Mem<F, D> {
 }
 
 impl<F: Family, D: Digest> Mem<F, D> {
-    /// The tree of no leaves. Takes no memory.
+    /// Returns the tree of no leaves. Allocates nothing.
     pub fn new(alloc: Global) -> Self
         ensures kept { result ≡ record { leaves = 0; boundary = 0; pinned = []; nodes = []; room = 0 } }
         ensures stands { (N : NodesOver) → StandsFor D.text F.shape N result [] }
@@ -62,13 +62,13 @@ impl<F: Family, D: Digest> Mem<F, D> {
         }
     }
 
-    /// The tree of `boundary` leaves, all of them forgotten, from `pinned`, the digests of the peaks over them in leaf
-    /// order. Digests past those are ignored.
+    /// Returns the tree of `boundary` leaves, all of them forgotten, from `pinned`, the digests of the peaks over them
+    /// in leaf order. Digests past those are ignored.
     ///
     /// # Errors
     ///
-    /// `LocationOverflow(boundary)` where `boundary` is past `MAX_LEAVES`; `MissingNode` of the position of the first
-    /// peak for which `pinned` has no digest; `Memory`.
+    /// `LocationOverflow(boundary)` if `boundary` is past `MAX_LEAVES`; `MissingNode` of the position of the first peak
+    /// for which `pinned` has no digest; `Memory`.
     pub fn init(alloc: Global, boundary: Location<F>, pinned: &[D]) -> Result<Self, Error<F>>
         ensures kept { IfOk result (λ m. m ≡ record {
           leaves = boundary;
@@ -107,28 +107,29 @@ impl<F: Family, D: Digest> Mem<F, D> {
         })
     }
 
-    /// How many leaves the tree has, the forgotten ones among them. Takes no memory.
+    /// Returns how many leaves the tree has, the forgotten ones among them. Allocates nothing.
     pub fn leaves(&self) -> Location<F>
         ensures { result ≡ self.now.leaves }
     {
         Location::new(self.leaves)
     }
 
-    /// How many nodes the tree has, the forgotten ones among them, as the position past the last. Takes no memory.
+    /// Returns how many nodes the tree has, the forgotten ones among them, as the position past the last. Allocates
+    /// nothing.
     pub fn size(&self) -> Position<F>
         ensures { result ≡ size F.shape self.now.leaves }
     {
         Position::new(F::nodes_over(self.leaves))
     }
 
-    /// The digests of the peaks over the forgotten leaves, in leaf order. Takes no memory.
+    /// Returns the digests of the peaks over the forgotten leaves, in leaf order. Allocates nothing.
     pub fn pinned_nodes(&self) -> &[D]
         ensures { result.now ≡ self.now.pinned }
     {
         self.pinned.as_slice()
     }
 
-    /// The digest of the node at `position`; `None` where it is not kept. Takes no memory.
+    /// Returns the digest of the node at `position`; `None` if it is not kept. Allocates nothing.
     pub fn get_node(&self, position: Position<F>) -> Option<D>
         ensures { result
             ≡ kept_at F.shape self.now.boundary self.now.pinned self.now.nodes position }
@@ -144,11 +145,11 @@ impl<F: Family, D: Digest> Mem<F, D> {
         let _ = &self.leaves;
     }
 
-    /// The root under `hasher`, with the first `inactive` peaks inactive. Takes no memory.
+    /// Returns the root under `hasher`, with the first `inactive` peaks inactive. Allocates nothing.
     ///
     /// # Errors
     ///
-    /// `InvalidProof` where `inactive` is greater than the number of peaks.
+    /// `InvalidProof` if `inactive` is greater than the number of peaks.
     pub fn root<H: Hasher<F, Digest = D>>(&self, hasher: &H, inactive: usize) -> Result<D, Error<F>>
         ensures root { IfOk result (λ d. (list : List (List ℕ)) → StandsFor D.text F.shape
             (node_over H.hash_of (H.layout hasher.now) (H.chunk hasher.now)) self.now list
@@ -181,8 +182,8 @@ impl<F: Family, D: Digest> Mem<F, D> {
     ///
     /// # Errors
     ///
-    /// `LocationOverflow` of the number of leaves where that is `MAX_LEAVES`; `Memory`, but not where there is room for
-    /// the leaf already. After either the tree is as it was.
+    /// `LocationOverflow` of the number of leaves if that is `MAX_LEAVES`; `Memory`, but not if there is room for the
+    /// leaf already. Either leaves the tree as it was.
     pub fn add<H: Hasher<F, Digest = D>>(
         &mut self,
         hasher: &H,
@@ -213,8 +214,8 @@ impl<F: Family, D: Digest> Mem<F, D> {
     ///
     /// # Errors
     ///
-    /// `LocationOverflow` of the number of leaves where that is `MAX_LEAVES`; `Memory`, but not where there is room for
-    /// the leaf already. After either the tree is as it was.
+    /// `LocationOverflow` of the number of leaves if that is `MAX_LEAVES`; `Memory`, but not if there is room for the
+    /// leaf already. Either leaves the tree as it was.
     pub fn add_leaf<H: Hasher<F, Digest = D>>(
         &mut self,
         hasher: &H,
@@ -261,8 +262,8 @@ impl<F: Family, D: Digest> Mem<F, D> {
     ///
     /// # Errors
     ///
-    /// `LocationOverflow` of the number of leaves that there would be, at most `u64::MAX`, where that is past
-    /// `MAX_LEAVES`; `Memory`, but not where there is that room already. After either the tree is as it was.
+    /// `LocationOverflow` of the number of leaves that there would be, at most `u64::MAX`, if that is past
+    /// `MAX_LEAVES`; `Memory`, but not if there is that room already. Either leaves the tree as it was.
     pub fn reserve(&mut self, count: u64) -> Result<(), Error<F>>
         ensures kept { self.new ≡ record self.old { room = self.new.room } }
         ensures grows { self.old.room ≤ self.new.room }
@@ -286,13 +287,14 @@ impl<F: Family, D: Digest> Mem<F, D> {
         Ok(())
     }
 
-    /// Gives the leaves of `updates`, in the order of the list, their new digests, and the nodes over them theirs. Takes
-    /// no memory. Where the list ascends, each of these nodes is hashed once: that is how the code goes, and no clause.
+    /// Gives the leaves of `updates`, in the order of the list, their new digests, and the nodes over them theirs.
+    /// Allocates nothing. Where the list ascends, each of these nodes is hashed once: that is how the code goes, and no
+    /// clause.
     ///
     /// # Errors
     ///
-    /// For the first leaf of the list that is refused: `RangeOutOfBounds` of it where it is not in the tree;
-    /// `ElementPruned` of its position where it is forgotten. After either the tree is as it was.
+    /// For the first leaf of the list that is refused: `RangeOutOfBounds` of it if it is not in the tree;
+    /// `ElementPruned` of its position if it is forgotten. Either leaves the tree as it was.
     pub fn update_leaves<H: Hasher<F, Digest = D>>(
         &mut self,
         hasher: &H,
@@ -341,8 +343,8 @@ impl<F: Family, D: Digest> Mem<F, D> {
     ///
     /// # Errors
     ///
-    /// `RangeOutOfBounds(location)` where `location` is past the number of leaves; `Memory`. After either the tree is as
-    /// it was.
+    /// `RangeOutOfBounds(location)` if `location` is past the number of leaves; `Memory`. Either leaves the tree as it
+    /// was.
     pub fn prune(&mut self, location: Location<F>) -> Result<(), Error<F>>
         ensures stands { OnOk result ((N : NodesOver) (list : List (List ℕ))
             → StandsFor D.text F.shape N self.old list → StandsFor D.text F.shape N self.new list) }
@@ -377,14 +379,14 @@ impl<F: Family, D: Digest> Mem<F, D> {
     }
 }
 
-/// The refusal of the leaf at `place`, which is past the tree.
+/// Returns the refusal of the leaf at `place`, which is past the tree.
 fn past_the_leaves<F: Family>(place: u64) -> Error<F>
     ensures { result ≡ Error.RangeOutOfBounds place }
 {
     Error::RangeOutOfBounds(Location::new(place))
 }
 
-/// The first leaf of `updates` that is below `boundary` or not below `leaves`; none where there is no such leaf.
+/// Returns the first leaf of `updates` that is below `boundary` or not below `leaves`; none if there is no such leaf.
 fn first_away<F: Family, D: Digest>(
     leaves: u64,
     boundary: u64,
@@ -403,8 +405,8 @@ fn first_away<F: Family, D: Digest>(
     None
 }
 
-/// How many peaks there are over the leaves below `boundary`; or, where they are more than `given`, the position of peak
-/// number `given`, counted from 0.
+/// Returns how many peaks there are over the leaves below `boundary`; or, if they are more than `given`, the position
+/// of peak number `given`, counted from 0.
 fn needed<F: Family>(boundary: Location<F>, given: usize) -> Result<usize, Position<F>>
     requires { boundary ≤ max_leaves }
     ensures count { IfOk result (λ n. (n ≡ length (F.shape.peaks boundary)) × (n ≤ given)) }
@@ -421,7 +423,7 @@ fn needed<F: Family>(boundary: Location<F>, given: usize) -> Result<usize, Posit
     Ok(count)
 }
 
-/// A copy of `digests`.
+/// Returns a copy of `digests`.
 fn copied<D: Digest>(alloc: Global, digests: &[D]) -> Result<Vec<D>, AllocError>
     ensures { IfOk result (λ v. v.items ≡ digests.now) }
 {

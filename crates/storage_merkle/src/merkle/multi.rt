@@ -29,8 +29,8 @@ use std::convert::AsSlice;
 use storage_codec::NoMemory;
 use storage_codec::digest::Digest;
 
-/// The root of the tree in which the elements of `claims` stand at their locations, as `proof` has it; none where a
-/// count does not fit or the locations do not ascend.
+/// Returns the root of the tree in which the elements of `claims` stand at their locations, as `proof` has it; none if
+/// a count does not fit or the locations do not ascend.
 pub(crate) fn recompute<F: Family, H: Hasher<F>, E: AsSlice<u8>>(
     proof: &Proof<F, H::Digest>,
     alloc: Global,
@@ -111,8 +111,8 @@ impl<F: Family, D: Digest> Given<'_, F, D> {
         self.add_peaks(hasher, next, left - power(height), later, peaks)
     }
 
-    /// The digest of the node of height `height` over the leaf `first`, from the elements of `claims`, which all are
-    /// under it, and the digests of the nodes beside them.
+    /// Returns the digest of the node of height `height` over the leaf `first`, from the elements of `claims`, which
+    /// all are under it, and the digests of the nodes beside them.
     fn node<H: Hasher<F, Digest = D>, E: AsSlice<u8>>(
         &self,
         hasher: &H,
@@ -150,7 +150,7 @@ impl<F: Family, D: Digest> Given<'_, F, D> {
         hasher.node_digest(position, &left, &right)
     }
 
-    /// The given digest of the node at `position`, which is among the given ones.
+    /// Returns the given digest of the node at `position`, which is among the given ones.
     fn digest(&self, position: Position<F>) -> D
         requires given { AreGiven self.now.leaves self.now.positions.now self.now.digests.now }
         requires present { Contains self.now.positions.now position }

@@ -10,7 +10,7 @@ use crate::merkle::{Family, Position};
 use std::iter::FusedIterator;
 use std::marker::{Model, PhantomData};
 
-/// The peaks of a tree from some leaf on, each as (position, height). It ends, and takes no memory.
+/// The peaks of a tree from some leaf on, each as (position, height). It ends, and allocates nothing.
 #[derive(Drop)]
 pub struct Peaks<F: Family> {
     first: u64,
@@ -28,7 +28,7 @@ impl<F: Family> Model for Peaks<F> {
 }
 
 impl<F: Family> Peaks<F> {
-    /// The peaks of the tree over `leaves` leaves.
+    /// Returns the peaks of the tree over `leaves` leaves.
     pub(crate) fn over(leaves: u64) -> Self
         requires { leaves ≤ max_leaves }
         ensures { result ≡ placed F.shape 0 (F.shape.peaks leaves) }
@@ -64,7 +64,7 @@ impl<F: Family> Iterator for Peaks<F> {
 impl<F: Family> FusedIterator for Peaks<F> {}
 
 /// The positions of the peaks of a tree from some leaf on: the nodes that are kept when the leaves below are pruned. It
-/// ends, and takes no memory.
+/// ends, and allocates nothing.
 #[derive(Drop)]
 pub struct NodesToPin<F: Family> {
     peaks: Peaks<F>,
@@ -77,7 +77,7 @@ impl<F: Family> Model for NodesToPin<F> {
 }
 
 impl<F: Family> NodesToPin<F> {
-    /// The positions of `peaks`.
+    /// Returns the positions of `peaks`.
     pub(crate) fn of(peaks: Peaks<F>) -> Self
         ensures { result ≡ map (λ p. p.0) peaks }
     {

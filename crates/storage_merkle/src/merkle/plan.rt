@@ -48,13 +48,13 @@ impl<F: Family> Model for RangePlan<F> {
 }
 
 impl<F: Family> RangePlan<F> {
-    /// The plan of the leaves of `range` in the tree over `leaves` leaves.
+    /// Returns the plan of the leaves of `range` in the tree over `leaves` leaves.
     ///
     /// # Errors
     ///
-    /// The first of: `LocationOverflow(leaves)` where `leaves` is past `MAX_LEAVES`; `Empty` where `range` holds no
-    /// leaf; `LocationOverflow` of the last leaf of `range` where its end is past `MAX_LEAVES`; `RangeOutOfBounds` of
-    /// that leaf where it is not in the tree; `Memory`.
+    /// The first of: `LocationOverflow(leaves)` if `leaves` is past `MAX_LEAVES`; `Empty` if `range` holds no leaf;
+    /// `LocationOverflow` of the last leaf of `range` if its end is past `MAX_LEAVES`; `RangeOutOfBounds` of that leaf
+    /// if it is not in the tree; `Memory`.
     pub fn new(
         alloc: Global,
         leaves: Location<F>,
@@ -67,8 +67,8 @@ impl<F: Family> RangePlan<F> {
         Self::over(alloc, leaves, range.start, range.end)
     }
 
-    /// The plan of the leaves from `start` to before `end` in the tree over `leaves` leaves, as [`new`](Self::new)
-    /// answers it.
+    /// Returns the plan of the leaves from `start` to before `end` in the tree over `leaves` leaves, as
+    /// [`new`](Self::new) answers it.
     fn over(
         alloc: Global,
         leaves: Location<F>,
@@ -93,8 +93,8 @@ impl<F: Family> RangePlan<F> {
         })
     }
 
-    /// The positions of all nodes whose digests the proof needs, ascending and each once: of a fold, those of each of
-    /// its peaks.
+    /// Returns the positions of all nodes whose digests the proof needs, ascending and each once: of a fold, those of
+    /// each of its peaks.
     pub fn positions(&self) -> &[Position<F>]
         ensures value { result.now ≡ planned F.shape self.now.leaves self.now.start self.now.end }
         ensures rising { IsStrictlyIncreasing result.now }
@@ -102,7 +102,7 @@ impl<F: Family> RangePlan<F> {
         &self.positions
     }
 
-    /// How many leaves the tree has.
+    /// Returns how many leaves the tree has.
     pub fn leaves(&self) -> Location<F>
         ensures value { result ≡ self.now.leaves }
         ensures few { result ≤ max_leaves }
@@ -110,7 +110,7 @@ impl<F: Family> RangePlan<F> {
         self.leaves
     }
 
-    /// The first leaf of the range.
+    /// Returns the first leaf of the range.
     pub fn start(&self) -> Location<F>
         ensures value { result ≡ self.now.start }
         ensures within { result < self.now.leaves }
@@ -118,7 +118,7 @@ impl<F: Family> RangePlan<F> {
         self.start
     }
 
-    /// The leaf after the last one of the range.
+    /// Returns the leaf after the last one of the range.
     pub fn end(&self) -> Location<F>
         ensures value { result ≡ self.now.end }
         ensures within { result ≤ self.now.leaves }
@@ -126,13 +126,13 @@ impl<F: Family> RangePlan<F> {
         self.end
     }
 
-    /// The proof under `hasher` with the first `inactive` peaks inactive, from the digests that `get_node` answers for the
-    /// planned positions.
+    /// Returns the proof under `hasher` with the first `inactive` peaks inactive, from the digests that `get_node`
+    /// answers for the planned positions.
     ///
     /// # Errors
     ///
-    /// The first of: `InvalidProof` where `inactive` is greater than the number of peaks; `ElementPruned` of the
-    /// first planned position for which `get_node` answers none; `Memory`.
+    /// The first of: `InvalidProof` if `inactive` is greater than the number of peaks; `ElementPruned` of the first
+    /// planned position for which `get_node` answers none; `Memory`.
     pub fn build<H: Hasher<F>, G: Fn(Position<F>) -> Option<H::Digest>>(
         &self,
         alloc: Global,
@@ -171,7 +171,7 @@ impl<F: Family> RangePlan<F> {
         })
     }
 
-    /// The digests of the proof, from `answered`, those of the planned nodes in ascending order of positions.
+    /// Returns the digests of the proof, from `answered`, those of the planned nodes in ascending order of positions.
     fn digests<H: Hasher<F>>(
         &self,
         alloc: Global,
@@ -206,7 +206,7 @@ impl<F: Family> RangePlan<F> {
     }
 }
 
-/// Whether the leaves from `start` to before `end` are a range of the tree over `leaves` leaves.
+/// Returns whether the leaves from `start` to before `end` are a range of the tree over `leaves` leaves.
 ///
 /// # Errors
 ///
@@ -235,7 +235,7 @@ pub(crate) fn check_range<F: Family>(
     Ok(())
 }
 
-/// The digests that `get_node` answers at `positions`, for which it is asked in their order.
+/// Returns the digests that `get_node` answers at `positions`, for which it is asked in their order.
 ///
 /// # Errors
 ///
@@ -276,12 +276,12 @@ impl<F: Family> Model for ElementPlan<F> {
 }
 
 impl<F: Family> ElementPlan<F> {
-    /// The plan of the leaf at `location` in the tree over `leaves` leaves.
+    /// Returns the plan of the leaf at `location` in the tree over `leaves` leaves.
     ///
     /// # Errors
     ///
-    /// The first of: `LocationOverflow(leaves)` where `leaves` is past `MAX_LEAVES`; `LocationOverflow(location)`
-    /// where `location` is `MAX_LEAVES` or more; `RangeOutOfBounds(location)` where it is `leaves` or more; `Memory`.
+    /// The first of: `LocationOverflow(leaves)` if `leaves` is past `MAX_LEAVES`; `LocationOverflow(location)` if
+    /// `location` is `MAX_LEAVES` or more; `RangeOutOfBounds(location)` if it is `leaves` or more; `Memory`.
     pub fn new(alloc: Global, leaves: Location<F>, location: Location<F>) -> Result<Self, Error<F>>
         ensures { MatchOption (refusal F leaves location (location + 1)) (MatchResult result
             (λ plan. plan ≡ record { leaves = leaves; start = location; end = location + 1 })
@@ -300,7 +300,7 @@ impl<F: Family> ElementPlan<F> {
         }
     }
 
-    /// The location of the leaf.
+    /// Returns the location of the leaf.
     pub fn location(&self) -> Location<F>
         ensures value { result ≡ self.now.start }
         ensures within { result < self.now.leaves }
@@ -308,7 +308,7 @@ impl<F: Family> ElementPlan<F> {
         self.plan.start()
     }
 
-    /// The plan of the range that is this one leaf.
+    /// Returns the plan of the range that is this one leaf.
     pub fn into(self) -> RangePlan<F>
         ensures value { result ≡ self }
         ensures one { result.end ≡ result.start + 1 }
@@ -317,7 +317,7 @@ impl<F: Family> ElementPlan<F> {
     }
 }
 
-/// How many peaks the tree over `leaves` leaves has.
+/// Returns how many peaks the tree over `leaves` leaves has.
 pub(crate) fn peak_count<F: Family>(leaves: u64) -> u64
     requires { leaves ≤ max_leaves }
     ensures { result ≡ length (F.shape.peaks leaves) }
@@ -325,8 +325,8 @@ pub(crate) fn peak_count<F: Family>(leaves: u64) -> u64
     2 * leaves - F::nodes_over(leaves)
 }
 
-/// The positions, ascending, of the siblings: the greatest nodes with no leaf from `start` to before `end`, inside
-/// those peaks of the tree over `leaves` leaves that have one.
+/// Returns the positions, ascending, of the siblings: the greatest nodes with no leaf from `start` to before `end`,
+/// inside those peaks of the tree over `leaves` leaves that have one.
 pub(crate) fn siblings<F: Family>(
     alloc: Global,
     leaves: u64,
@@ -352,8 +352,8 @@ pub(crate) fn siblings<F: Family>(
     Ok(positions)
 }
 
-/// The positions, ascending, of the greatest nodes of the tree over `leaves` leaves with no leaf from `start` to
-/// before `end`.
+/// Returns the positions, ascending, of the greatest nodes of the tree over `leaves` leaves with no leaf from `start`
+/// to before `end`.
 fn planned<F: Family>(
     alloc: Global,
     leaves: u64,
@@ -403,7 +403,7 @@ fn add_apart<F: Family>(
     add_apart(start, end, first + power(height - 1), height - 1, positions)
 }
 
-/// Whether the node of height `height` over the leaf `first` has no leaf from `start` to before `end`.
+/// Returns whether the node of height `height` over the leaf `first` has no leaf from `start` to before `end`.
 pub(crate) fn is_apart(start: u64, end: u64, first: u64, height: u32) -> bool
     requires small { height ≤ 62 }
     requires within { first + 2 ^ height ≤ max_leaves }
@@ -412,7 +412,7 @@ pub(crate) fn is_apart(start: u64, end: u64, first: u64, height: u32) -> bool
     first + power(height) <= start || end <= first
 }
 
-/// The position of the node of height `height` over the leaf `first`.
+/// Returns the position of the node of height `height` over the leaf `first`.
 pub(crate) fn node_position<F: Family>(first: u64, height: u32) -> Position<F>
     requires aligned { first % 2 ^ height ≡ 0 }
     requires within { first + 2 ^ height ≤ max_leaves }

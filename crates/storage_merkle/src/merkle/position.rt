@@ -8,8 +8,8 @@ use crate::merkle::{Family, MAX_LEAVES};
 use std::fmt;
 use std::marker::{Model, PhantomData};
 
-/// The place of a node of a tree of the family `F`, counted from 0; also a number of nodes. Positions compare as
-/// their numbers and are displayed as them in decimal. No call takes memory.
+/// The place of a node of a tree of the family `F`, counted from 0; also a number of nodes. Positions compare as their
+/// numbers and are displayed as them in decimal. No call allocates.
 #[derive(Drop)]
 #[derive_where(Clone, Copy, PartialEq, Eq, PartialOrd, Ord, Hash, Debug)]
 pub struct Position<F> {
@@ -27,7 +27,7 @@ impl<F> Model for Position<F> {
 }
 
 impl<F> Position<F> {
-    /// The position with the number `value`.
+    /// Returns the position with the number `value`.
     pub fn new(value: u64) -> Self
         ensures { result ≡ value }
     {
@@ -37,14 +37,14 @@ impl<F> Position<F> {
         }
     }
 
-    /// The number of the position.
+    /// Returns the number of the position.
     pub fn as_u64(self) -> u64
         ensures { result ≡ self }
     {
         self.value
     }
 
-    /// The position `by` nodes further on; `None` where its number passes `u64::MAX`.
+    /// Returns the position `by` nodes further on; `None` if its number passes `u64::MAX`.
     pub fn checked_add(self, by: u64) -> Option<Self>
         ensures { MatchOption result (2 ^ 64 ≤ self + by) (λ p. p ≡ self + by) }
     {
@@ -52,7 +52,7 @@ impl<F> Position<F> {
         Some(Position::new(value))
     }
 
-    /// The position `by` nodes further on, or the position `u64::MAX` where its number passes that.
+    /// Returns the position `by` nodes further on, or the position `u64::MAX` where its number passes that.
     pub fn saturating_add(self, by: u64) -> Self
         ensures { result ≡ min (self + by) (2 ^ 64 - 1) }
     {
@@ -61,7 +61,7 @@ impl<F> Position<F> {
 }
 
 impl<F: Family> Position<F> {
-    /// Whether it is at most the number of nodes of the tree over [`MAX_LEAVES`] leaves.
+    /// Returns whether it is at most the number of nodes of the tree over [`MAX_LEAVES`] leaves.
     pub fn is_valid(self) -> bool
         ensures { IsTrue result ↔ (self ≤ size F.shape max_leaves) }
     {

@@ -39,7 +39,7 @@ pub struct Proof<F, D> {
 }
 
 impl<F: Family, D: Digest> Proof<F, D> {
-    /// The proof of no elements in the tree without leaves. Takes no memory.
+    /// Returns the proof of no elements in the tree without leaves. Allocates nothing.
     pub fn default(alloc: Global) -> Self
         ensures leaves { result.leaves ≡ 0 }
         ensures inactive { result.inactive_peaks ≡ 0 }
@@ -52,7 +52,7 @@ impl<F: Family, D: Digest> Proof<F, D> {
         }
     }
 
-    /// A proof equal to this one. `NoMemory` where there is no memory for its digests.
+    /// Returns a proof equal to this one. `NoMemory` if there is no memory for its digests.
     pub fn clone(&self) -> Result<Self, NoMemory>
         ensures { IfOk result (λ copy. (copy.leaves ≡ self.now.leaves) × (copy.inactive_peaks
             ≡ self.now.inactive_peaks) × (copy.digests.items ≡ self.now.digests.items)) }
@@ -66,7 +66,8 @@ impl<F: Family, D: Digest> Proof<F, D> {
         })
     }
 
-    /// Whether `element` stands at `location` of the tree with the root `root`. Out of memory is an error, never a no.
+    /// Returns whether `element` stands at `location` of the tree with the root `root`. Running out of memory is an
+    /// error, never a no.
     pub fn verify_element_inclusion<H: Hasher<F, Digest = D>>(
         &self,
         alloc: Global,
@@ -86,8 +87,9 @@ impl<F: Family, D: Digest> Proof<F, D> {
         self.verify_range_inclusion(alloc, hasher, &[element], location, root)
     }
 
-    /// Whether `elements` stand at the leaves from `start` on of the tree with the root `root`. The answer for no elements
-    /// takes no memory: yes just for the proof of nothing, `start` 0 and the root of the tree without leaves.
+    /// Returns whether `elements` stand at the leaves from `start` on of the tree with the root `root`. The answer for
+    /// no elements allocates nothing: yes just for the proof of nothing, `start` 0 and the root of the tree without
+    /// leaves.
     pub fn verify_range_inclusion<H: Hasher<F, Digest = D>, E: AsSlice<u8>>(
         &self,
         alloc: Global,
@@ -112,8 +114,8 @@ impl<F: Family, D: Digest> Proof<F, D> {
         Ok(computed == Some(*root))
     }
 
-    /// Whether `elements` stand at their locations, which must ascend, each once, in the tree with the root `root`. The
-    /// answer for no elements takes no memory.
+    /// Returns whether `elements` stand at their locations, which must ascend, each once, in the tree with the root
+    /// `root`. The answer for no elements allocates nothing.
     pub fn verify_multi_inclusion<H: Hasher<F, Digest = D>, E: AsSlice<u8>>(
         &self,
         alloc: Global,
@@ -137,8 +139,8 @@ impl<F: Family, D: Digest> Proof<F, D> {
         Ok(recomputed == Some(*root))
     }
 
-    /// The root of the tree in which `elements` stand at the leaves from `start` on; none where a count does not fit or
-    /// there are no elements.
+    /// Returns the root of the tree in which `elements` stand at the leaves from `start` on; none if a count does not
+    /// fit or there are no elements.
     pub fn recompute_root<H: Hasher<F, Digest = D>, E: AsSlice<u8>>(
         &self,
         alloc: Global,
@@ -154,11 +156,11 @@ impl<F: Family, D: Digest> Proof<F, D> {
         check::recompute(&self.lent(), alloc, hasher, elements, start, &mut None)
     }
 
-    /// The root of the tree in which `elements` stand at the leaves from `start` on.
+    /// Returns the root of the tree in which `elements` stand at the leaves from `start` on.
     ///
     /// # Errors
     ///
-    /// `InvalidProof` where a count does not fit or there are no elements; `Memory`.
+    /// `InvalidProof` if a count does not fit or there are no elements; `Memory`.
     pub fn reconstruct_root<H: Hasher<F, Digest = D>, E: AsSlice<u8>>(
         &self,
         alloc: Global,
@@ -181,7 +183,7 @@ impl<F: Family, D: Digest> Proof<F, D> {
         }
     }
 
-    /// This proof, with its digests lent.
+    /// Returns this proof, with its digests lent.
     pub(crate) fn lent(&self) -> LentProof<F, D>
         ensures leaves { result.leaves ≡ self.now.leaves }
         ensures inactive { result.inactive_peaks ≡ self.now.inactive_peaks }
@@ -194,8 +196,8 @@ impl<F: Family, D: Digest> Proof<F, D> {
         }
     }
 
-    /// Whether it is the proof of no elements of the tree without leaves, `start` is 0, and `root` is that tree's root.
-    /// Takes no memory.
+    /// Returns whether it is the proof of no elements of the tree without leaves, `start` is 0, and `root` is that
+    /// tree's root. Allocates nothing.
     fn verify_nothing<H: Hasher<F, Digest = D>>(
         &self,
         hasher: &H,
@@ -210,7 +212,7 @@ impl<F: Family, D: Digest> Proof<F, D> {
         start.as_u64() == 0 && self.is_default() && hasher.root(start, 0, &[]) == *root
     }
 
-    /// Whether it is the proof of no elements in the tree without leaves.
+    /// Returns whether it is the proof of no elements in the tree without leaves.
     fn is_default(&self) -> bool
         ensures { IsTrue result ↔ ((self.now.leaves ≡ 0) × (self.now.inactive_peaks ≡ 0)
             × (self.now.digests.items ≡ [])) }

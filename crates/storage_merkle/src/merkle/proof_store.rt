@@ -63,14 +63,14 @@ impl<F: Family, D: Digest> Model for ProofStore<F, D> {
 }
 
 impl<F: Family, D: Digest> ProofStore<F, D> {
-    /// A proof of the leaves at `locations`, which must ascend, each once, from the digests that are kept and, for a node
-    /// without one, from the first of `peaks` at its position. The digests of `peaks` are not checked.
+    /// Returns a proof of the leaves at `locations`, which must ascend, each once, from the digests that are kept and,
+    /// for a node without one, from the first of `peaks` at its position. The digests of `peaks` are not checked.
     ///
     /// # Errors
     ///
     /// `Empty` for no locations; of the first location for which it holds, in the order of the list, `UnsortedLocation`
-    /// where it is below the one before it, `DuplicateLocation` where it equals it, and `RangeOutOfBounds` where it is not
-    /// in the tree; of the first needed position without a digest, in ascending order, `CompressedDigest` where it is one of
+    /// if it is below the one before it, `DuplicateLocation` if it equals it, and `RangeOutOfBounds` if it is not in
+    /// the tree; of the first needed position without a digest, in ascending order, `CompressedDigest` if it is one of
     /// [`suffix_peak_positions`](Self::suffix_peak_positions), else `ElementPruned`; `Memory`.
     pub fn multi_proof(
         &self,
@@ -101,7 +101,7 @@ impl<F: Family, D: Digest> ProofStore<F, D> {
         }
     }
 
-    /// The positions of the peaks in the fold of those past the leaves that the source proves, ascending.
+    /// Returns the positions of the peaks in the fold of those past the leaves that the source proves, ascending.
     pub fn suffix_peak_positions(&self, alloc: Global) -> Result<Vec<Position<F>>, NoMemory>
         ensures { IfOk result (λ v. v.items ≡ suffix_positions F.shape self.now) }
     {
@@ -120,7 +120,7 @@ impl<F: Family, D: Digest> ProofStore<F, D> {
         Ok(positions)
     }
 
-    /// The digests at `positions`: of each the kept one, else that of the first of `peaks` there. Refuses as
+    /// Returns the digests at `positions`: of each the kept one, else that of the first of `peaks` there. Refuses as
     /// [`multi_proof`](Self::multi_proof) does for the first position without one.
     fn digests_at(
         &self,
@@ -145,7 +145,7 @@ impl<F: Family, D: Digest> ProofStore<F, D> {
         Ok(digests)
     }
 
-    /// The digest at `position`: the kept one, else that of the first of `peaks` there.
+    /// Returns the digest at `position`: the kept one, else that of the first of `peaks` there.
     fn digest_at(&self, position: Position<F>, peaks: &[(Position<F>, D)]) -> Option<D>
         ensures { option_map D.text result ≡ found_at self.now
             (by_bytes D.text peaks.now) position }
@@ -156,7 +156,7 @@ impl<F: Family, D: Digest> ProofStore<F, D> {
         }
     }
 
-    /// The digest that is kept at `position`.
+    /// Returns the digest that is kept at `position`.
     fn kept_at(&self, position: Position<F>) -> Option<D>
         ensures { option_map D.text result ≡ entry_at position self.now.kept }
     {
@@ -167,8 +167,8 @@ impl<F: Family, D: Digest> ProofStore<F, D> {
         Some(self.kept[index].1)
     }
 
-    /// Why there is no proof where the digest of the needed node at `position` is neither kept nor given; `Memory` where
-    /// there was none to find out.
+    /// Returns why there is no proof where the digest of the needed node at `position` is neither kept nor given;
+    /// `Memory` if there was none to find out.
     fn missing(&self, alloc: Global, position: Position<F>) -> Error<F>
         ensures { (result ≡ (if is_among position (suffix_positions F.shape self.now)
             then Error.CompressedDigest position else Error.ElementPruned position))
@@ -187,7 +187,7 @@ impl<F: Family, D: Digest> ProofStore<F, D> {
     }
 }
 
-/// The digest of the first of `entries` at `position`.
+/// Returns the digest of the first of `entries` at `position`.
 fn first_at<F: Family, D: Digest>(position: Position<F>, entries: &[(Position<F>, D)]) -> Option<D>
     ensures { option_map D.text result ≡ entry_at position (by_bytes D.text entries.now) }
 {
@@ -199,12 +199,12 @@ fn first_at<F: Family, D: Digest>(position: Position<F>, entries: &[(Position<F>
     None
 }
 
-/// Whether `locations` ascend, each once, and are below `leaves`.
+/// Returns whether `locations` ascend, each once, and are below `leaves`.
 ///
 /// # Errors
 ///
-/// Of the first location for which it holds: `UnsortedLocation` where it is below the one before it, `DuplicateLocation`
-/// where it equals it, `RangeOutOfBounds` where it is not below `leaves`.
+/// Of the first location for which it holds: `UnsortedLocation` if it is below the one before it, `DuplicateLocation`
+/// if it equals it, `RangeOutOfBounds` if it is not below `leaves`.
 fn check_locations<F: Family>(locations: &[Location<F>], leaves: u64) -> Result<(), Error<F>>
     requires { leaves ≤ max_leaves }
     ensures { MatchResult result (λ _. location_refusal F 0 leaves locations.now ≡ None) (λ e.

@@ -14,10 +14,10 @@ pub trait Readable {
     /// The digests of its nodes.
     type Digest: Digest;
 
-    /// The digest at each position; none where there is none.
+    /// The digest at each position; none if there is none.
     ghost node: { Self → ℕ → Option Self.Digest };
 
-    /// The digest of the node at `position`; none where it has none. Takes no memory.
+    /// Returns the digest of the node at `position`; none if it has none. Allocates nothing.
     fn get_node(&self, position: Position<Self::Family>) -> Option<Self::Digest>
         ensures { result ≡ node self.now position };
 }
@@ -30,7 +30,7 @@ pub trait Storage<F: Family> {
     /// The number of nodes of the tree.
     ghost nodes: { Self → ℕ };
 
-    /// The digest at each position; none where there is none.
+    /// The digest at each position; none if there is none.
     ghost node: { Self → ℕ → Option Self.Digest };
 
     /// How often it has failed.
@@ -39,19 +39,19 @@ pub trait Storage<F: Family> {
     /// Whether a read at each position may fail, with each code.
     ghost may_fail: { Self → ℕ → ℕ → Type 0 };
 
-    /// How many nodes the tree has, as the position past the last.
+    /// Returns how many nodes the tree has, as the position past the last.
     fn size(&self) -> Position<F>
         ensures { result ≡ nodes self.now };
 
-    /// How often a read has failed.
+    /// Returns how often a read has failed.
     fn failures(&self) -> u64
         ensures { result ≡ failed self.now };
 
-    /// The digest of the node at `position`; none where it has none.
+    /// Returns the digest of the node at `position`; none if it has none.
     ///
     /// # Errors
     ///
-    /// `Source` where the store failed, just where its count of failures grew, by one; `Memory`.
+    /// `Source` if the store failed, exactly if its count of failures grew, by one; `Memory`.
     fn get_node(&mut self, position: Position<F>) -> Result<Option<Self::Digest>, Error<F>>
         requires { failed self.old + 1 < 2 ^ 64 }
         ensures answer { MatchResult result (λ d. d ≡ node self.old position) (λ e.
@@ -65,12 +65,12 @@ pub trait Storage<F: Family> {
         ensures same_size { nodes self.new ≡ nodes self.old }
         ensures same { (p : ℕ) → node self.new p ≡ node self.old p };
 
-    /// The digests of the nodes at `positions`, in their order.
+    /// Returns the digests of the nodes at `positions`, in their order.
     ///
     /// # Errors
     ///
-    /// Of the first of `positions` where it has no digest or fails: `ElementPruned` of it where it has none, `Source` where
-    /// it failed, just where its count of failures grew, by one; so none of both for no positions. `Memory`.
+    /// Of the first of `positions` if it has no digest or fails: `ElementPruned` of it if it has none, `Source` if it
+    /// failed, exactly if its count of failures grew, by one; so none of both for no positions. `Memory`.
     fn get_nodes(
         &mut self,
         alloc: Global,

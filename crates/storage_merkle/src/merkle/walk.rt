@@ -40,8 +40,8 @@ pub(crate) struct Rest {
 }
 
 impl Rest {
-    /// All peaks of the tree over `leaves` leaves, of which the first `inactive` are inactive, folded in the hasher's
-    /// direction.
+    /// Returns all peaks of the tree over `leaves` leaves, of which the first `inactive` are inactive, folded in the
+    /// hasher's direction.
     pub fn all<F: Family, H: Hasher<F>>(hasher: &H, leaves: u64, inactive: usize) -> Self
         requires { leaves ≤ max_leaves }
         ensures peaks { ArePeaks F.shape leaves result.first result.left }
@@ -52,7 +52,7 @@ impl Rest {
         Self::bagged::<F>(hasher.root_bagging(), leaves, inactive)
     }
 
-    /// All peaks of the tree over `leaves` leaves, of which the first `inactive` are inactive, folded in the
+    /// Returns all peaks of the tree over `leaves` leaves, of which the first `inactive` are inactive, folded in the
     /// direction `bagging`.
     pub fn bagged<F: Family>(bagging: Bagging, leaves: u64, inactive: usize) -> Self
         requires { leaves ≤ max_leaves }
@@ -72,7 +72,7 @@ impl Rest {
         }
     }
 
-    /// The peaks after the first one, whose height is `height`.
+    /// Returns the peaks after the first one, whose height is `height`.
     pub fn next(self, height: u32) -> Self
         requires small { height ≤ 62 }
         requires within { 2 ^ height ≤ self.left }
@@ -89,7 +89,7 @@ impl Rest {
         }
     }
 
-    /// The peaks after the leading ones that are folded from the left and end at or before `start`.
+    /// Returns the peaks after the leading ones that are folded from the left and end at or before `start`.
     pub fn after_leading<F: Family>(self, start: u64) -> Self
         requires few { self.first + self.left ≤ max_leaves }
         requires peaks { ArePeaks F.shape (self.first + self.left) self.first self.left }
@@ -127,7 +127,7 @@ impl<F: Family> Model for Leading<F> {
 }
 
 impl<F: Family> Leading<F> {
-    /// Those of `peaks` that end at or before the leaf `start`.
+    /// Returns those of `peaks` that end at or before the leaf `start`.
     pub fn of(peaks: Rest, start: u64) -> Self
         requires few { peaks.first + peaks.left ≤ max_leaves }
         requires aligned { AreAligned (F.shape.peaks peaks.left) peaks.first }
@@ -193,7 +193,7 @@ impl<F: Family> Model for Tops<F> {
 }
 
 impl<F: Family> Tops<F> {
-    /// Those of `peaks` apart from the leaves from `start` to before `end`.
+    /// Returns those of `peaks` apart from the leaves from `start` to before `end`.
     pub fn apart(peaks: Rest, start: u64, end: u64) -> Self
         requires few { peaks.first + peaks.left ≤ max_leaves }
         requires aligned { AreAligned (F.shape.peaks peaks.left) peaks.first }
@@ -222,7 +222,7 @@ impl<F: Family> Iterator for Tops<F> {
 }
 
 /// Takes from `rest` its peaks up to the first that is apart from the leaves from `start` to before `end`, or all where
-/// those past the range are folded from the right; none where no peaks are apart.
+/// those past the range are folded from the right; none if no peaks are apart.
 fn next_top<F: Family>(rest: &mut Rest, start: u64, end: u64) -> Option<Top>
     requires few { rest.old.first + rest.old.left ≤ max_leaves }
     requires aligned { AreAligned (F.shape.peaks rest.old.left) rest.old.first }

@@ -20,11 +20,11 @@ pub trait Key: Codec + EncodeSize + Clone + Ord + Hash + Debug {
     /// The bytes of the key itself, with no length.
     ghost bytes_of: { Self → List ℕ };
 
-    /// The bytes of the key itself, with no length before them.
+    /// Returns the bytes of the key itself, with no length before them.
     fn bytes(&self) -> &[u8]
         ensures { result.now ≡ bytes_of self.now };
 
-    /// Keys are equal exactly where their encodings are.
+    /// Keys are equal exactly if their encodings are.
     ghost same: { (x y : Self) → Self.PartialEq.eq x y ≡ true ↔ Self.text x ≡ Self.text y };
 
     /// A clone is seen and written as the key.
@@ -39,7 +39,7 @@ pub trait Floored<F: Family> {
     /// The floor of a commit; none of another operation.
     ghost floor: { Self → Option ℕ };
 
-    /// The inactivity floor of a commit; none of another operation.
+    /// Returns the inactivity floor of a commit; none of another operation.
     fn has_floor(&self) -> Option<Location<F>>
         ensures { result ≡ floor self.now };
 }
@@ -58,21 +58,21 @@ pub trait Operation<F: Family>: Floored<F> {
     /// Whether it removes a key.
     ghost deletes: { Self → Bool };
 
-    /// The key, where the operation has one.
+    /// Returns the key, where the operation has one.
     fn key(&self) -> Option<&Self::Key>
         ensures { option_map (λ k. k.now) result ≡ key_of self.now };
 
-    /// The key, where the operation has one; the operation is given up.
+    /// Returns the key, where the operation has one; the operation is given up.
     fn into_key(self) -> Option<Self::Key>
     where
         Self: Sized,
         ensures { result ≡ key_of self };
 
-    /// Whether it gives a key a value.
+    /// Returns whether it gives a key a value.
     fn is_update(&self) -> bool
         ensures { result ≡ updates self.now };
 
-    /// Whether it removes a key.
+    /// Returns whether it removes a key.
     fn is_delete(&self) -> bool
         ensures { result ≡ deletes self.now };
 }
@@ -82,7 +82,7 @@ pub trait Committable {
     /// Whether it is a commit.
     ghost commits: { Self → Bool };
 
-    /// Whether it is a commit.
+    /// Returns whether it is a commit.
     fn is_commit(&self) -> bool
         ensures { result ≡ commits self.now };
 }

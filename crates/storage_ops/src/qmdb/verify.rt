@@ -27,8 +27,9 @@ use storage_merkle::merkle::{Error, Family, Location, Position, Proof, ProofStor
 /// The digests that an accepted check hands out, each as (position, digest).
 pub type ExtractedDigests<F, H> = Vec<(Position<F>, DigestOf<H>)>;
 
-/// Whether `operations` stand at the locations from `start` on of the list with the root `root`. The answer for no operations
-/// takes no memory: yes exactly where `start` and all counts of the proof are 0 and `root` is that of no operations.
+/// Returns whether `operations` stand at the locations from `start` on of the list with the root `root`. The answer for
+/// no operations allocates nothing: yes exactly if `start` and all counts of the proof are 0 and `root` is that of no
+/// operations.
 pub fn verify_proof<H: Hasher, F: Family, Op: Encode>(
     alloc: Global,
     proof: &Proof<F, DigestOf<H>>,
@@ -48,9 +49,9 @@ pub fn verify_proof<H: Hasher, F: Family, Op: Encode>(
     proof.verify_range_inclusion(alloc, &qmdb::hasher::<H>(), &elements, start, root)
 }
 
-/// Whether `operations` stand at the locations from `start` on of the list with the root `root`, and `pinned` are the digests
-/// of the peaks over the locations before `start`, in their order. The answer for no operations takes no memory: yes exactly
-/// where nothing is pinned and [`verify_proof`] says yes.
+/// Returns whether `operations` stand at the locations from `start` on of the list with the root `root`, and `pinned`
+/// are the digests of the peaks over the locations before `start`, in their order. The answer for no operations
+/// allocates nothing: yes exactly if nothing is pinned and [`verify_proof`] says yes.
 pub fn verify_proof_and_pinned_nodes<H: Hasher, F: Family, Op: Encode>(
     alloc: Global,
     proof: &Proof<F, DigestOf<H>>,
@@ -72,12 +73,12 @@ pub fn verify_proof_and_pinned_nodes<H: Hasher, F: Family, Op: Encode>(
     proof.verify_proof_and_pinned_nodes(alloc, &hasher, &elements, start, pinned, root)
 }
 
-/// Each digest that the check of `operations` at the locations from `start` on reads or computes in a peak over one of them, as
-/// (position, digest), ascending by position, each once. For no operations there are none.
+/// Returns each digest that the check of `operations` at the locations from `start` on reads or computes in a peak over
+/// one of them, as (position, digest), ascending by position, each once. For no operations there are none.
 ///
 /// # Errors
 ///
-/// `InvalidProof` where a count does not fit; `RootMismatch` where another root than `root` comes out; `Memory`.
+/// `InvalidProof` if a count does not fit; `RootMismatch` if another root than `root` comes out; `Memory`.
 pub fn verify_proof_and_extract_digests<H: Hasher, F: Family, Op: Encode>(
     alloc: Global,
     proof: &Proof<F, DigestOf<H>>,
@@ -101,13 +102,13 @@ pub fn verify_proof_and_extract_digests<H: Hasher, F: Family, Op: Encode>(
     proof.verify_range_inclusion_and_extract_digests(alloc, &hasher, &elements, start, root)
 }
 
-/// What is kept of `proof`, whose check says that `operations` stand at the locations from `start` on of the list with the root
-/// `root`, to give other proofs. Where `proof` is a list's own, so are these, and [`verify_proof`] and [`verify_multi_proof`]
-/// say yes to them for operations that stand in the list.
+/// Returns what is kept of `proof`, whose check says that `operations` stand at the locations from `start` on of the
+/// list with the root `root`, to give other proofs. Where `proof` is a list's own, so are these, and [`verify_proof`]
+/// and [`verify_multi_proof`] say yes to them for operations that stand in the list.
 ///
 /// # Errors
 ///
-/// `InvalidProof` where a count does not fit; `RootMismatch` where another root than `root` comes out; `Memory`.
+/// `InvalidProof` if a count does not fit; `RootMismatch` if another root than `root` comes out; `Memory`.
 pub fn create_proof_store<H: Hasher, F: Family, Op: Encode>(
     alloc: Global,
     proof: &Proof<F, DigestOf<H>>,
@@ -136,7 +137,7 @@ pub fn create_proof_store<H: Hasher, F: Family, Op: Encode>(
     ProofStore::new(alloc, &qmdb::hasher::<H>(), proof, &elements, start, root)
 }
 
-/// The encodings of `operations`. For none it takes no memory.
+/// Returns the encodings of `operations`. For none it allocates nothing.
 fn encode_all<Op: Encode>(alloc: Global, operations: &[Op]) -> Result<Vec<Vec<u8>>, NoMemory>
     ensures all { IfOk result (λ v.
         map (λ bytes. bytes.items) v.items ≡ map Op.text operations.now) }

@@ -28,9 +28,9 @@ use storage_merkle::merkle::hasher::Hasher;
 use storage_merkle::merkle::{LentProof, Location, Proof, mmr};
 
 impl<D: Digest, const N: usize, M: State<D>> BitMap<D, N, M> {
-    /// Whether `chunk` is the chunk of the bit number `bit` in the bitmap with the root `root`; the bitmap has `proof.leaves`
-    /// bits. The no of a bit at or past the end, of inactive peaks, and of no digest where the bits do not fill their chunks
-    /// takes no memory.
+    /// Returns whether `chunk` is the chunk of the bit number `bit` in the bitmap with the root `root`; the bitmap has
+    /// `proof.leaves` bits. The no of a bit at or past the end, of inactive peaks, and of no digest if the bits do not
+    /// fill their chunks allocates nothing.
     pub fn verify_bit_inclusion<H: Hasher<mmr::Family, Digest = D>>(
         alloc: Global,
         hasher: &H,
@@ -62,8 +62,8 @@ impl<D: Digest, const N: usize, M: State<D>> BitMap<D, N, M> {
     }
 }
 
-/// The root of the bitmap in which the bit number `bit` stands in `chunk`, as `proof` has it; none where a count of the proof
-/// does not fit.
+/// Returns the root of the bitmap in which the bit number `bit` stands in `chunk`, as `proof` has it; none if a count
+/// of the proof does not fit.
 fn computed_root<H: Hasher<mmr::Family>, const N: usize>(
     alloc: Global,
     hasher: &H,
@@ -104,8 +104,8 @@ fn computed_root<H: Hasher<mmr::Family>, const N: usize>(
     Ok(Some(partial_root(hasher, last, length, &digest)))
 }
 
-/// The root of the tree over `complete` chunks in which chunk number `place` is `chunk`, from the proof's `digests`; none where
-/// a count does not fit.
+/// Returns the root of the tree over `complete` chunks in which chunk number `place` is `chunk`, from the proof's
+/// `digests`; none if a count does not fit.
 fn chunks_root<H: Hasher<mmr::Family>>(
     alloc: Global,
     hasher: &H,
@@ -128,8 +128,8 @@ fn chunks_root<H: Hasher<mmr::Family>>(
     proof.recompute_root(alloc, hasher, &[chunk], Location::new(place))
 }
 
-/// The root of bits that do not fill their chunks: the digest of `root`, that of the tree, `length`, the number of bits, in
-/// eight bytes, highest first, and `last`, the digest of the last chunk, joined.
+/// Returns the root of bits that do not fill their chunks: the digest of `root`, that of the tree, `length`, the number
+/// of bits, in eight bytes, highest first, and `last`, the digest of the last chunk, joined.
 #[tactic(auto, unfolding(storage_merkle::specs::Calc::be8))]
 pub(super) fn partial_root<H: Hasher<mmr::Family>>(
     hasher: &H,

@@ -33,13 +33,13 @@ pub struct PrunedState<D> {
 }
 
 impl<D: Digest, const N: usize> BitMap<D, N, Merkleized<D>> {
-    /// The bitmap of `state.pruned_chunks` chunks, all of them pruned, from `state`, which
-    /// [`write_pruned`](Self::write_pruned) handed out; no bits from no chunks. Digests past those of the peaks are ignored.
-    /// Where no list of bits has these digests it stands for no list, and nothing is said of its root.
+    /// Returns the bitmap of `state.pruned_chunks` chunks, all of them pruned, from `state`, which
+    /// [`write_pruned`](Self::write_pruned) handed out; no bits from no chunks. Digests past those of the peaks are
+    /// ignored. Where no list of bits has these digests it stands for no list, and nothing is said of its root.
     ///
     /// # Errors
     ///
-    /// `DataCorrupted` where there are more than `2^62` bits; `MissingNode` of the position of the first peak without a
+    /// `DataCorrupted` if there are more than `2^62` bits; `MissingNode` of the position of the first peak without a
     /// digest; `Memory`.
     pub fn init<H: Hasher<mmr::Family, Digest = D>>(
         alloc: Global,
@@ -85,8 +85,8 @@ impl<D: Digest, const N: usize> BitMap<D, N, Merkleized<D>> {
         })
     }
 
-    /// What is to be kept of the pruned chunks, so that the bitmap is that of [`init`](Self::init) once the retained bits are
-    /// pushed again.
+    /// Returns what is to be kept of the pruned chunks, so that the bitmap is that of [`init`](Self::init) once the
+    /// retained bits are pushed again.
     ///
     /// # Errors
     ///
@@ -107,7 +107,7 @@ impl<D: Digest, const N: usize> BitMap<D, N, Merkleized<D>> {
         })
     }
 
-    /// The digest at `position` of the tree over the chunks; `None` where it is not kept. Takes no memory.
+    /// Returns the digest at `position` of the tree over the chunks; `None` if it is not kept. Allocates nothing.
     pub fn get_node(&self, position: Position<mmr::Family>) -> Option<D>
         ensures { result
             ≡ kept_at mmr self.now.tree.boundary self.now.tree.pinned self.now.tree.nodes position }
@@ -115,8 +115,8 @@ impl<D: Digest, const N: usize> BitMap<D, N, Merkleized<D>> {
         self.tree.get_node(position)
     }
 
-    /// Forgets the chunks below that of the bit number `bit`, which may be one past the last bit. The root stays. Out of
-    /// memory changes nothing.
+    /// Forgets the chunks below that of the bit number `bit`, which may be one past the last bit. The root stays. If
+    /// memory runs out, nothing changes.
     ///
     /// # Errors
     ///
@@ -139,9 +139,9 @@ impl<D: Digest, const N: usize> BitMap<D, N, Merkleized<D>> {
         Ok(())
     }
 
-    /// The root. It is the tree's where the bits fill their chunks, else the digest of three parts one after another: the
-    /// tree's root, the number of all bits in eight bytes, highest first, and the digest of the last chunk, which is filled up
-    /// with zeros. Takes no memory.
+    /// Returns the root. It is the tree's if the bits fill their chunks, else the digest of three parts one after
+    /// another: the tree's root, the number of all bits in eight bytes, highest first, and the digest of the last
+    /// chunk, which is filled up with zeros. Allocates nothing.
     pub fn root(&self) -> D
         ensures value { result ≡ self.now.state.root }
         ensures meaning { (h : HashFunction) (bagging : Bagging) (bits : List Bool)
@@ -151,7 +151,7 @@ impl<D: Digest, const N: usize> BitMap<D, N, Merkleized<D>> {
         self.state.root
     }
 
-    /// The same bitmap, open to changes. Takes no memory.
+    /// Returns the same bitmap, open to changes. Allocates nothing.
     pub fn into_dirty(self) -> UnmerkleizedBitMap<D, N>
         ensures same { (result.retained ≡ self.retained) × (result.tree ≡ self.tree) }
         ensures stands { (h : HashFunction) (bagging : Bagging) (bits : List Bool)

@@ -21,12 +21,12 @@ use storage_merkle::merkle::mem::Mem;
 use storage_merkle::merkle::{Error, Location, Proof, mmr};
 
 impl<D: Digest, const N: usize> BitMap<D, N, Merkleized<D>> {
-    /// The proof of the bit number `bit`, which is not pruned, and its chunk. The proof holds for each bit of the chunk; its
-    /// `leaves` are the number of bits.
+    /// Returns the proof of the bit number `bit`, which is not pruned, and its chunk. The proof holds for each bit of
+    /// the chunk; its `leaves` are the number of bits.
     ///
     /// # Errors
     ///
-    /// `BitOutOfBounds` of `bit` and the number of bits where `bit` is not below that; `Memory`.
+    /// `BitOutOfBounds` of `bit` and the number of bits if `bit` is not below that; `Memory`.
     pub fn proof<H: Hasher<mmr::Family, Digest = D>>(
         &self,
         hasher: &H,
@@ -62,8 +62,8 @@ impl<D: Digest, const N: usize> BitMap<D, N, Merkleized<D>> {
     }
 }
 
-/// The digests that prove the bits of chunk number `place`: the root of the tree where it is the partial chunk, else those of
-/// the chunk's leaf, and the partial chunk's where there is one.
+/// Returns the digests that prove the bits of chunk number `place`: the root of the tree if it is the partial chunk,
+/// else those of the chunk's leaf, and the partial chunk's if there is one.
 fn bit_digests<D: Digest, H: Hasher<mmr::Family, Digest = D>, const N: usize>(
     alloc: Global,
     tree: &Mem<mmr::Family, D>,

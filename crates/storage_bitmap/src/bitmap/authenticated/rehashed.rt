@@ -23,7 +23,7 @@ use storage_merkle::merkle::hasher::Hasher;
 use storage_merkle::merkle::mem::Mem;
 use storage_merkle::merkle::{Error, Family as _, Location, Position, mmr};
 
-/// The digest of the leaf of chunk number `index`.
+/// Returns the digest of the leaf of chunk number `index`.
 fn chunk_digest<H: Hasher<mmr::Family>, const N: usize>(
     hasher: &H,
     bits: &Prunable<N>,
@@ -40,7 +40,7 @@ fn chunk_digest<H: Hasher<mmr::Family>, const N: usize>(
     hasher.leaf_digest(position, &bits.get_chunk(index as usize))
 }
 
-/// The digests of the leaves of `chunks`, each with its location.
+/// Returns the digests of the leaves of `chunks`, each with its location.
 fn chunk_leaves<D: Digest, H: Hasher<mmr::Family, Digest = D>, const N: usize>(
     alloc: Global,
     hasher: &H,
@@ -123,7 +123,7 @@ pub(super) fn add_chunks<D: Digest, H: Hasher<mmr::Family, Digest = D>, const N:
     Ok(())
 }
 
-/// The root of `bits`, whose complete chunks are the leaves of `tree`.
+/// Returns the root of `bits`, whose complete chunks are the leaves of `tree`.
 pub(super) fn root_of_bits<D: Digest, H: Hasher<mmr::Family, Digest = D>, const N: usize>(
     tree: &Mem<mmr::Family, D>,
     hasher: &H,

@@ -20,7 +20,7 @@ use storage_merkle::merkle::hasher::Hasher;
 use storage_merkle::merkle::{Error, mmr};
 
 impl<D: Digest, const N: usize> BitMap<D, N, Unmerkleized> {
-    /// Appends `bit`. Out of memory changes nothing.
+    /// Appends `bit`. If memory runs out, nothing changes.
     ///
     /// # Errors
     ///
@@ -44,7 +44,8 @@ impl<D: Digest, const N: usize> BitMap<D, N, Unmerkleized> {
         Ok(())
     }
 
-    /// Sets the bit number `bit` among all bits to `value`. It must be there and not be pruned. Out of memory changes nothing.
+    /// Sets the bit number `bit` among all bits to `value`. It must be there and not be pruned. If memory runs out,
+    /// nothing changes.
     ///
     /// # Errors
     ///
@@ -71,8 +72,8 @@ impl<D: Digest, const N: usize> BitMap<D, N, Unmerkleized> {
         Ok(())
     }
 
-    /// The same bits with their root. That only the dirty chunks, the new complete chunks and the nodes over them are hashed,
-    /// each once, is how the code goes, and no clause.
+    /// Returns the same bits with their root. That only the dirty chunks, the new complete chunks and the nodes over
+    /// them are hashed, each once, is how the code goes, and no clause.
     ///
     /// # Errors
     ///
@@ -113,7 +114,7 @@ impl<D: Digest, const N: usize> BitMap<D, N, Unmerkleized> {
     }
 }
 
-/// Marks chunk number `chunk` as dirty if it is one of the tree's `leaves` leaves. Out of memory changes nothing.
+/// Marks chunk number `chunk` as dirty if it is one of the tree's `leaves` leaves. If memory runs out, nothing changes.
 fn mark(dirty: &mut BTreeSet<u64>, chunk: u64, leaves: u64) -> Result<(), NoMemory>
     ensures marked { OnOk result (chunk < leaves
         → dirty.new.keys ≡ insert_key nat_cmp dirty.old.keys chunk) }

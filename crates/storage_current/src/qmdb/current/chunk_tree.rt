@@ -18,8 +18,8 @@ use storage_merkle::merkle::mem::Mem;
 use storage_merkle::merkle::{Graftable, Position};
 use storage_ops::qmdb;
 
-/// The digest of the node of the graftable chunk number `index` of `status` with the chunk grafted, from the node that
-/// `operations` keeps.
+/// Returns the digest of the node of the graftable chunk number `index` of `status` with the chunk grafted, from the
+/// node that `operations` keeps.
 pub(crate) fn graft_at<F: Graftable, H: Hasher, const N: usize>(
     operations: &Mem<F, H::Digest>,
     status: &Prunable<N>,

@@ -26,12 +26,12 @@ pub(crate) struct ChunkCounts {
     pub complete: u64,
     /// How many of these are graftable.
     pub graftable: u64,
-    /// How many bits the chunk after the complete ones has; 0 where there is none.
+    /// How many bits the chunk after the complete ones has; 0 if there is none.
     pub next_bit: u64,
 }
 
 impl ChunkCounts {
-    /// The counts over `leaves` operations, where a chunk is over a node of height `height`.
+    /// Returns the counts over `leaves` operations, if a chunk is over a node of height `height`.
     pub(crate) fn over<F: Family>(leaves: u64, height: u32) -> Self
         requires few { leaves ≤ max_leaves }
         requires low { 1 ≤ height }
@@ -48,21 +48,21 @@ impl ChunkCounts {
         }
     }
 
-    /// Whether there is a pending chunk, a complete one that is not graftable.
+    /// Returns whether there is a pending chunk, a complete one that is not graftable.
     pub(crate) fn has_pending(&self) -> bool
         ensures { result ≡ ltb self.now.graftable self.now.complete }
     {
         self.graftable < self.complete
     }
 
-    /// Whether there is a partial chunk, one after the complete ones.
+    /// Returns whether there is a partial chunk, one after the complete ones.
     pub(crate) fn has_partial(&self) -> bool
         ensures { result ≡ not (eqb self.now.next_bit 0) }
     {
         self.next_bit != 0
     }
 
-    /// The pending chunk of the bits `status`; none where there is none.
+    /// Returns the pending chunk of the bits `status`; none if there is none.
     pub(crate) fn pending<R: Readable<N>, const N: usize>(&self, status: &R) -> Option<[u8; N]>
         requires chunks { IsChunkSize N }
         requires unpruned { (R.retained status.now).pruned ≤ self.now.graftable }
@@ -78,7 +78,7 @@ impl ChunkCounts {
         }
     }
 
-    /// The partial chunk of the bits `status`, filled up with zeros; none where there is none.
+    /// Returns the partial chunk of the bits `status`, filled up with zeros; none if there is none.
     pub(crate) fn partial<R: Readable<N>, const N: usize>(&self, status: &R) -> Option<[u8; N]>
         requires unpruned { (R.retained status.now).pruned ≤ self.now.complete }
         requires within { self.now.complete * (8 * N) + self.now.next_bit
@@ -94,7 +94,7 @@ impl ChunkCounts {
     }
 }
 
-/// The digest of `chunk`; none for none.
+/// Returns the digest of `chunk`; none for none.
 pub(crate) fn chunk_digest<H: Hasher, const N: usize>(chunk: Option<[u8; N]>) -> Option<H::Digest>
     ensures { option_map H.Digest.text result ≡ option_map H.hash_of chunk.entry }
 {

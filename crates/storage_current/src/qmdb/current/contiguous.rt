@@ -40,20 +40,20 @@ pub trait Contiguous {
     /// Whether a read at each location may fail, with each code.
     ghost may_fail: { Self → ℕ → ℕ → Type 0 };
 
-    /// How often a read has failed.
+    /// Returns how often a read has failed.
     fn failures(&self) -> u64
         ensures { result ≡ failed self.now };
 
-    /// The locations that are held: from `start` to before `end`.
+    /// Returns the locations that are held: from `start` to before `end`.
     fn bounds(&self) -> Range<u64>
         ensures start { result.start ≡ first self.now }
         ensures end { result.end ≡ past self.now };
 
-    /// The items at `locations`, which all are held, in their order.
+    /// Returns the items at `locations`, which all are held, in their order.
     ///
     /// # Errors
     ///
-    /// `Fault` where the log failed, with a code that a read of one of `locations` may fail with, just where its count of
+    /// `Fault` if the log failed, with a code that a read of one of `locations` may fail with, exactly if its count of
     /// failures grew, by one; `Memory`.
     fn read_many(&mut self, alloc: Global, locations: &[u64]) -> Result<Vec<Self::Item>, LogError>
         requires count { failed self.old + 1 < 2 ^ 64 }

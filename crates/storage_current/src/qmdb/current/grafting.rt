@@ -31,7 +31,7 @@ pub(crate) use storage_merkle::merkle::family::power;
 pub use tree::GraftedTree;
 pub use verifier::Verifier;
 
-/// The height of the node over the operations of one chunk of `N` bytes: the base-2 logarithm of `8N`.
+/// Returns the height of the node over the operations of one chunk of `N` bytes: the base-2 logarithm of `8N`.
 pub fn height<const N: usize>() -> u32
     requires { IsChunkSize N }
     ensures power { 8 * N ≡ 2 ^ result }
@@ -41,8 +41,8 @@ pub fn height<const N: usize>() -> u32
     3 + N.ilog2()
 }
 
-/// The height of the node over the operations of one chunk of `chunk_size` bytes: the base-2 logarithm of
-/// `8 * chunk_size`; none where `chunk_size` is no power of two up to `2^59`.
+/// Returns the height of the node over the operations of one chunk of `chunk_size` bytes: the base-2 logarithm of `8 *
+/// chunk_size`; none if `chunk_size` is no power of two up to `2^59`.
 pub fn chunk_height(chunk_size: usize) -> Option<u32>
     ensures size { MatchOption result (IsChunkSize chunk_size → ⊥) (λ _. IsChunkSize chunk_size) }
     ensures power { IfSome result (λ g. (8 * chunk_size ≡ 2 ^ g) × (3 ≤ g) × (g ≤ 62)) }
@@ -60,7 +60,7 @@ pub fn chunk_height(chunk_size: usize) -> Option<u32>
     Some(3 + exponent)
 }
 
-/// Whether all `bytes` are zero.
+/// Returns whether all `bytes` are zero.
 pub(crate) fn is_zero(bytes: &[u8]) -> bool
     ensures { result ≡ all_zero bytes.now }
 {
@@ -72,8 +72,8 @@ pub(crate) fn is_zero(bytes: &[u8]) -> bool
     true
 }
 
-/// The digest of a node with `chunk` grafted over it: that of `chunk` and `inner`, the node's own digest, joined;
-/// `inner` where `chunk` is all zero.
+/// Returns the digest of a node with `chunk` grafted over it: that of `chunk` and `inner`, the node's own digest,
+/// joined; `inner` if `chunk` is all zero.
 pub(crate) fn graft<H: Hasher>(chunk: &[u8], inner: H::Digest) -> H::Digest
     ensures { H.Digest.text result ≡ grafted_digest H.hash_of chunk.now (H.Digest.text inner) }
 {
@@ -84,7 +84,7 @@ pub(crate) fn graft<H: Hasher>(chunk: &[u8], inner: H::Digest) -> H::Digest
     }
 }
 
-/// The digest of `left` and `right`, joined.
+/// Returns the digest of `left` and `right`, joined.
 fn hash_both<H: Hasher>(left: &[u8], right: &[u8]) -> H::Digest
     ensures { H.Digest.text result ≡ H.hash_of (left.now ++ right.now) }
 {

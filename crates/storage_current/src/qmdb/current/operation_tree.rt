@@ -34,7 +34,7 @@ impl<F: Graftable, H: Hasher> Model for OperationTree<F, H> {
 }
 
 impl<F: Graftable, H: Hasher> OperationTree<F, H> {
-    /// The tree over no operations. Takes no memory.
+    /// Returns the tree over no operations. Allocates nothing.
     pub fn new(alloc: Global) -> Self
         ensures { IsTreeOver H.hash_of F.shape result [] }
     {
@@ -46,8 +46,8 @@ impl<F: Graftable, H: Hasher> OperationTree<F, H> {
     ///
     /// # Errors
     ///
-    /// `LocationOverflow` of the number of operations where that is `MAX_LEAVES`; `Memory`. After either the tree is
-    /// as it was.
+    /// `LocationOverflow` of the number of operations if that is `MAX_LEAVES`; `Memory`. Either leaves the tree as it
+    /// was.
     pub fn add(&mut self, operation: &[u8]) -> Result<(), Error<F>>
         ensures grown { OnOk result ((operations : List (List ℕ))
             → IsTreeOver H.hash_of F.shape self.old operations
@@ -73,7 +73,7 @@ impl<F: Graftable, H: Hasher> OperationTree<F, H> {
         Ok(())
     }
 
-    /// The tree itself.
+    /// Returns the tree itself.
     pub(crate) fn into_operations(self) -> Mem<F, H::Digest>
         ensures leaves { result.leaves ≡ self.leaves }
         ensures nodes { map H.Digest.text result.nodes ≡ self.nodes }

@@ -60,14 +60,14 @@ pub struct RangeProof<F, D> {
 }
 
 impl<F: Graftable, D: Digest> RangeProof<F, D> {
-    /// The proof of the range of `plan`, from the digests that `get_node` answers for the planned positions: those of the
-    /// grafted view; `status` are the snapshot's bits, `floor` its inactivity floor, `ops_root` its operations root. A
-    /// floor past the plan's leaves counts as these.
+    /// Returns the proof of the range of `plan`, from the digests that `get_node` answers for the planned positions:
+    /// those of the grafted view; `status` are the snapshot's bits, `floor` its inactivity floor, `ops_root` its
+    /// operations root. A floor past the plan's leaves counts as these.
     ///
     /// # Errors
     ///
     /// The first of: `ElementPruned` of the first planned position for which `get_node` answers none; `DataCorrupted`
-    /// where the bits are not as many as the plan's leaves, or a chunk that is not graftable is pruned; `Memory`.
+    /// if the bits are not as many as the plan's leaves, or a chunk that is not graftable is pruned; `Memory`.
     pub fn build<
         H: Hasher<Digest = D>,
         R: Readable<N>,
@@ -117,10 +117,10 @@ impl<F: Graftable, D: Digest> RangeProof<F, D> {
         })
     }
 
-    /// Whether `operations` stand at the locations from `start` on of the snapshot with the canonical root `root`, and
-    /// `chunks`, of `N` bytes each, are the chunks of bits that they touch. The no where there are no operations, they
-    /// pass the proof's leaves, they touch another number of chunks, the leaves are more than any tree has, or `N` is no
-    /// power of two up to `2^59`, takes no memory.
+    /// Returns whether `operations` stand at the locations from `start` on of the snapshot with the canonical root
+    /// `root`, and `chunks`, of `N` bytes each, are the chunks of bits that they touch. The no if there are no
+    /// operations, they pass the proof's leaves, they touch another number of chunks, the leaves are more than any tree
+    /// has, or `N` is no power of two up to `2^59`, allocates nothing.
     pub fn verify<H: Hasher<Digest = D>, O: Write, const N: usize>(
         &self,
         alloc: Global,
@@ -143,8 +143,8 @@ impl<F: Graftable, D: Digest> RangeProof<F, D> {
         self.verify_with_chunk_size::<H, O, [u8; N]>(alloc, start, operations, chunks, N, root)
     }
 
-    /// As [`verify`](Self::verify), for chunks of `chunk_size` bytes, known at run time. The no where a chunk has another
-    /// length takes no memory either, and hashes nothing. The chunks are lent to the hasher, and not copied.
+    /// As [`verify`](Self::verify), for chunks of `chunk_size` bytes, known at run time. The no if a chunk has another
+    /// length allocates nothing either, and hashes nothing. The chunks are lent to the hasher, and not copied.
     pub fn verify_with_chunk_size<H: Hasher<Digest = D>, O: Write, C: Chunk>(
         &self,
         alloc: Global,
@@ -209,8 +209,8 @@ impl<F: Graftable, D: Digest> RangeProof<F, D> {
         }
     }
 
-    /// Where `count` operations from `start` on stand among the chunks of `chunk_size` bytes; none where no chunk may
-    /// have that size, one of `chunks` has another, or the counts of operations, leaves and chunks do not fit.
+    /// Where `count` operations from `start` on stand among the chunks of `chunk_size` bytes; none if no chunk may have
+    /// that size, one of `chunks` has another, or the counts of operations, leaves and chunks do not fit.
     fn window<C: Chunk>(
         &self,
         start: Location<F>,
@@ -233,7 +233,7 @@ impl<F: Graftable, D: Digest> RangeProof<F, D> {
         }
     }
 
-    /// What the check answers of a claim whose counts and lengths fit; `window` is where the claim stands.
+    /// Returns what the check answers of a claim whose counts and lengths fit; `window` is where the claim stands.
     pub(crate) fn verify_in<H: Hasher<Digest = D>, E: AsSlice<u8>, C: Chunk>(
         &self,
         alloc: Global,
@@ -271,7 +271,7 @@ impl<F: Graftable, D: Digest> RangeProof<F, D> {
         Ok(self.canonical::<H>(&grafted_root, window) == *root)
     }
 
-    /// The canonical root that the proof's parts and `grafted_root` give.
+    /// Returns the canonical root that the proof's parts and `grafted_root` give.
     fn canonical<H: Hasher<Digest = D>>(&self, grafted_root: &D, window: &Window) -> D
         ensures { D.text result ≡ H.hash_of (canonical_string (D.text self.now.ops_root)
             (D.text grafted_root.now) (option_map D.text self.now.pending_chunk_digest)
@@ -286,7 +286,7 @@ impl<F: Graftable, D: Digest> RangeProof<F, D> {
         )
     }
 
-    /// A proof equal to this one. `NoMemory` where there is no memory for it.
+    /// Returns a proof equal to this one. `NoMemory` if there is no memory for it.
     pub fn clone(&self) -> Result<Self, NoMemory>
         ensures { IfOk result (λ copy. range_proof_of D.text copy
             ≡ range_proof_of D.text self.now) }
@@ -300,7 +300,7 @@ impl<F: Graftable, D: Digest> RangeProof<F, D> {
     }
 }
 
-/// Whether each of `chunks` has `size` bytes.
+/// Returns whether each of `chunks` has `size` bytes.
 fn are_sized<C: Chunk>(chunks: &[C], size: usize) -> bool
     ensures { IsTrue result ↔ AreDigests size (map C.text chunks.now) }
 {
@@ -312,7 +312,7 @@ fn are_sized<C: Chunk>(chunks: &[C], size: usize) -> bool
     true
 }
 
-/// The bytes of each of `chunks`, lent.
+/// Returns the bytes of each of `chunks`, lent.
 fn lend<'a, C: Chunk>(alloc: Global, chunks: &'a [C]) -> Result<Vec<&'a [u8]>, NoMemory>
     ensures { IfOk result (λ v. map (λ c. c.now) v.items ≡ map C.text chunks.now) }
 {
@@ -323,7 +323,7 @@ fn lend<'a, C: Chunk>(alloc: Global, chunks: &'a [C]) -> Result<Vec<&'a [u8]>, N
     Ok(lent)
 }
 
-/// What each of `operations` is written as.
+/// Returns what each of `operations` is written as.
 fn encoded<O: Write>(alloc: Global, operations: &[O]) -> Result<Vec<Vec<u8>>, NoMemory>
     ensures bytes { IfOk result (λ v. map (λ e. e.items) v.items ≡ map O.text operations.now) }
     ensures count { IfOk result (λ v. length v.items ≡ length operations.now) }

@@ -14,8 +14,8 @@ use std::marker::Model;
 use storage_merkle::merkle::{self, Graftable, Location};
 use storage_ops::qmdb::Error;
 
-/// The indices of the chunks that are read to make a proof, increasing and each once: at most three. It ends, and takes no
-/// memory.
+/// The indices of the chunks that are read to make a proof, increasing and each once: at most three. It ends, and
+/// allocates nothing.
 #[derive(Drop)]
 pub struct RequiredChunks {
     queried: Option<u64>,
@@ -52,15 +52,15 @@ impl Iterator for RequiredChunks {
 
 impl FusedIterator for RequiredChunks {}
 
-/// The chunks of `N` bytes that are read to make a proof, in a snapshot of `ops_leaves` operations and `bitmap_len` bits
-/// of which `pruned_chunks` chunks are pruned: the partial chunk, the pending chunk, and for the proof of the operation at
-/// `location` the chunk of its bit. Takes no memory.
+/// Returns the chunks of `N` bytes that are read to make a proof, in a snapshot of `ops_leaves` operations and
+/// `bitmap_len` bits of which `pruned_chunks` chunks are pruned: the partial chunk, the pending chunk, and for the
+/// proof of the operation at `location` the chunk of its bit. Allocates nothing.
 ///
 /// # Errors
 ///
-/// The first of: `DataCorrupted` where more than one complete chunk is not graftable, or one that is not graftable is
-/// pruned; `RangeOutOfBounds(location)` where it is at or past `ops_leaves` or `bitmap_len`; `OperationPruned(location)`
-/// where its chunk is pruned.
+/// The first of: `DataCorrupted` if more than one complete chunk is not graftable, or one that is not graftable is
+/// pruned; `RangeOutOfBounds(location)` if it is at or past `ops_leaves` or `bitmap_len`; `OperationPruned(location)`
+/// if its chunk is pruned.
 pub fn required_chunks<F: Graftable, const N: usize>(
     ops_leaves: Location<F>,
     bitmap_len: u64,

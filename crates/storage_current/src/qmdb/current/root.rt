@@ -11,9 +11,9 @@ ghost use Rattle.storage_current.specs.Snapshots.{canonical_string, slot};
 
 use storage_codec::digest::{Digest, Hasher};
 
-/// The canonical root: the digest of the digests `ops_root`, `grafted_root`, `pending` where there is one, and where
+/// Returns the canonical root: the digest of the digests `ops_root`, `grafted_root`, `pending` if there is one, and if
 /// there is a `partial`, of `next_bit`, how many bits the partial chunk has, in eight bytes, highest first, and that
-/// digest. Takes no memory.
+/// digest. Allocates nothing.
 #[tactic(auto, unfolding(storage_merkle::specs::Calc::be8))]
 pub(crate) fn canonical_root<H: Hasher>(
     ops_root: &H::Digest,
@@ -42,8 +42,8 @@ pub(crate) fn canonical_root<H: Hasher>(
     }
 }
 
-/// The digest of the string of a canonical root: of `ops_root`, `grafted_root`, `pending`, `count` and `partial`,
-/// joined; what is not there has no bytes.
+/// Returns the digest of the string of a canonical root: of `ops_root`, `grafted_root`, `pending`, `count` and
+/// `partial`, joined; what is not there has no bytes.
 fn hash_parts<H: Hasher>(
     ops_root: &[u8],
     grafted_root: &[u8],
@@ -57,7 +57,7 @@ fn hash_parts<H: Hasher>(
     H::hash(&[ops_root, grafted_root, pending, count, partial])
 }
 
-/// The bytes of `digest`; no bytes for none.
+/// Returns the bytes of `digest`; no bytes for none.
 fn slot_bytes<D: Digest>(digest: &Option<D>) -> &[u8]
     ensures { result.now ≡ slot (option_map D.text digest.now) }
 {

@@ -28,8 +28,9 @@ pub(crate) struct Roots<F, D> {
 }
 
 impl<F: Graftable, D: Digest> Roots<F, D> {
-    /// The roots of the snapshot that `operations` and `chunks` are kept of, with the bits `status` and the floor `floor`.
-    /// Hashes no node, but the foldings of the peaks and the chunks under no node of their own. Takes no memory.
+    /// Returns the roots of the snapshot that `operations` and `chunks` are kept of, with the bits `status` and the
+    /// floor `floor`. Hashes no node, but the foldings of the peaks and the chunks under no node of their own.
+    /// Allocates nothing.
     pub(crate) fn over<H: Hasher<Digest = D>, const N: usize>(
         operations: &Mem<F, D>,
         chunks: &Mem<F, D>,

@@ -64,13 +64,14 @@ impl<F: Graftable, H: Hasher, const N: usize> Model for Snapshot<F, H, N> {
 }
 
 impl<F: Graftable, H: Hasher, const N: usize> Snapshot<F, H, N> {
-    /// The snapshot of `operations`, byte strings, with a bit of `bits` for each, and the inactivity floor `floor`.
+    /// Returns the snapshot of `operations`, byte strings, with a bit of `bits` for each, and the inactivity floor
+    /// `floor`.
     ///
     /// # Errors
     ///
-    /// The first of: `DataCorrupted` where there are not as many bits as operations, or bits are pruned;
-    /// `RangeOutOfBounds(floor)` where `floor` is greater than the number of operations; `LocationOverflow` of that
-    /// number where it is past `MAX_LEAVES`; `Memory`.
+    /// The first of: `DataCorrupted` if there are not as many bits as operations, or bits are pruned;
+    /// `RangeOutOfBounds(floor)` if `floor` is greater than the number of operations; `LocationOverflow` of that number
+    /// if it is past `MAX_LEAVES`; `Memory`.
     pub fn new<E: AsSlice<u8>>(
         alloc: Global,
         operations: &[E],
@@ -102,8 +103,8 @@ impl<F: Graftable, H: Hasher, const N: usize> Snapshot<F, H, N> {
         Snapshot::of_tree(alloc, tree, bits, floor)
     }
 
-    /// The snapshot of the operations that `tree` is over, with a bit of `bits` for each, and the inactivity floor
-    /// `floor`.
+    /// Returns the snapshot of the operations that `tree` is over, with a bit of `bits` for each, and the inactivity
+    /// floor `floor`.
     ///
     /// # Errors
     ///
@@ -136,7 +137,7 @@ impl<F: Graftable, H: Hasher, const N: usize> Snapshot<F, H, N> {
         }
     }
 
-    /// The snapshot of the operations that `operations` is over, with the bits `bits` and the floor `floor`.
+    /// Returns the snapshot of the operations that `operations` is over, with the bits `bits` and the floor `floor`.
     fn over(
         alloc: Global,
         operations: Mem<F, H::Digest>,
@@ -173,7 +174,7 @@ impl<F: Graftable, H: Hasher, const N: usize> Snapshot<F, H, N> {
         })
     }
 
-    /// The canonical root. Takes no memory.
+    /// Returns the canonical root. Allocates nothing.
     pub fn root(&self) -> H::Digest
         ensures value { H.Digest.text result ≡ self.now.root }
         ensures stands { (s : SnapshotOf) → StandsForSnapshot H.hash_of
@@ -183,7 +184,7 @@ impl<F: Graftable, H: Hasher, const N: usize> Snapshot<F, H, N> {
         self.root
     }
 
-    /// The root of the tree over the operations alone. Takes no memory.
+    /// Returns the root of the tree over the operations alone. Allocates nothing.
     pub fn ops_root(&self) -> H::Digest
         ensures value { H.Digest.text result ≡ self.now.ops_root }
         ensures stands { (s : SnapshotOf) → StandsForSnapshot H.hash_of
@@ -193,7 +194,7 @@ impl<F: Graftable, H: Hasher, const N: usize> Snapshot<F, H, N> {
         self.ops_root
     }
 
-    /// The witness that the operations root is that of the snapshot with the canonical root. Takes no memory.
+    /// Returns the witness that the operations root is that of the snapshot with the canonical root. Allocates nothing.
     pub fn witness(&self) -> OpsRootWitness<F, H::Digest>
         ensures value { witness_of H.Digest.text result ≡ self.now.witness }
         ensures stands { (s : SnapshotOf) → StandsForSnapshot H.hash_of
@@ -203,7 +204,7 @@ impl<F: Graftable, H: Hasher, const N: usize> Snapshot<F, H, N> {
         self.witness.copied()
     }
 
-    /// The digest that the grafted view has at `position`; none past its nodes. Takes no memory.
+    /// Returns the digest that the grafted view has at `position`; none past its nodes. Allocates nothing.
     pub fn get_node(&self, position: Position<F>) -> Option<H::Digest>
         ensures value { option_map H.Digest.text result ≡ slice_get self.now.nodes position }
         ensures there { (s : SnapshotOf) → StandsForSnapshot H.hash_of
@@ -223,7 +224,7 @@ impl<F: Graftable, H: Hasher, const N: usize> Snapshot<F, H, N> {
         view_digest::<F, H>(operations, chunks, grafting::height::<N>(), position)
     }
 
-    /// The activity bits. Takes no memory.
+    /// Returns the activity bits. Allocates nothing.
     pub fn status(&self) -> &Prunable<N>
         ensures { result.now ≡ self.now.status }
     {
@@ -231,7 +232,7 @@ impl<F: Graftable, H: Hasher, const N: usize> Snapshot<F, H, N> {
     }
 }
 
-/// Why `leaves` operations with the bits `bits` and the floor `floor` are no snapshot; none where they are one.
+/// Returns why `leaves` operations with the bits `bits` and the floor `floor` are no snapshot; none if they are one.
 fn refusal<F: Graftable, const N: usize>(
     leaves: u64,
     bits: &Prunable<N>,

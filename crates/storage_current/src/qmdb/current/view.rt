@@ -13,8 +13,9 @@ use storage_merkle::merkle::mem::Mem;
 use storage_merkle::merkle::{Graftable, Position};
 use storage_ops::qmdb;
 
-/// The digest that the view has at `position`: below the height `height` of chunks the one that `operations` keeps, else the
-/// one that `chunks` keeps of the node over the same operations; none past the nodes of `operations`. Takes no memory.
+/// Returns the digest that the view has at `position`: below the height `height` of chunks the one that `operations`
+/// keeps, else the one that `chunks` keeps of the node over the same operations; none past the nodes of `operations`.
+/// Allocates nothing.
 pub(crate) fn view_digest<F: Graftable, H: Hasher>(
     operations: &Mem<F, H::Digest>,
     chunks: &Mem<F, H::Digest>,
@@ -34,7 +35,7 @@ pub(crate) fn view_digest<F: Graftable, H: Hasher>(
     chunks.get_node(Position::new(F::position(first >> height, own - height)))
 }
 
-/// The root of the view, with the first `inactive` peaks inactive, folded backwards. Takes no memory.
+/// Returns the root of the view, with the first `inactive` peaks inactive, folded backwards. Allocates nothing.
 pub(crate) fn view_root<F: Graftable, H: Hasher>(
     operations: &Mem<F, H::Digest>,
     chunks: &Mem<F, H::Digest>,
@@ -61,7 +62,8 @@ pub(crate) fn view_root<F: Graftable, H: Hasher>(
     qmdb::hasher::<H>().root(leaves, inactive, &peaks[..count])
 }
 
-/// The digests that the view has of its peaks, in leaf order, in front of an array of 64, and how many they are.
+/// Returns the digests that the view has of its peaks, in leaf order, in front of an array of 64, and how many they
+/// are.
 fn view_peaks<F: Graftable, H: Hasher>(
     operations: &Mem<F, H::Digest>,
     chunks: &Mem<F, H::Digest>,

@@ -66,7 +66,7 @@ impl<F: Family, D: Digest> Storage<F> for Mem<F, D> {
     }
 }
 
-/// The digests at `positions`, in their order, as [`look_up`] finds them.
+/// Returns the digests at `positions`, in their order, as [`look_up`] finds them.
 ///
 /// # Errors
 ///

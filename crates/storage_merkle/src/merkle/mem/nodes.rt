@@ -18,7 +18,7 @@ use crate::merkle::{Family, Location, Position};
 use std::alloc::AllocError;
 use storage_codec::digest::Digest;
 
-/// Lends the digest at `position`, where it is kept: in `pinned` those of the peaks over the leaves below `boundary`, in
+/// Lends the digest at `position`, if it is kept: in `pinned` those of the peaks over the leaves below `boundary`, in
 /// `nodes` those of the nodes from that leaf's position on.
 pub(crate) fn node_at_position<'a, F: Family, D: Digest>(
     boundary: u64,
@@ -46,7 +46,7 @@ pub(crate) fn node_at_position<'a, F: Family, D: Digest>(
     None
 }
 
-/// The digest that [`node_at_position`] lends.
+/// Returns the digest that [`node_at_position`] lends.
 pub(crate) fn look_up<F: Family, D: Digest>(
     boundary: u64,
     pinned: &[D],
@@ -60,7 +60,8 @@ pub(crate) fn look_up<F: Family, D: Digest>(
     node_at_position::<F, D>(boundary, pinned, nodes, position).copied()
 }
 
-/// The digest of the `offset`-th node, from 0, of those that are added with leaf number `leaves`, whose digest is `leaf`.
+/// Returns the digest of the `offset`-th node, from 0, of those that are added with leaf number `leaves`, whose digest
+/// is `leaf`.
 // in place, as the digest function is, so that they are compiled for parts of known lengths
 #[inline(always)]
 pub(crate) fn digest_of_new_node<F: Family, H: Hasher<F>>(
@@ -109,8 +110,8 @@ pub(crate) fn digest_of_new_node<F: Family, H: Hasher<F>>(
     hasher.node_digest(position, left, right)
 }
 
-/// Appends to `nodes` the digests of the nodes that are added with leaf number `leaves`, whose digest is `leaf`. Out of
-/// memory changes nothing.
+/// Appends to `nodes` the digests of the nodes that are added with leaf number `leaves`, whose digest is `leaf`. If
+/// memory runs out, nothing changes.
 #[inline(always)]
 pub(crate) fn grow<F: Family, H: Hasher<F>>(
     hasher: &H,
@@ -151,7 +152,8 @@ pub(crate) fn grow<F: Family, H: Hasher<F>>(
     Ok(())
 }
 
-/// The digest of the node of height `height`, at least 1, over the leaf `place`, from the digests of its children.
+/// Returns the digest of the node of height `height`, at least 1, over the leaf `place`, from the digests of its
+/// children.
 pub(crate) fn parent_digest<F: Family, H: Hasher<F>>(
     hasher: &H,
     leaves: u64,
@@ -195,7 +197,7 @@ pub(crate) fn parent_digest<F: Family, H: Hasher<F>>(
     hasher.node_digest(Position::new(position), left, right)
 }
 
-/// Whether there is a leaf `next`, and it is under the node of height `height` over the leaf `first`.
+/// Returns whether there is a leaf `next`, and it is under the node of height `height` over the leaf `first`.
 pub(crate) fn is_below(next: Option<u64>, first: u64, height: u32) -> bool
     requires { height ≤ 63 }
     ensures { IsTrue result ↔ Reaches next first height }
@@ -245,7 +247,7 @@ pub(crate) fn write_leaf<F: Family, H: Hasher<F>>(
     }
 }
 
-/// The leaf of the first of `updates`; none where there are none.
+/// Returns the leaf of the first of `updates`; none if there are none.
 fn first_place<F: Family, D: Digest>(updates: &[(Location<F>, D)]) -> Option<u64>
     ensures next { IsNext result (map (λ u. u.0) updates.now) }
     ensures first { result ≡ slice_get (map (λ u. u.0) updates.now) 0 }
@@ -287,7 +289,8 @@ pub(crate) fn write_leaves<F: Family, H: Hasher<F>>(
     }
 }
 
-/// The digests of the peaks of the tree over `leaves` leaves, in front of an array of 64, and how many they are.
+/// Returns the digests of the peaks of the tree over `leaves` leaves, in front of an array of 64, and how many they
+/// are.
 pub(crate) fn peaks_over<F: Family, D: Digest>(
     boundary: u64,
     pinned: &[D],

@@ -15,15 +15,15 @@ use std::ops::Range;
 use storage_codec::digest::Digest;
 
 impl<F: Family, D: Digest> Mem<F, D> {
-    /// The tree's own proof of the leaves of `range`, with the first `inactive` peaks inactive. Memory comes from the
-    /// tree's own allocator.
+    /// Returns the tree's own proof of the leaves of `range`, with the first `inactive` peaks inactive. Memory comes
+    /// from the tree's own allocator.
     ///
     /// # Errors
     ///
     /// The first of: `LocationOverflow`, `Empty` and `RangeOutOfBounds` as
-    /// [`RangePlan::new`](crate::merkle::RangePlan::new) answers them; `InvalidProof` where `inactive` is greater than the
-    /// number of peaks; `ElementPruned` of the first position that is needed and not kept, which comes for no range that
-    /// begins at the boundary or past it; `Memory`.
+    /// [`RangePlan::new`](crate::merkle::RangePlan::new) answers them; `InvalidProof` if `inactive` is greater than the
+    /// number of peaks; `ElementPruned` of the first position that is needed and not kept, which comes for no range
+    /// that begins at the boundary or past it; `Memory`.
     pub fn range_proof<H: Hasher<F, Digest = D>>(
         &self,
         hasher: &H,
@@ -49,7 +49,8 @@ impl<F: Family, D: Digest> Mem<F, D> {
         })
     }
 
-    /// The proof that [`range_proof`](Self::range_proof) answers, where `get_node` answers the digests that are kept.
+    /// Returns the proof that [`range_proof`](Self::range_proof) answers, where `get_node` answers the digests that are
+    /// kept.
     fn proof_by<H: Hasher<F, Digest = D>, G: Fn(Position<F>) -> Option<D>>(
         &self,
         hasher: &H,

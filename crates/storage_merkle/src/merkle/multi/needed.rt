@@ -17,7 +17,7 @@ pub(crate) trait Located {
     /// The number of its location.
     ghost place: { Self → ℕ };
 
-    /// The number of its location.
+    /// Returns the number of its location.
     fn location(&self) -> u64
         ensures { result ≡ place self.now };
 }
@@ -38,7 +38,7 @@ impl<E, F: Family> Located for (E, Location<F>) {
     }
 }
 
-/// Whether the locations of `items` ascend, each once, and are all below `leaves`.
+/// Returns whether the locations of `items` ascend, each once, and are all below `leaves`.
 pub(crate) fn ascend<L: Located>(items: &[L], leaves: u64) -> bool
     ensures { IsTrue result ↔ Ascend 0 leaves (map L.place items.now) }
 {
@@ -53,7 +53,7 @@ pub(crate) fn ascend<L: Located>(items: &[L], leaves: u64) -> bool
     true
 }
 
-/// The `items`, whose locations ascend, cut in two: those below the location `middle`, and the others.
+/// Returns the `items`, whose locations ascend, cut in two: those below the location `middle`, and the others.
 pub(crate) fn split<L: Located>(items: &[L], middle: u64) -> (&[L], &[L])
     ensures whole { items.now ≡ result.0.now ++ result.1.now }
     ensures parts { (first end : ℕ) → Ascend first end (map L.place items.now)
@@ -64,8 +64,8 @@ pub(crate) fn split<L: Located>(items: &[L], middle: u64) -> (&[L], &[L])
     items.split_at(items.partition_point(|item| item.location() < middle))
 }
 
-/// The positions of the greatest nodes of the tree over `leaves` leaves that hold none of the locations of `items`,
-/// which ascend; in ascending order.
+/// Returns the positions of the greatest nodes of the tree over `leaves` leaves that hold none of the locations of
+/// `items`, which ascend; in ascending order.
 pub(crate) fn needed<F: Family, L: Located>(
     alloc: Global,
     leaves: u64,

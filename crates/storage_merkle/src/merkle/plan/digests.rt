@@ -29,7 +29,7 @@ pub(crate) struct Nodes<'a, F, D> {
 }
 
 impl<F: Family, D: Digest> Nodes<'_, F, D> {
-    /// The digest of the planned node at `position`.
+    /// Returns the digest of the planned node at `position`.
     fn digest(&self, position: Position<F>) -> D
         requires order { AreInOrder self.now.positions.now self.now.digests.now }
         requires among { IsAmong self.now.positions.now position }
@@ -41,7 +41,7 @@ impl<F: Family, D: Digest> Nodes<'_, F, D> {
         }
     }
 
-    /// The digest of the planned node of height `height` over the leaf `first`.
+    /// Returns the digest of the planned node of height `height` over the leaf `first`.
     fn node(&self, first: u64, height: u32) -> D
         requires order { AreInOrder self.now.positions.now self.now.digests.now }
         requires aligned { first % 2 ^ height ≡ 0 }
@@ -66,8 +66,8 @@ impl<F: Family, D: Digest> Nodes<'_, F, D> {
         Ok(())
     }
 
-    /// Those of `peaks` that lead, are folded from the left and end at or before `start`, folded from the left; none for
-    /// no peaks.
+    /// Returns those of `peaks` that lead, are folded from the left and end at or before `start`, folded from the left;
+    /// none for no peaks.
     pub fn fold_leading<H: Hasher<F, Digest = D>>(
         &self,
         hasher: &H,
@@ -119,7 +119,7 @@ impl<F: Family, D: Digest> Nodes<'_, F, D> {
         Ok(())
     }
 
-    /// The digest of `top`, where that is a peak or some peaks.
+    /// Returns the digest of `top`, if that is a peak or some peaks.
     fn top<H: Hasher<F, Digest = D>>(&self, hasher: &H, top: Top) -> Option<D>
         requires order { AreInOrder self.now.positions.now self.now.digests.now }
         requires placed { IsPlacedTop F.shape top }
@@ -134,8 +134,8 @@ impl<F: Family, D: Digest> Nodes<'_, F, D> {
         }
     }
 
-    /// The peaks over the last `left` leaves of a tree, from the leaf `first` on, folded from the right; none for no
-    /// peaks.
+    /// Returns the peaks over the last `left` leaves of a tree, from the leaf `first` on, folded from the right; none
+    /// for no peaks.
     fn fold_back<H: Hasher<F, Digest = D>>(&self, hasher: &H, first: u64, left: u64) -> Option<D>
         requires order { AreInOrder self.now.positions.now self.now.digests.now }
         requires few { first + left ≤ max_leaves }
@@ -157,7 +157,7 @@ impl<F: Family, D: Digest> Nodes<'_, F, D> {
     }
 }
 
-/// Adds `digest` to `digests`, where it is not none.
+/// Adds `digest` to `digests`, if it is not none.
 pub(crate) fn push_some<D: Digest>(
     digests: &mut Vec<D>,
     digest: Option<D>,

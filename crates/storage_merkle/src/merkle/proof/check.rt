@@ -30,9 +30,9 @@ use std::convert::AsSlice;
 use storage_codec::NoMemory;
 use storage_codec::digest::Digest;
 
-/// The root that `proof` gives where `elements` stand at the leaves from `start` on; none where a count does not fit
-/// or there are no elements. The digests that it reads or computes in the peaks over these leaves are added to
-/// `found`, where they are to be kept.
+/// Returns the root that `proof` gives where `elements` stand at the leaves from `start` on; none if a count does not
+/// fit or there are no elements. The digests that it reads or computes in the peaks over these leaves are added to
+/// `found`, if they are to be kept.
 pub(crate) fn recompute<F: Family, H: Hasher<F>, E: AsSlice<u8>>(
     proof: &LentProof<F, H::Digest>,
     alloc: Global,
@@ -90,7 +90,7 @@ pub(crate) fn recompute<F: Family, H: Hasher<F>, E: AsSlice<u8>>(
     Ok(Some(bagged_root(hasher, leaves, proof.inactive_peaks, bag)))
 }
 
-/// How many digests a proof has for the peaks `rest` apart from the leaves from `start` to before `end`.
+/// Returns how many digests a proof has for the peaks `rest` apart from the leaves from `start` to before `end`.
 fn count_apart<F: Family>(rest: Rest, start: u64, end: u64) -> usize
     requires few { rest.first + rest.left ≤ max_leaves }
     requires peaks { AreAligned (F.shape.peaks rest.left) rest.first }
@@ -120,8 +120,8 @@ struct Given<'a, F, D, E> {
 }
 
 impl<F: Family, D: Digest, E: AsSlice<u8>> Given<'_, F, D, E> {
-    /// What all peaks are folded into, none for no peaks, from `rest`, the peaks after the leading ones that are
-    /// folded from the left and end before the range, and `tops`, the digests of the peaks and folds apart from the
+    /// Returns what all peaks are folded into, none for no peaks, from `rest`, the peaks after the leading ones that
+    /// are folded from the left and end before the range, and `tops`, the digests of the peaks and folds apart from the
     /// range.
     fn bag<H: Hasher<F, Digest = D>>(
         &self,
@@ -174,8 +174,8 @@ impl<F: Family, D: Digest, E: AsSlice<u8>> Given<'_, F, D, E> {
         }
     }
 
-    /// What the peaks `rest` are folded into from the right, none for no peaks; `tops` has the digests of those apart
-    /// from the range and of their fold.
+    /// Returns what the peaks `rest` are folded into from the right, none for no peaks; `tops` has the digests of those
+    /// apart from the range and of their fold.
     fn fold_right<H: Hasher<F, Digest = D>>(
         &self,
         hasher: &H,
@@ -218,8 +218,8 @@ impl<F: Family, D: Digest, E: AsSlice<u8>> Given<'_, F, D, E> {
         Ok(Some(join(hasher, &item, onto)))
     }
 
-    /// The digest of the peak of height `height` over the leaf `first`, which is the first of `tops` where the peak
-    /// is apart from the range; and the rest of `tops`.
+    /// Returns the digest of the peak of height `height` over the leaf `first`, which is the first of `tops` if the
+    /// peak is apart from the range; and the rest of `tops`.
     fn item<'t, H: Hasher<F, Digest = D>>(
         &self,
         hasher: &H,
@@ -260,7 +260,8 @@ impl<F: Family, D: Digest, E: AsSlice<u8>> Given<'_, F, D, E> {
         }
     }
 
-    /// The digest of the node of height `height` over the leaf `first`, from the elements and the siblings' digests.
+    /// Returns the digest of the node of height `height` over the leaf `first`, from the elements and the siblings'
+    /// digests.
     fn node<H: Hasher<F, Digest = D>>(
         &self,
         hasher: &H,
@@ -302,7 +303,7 @@ impl<F: Family, D: Digest, E: AsSlice<u8>> Given<'_, F, D, E> {
         keep(found, first, height, digest)
     }
 
-    /// The digest of the sibling at `position`.
+    /// Returns the digest of the sibling at `position`.
     fn sibling(&self, position: Position<F>) -> D
         requires given { IsGiven self.now.leaves self.now.start self.now.end self.now.elements.now
             self.now.siblings.now self.now.digests.now }

@@ -51,7 +51,7 @@ impl<F, D: Digest> EncodeSize for Proof<F, D> {
     }
 }
 
-/// How many bytes `count` digests take; none where that is no `u64`.
+/// Returns how many bytes `count` digests take; none if that is no `u64`.
 fn digests_size<D: Digest>(count: u64) -> Option<u64>
     ensures { result ≡ size_of (count * D.size) }
 {

@@ -20,13 +20,13 @@ use storage_codec::NoMemory;
 use storage_codec::digest::Digest;
 
 impl<F: Family, D: Digest> Proof<F, D> {
-    /// Each digest that the check of `elements` at the leaves from `start` on reads or computes in a peak over one of
-    /// them, as (position, digest): of the siblings, of these leaves, of the nodes above them and of the peaks. They
-    /// ascend by position, each once. For no elements there are none.
+    /// Returns each digest that the check of `elements` at the leaves from `start` on reads or computes in a peak over
+    /// one of them, as (position, digest): of the siblings, of these leaves, of the nodes above them and of the peaks.
+    /// They ascend by position, each once. For no elements there are none.
     ///
     /// # Errors
     ///
-    /// `InvalidProof` where a count does not fit; `RootMismatch` where another root than `root` comes out; `Memory`.
+    /// `InvalidProof` if a count does not fit; `RootMismatch` if another root than `root` comes out; `Memory`.
     pub fn verify_range_inclusion_and_extract_digests<H: Hasher<F, Digest = D>, E: AsSlice<u8>>(
         &self,
         alloc: Global,
@@ -65,9 +65,9 @@ impl<F: Family, D: Digest> Proof<F, D> {
         Ok(digests)
     }
 
-    /// The root of the tree in which `elements` stand at the leaves from `start` on, and each digest that is read or
-    /// computed on the way in the peaks over one of them, as (position, digest), ascending by position; none where a
-    /// count does not fit or there are no elements.
+    /// Returns the root of the tree in which `elements` stand at the leaves from `start` on, and each digest that is
+    /// read or computed on the way in the peaks over one of them, as (position, digest), ascending by position; none if
+    /// a count does not fit or there are no elements.
     pub fn recompute_digests<H: Hasher<F, Digest = D>, E: AsSlice<u8>>(
         &self,
         alloc: Global,
@@ -93,12 +93,12 @@ impl<F: Family, D: Digest> Proof<F, D> {
         Ok(Some((root, digests)))
     }
 
-    /// Whether it is the proof of no elements of the tree without leaves, `start` is 0, and `root` is that tree's root.
-    /// Takes no memory.
+    /// Returns whether it is the proof of no elements of the tree without leaves, `start` is 0, and `root` is that
+    /// tree's root. Allocates nothing.
     ///
     /// # Errors
     ///
-    /// `InvalidProof` where it is not that proof or `start` is not 0; `RootMismatch` where that tree has another root.
+    /// `InvalidProof` if it is not that proof or `start` is not 0; `RootMismatch` if that tree has another root.
     pub(crate) fn extract_nothing<H: Hasher<F, Digest = D>>(
         &self,
         hasher: &H,

@@ -10,11 +10,11 @@ use crate::merkle::{Family, Position};
 use std::alloc::AllocError;
 use storage_codec::digest::Digest;
 
-/// The digests that a check has come upon, as (position, digest); none where they are not to be kept.
+/// The digests that a check has come upon, as (position, digest); none if they are not to be kept.
 pub(crate) type Found<F, D> = Option<Vec<(Position<F>, D)>>;
 
-/// `digest`, which is added to `found` with the position of its node, that of height `height` over the leaf `first`,
-/// where digests are to be kept.
+/// Returns `digest`, which is added to `found` with the position of its node, that of height `height` over the leaf
+/// `first`, where digests are to be kept.
 pub(crate) fn keep<F: Family, D: Digest>(
     found: &mut Found<F, D>,
     first: u64,

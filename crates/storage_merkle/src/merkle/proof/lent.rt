@@ -27,8 +27,8 @@ pub struct LentProof<'a, F, D> {
 }
 
 impl<F: Family, D: Digest> LentProof<'_, F, D> {
-    /// The root of the tree in which `elements` stand at the leaves from `start` on; none where a count does not fit or
-    /// there are no elements.
+    /// Returns the root of the tree in which `elements` stand at the leaves from `start` on; none if a count does not
+    /// fit or there are no elements.
     pub fn recompute_root<H: Hasher<F, Digest = D>, E: AsSlice<u8>>(
         &self,
         alloc: Global,

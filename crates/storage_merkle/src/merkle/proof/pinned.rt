@@ -29,8 +29,9 @@ use storage_codec::NoMemory;
 use storage_codec::digest::Digest;
 
 impl<F: Family, D: Digest> Proof<F, D> {
-    /// Whether `elements` stand at the leaves from `start` on of the tree with the root `root`, and `pinned` are the
-    /// digests of the peaks over the leaves before `start`, in leaf order. The answer for no elements takes no memory.
+    /// Returns whether `elements` stand at the leaves from `start` on of the tree with the root `root`, and `pinned`
+    /// are the digests of the peaks over the leaves before `start`, in leaf order. The answer for no elements allocates
+    /// nothing.
     pub fn verify_proof_and_pinned_nodes<H: Hasher<F, Digest = D>, E: AsSlice<u8>>(
         &self,
         alloc: Global,
@@ -61,8 +62,8 @@ impl<F: Family, D: Digest> Proof<F, D> {
         self.agrees_with(alloc, hasher, elements.len(), start, pinned)
     }
 
-    /// Whether the digests that the proof of `count` elements from `start` on has for the leaves before `start` are those
-    /// that the digests `pinned` give.
+    /// Returns whether the digests that the proof of `count` elements from `start` on has for the leaves before `start`
+    /// are those that the digests `pinned` give.
     fn agrees_with<H: Hasher<F, Digest = D>>(
         &self,
         alloc: Global,
@@ -109,8 +110,8 @@ impl<F: Family, D: Digest> Proof<F, D> {
     }
 }
 
-/// The digests after the first one, which must be `fold`, or all of them where that is none; none where the first one is
-/// another digest or missing.
+/// Returns the digests after the first one, which must be `fold`, or all of them if that is none; none if the first one
+/// is another digest or missing.
 fn after_fold<D: Digest>(fold: Option<D>, digests: &[D]) -> Option<&[D]>
     ensures { MatchOption result ((ds : List (List ℕ))
         → map D.text digests.now ≢ as_list (option_map D.text fold) ++ ds) (λ later.
@@ -133,8 +134,8 @@ struct Pinned<'a, D> {
 }
 
 impl<D: Digest> Pinned<'_, D> {
-    /// Those of `peaks`, of the tree of the proof, that lead, are folded from the left and end before the start, folded
-    /// from the left; none for no peaks.
+    /// Returns those of `peaks`, of the tree of the proof, that lead, are folded from the left and end before the
+    /// start, folded from the left; none for no peaks.
     fn fold_leading<F: Family, H: Hasher<F, Digest = D>>(
         &self,
         hasher: &H,
@@ -155,8 +156,8 @@ impl<D: Digest> Pinned<'_, D> {
         folded
     }
 
-    /// Whether those of `digests`, which are of the peaks `rest` and folds apart from the range, that are of peaks ending
-    /// at or before the start are as the pinned digests give them.
+    /// Returns whether those of `digests`, which are of the peaks `rest` and folds apart from the range, that are of
+    /// peaks ending at or before the start are as the pinned digests give them.
     fn peaks_match<F: Family, H: Hasher<F, Digest = D>>(
         &self,
         hasher: &H,
@@ -189,8 +190,8 @@ impl<D: Digest> Pinned<'_, D> {
             && self.peaks_match(hasher, rest.next(height), later)
     }
 
-    /// Whether those of `digests`, which are of the siblings at `positions`, that are of leaves before the start are as
-    /// the pinned digests give them.
+    /// Returns whether those of `digests`, which are of the siblings at `positions`, that are of leaves before the
+    /// start are as the pinned digests give them.
     fn siblings_match<F: Family, H: Hasher<F, Digest = D>>(
         &self,
         hasher: &H,
@@ -216,8 +217,8 @@ impl<D: Digest> Pinned<'_, D> {
         true
     }
 
-    /// The digest of the node of height `height` over the leaf `first`, all before the start, from the pinned ones. No
-    /// element is hashed: a leaf that is not pinned counts as the digest of nothing.
+    /// Returns the digest of the node of height `height` over the leaf `first`, all before the start, from the pinned
+    /// ones. No element is hashed: a leaf that is not pinned counts as the digest of nothing.
     fn node<F: Family, H: Hasher<F, Digest = D>>(&self, hasher: &H, first: u64, height: u32) -> D
         requires pinned { ArePinned F.shape self.now.leaves self.now.start self.now.digests.now }
         requires takes { TakesTree (H.takes hasher.now) F.shape self.now.leaves }
@@ -237,8 +238,8 @@ impl<D: Digest> Pinned<'_, D> {
         hasher.node_digest(node_position(first, height), &left, &right)
     }
 
-    /// The pinned digest of the node of height `height` over the leaf `first`; none where it is no peak over the leaves
-    /// before the start.
+    /// Returns the pinned digest of the node of height `height` over the leaf `first`; none if it is no peak over the
+    /// leaves before the start.
     fn pinned<F: Family>(&self, first: u64, height: u32) -> Option<D>
         requires { ArePinned F.shape self.now.leaves self.now.start self.now.digests.now }
         ensures { MatchOption result (is_pinned F.shape self.now.start first height ≡ false) (λ d.

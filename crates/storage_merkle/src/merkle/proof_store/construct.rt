@@ -23,12 +23,12 @@ use std::convert::AsSlice;
 use storage_codec::digest::Digest;
 
 impl<F: Family, D: Digest> ProofStore<F, D> {
-    /// The store of `proof`, whose check says that `elements` stand at the leaves from `start` on of the tree with the
-    /// root `root`.
+    /// Returns the store of `proof`, whose check says that `elements` stand at the leaves from `start` on of the tree
+    /// with the root `root`.
     ///
     /// # Errors
     ///
-    /// `InvalidProof` where a count does not fit; `RootMismatch` where another root than `root` comes out; `Memory`.
+    /// `InvalidProof` if a count does not fit; `RootMismatch` if another root than `root` comes out; `Memory`.
     pub fn new<H: Hasher<F, Digest = D>, E: AsSlice<u8>>(
         alloc: Global,
         hasher: &H,
@@ -68,7 +68,7 @@ impl<F: Family, D: Digest> ProofStore<F, D> {
         Ok(Self::from_accepted_proof(hasher, proof, start, past, kept)?)
     }
 
-    /// The store of the proof of no elements in the tree without leaves. Takes no memory.
+    /// Returns the store of the proof of no elements in the tree without leaves. Allocates nothing.
     fn of_nothing<H: Hasher<F, Digest = D>>(alloc: Global, hasher: &H) -> Self
         ensures { result ≡ record {
           leaves = 0;
@@ -94,8 +94,8 @@ impl<F: Family, D: Digest> ProofStore<F, D> {
         }
     }
 
-    /// The store of `proof`, whose counts fit to the leaves from `start` to before `past`, from `found`, the digests that
-    /// its check came upon.
+    /// Returns the store of `proof`, whose counts fit to the leaves from `start` to before `past`, from `found`, the
+    /// digests that its check came upon.
     fn from_accepted_proof<H: Hasher<F, Digest = D>>(
         hasher: &H,
         proof: &Proof<F, D>,
@@ -140,7 +140,7 @@ impl<F: Family, D: Digest> ProofStore<F, D> {
 
 /// Adds to `kept` the digests of those peaks of `rest` that are apart from the leaves from `start` to before `end`, as
 /// (position, digest); they come first in `digests`. Answers the fold of the peaks past the range, which comes after
-/// them; none where there are no such peaks.
+/// them; none if there are no such peaks.
 fn keep_peaks<F: Family, D: Digest>(
     rest: Rest,
     start: u64,

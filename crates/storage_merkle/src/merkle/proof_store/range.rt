@@ -25,13 +25,13 @@ use std::ops::Range;
 use storage_codec::digest::Digest;
 
 impl<F: Family, D: Digest> ProofStore<F, D> {
-    /// The proof of the leaves of `range`, which the source must prove, with the source's number of leaves and of inactive
-    /// peaks.
+    /// Returns the proof of the leaves of `range`, which the source must prove, with the source's number of leaves and
+    /// of inactive peaks.
     ///
     /// # Errors
     ///
-    /// The first of: `Empty` where `range` holds no leaf; `LocationOverflow` of the last leaf of `range` where its end is
-    /// past `MAX_LEAVES`; `RangeOutOfBounds` of that leaf where it is not in the tree; `ElementPruned` of the position of
+    /// The first of: `Empty` if `range` holds no leaf; `LocationOverflow` of the last leaf of `range` if its end is
+    /// past `MAX_LEAVES`; `RangeOutOfBounds` of that leaf if it is not in the tree; `ElementPruned` of the position of
     /// the first leaf of `range` that the source does not prove; `Memory`.
     pub fn range_proof<H: Hasher<F, Digest = D>>(
         &self,
@@ -67,7 +67,7 @@ impl<F: Family, D: Digest> ProofStore<F, D> {
         })
     }
 
-    /// The digests of the proof of the leaves from `start` to before `end`.
+    /// Returns the digests of the proof of the leaves from `start` to before `end`.
     fn range_digests<H: Hasher<F, Digest = D>>(
         &self,
         alloc: Global,
@@ -91,7 +91,7 @@ impl<F: Family, D: Digest> ProofStore<F, D> {
         Ok(digests)
     }
 
-    /// All peaks of the source's tree.
+    /// Returns all peaks of the source's tree.
     fn peaks(&self) -> Rest
         ensures peaks { ArePeaks F.shape self.now.leaves result.first result.left }
         ensures first { result.first ≡ 0 }
@@ -103,8 +103,8 @@ impl<F: Family, D: Digest> ProofStore<F, D> {
         Rest::bagged::<F>(self.bagging, self.leaves.as_u64(), self.inactive_peaks)
     }
 
-    /// The fold of the peaks that are folded from the left and end at or before `start`: the source's fold, extended by
-    /// peaks that are kept; none for no peaks.
+    /// Returns the fold of the peaks that are folded from the left and end at or before `start`: the source's fold,
+    /// extended by peaks that are kept; none for no peaks.
     fn fold_front<H: Hasher<F, Digest = D>>(&self, hasher: &H, start: u64) -> Option<D>
         ensures { option_map D.text result ≡ forward_of H.hash_of
             (map (eval H.hash_of (store_values H.hash_of (ungrafted F.shape) self.now))
@@ -148,7 +148,7 @@ impl<F: Family, D: Digest> ProofStore<F, D> {
         Ok(())
     }
 
-    /// The digest that is kept of `top`, where that is a peak or some peaks.
+    /// Returns the digest that is kept of `top`, if that is a peak or some peaks.
     fn top<H: Hasher<F, Digest = D>>(&self, hasher: &H, top: Top) -> Option<D>
         requires { IsPlacedTop F.shape top }
         ensures { option_map D.text result
@@ -160,8 +160,8 @@ impl<F: Family, D: Digest> ProofStore<F, D> {
         }
     }
 
-    /// The peaks over the last `left` leaves of the tree, from the leaf `first` on, folded from the right: those that are
-    /// kept, onto the source's fold; none for no peaks.
+    /// Returns the peaks over the last `left` leaves of the tree, from the leaf `first` on, folded from the right:
+    /// those that are kept, onto the source's fold; none for no peaks.
     fn fold_back<H: Hasher<F, Digest = D>>(&self, hasher: &H, first: u64, left: u64) -> Option<D>
         requires few { first + left ≤ max_leaves }
         requires aligned { AreAligned (F.shape.peaks left) first }
@@ -181,7 +181,7 @@ impl<F: Family, D: Digest> ProofStore<F, D> {
         Some(join(hasher, &peak, rest))
     }
 
-    /// The digest that is kept of the peak of height `height` over the leaf `first`.
+    /// Returns the digest that is kept of the peak of height `height` over the leaf `first`.
     fn peak<H: Hasher<F, Digest = D>>(&self, hasher: &H, first: u64, height: u32) -> D
         requires aligned { first % 2 ^ height ≡ 0 }
         requires within { first + 2 ^ height ≤ max_leaves }
@@ -191,8 +191,8 @@ impl<F: Family, D: Digest> ProofStore<F, D> {
         self.at(hasher, node_position(first, height))
     }
 
-    /// The digest that is kept at `position`; that of no bytes where there is none, which is no position that a proof of
-    /// leaves of the source comes to.
+    /// Returns the digest that is kept at `position`; that of no bytes if there is none, which is no position that a
+    /// proof of leaves of the source comes to.
     fn at<H: Hasher<F, Digest = D>>(&self, hasher: &H, position: Position<F>) -> D
         ensures { D.text result ≡ or_else (H.hash_of []) (entry_at position self.now.kept) }
     {

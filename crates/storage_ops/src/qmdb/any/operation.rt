@@ -70,8 +70,8 @@ pub trait OperationCodec<F: Family, S: Update>: ValueEncoding {
     /// What reading answers for these bytes.
     ghost operation_parse: { Self.ReadCfg → List ℕ → Answer View };
 
-    /// Appends to `out` the bytes of `operation`. `NoMemory` where `out` was refused a growth; then it holds its old bytes and
-    /// a beginning of these.
+    /// Appends to `out` the bytes of `operation`. `NoMemory` if `out` was refused a growth; then it holds its old bytes
+    /// and a beginning of these.
     fn write_operation(operation: &Operation<F, S>, out: &mut Vec<u8>) -> Result<(), NoMemory>
         ensures ok { OnOk result (out.new.items ≡ out.old.items ++ operation_text
             (operation_map S.Key.text S.text S.Value.text (parts operation.now))) }
@@ -82,9 +82,10 @@ pub trait OperationCodec<F: Family, S: Update>: ValueEncoding {
     ///
     /// # Errors
     ///
-    /// The first of: `EndOfBuffer` where the tag is missing, or a fixed operation has not all its bytes; `InvalidEnum` with a
-    /// tag that no operation has; what the parts are refused for, one after the other; of a fixed operation `Invalid` where the
-    /// bytes that fill it up are not zero. A floor past 2^62 is `Invalid`. `Memory` may come where a part takes memory.
+    /// The first of: `EndOfBuffer` if the tag is missing, or a fixed operation has not all its bytes; `InvalidEnum`
+    /// with a tag that no operation has; what the parts are refused for, one after the other; of a fixed operation
+    /// `Invalid` if the bytes that fill it up are not zero. A floor past 2^62 is `Invalid`. `Memory` may come if a part
+    /// takes memory.
     fn read_operation<B: Buf>(
         alloc: Global,
         buf: &mut B,
@@ -161,7 +162,7 @@ where
 }
 
 impl<F: Family, S: Update> Operation<F, S> {
-    /// A copy of this operation, which is seen and written as it. Out of memory is an error.
+    /// Returns a copy of this operation, which is seen and written as it. Running out of memory is an error.
     pub fn clone(&self) -> Result<Self, NoMemory>
         ensures seen { IfOk result (λ x. operation_map S.Key.view S.seen S.Value.view (parts x)
             ≡ operation_map S.Key.view S.seen S.Value.view (parts self.now)) }

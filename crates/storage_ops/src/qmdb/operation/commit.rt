@@ -14,7 +14,7 @@ use storage_codec::codec::util::{ensure_zeros, put_zeros};
 use storage_codec::codec::{Buf, EncodeSize, Error, FixedSize, Read, Write};
 use storage_merkle::merkle::{Family, Location, MAX_LEAVES};
 
-/// Appends to `out` a byte 1 and `value`, or, where there is none, a byte 0 and `size` zeros.
+/// Appends to `out` a byte 1 and `value`, or, if there is none, a byte 0 and `size` zeros.
 #[tactic(auto, using(storage_codec::specs::Laws::Parts::starts_cons))]
 fn write_presence<V: Write>(
     value: &Option<V>,
@@ -39,8 +39,8 @@ fn write_presence<V: Write>(
     Ok(())
 }
 
-/// Appends to `out` the payload of a fixed commit: `value`, or none, where a value has `size` bytes, and `floor` in
-/// eight bytes, highest first. Any floor is written.
+/// Appends to `out` the payload of a fixed commit: `value`, or none, if a value has `size` bytes, and `floor` in eight
+/// bytes, highest first. Any floor is written.
 #[tactic(auto, using(storage_codec::specs::Laws::Parts::starts_then, storage_codec::specs::Laws::Parts::starts_first))]
 pub(crate) fn write_commit_fixed<F: Family, V: Write>(
     value: &Option<V>,
@@ -119,7 +119,7 @@ pub(crate) fn write_commit_variable<F: Family, V: Write>(
     Ok(())
 }
 
-/// How many bytes the option `value` is written as; none where that is no `u64`.
+/// Returns how many bytes the option `value` is written as; none if that is no `u64`.
 #[tactic(auto, using(crate::specs::Laws::Variable::metadata_is))]
 fn metadata_size<V: EncodeSize>(value: &Option<V>) -> Option<u64>
     ensures { result ≡ size_of (length (metadata_text (option_map V.text value.now))) }
@@ -127,7 +127,7 @@ fn metadata_size<V: EncodeSize>(value: &Option<V>) -> Option<u64>
     value.encode_size()
 }
 
-/// How many bytes the payload of a variable commit has, of `value` and `floor`; none where that is no `u64`.
+/// Returns how many bytes the payload of a variable commit has, of `value` and `floor`; none if that is no `u64`.
 #[tactic(auto, using(std::proofs::lemmas::Grind::common_steps))]
 pub(crate) fn commit_variable_size<F: Family, V: EncodeSize>(
     value: &Option<V>,

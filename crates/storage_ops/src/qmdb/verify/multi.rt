@@ -16,8 +16,8 @@ use storage_codec::codec::Encode;
 use storage_codec::digest::{Digest, DigestOf, Hasher};
 use storage_merkle::merkle::{Error, Family, Location, Position, Proof, ProofStore};
 
-/// Whether `operations` stand at their locations of the list with the root `root`; no where the locations do not ascend, each
-/// once. The answer for no operations takes no memory.
+/// Returns whether `operations` stand at their locations of the list with the root `root`; no if the locations do not
+/// ascend, each once. The answer for no operations allocates nothing.
 pub fn verify_multi_proof<H: Hasher, F: Family, Op: Encode>(
     alloc: Global,
     proof: &Proof<F, DigestOf<H>>,
@@ -36,15 +36,15 @@ pub fn verify_multi_proof<H: Hasher, F: Family, Op: Encode>(
     proof.verify_multi_inclusion(alloc, &qmdb::hasher::<H>(), &elements, root)
 }
 
-/// A proof of the operations at `locations`, which must ascend, each once, from the digests that `store` keeps and, for a node
-/// without one, from the first of `peaks` at its position. The digests of `peaks` are not checked.
+/// Returns a proof of the operations at `locations`, which must ascend, each once, from the digests that `store` keeps
+/// and, for a node without one, from the first of `peaks` at its position. The digests of `peaks` are not checked.
 ///
 /// # Errors
 ///
-/// `Empty` for no locations; of the first location for which it holds, in the order of the list, `UnsortedLocation` where it is
-/// below the one before it, `DuplicateLocation` where it equals it, and `RangeOutOfBounds` where it is not in the tree; of the
-/// first needed position without a digest, in ascending order, `CompressedDigest` where it is one of the store's suffix peaks,
-/// else `ElementPruned`; `Memory`.
+/// `Empty` for no locations; of the first location for which it holds, in the order of the list, `UnsortedLocation` if
+/// it is below the one before it, `DuplicateLocation` if it equals it, and `RangeOutOfBounds` if it is not in the tree;
+/// of the first needed position without a digest, in ascending order, `CompressedDigest` if it is one of the store's
+/// suffix peaks, else `ElementPruned`; `Memory`.
 pub fn create_multi_proof<F: Family, D: Digest>(
     alloc: Global,
     store: &ProofStore<F, D>,
@@ -60,7 +60,7 @@ pub fn create_multi_proof<F: Family, D: Digest>(
     store.multi_proof(alloc, locations, peaks)
 }
 
-/// The encodings of `operations`, each with its location. For none it takes no memory.
+/// Returns the encodings of `operations`, each with its location. For none it allocates nothing.
 fn encode_located<F: Family, Op: Encode>(
     alloc: Global,
     operations: &[(Location<F>, Op)],

@@ -24,8 +24,8 @@ pub struct GraftedHasher<F, H> {
 }
 
 impl<F: Graftable, H: Hasher<F>> GraftedHasher<F, H> {
-    /// The hasher over `inner`, a hasher of the tree over the operations, for chunks over nodes of height `height`
-    /// there.
+    /// Returns the hasher over `inner`, a hasher of the tree over the operations, for chunks over nodes of height
+    /// `height` there.
     pub fn new(inner: H, height: u32) -> Self
         ensures inner { result.inner ≡ inner }
         ensures height { result.height ≡ height }

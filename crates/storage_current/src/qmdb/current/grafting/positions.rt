@@ -12,8 +12,8 @@ ghost use Rattle.storage_merkle.specs.Shape.{size, max_leaves};
 use storage_merkle::merkle::family::{node_at, power};
 use storage_merkle::merkle::{Family, Position};
 
-/// How many chunks of `2^height` leaves are graftable, that is, lie inside one peak each, in the tree over `leaves`
-/// leaves.
+/// Returns how many chunks of `2^height` leaves are graftable, that is, lie inside one peak each, in the tree over
+/// `leaves` leaves.
 pub fn graftable_chunks<F: Family>(leaves: u64, height: u32) -> u64
     requires low { 1 ≤ height }
     requires high { height ≤ 62 }
@@ -27,8 +27,8 @@ pub fn graftable_chunks<F: Family>(leaves: u64, height: u32) -> u64
     }
 }
 
-/// The position in the tree over chunks of the node over the same leaves as the node at `position` in the tree over the
-/// operations, where a chunk is over `2^height` operations. The node at `position` has at least height `height`.
+/// Returns the position in the tree over chunks of the node over the same leaves as the node at `position` in the tree
+/// over the operations, if a chunk is over `2^height` operations. The node at `position` has at least height `height`.
 pub fn ops_to_grafted_pos<F: Family>(position: Position<F>, height: u32) -> Position<F>
     requires low { 1 ≤ height }
     requires valid { position ≤ size F.shape max_leaves }
@@ -39,8 +39,8 @@ pub fn ops_to_grafted_pos<F: Family>(position: Position<F>, height: u32) -> Posi
     Position::new(F::position(first >> height, own - height))
 }
 
-/// The position in the tree over the operations of the node over the same leaves as the node at `position` in the tree
-/// over chunks, where a chunk is over `2^height` operations.
+/// Returns the position in the tree over the operations of the node over the same leaves as the node at `position` in
+/// the tree over chunks, if a chunk is over `2^height` operations.
 pub fn grafted_to_ops_pos<F: Family>(position: Position<F>, height: u32) -> Position<F>
     requires low { 1 ≤ height }
     requires valid { position ≤ size F.shape max_leaves }
@@ -61,7 +61,7 @@ pub fn up_and_down<F: Family>(position: Position<F>, height: u32) -> Position<F>
     ops_to_grafted_pos::<F>(grafted_to_ops_pos::<F>(position, height), height)
 }
 
-/// How many of the leading peaks of the tree over `leaves` leaves end at or before the leaf `floor`.
+/// Returns how many of the leading peaks of the tree over `leaves` leaves end at or before the leaf `floor`.
 pub fn exact_inactive<F: Family>(leaves: u64, floor: u64) -> usize
     requires { leaves ≤ max_leaves }
     ensures { IsExact F.shape leaves floor result }
@@ -69,8 +69,8 @@ pub fn exact_inactive<F: Family>(leaves: u64, floor: u64) -> usize
     chunk_aligned_inactive_peaks::<F>(leaves, floor, 0)
 }
 
-/// How many leading peaks of the tree over `leaves` leaves end at or before the leaf `floor`, up to the last of them that
-/// ends on a multiple of `2^height`.
+/// Returns how many leading peaks of the tree over `leaves` leaves end at or before the leaf `floor`, up to the last of
+/// them that ends on a multiple of `2^height`.
 pub fn chunk_aligned_inactive_peaks<F: Family>(leaves: u64, floor: u64, height: u32) -> usize
     requires few { leaves ≤ max_leaves }
     requires high { height ≤ 62 }

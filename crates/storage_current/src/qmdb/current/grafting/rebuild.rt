@@ -8,9 +8,9 @@ use crate::qmdb::current::grafting::power;
 use storage_merkle::merkle::hasher::Hasher;
 use storage_merkle::merkle::{Family, Position, Readable};
 
-/// The digest of the node of height `height` over the leaves from `first` on, as far as it can be had from the nodes that
-/// `tree` keeps: the one that is kept, or else hashed from those of its children, where both can be had. Where it cannot
-/// be had nothing is hashed, and else each node once that is not kept. Takes no memory.
+/// Returns the digest of the node of height `height` over the leaves from `first` on, as far as it can be had from the
+/// nodes that `tree` keeps: the one that is kept, or else hashed from those of its children, where both can be had.
+/// Where it cannot be had nothing is hashed, and else each node once that is not kept. Allocates nothing.
 pub(crate) fn node_of<F: Family, R: Readable<Family = F>, H: Hasher<F, Digest = R::Digest>>(
     tree: &R,
     hasher: &H,
@@ -36,8 +36,8 @@ pub(crate) fn node_of<F: Family, R: Readable<Family = F>, H: Hasher<F, Digest = 
     rebuild(tree, hasher, first, height)
 }
 
-/// Whether the node of height `height` over the leaves from `first` on is kept by `tree`, or is no leaf and both its
-/// children are coverable in their turn. Hashes nothing.
+/// Returns whether the node of height `height` over the leaves from `first` on is kept by `tree`, or is no leaf and
+/// both its children are coverable in their turn. Hashes nothing.
 fn is_coverable<F: Family, R: Readable<Family = F>>(tree: &R, first: u64, height: u32) -> bool
     requires high { height ≤ 62 }
     requires aligned { first % 2 ^ height ≡ 0 }
@@ -57,8 +57,8 @@ fn is_coverable<F: Family, R: Readable<Family = F>>(tree: &R, first: u64, height
     is_coverable::<F, R>(tree, first + power(height - 1), height - 1)
 }
 
-/// The digest of the node of height `height` over the leaves from `first` on: the one that is kept, or else hashed from
-/// those of its children. Callers ask only where it can be had, so that no hash is in vain.
+/// Returns the digest of the node of height `height` over the leaves from `first` on: the one that is kept, or else
+/// hashed from those of its children. Callers ask only if it can be had, so that no hash is in vain.
 fn rebuild<F: Family, R: Readable<Family = F>, H: Hasher<F, Digest = R::Digest>>(
     tree: &R,
     hasher: &H,

@@ -186,7 +186,7 @@ enum Look<D> {
     Found(D),
 }
 
-/// What the combined tree of `nodes` nodes has at `position`.
+/// Returns what the combined tree of `nodes` nodes has at `position`.
 fn look_up<F: Graftable, H: Hasher, R: Readable<Family = F, Digest = H::Digest>>(
     grafted_tree: &R,
     height: u32,
@@ -212,8 +212,8 @@ fn look_up<F: Graftable, H: Hasher, R: Readable<Family = F, Digest = H::Digest>>
     }
 }
 
-/// The digest that can be had, from those that `grafted_tree` keeps, of the node of height `own` over the operations from
-/// `first` on, where the chunks' nodes have the height `height`.
+/// Returns the digest that can be had, from those that `grafted_tree` keeps, of the node of height `own` over the
+/// operations from `first` on, where the chunks' nodes have the height `height`.
 fn grafted_digest<F: Graftable, H: Hasher, R: Readable<Family = F, Digest = H::Digest>>(
     grafted_tree: &R,
     height: u32,
@@ -240,7 +240,7 @@ struct Finds<F, D> {
     missing: Option<Position<F>>,
 }
 
-/// What the combined tree of `size` nodes has at `positions`, up to the first one that has no node.
+/// Returns what the combined tree of `size` nodes has at `positions`, up to the first one that has no node.
 fn find_all<F: Graftable, H: Hasher, R: Readable<Family = F, Digest = H::Digest>>(
     alloc: Global,
     grafted_tree: &R,
@@ -284,7 +284,7 @@ fn find_all<F: Graftable, H: Hasher, R: Readable<Family = F, Digest = H::Digest>
     })
 }
 
-/// The digests that `store` has at `positions`, in their order. It is not asked where there are none.
+/// Returns the digests that `store` has at `positions`, in their order. It is not asked if there are none.
 ///
 /// # Errors
 ///
@@ -314,7 +314,7 @@ fn read_all<F: Graftable, S: merkle::Storage<F>>(
     store.get_nodes(alloc, positions)
 }
 
-/// The digests of `nodes`, with those of `read`, in their order, in the places of none.
+/// Returns the digests of `nodes`, with those of `read`, in their order, in the places of none.
 fn fill<D: Digest>(alloc: Global, nodes: &[Option<D>], read: &[D]) -> Result<Vec<D>, AllocError>
     requires { gaps nodes.now ≤ length read.now }
     ensures { IfOk result (λ v. v.items ≡ filled nodes.now read.now) }

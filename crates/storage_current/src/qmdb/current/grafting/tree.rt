@@ -47,8 +47,8 @@ impl<F: Graftable, D: Digest> Model for GraftedTree<F, D> {
 }
 
 impl<F: Graftable, D: Digest> GraftedTree<F, D> {
-    /// The tree over the chunks whose digests are `leaves`, none of them pruned. Digests past `MAX_LEAVES` are ignored.
-    /// Takes no memory.
+    /// Returns the tree over the chunks whose digests are `leaves`, none of them pruned. Digests past `MAX_LEAVES` are
+    /// ignored. Allocates nothing.
     pub fn new(alloc: Global, mut leaves: Vec<D>) -> Self
         ensures kept { result
             ≡ record { pruned = 0; pinned = []; leaves = take max_leaves leaves.items } }
@@ -64,12 +64,13 @@ impl<F: Graftable, D: Digest> GraftedTree<F, D> {
         }
     }
 
-    /// The tree over `pruned_chunks` chunks, all of them pruned, and behind them those whose digests are `leaves`, from
-    /// `pinned`, the digests of the peaks over the pruned chunks in leaf order. Digests past those are ignored.
+    /// Returns the tree over `pruned_chunks` chunks, all of them pruned, and behind them those whose digests are
+    /// `leaves`, from `pinned`, the digests of the peaks over the pruned chunks in leaf order. Digests past those are
+    /// ignored.
     ///
     /// # Errors
     ///
-    /// `LocationOverflow` of the number of chunks, at most `u64::MAX`, where it is past `MAX_LEAVES`; `MissingNode` of the
+    /// `LocationOverflow` of the number of chunks, at most `u64::MAX`, if it is past `MAX_LEAVES`; `MissingNode` of the
     /// position of the first peak for which `pinned` has no digest; `Memory`.
     pub fn init(
         alloc: Global,
@@ -126,22 +127,22 @@ impl<F: Graftable, D: Digest> GraftedTree<F, D> {
         let _ = &self.leaves;
     }
 
-    /// How many chunks the tree is over, the pruned ones among them. Takes no memory.
+    /// Returns how many chunks the tree is over, the pruned ones among them. Allocates nothing.
     pub fn leaves(&self) -> Location<F>
         ensures { result ≡ self.now.pruned + length self.now.leaves }
     {
         Location::new(self.pruned + self.leaves.len() as u64)
     }
 
-    /// How many chunks are pruned. Takes no memory.
+    /// Returns how many chunks are pruned. Allocates nothing.
     pub fn pruned_chunks(&self) -> u64
         ensures { result ≡ self.now.pruned }
     {
         self.pruned
     }
 
-    /// The digest of the node at `position`, where it is a pin or a leaf that is not pruned; `None` for every other node.
-    /// Takes no memory.
+    /// Returns the digest of the node at `position`, if it is a pin or a leaf that is not pruned; `None` for every
+    /// other node. Allocates nothing.
     pub fn get_node(&self, position: Position<F>) -> Option<D>
         ensures { result
             ≡ tree_at F.shape self.now.pruned self.now.pinned self.now.leaves position }
@@ -149,12 +150,12 @@ impl<F: Graftable, D: Digest> GraftedTree<F, D> {
         look_up(self.pruned, &self.pinned, &self.leaves, position)
     }
 
-    /// Forgets the leaves of the chunks before number `chunks`, and keeps the peaks over them, hashed by `hasher` where
+    /// Forgets the leaves of the chunks before number `chunks`, and keeps the peaks over them, hashed by `hasher` if
     /// they are not kept. Where these chunks are pruned already it changes nothing.
     ///
     /// # Errors
     ///
-    /// `RangeOutOfBounds(chunks)` where there are fewer than `chunks` chunks; `Memory`. After either the tree is as it was.
+    /// `RangeOutOfBounds(chunks)` if there are fewer than `chunks` chunks; `Memory`. Either leaves the tree as it was.
     pub fn prune<H: Hasher<F, Digest = D>>(
         &mut self,
         hasher: &H,
@@ -214,8 +215,8 @@ impl<F: Graftable, D: Digest> Readable for GraftedTree<F, D> {
     }
 }
 
-/// The digest at `position`: of a leaf from number `pruned` on, whose digests are `leaves`, or of a peak over the leaves
-/// before it, whose digests are `pinned`.
+/// Returns the digest at `position`: of a leaf from number `pruned` on, whose digests are `leaves`, or of a peak over
+/// the leaves before it, whose digests are `pinned`.
 fn look_up<F: Graftable, D: Digest>(
     pruned: u64,
     pinned: &[D],
@@ -239,7 +240,7 @@ fn look_up<F: Graftable, D: Digest>(
     leaves.get((place - pruned) as usize).copied()
 }
 
-/// The digest at `position` of a peak over the first `pruned` leaves; none where there is no such peak there.
+/// Returns the digest at `position` of a peak over the first `pruned` leaves; none if there is no such peak there.
 fn pin_at<F: Graftable, D: Digest>(pruned: u64, pinned: &[D], position: Position<F>) -> Option<D>
     requires few { pruned ≤ max_leaves }
     requires pins { length pinned.now ≡ length (F.shape.peaks pruned) }
@@ -257,7 +258,7 @@ fn pin_at<F: Graftable, D: Digest>(pruned: u64, pinned: &[D], position: Position
     None
 }
 
-/// The digests of the peaks over the first `chunks` leaves of `tree`, in leaf order.
+/// Returns the digests of the peaks over the first `chunks` leaves of `tree`, in leaf order.
 fn peaks_over<F: Graftable, D: Digest, H: Hasher<F, Digest = D>>(
     alloc: Global,
     tree: &GraftedTree<F, D>,
@@ -286,8 +287,8 @@ fn peaks_over<F: Graftable, D: Digest, H: Hasher<F, Digest = D>>(
     Ok(peaks)
 }
 
-/// How many peaks there are over the leaves below `boundary`; or, where they are more than `given`, the position of peak
-/// number `given`, counted from 0.
+/// Returns how many peaks there are over the leaves below `boundary`; or, if they are more than `given`, the position
+/// of peak number `given`, counted from 0.
 fn needed<F: Graftable>(boundary: Location<F>, given: usize) -> Result<usize, Position<F>>
     requires { boundary ≤ max_leaves }
     ensures count { IfOk result (λ n. (n ≡ length (F.shape.peaks boundary)) × (n ≤ given)) }
@@ -304,7 +305,7 @@ fn needed<F: Graftable>(boundary: Location<F>, given: usize) -> Result<usize, Po
     Ok(count)
 }
 
-/// A copy of `digests`.
+/// Returns a copy of `digests`.
 fn copied<D: Digest>(alloc: Global, digests: &[D]) -> Result<Vec<D>, AllocError>
     ensures { IfOk result (λ v. v.items ≡ digests.now) }
 {

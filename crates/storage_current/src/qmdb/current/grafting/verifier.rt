@@ -32,8 +32,8 @@ pub struct Verifier<'a, F, H> {
 }
 
 impl<'a, F: Graftable, H: digest::Hasher> Verifier<'a, F, H> {
-    /// The hasher for chunks over nodes of height `height`, of which `chunks` are those from chunk `start_chunk_index`
-    /// on, and the first `graftable_chunks` of all are graftable.
+    /// Returns the hasher for chunks over nodes of height `height`, of which `chunks` are those from chunk
+    /// `start_chunk_index` on, and the first `graftable_chunks` of all are graftable.
     pub fn new(
         height: u32,
         start_chunk_index: u64,
@@ -56,8 +56,8 @@ impl<'a, F: Graftable, H: digest::Hasher> Verifier<'a, F, H> {
         }
     }
 
-    /// The chunk that is grafted over the node of height `height` over the leaf `first`; none where there is none, or it
-    /// is not supplied.
+    /// Returns the chunk that is grafted over the node of height `height` over the leaf `first`; none if there is none,
+    /// or it is not supplied.
     fn chunk_over(&self, first: u64, height: u32) -> Option<&'a [u8]>
         requires aligned { first % 2 ^ height ≡ 0 }
         requires small { height ≤ 62 }
@@ -85,7 +85,7 @@ impl<'a, F: Graftable, H: digest::Hasher> Verifier<'a, F, H> {
     }
 }
 
-/// A second hasher over the same chunks. Out of memory is an error.
+/// A second hasher over the same chunks. Running out of memory is an error.
 impl<F: Graftable, H: digest::Hasher> Clone for Verifier<'_, F, H> {
     ghost is_clone = { λ x y. (y.height ≡ x.height) × (y.start_chunk_index ≡ x.start_chunk_index)
         × (map (λ c. c.now) y.chunks.items ≡ map (λ c. c.now) x.chunks.items)

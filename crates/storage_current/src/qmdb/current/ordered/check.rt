@@ -21,7 +21,7 @@ use storage_ops::qmdb::any::operation::update::Ordered;
 use storage_ops::qmdb::any::operation::{Operation, OperationCodec};
 use storage_ops::qmdb::operation::Key;
 
-/// Whether `update` is active in the snapshot with the canonical root `root`, and its span excludes `key`.
+/// Returns whether `update` is active in the snapshot with the canonical root `root`, and its span excludes `key`.
 pub(crate) fn verify_span<
     F: Graftable,
     K: Key,
@@ -73,7 +73,7 @@ pub(crate) fn verify_span<
     proof.verify::<H, Operation<F, Ordered<K, V>>>(alloc, operation, root)
 }
 
-/// Whether the commit of `value` at its own floor, the location of `proof`, is active in the snapshot with the
+/// Returns whether the commit of `value` at its own floor, the location of `proof`, is active in the snapshot with the
 /// canonical root `root`. It excludes each `key`.
 pub(crate) fn verify_commit<
     F: Graftable,

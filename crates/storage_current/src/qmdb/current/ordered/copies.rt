@@ -6,7 +6,7 @@ use storage_codec::NoMemory;
 use storage_ops::qmdb::any::value::ValueEncoding;
 use storage_ops::qmdb::operation::Key;
 
-/// A copy of `key`, which is seen and written as it.
+/// Returns a copy of `key`, which is seen and written as it.
 pub(crate) fn key_as<K: Key>(key: &K) -> Result<K, NoMemory>
     ensures text { IfOk result (λ copy. K.text copy ≡ K.text key.now) }
     ensures seen { IfOk result (λ copy. K.view copy ≡ K.view key.now) }
@@ -14,7 +14,7 @@ pub(crate) fn key_as<K: Key>(key: &K) -> Result<K, NoMemory>
     Ok(key.clone()?)
 }
 
-/// A copy of `value`, which is seen and written as it; none for none.
+/// Returns a copy of `value`, which is seen and written as it; none for none.
 pub(crate) fn value_as<V: ValueEncoding>(
     value: &Option<V::Value>,
 ) -> Result<Option<V::Value>, NoMemory>

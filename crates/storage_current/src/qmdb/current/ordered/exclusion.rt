@@ -47,10 +47,10 @@ impl<F: Graftable, K: Key, V: OperationCodec<F, Ordered<K, V>>, D: Digest, C: Ch
     D,
     C,
 > {
-    /// Whether the operation of the proof is active in the snapshot with the canonical root `root`, and excludes `key`:
-    /// an update excludes the other keys of its span, a commit at its own floor excludes each. The no of a key that the
-    /// operation does not exclude, of a chunk size that is no power of two up to `2^59` bytes, and of a clear bit, takes
-    /// no memory.
+    /// Returns whether the operation of the proof is active in the snapshot with the canonical root `root`, and
+    /// excludes `key`: an update excludes the other keys of its span, a commit at its own floor excludes each. The no
+    /// of a key that the operation does not exclude, of a chunk size that is no power of two up to `2^59` bytes, and of
+    /// a clear bit, allocates nothing.
     pub fn verify<H: Hasher<Digest = D>>(
         &self,
         alloc: Global,
@@ -95,8 +95,8 @@ impl<F: Graftable, K: Key, V: ValueEncoding, D: Digest, C: Chunk + Clone> Exclus
     D,
     C,
 > {
-    /// A proof equal to this one, where a clone of a chunk is equal to it; keys and values by what is seen of them.
-    /// `NoMemory` where there is no memory for it.
+    /// Returns a proof equal to this one, where a clone of a chunk is equal to it; keys and values by what is seen of
+    /// them. `NoMemory` if there is no memory for it.
     pub fn clone(&self) -> Result<Self, NoMemory>
         ensures { ClonesAreEqual C.is_clone C.text
             → IfOk result (λ copy.

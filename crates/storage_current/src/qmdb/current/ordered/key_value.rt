@@ -35,9 +35,9 @@ pub struct KeyValueProof<F, K, D, C> {
 }
 
 impl<F: Graftable, K: Key, D: Digest, C: Chunk> KeyValueProof<F, K, D, C> {
-    /// Whether the update of `key` to `value` that names `next_key` as the next key is active in the snapshot with the
-    /// canonical root `root`. The no of a chunk size that is no power of two up to `2^59` bytes, and of a clear bit, takes
-    /// no memory.
+    /// Returns whether the update of `key` to `value` that names `next_key` as the next key is active in the snapshot
+    /// with the canonical root `root`. The no of a chunk size that is no power of two up to `2^59` bytes, and of a
+    /// clear bit, allocates nothing.
     pub fn verify<H: Hasher<Digest = D>, V: OperationCodec<F, Ordered<K, V>>>(
         &self,
         alloc: Global,
@@ -77,8 +77,8 @@ impl<F: Graftable, K: Key, D: Digest, C: Chunk> KeyValueProof<F, K, D, C> {
 }
 
 impl<F: Graftable, K: Key, D: Digest, C: Chunk + Clone> KeyValueProof<F, K, D, C> {
-    /// A proof equal to this one, where a clone of a chunk is equal to it; the next key is seen and written as this
-    /// one's. `NoMemory` where there is no memory for it.
+    /// Returns a proof equal to this one, where a clone of a chunk is equal to it; the next key is seen and written as
+    /// this one's. `NoMemory` if there is no memory for it.
     pub fn clone(&self) -> Result<Self, NoMemory>
         ensures proof { ClonesAreEqual C.is_clone C.text
             → IfOk result (λ copy.

@@ -8,7 +8,8 @@ use storage_ops::qmdb::any::operation::OperationCodec;
 use storage_ops::qmdb::any::operation::update::Ordered;
 use storage_ops::qmdb::operation::Key;
 
-/// Whether `key` lies from `start` on and before `end`, around past the greatest key where `start` is not before `end`.
+/// Returns whether `key` lies from `start` on and before `end`, around past the greatest key if `start` is not before
+/// `end`.
 fn contains_cyclic<F: Family, K: Key, V: OperationCodec<F, Ordered<K, V>>>(
     start: &K,
     end: &K,
@@ -24,7 +25,7 @@ fn contains_cyclic<F: Family, K: Key, V: OperationCodec<F, Ordered<K, V>>>(
     }
 }
 
-/// Whether an active update of the key `start` that names `next` as the next key excludes `key`.
+/// Returns whether an active update of the key `start` that names `next` as the next key excludes `key`.
 pub(crate) fn excludes<F: Family, K: Key, V: OperationCodec<F, Ordered<K, V>>>(
     start: &K,
     next: &K,

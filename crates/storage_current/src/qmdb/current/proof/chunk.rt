@@ -9,7 +9,7 @@ pub trait Chunk {
     /// The bytes of the chunk.
     ghost text: { Self → List ℕ };
 
-    /// The bytes of the chunk. Takes no memory.
+    /// Returns the bytes of the chunk. Allocates nothing.
     fn bytes(&self) -> &[u8]
         ensures { result.now ≡ text self.now };
 }

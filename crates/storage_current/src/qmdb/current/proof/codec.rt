@@ -36,7 +36,7 @@ impl<F: Graftable, D: Digest> EncodeSize for RangeProof<F, D> {
     }
 }
 
-/// How many bytes `digest` is written as: a truth value, then the digest where there is one. Takes no memory.
+/// Returns how many bytes `digest` is written as: a truth value, then the digest if there is one. Allocates nothing.
 fn option_size<D: Digest>(digest: &Option<D>) -> Option<u64>
     ensures { result ≡ size_of (length (option_text D.text digest.now)) }
 {

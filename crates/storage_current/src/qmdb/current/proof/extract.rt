@@ -21,13 +21,14 @@ use storage_merkle::laws::extracted::extracted_positions_ascend;
 use storage_merkle::merkle::{Error, Graftable, Location};
 use storage_ops::qmdb::verify::ExtractedDigests;
 
-/// Each digest of the grafted view that the check of `operations` at the locations from `start` on, and of `chunks`, which
-/// they touch, reads or computes in a peak over one of them, as (position, digest): of the siblings, of these leaves, of the
-/// nodes above them and of the peaks, over a chunk's node the digest with its chunk. They ascend by position, each once.
+/// Returns each digest of the grafted view that the check of `operations` at the locations from `start` on, and of
+/// `chunks`, which they touch, reads or computes in a peak over one of them, as (position, digest): of the siblings, of
+/// these leaves, of the nodes above them and of the peaks, over a chunk's node the digest with its chunk. They ascend
+/// by position, each once.
 ///
 /// # Errors
 ///
-/// `InvalidProof` where the check says no whatever the root; `RootMismatch` where another root than `root` comes out;
+/// `InvalidProof` if the check says no whatever the root; `RootMismatch` if another root than `root` comes out;
 /// `Memory`.
 pub fn verify_proof_and_extract_digests<F: Graftable, Op: Write, H: Hasher, const N: usize>(
     alloc: Global,
@@ -58,7 +59,7 @@ pub fn verify_proof_and_extract_digests<F: Graftable, Op: Write, H: Hasher, cons
     extract_in::<F, H, Vec<u8>, [u8; N]>(alloc, proof, &window, start, &elements, chunks, root)
 }
 
-/// What is handed out for a claim whose counts and lengths fit; `window` is where the claim stands.
+/// Returns what is handed out for a claim whose counts and lengths fit; `window` is where the claim stands.
 fn extract_in<F: Graftable, H: Hasher, E: AsSlice<u8>, C: Chunk>(
     alloc: Global,
     proof: &RangeProof<F, DigestOf<H>>,

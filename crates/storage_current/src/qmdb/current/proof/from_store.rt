@@ -17,15 +17,15 @@ use storage_merkle::merkle::{self, Countable, Graftable, Location, RangePlan, St
 use storage_ops::qmdb::Error;
 
 impl<F: Graftable, D: Digest> RangeProof<F, D> {
-    /// The proof of the operations at the locations of `range`, from `storage`, which has the grafted view's nodes; `status`
-    /// are the snapshot's bits, `floor` its inactivity floor, `ops_root` its operations root. A floor past the leaves counts
-    /// as the leaves.
+    /// Returns the proof of the operations at the locations of `range`, from `storage`, which has the grafted view's
+    /// nodes; `status` are the snapshot's bits, `floor` its inactivity floor, `ops_root` its operations root. A floor
+    /// past the leaves counts as the leaves.
     ///
     /// # Errors
     ///
-    /// The first of: `DataCorrupted` of the tree where no tree has as many nodes as the store; those of `RangePlan::new`;
-    /// `ElementPruned` of the first planned position, ascending, where it has no digest; those of `build`. `Source` where
-    /// the store failed, with its code, just where its count of failures grew, by one.
+    /// The first of: `DataCorrupted` of the tree if no tree has as many nodes as the store; those of `RangePlan::new`;
+    /// `ElementPruned` of the first planned position, ascending, if it has no digest; those of `build`. `Source` if the
+    /// store failed, with its code, exactly if its count of failures grew, by one.
     pub fn new<H: Hasher<Digest = D>, R: Readable<N>, S: Storage<F, Digest = D>, const N: usize>(
         alloc: Global,
         status: &R,
@@ -67,8 +67,8 @@ impl<F: Graftable, D: Digest> RangeProof<F, D> {
         Self::read::<H, R, S, N>(alloc, status, storage, plan, floor, ops_root)
     }
 
-    /// The proof of the range of `plan`, from `storage`, which has the grafted view's nodes; `status`, `floor` and
-    /// `ops_root` are the snapshot's.
+    /// Returns the proof of the range of `plan`, from `storage`, which has the grafted view's nodes; `status`, `floor`
+    /// and `ops_root` are the snapshot's.
     pub(crate) fn read<
         H: Hasher<Digest = D>,
         R: Readable<N>,

@@ -42,13 +42,13 @@ pub struct Proof<F, D, C> {
 }
 
 impl<F: Graftable, D: Digest, const N: usize> Proof<F, D, [u8; N]> {
-    /// The proof of the location of `plan`, from the digests that `get_node` answers for the planned positions: those of
-    /// the grafted view; `status` are the snapshot's bits, `floor` its inactivity floor, `ops_root` its operations root.
-    /// Whether the location's bit is set is not looked at.
+    /// Returns the proof of the location of `plan`, from the digests that `get_node` answers for the planned positions:
+    /// those of the grafted view; `status` are the snapshot's bits, `floor` its inactivity floor, `ops_root` its
+    /// operations root. Whether the location's bit is set is not looked at.
     ///
     /// # Errors
     ///
-    /// The first of: `OperationPruned` of the location where its chunk is pruned; those of [`RangeProof::build`].
+    /// The first of: `OperationPruned` of the location if its chunk is pruned; those of [`RangeProof::build`].
     pub fn build<H: Hasher<Digest = D>, R: Readable<N>, G: Fn(Position<F>) -> Option<D>>(
         alloc: Global,
         status: &R,
@@ -99,8 +99,9 @@ impl<F: Graftable, D: Digest, const N: usize> Proof<F, D, [u8; N]> {
 }
 
 impl<F: Graftable, D: Digest, C: Chunk> Proof<F, D, C> {
-    /// Whether `operation` stands at the proof's location of the snapshot with the canonical root `root`, and is
-    /// active. The no of a chunk size that is no power of two up to `2^59` bytes, and of a clear bit, takes no memory.
+    /// Returns whether `operation` stands at the proof's location of the snapshot with the canonical root `root`, and
+    /// is active. The no of a chunk size that is no power of two up to `2^59` bytes, and of a clear bit, allocates
+    /// nothing.
     pub fn verify<H: Hasher<Digest = D>, O: Write + Drop>(
         &self,
         alloc: Global,
@@ -164,7 +165,7 @@ impl<F: Graftable, D: Digest, C: Chunk> Proof<F, D, C> {
         )
     }
 
-    /// Whether the chunk has a size that chunks may have, a power of two up to `2^59` bytes, and the bit of the
+    /// Returns whether the chunk has a size that chunks may have, a power of two up to `2^59` bytes, and the bit of the
     /// location is set in it.
     pub(crate) fn is_active(&self) -> bool
         ensures { IsTrue result ↔ (IsChunkSize (length (C.text self.now.chunk))
@@ -174,8 +175,8 @@ impl<F: Graftable, D: Digest, C: Chunk> Proof<F, D, C> {
         self.active_height().is_some()
     }
 
-    /// The height of the node over the operations of a chunk of this one's size; none where no chunk may have it, or the
-    /// bit of the location is not set in the chunk.
+    /// Returns the height of the node over the operations of a chunk of this one's size; none if no chunk may have it,
+    /// or the bit of the location is not set in the chunk.
     fn active_height(&self) -> Option<u32>
         ensures bit { let n = length (C.text self.now.chunk) in
             MatchOption result (IsChunkSize n → bit_in (C.text self.now.chunk)
@@ -196,7 +197,7 @@ impl<F: Graftable, D: Digest, C: Chunk> Proof<F, D, C> {
 }
 
 impl<F: Graftable, D: Digest, C: Chunk + Clone> Proof<F, D, C> {
-    /// A proof equal to this one, where a clone of a chunk is equal to it. `NoMemory` where there is no memory for
+    /// Returns a proof equal to this one, where a clone of a chunk is equal to it. `NoMemory` if there is no memory for
     /// it.
     pub fn clone(&self) -> Result<Self, NoMemory>
         ensures { ClonesAreEqual C.is_clone C.text
@@ -211,7 +212,7 @@ impl<F: Graftable, D: Digest, C: Chunk + Clone> Proof<F, D, C> {
     }
 }
 
-/// Whether bit `place` of `bytes` is set: in byte `place / 8`, under the mask `1 << (place mod 8)`.
+/// Returns whether bit `place` of `bytes` is set: in byte `place / 8`, under the mask `1 << (place mod 8)`.
 fn is_set(bytes: &[u8], place: u64) -> bool
     requires { place / 8 < length bytes.now }
     ensures { result ≡ bit_in bytes.now place }

@@ -22,12 +22,12 @@ pub(crate) struct Fetched<F, D> {
 }
 
 impl<F: Family, D: Digest> Fetched<F, D> {
-    /// Those that `plan` needs, read from `storage`.
+    /// Returns those that `plan` needs, read from `storage`.
     ///
     /// # Errors
     ///
-    /// `Source` where the store failed, with its code, just where its count of failures grew, by one; `ElementPruned` of
-    /// the first planned position, ascending, where it has no digest; `Memory`.
+    /// `Source` if the store failed, with its code, exactly if its count of failures grew, by one; `ElementPruned` of
+    /// the first planned position, ascending, if it has no digest; `Memory`.
     pub(crate) fn read<S: Storage<F, Digest = D>>(
         alloc: Global,
         storage: &mut S,
@@ -57,7 +57,7 @@ impl<F: Family, D: Digest> Fetched<F, D> {
         }
     }
 
-    /// The digest at `position`, which is one of the planned ones.
+    /// Returns the digest at `position`, which is one of the planned ones.
     pub(crate) fn get(&self, position: Position<F>) -> Option<D>
         ensures { (node : ℕ → Option D) → IsStrictlyIncreasing self.now.positions.items
             → map Some self.now.digests.items ≡ map node self.now.positions.items
@@ -71,11 +71,11 @@ impl<F: Family, D: Digest> Fetched<F, D> {
     }
 }
 
-/// How many leaves the tree has whose nodes `storage` has.
+/// Returns how many leaves the tree has whose nodes `storage` has.
 ///
 /// # Errors
 ///
-/// `DataCorrupted` of the tree where no tree has as many nodes as the store.
+/// `DataCorrupted` of the tree if no tree has as many nodes as the store.
 pub(crate) fn stored_leaves<F: Countable, S: Storage<F>>(
     storage: &S,
 ) -> Result<Location<F>, Error<F>>

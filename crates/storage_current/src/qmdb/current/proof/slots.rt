@@ -8,8 +8,8 @@ use crate::qmdb::current::proof::{Chunk, RangeProof};
 use storage_codec::digest::Hasher;
 use storage_merkle::merkle::Graftable;
 
-/// Whether `proof` has a digest of the pending and of the partial chunk just where the snapshot has one, and each of
-/// these that is among `chunks`, those that the claim touches, has that digest.
+/// Returns whether `proof` has a digest of the pending and of the partial chunk exactly if the snapshot has one, and
+/// each of these that is among `chunks`, those that the claim touches, has that digest.
 pub(crate) fn match_chunks<H: Hasher, C: Chunk, F: Graftable>(
     proof: &RangeProof<F, H::Digest>,
     window: &Window,
@@ -40,8 +40,8 @@ pub(crate) fn match_chunks<H: Hasher, C: Chunk, F: Graftable>(
     )
 }
 
-/// Whether `slot` has a digest just where `is_there`, and the claimed chunk number `index`, if it is among `chunks`, has
-/// that digest.
+/// Returns whether `slot` has a digest exactly if `is_there`, and the claimed chunk number `index`, if it is among
+/// `chunks`, has that digest.
 fn matches<H: Hasher, C: Chunk>(
     slot: &Option<H::Digest>,
     is_there: bool,
@@ -63,7 +63,7 @@ fn matches<H: Hasher, C: Chunk>(
     }
 }
 
-/// The digest of `bytes`.
+/// Returns the digest of `bytes`.
 fn hash_of<H: Hasher>(bytes: &[u8]) -> H::Digest
     ensures { H.Digest.text result ≡ H.hash_of bytes.now }
 {

@@ -27,7 +27,7 @@ pub(crate) struct Window {
 
 impl Window {
     /// Where `count` operations from `start` on stand among those of a snapshot of `leaves` operations, with chunks of
-    /// `chunk_size` bytes; none where `chunk_size` is no power of two up to `2^59`, `count` is 0, `leaves` is past
+    /// `chunk_size` bytes; none if `chunk_size` is no power of two up to `2^59`, `count` is 0, `leaves` is past
     /// `MAX_LEAVES`, the range passes `leaves`, or it touches another number of chunks than `chunks`.
     pub(crate) fn of<F: Family>(
         leaves: u64,
@@ -78,7 +78,7 @@ impl Window {
         })
     }
 
-    /// The place of chunk number `chunk` among those that the range touches; none where it is not one of these.
+    /// Returns the place of chunk number `chunk` among those that the range touches; none if it is not one of these.
     pub(crate) fn place(&self, chunk: u64) -> Option<usize>
         ensures { MatchOption result (self.now.first_chunk ≤ chunk → chunk ≤ self.now.last_chunk
             → ⊥) (λ place. (self.now.first_chunk ≤ chunk) × (chunk ≤ self.now.last_chunk)

@@ -30,15 +30,16 @@ pub struct RangeProofSpec<F, D> {
 }
 
 impl<F: Graftable, D: Digest> RangeProof<F, D> {
-    /// The proof of `max_ops` operations from `start_loc` on, or of fewer where the snapshot ends, from `storage`, which has
-    /// the grafted view's nodes; with these operations, from `log`, and the chunks of bits that they touch, from `status`.
-    /// `start_loc` and `max_ops` stand in `spec`, with the snapshot's floor and operations root.
+    /// Returns the proof of `max_ops` operations from `start_loc` on, or of fewer where the snapshot ends, from
+    /// `storage`, which has the grafted view's nodes; with these operations, from `log`, and the chunks of bits that
+    /// they touch, from `status`. `start_loc` and `max_ops` stand in `spec`, with the snapshot's floor and operations
+    /// root.
     ///
     /// # Errors
     ///
-    /// The first of: `RangeOutOfBounds(start_loc)` where it is at or past the number of bits; `OperationPruned(start_loc)`
-    /// where its chunk is pruned; those of [`new`](Self::new); `DataCorrupted` where the log does not hold the range; `Log`
-    /// where the log failed, with its code, just where its count of failures grew, by one.
+    /// The first of: `RangeOutOfBounds(start_loc)` if it is at or past the number of bits; `OperationPruned(start_loc)`
+    /// if its chunk is pruned; those of [`new`](Self::new); `DataCorrupted` if the log does not hold the range; `Log`
+    /// if the log failed, with its code, exactly if its count of failures grew, by one.
     pub fn new_with_ops<
         H: Hasher<Digest = D>,
         R: Readable<N>,
@@ -115,12 +116,13 @@ impl<F: Graftable, D: Digest> RangeProof<F, D> {
     }
 }
 
-/// The location past the range of at most `max_ops` operations from `start` on, which ends with the bits `status`.
+/// Returns the location past the range of at most `max_ops` operations from `start` on, which ends with the bits
+/// `status`.
 ///
 /// # Errors
 ///
-/// The first of: `RangeOutOfBounds(start)` where it is at or past the number of bits; `OperationPruned(start)` where its chunk
-/// is pruned.
+/// The first of: `RangeOutOfBounds(start)` if it is at or past the number of bits; `OperationPruned(start)` if its
+/// chunk is pruned.
 fn range_end<F: Graftable, R: Readable<N>, const N: usize>(
     status: &R,
     start: Location<F>,
@@ -145,7 +147,7 @@ fn range_end<F: Graftable, R: Readable<N>, const N: usize>(
     Ok(Location::new(first.saturating_add(max_ops).min(len)))
 }
 
-/// The chunks of the bits `status` that the operations from `start` to before `end` touch.
+/// Returns the chunks of the bits `status` that the operations from `start` to before `end` touch.
 fn touched_chunks<R: Readable<N>, const N: usize>(
     alloc: Global,
     status: &R,
@@ -170,11 +172,11 @@ fn touched_chunks<R: Readable<N>, const N: usize>(
     Ok(chunks)
 }
 
-/// The items of `log` at the locations from `start` to before `end`, which it holds.
+/// Returns the items of `log` at the locations from `start` to before `end`, which it holds.
 ///
 /// # Errors
 ///
-/// `Log` where the log failed, with its code, just where its count of failures grew, by one; `Memory`.
+/// `Log` if the log failed, with its code, exactly if its count of failures grew, by one; `Memory`.
 fn read_range<F, L: Contiguous>(
     alloc: Global,
     log: &mut L,

@@ -24,7 +24,7 @@ pub struct OpsRootWitness<F, D> {
     pub grafted_root: D,
     /// The digest of the complete chunk that is not graftable, if there is one.
     pub pending_chunk_digest: Option<D>,
-    /// How many bits the chunk after the complete ones has, and its digest; none where it has no bit.
+    /// How many bits the chunk after the complete ones has, and its digest; none if it has no bit.
     pub partial_chunk: Option<(u64, D)>,
     /// The family of the trees, which no part of the witness tells.
     #[derive_where(skip)]
@@ -32,8 +32,8 @@ pub struct OpsRootWitness<F, D> {
 }
 
 impl<F, D: Digest> OpsRootWitness<F, D> {
-    /// The witness of these parts; `next_bit`, how many bits the partial chunk has, counts only where `partial` has its
-    /// digest.
+    /// Returns the witness of these parts; `next_bit`, how many bits the partial chunk has, counts only if `partial`
+    /// has its digest.
     pub(crate) fn of(
         grafted_root: D,
         pending_chunk_digest: Option<D>,
@@ -55,14 +55,14 @@ impl<F, D: Digest> OpsRootWitness<F, D> {
         }
     }
 
-    /// An equal witness. It takes no memory.
+    /// Returns an equal witness. It allocates nothing.
     pub fn clone(&self) -> Result<Self, NoMemory>
         ensures { result ≡ Ok self.now }
     {
         Ok(self.copied())
     }
 
-    /// An equal witness.
+    /// Returns an equal witness.
     pub(crate) fn copied(&self) -> Self
         ensures { result ≡ self.now }
     {
@@ -74,7 +74,7 @@ impl<F, D: Digest> OpsRootWitness<F, D> {
         }
     }
 
-    /// The canonical root that `ops_root` gives with this witness. Takes no memory.
+    /// Returns the canonical root that `ops_root` gives with this witness. Allocates nothing.
     pub fn root<H: Hasher<Digest = D>>(&self, ops_root: &D) -> D
         ensures { D.text result
             ≡ H.hash_of (witness_string (witness_of D.text self.now) (D.text ops_root.now)) }
@@ -82,7 +82,7 @@ impl<F, D: Digest> OpsRootWitness<F, D> {
         self.combined::<H>(ops_root)
     }
 
-    /// The canonical root that `ops_root` gives with this witness; the number of bits is a `u64`.
+    /// Returns the canonical root that `ops_root` gives with this witness; the number of bits is a `u64`.
     fn combined<H: Hasher<Digest = D>>(&self, ops_root: &D) -> D
         ensures root { D.text result
             ≡ H.hash_of (witness_string (witness_of D.text self.now) (D.text ops_root.now)) }
@@ -106,7 +106,8 @@ impl<F, D: Digest> OpsRootWitness<F, D> {
         }
     }
 
-    /// Whether `ops_root` is the operations root of the snapshot with the canonical root `root`. Takes no memory.
+    /// Returns whether `ops_root` is the operations root of the snapshot with the canonical root `root`. Allocates
+    /// nothing.
     pub fn verify<H: Hasher<Digest = D>>(&self, ops_root: &D, root: &D) -> bool
         ensures exact { IsTrue result ↔ (H.hash_of
             (witness_string (witness_of D.text self.now) (D.text ops_root.now)) ≡ D.text root.now) }

@@ -32,10 +32,10 @@ impl<F: Graftable, H: Hasher, const N: usize> Snapshot<F, H, N> {
     ///
     /// # Errors
     ///
-    /// The first of: `DataCorrupted` where there are not as many bits as operations; `RangeOutOfBounds` of the first location
-    /// of `clear` that is not of an earlier operation; `RangeOutOfBounds(floor)` where `floor` is greater than the number of
-    /// operations; `LocationOverflow` of that number, at most `u64::MAX`, where it is past `MAX_LEAVES`; `Memory`. After each
-    /// the snapshot is as it was.
+    /// The first of: `DataCorrupted` if there are not as many bits as operations; `RangeOutOfBounds` of the first
+    /// location of `clear` that is not of an earlier operation; `RangeOutOfBounds(floor)` if `floor` is greater than
+    /// the number of operations; `LocationOverflow` of that number, at most `u64::MAX`, if it is past `MAX_LEAVES`;
+    /// `Memory`. After each the snapshot is as it was.
     pub fn extend<E: AsSlice<u8>>(
         &mut self,
         alloc: Global,
@@ -96,8 +96,8 @@ impl<F: Graftable, H: Hasher, const N: usize> Snapshot<F, H, N> {
     }
 }
 
-/// Why a snapshot of `leaves` operations is not extended by `count` with `bits` bits, with the bits at `clear` cleared and
-/// the floor `floor`; none where it is.
+/// Returns why a snapshot of `leaves` operations is not extended by `count` with `bits` bits, with the bits at `clear`
+/// cleared and the floor `floor`; none if it is.
 fn refusal<F: Graftable>(
     leaves: u64,
     count: u64,
@@ -124,7 +124,7 @@ fn refusal<F: Graftable>(
     None
 }
 
-/// The first of `locations` that is not below `leaves`; none where there is no such location.
+/// Returns the first of `locations` that is not below `leaves`; none if there is no such location.
 fn first_past<F: Graftable>(leaves: u64, locations: &[Location<F>]) -> Option<Location<F>>
     ensures { MatchOption result (All (λ l. l < leaves) locations.now) (λ l.
         IsFirstAway leaves 0 locations.now l) }
@@ -171,7 +171,8 @@ fn make_room<F: Graftable, H: Hasher, const N: usize>(
     Ok((touched, updates))
 }
 
-/// Those of the first `count` chunks, of `2^height` bits, that have a bit at one of `locations`, in rising order.
+/// Returns those of the first `count` chunks, of `2^height` bits, that have a bit at one of `locations`, in rising
+/// order.
 fn touched_chunks<F: Graftable>(
     alloc: Global,
     count: u64,

@@ -21,14 +21,14 @@ pub struct Displayed<'a, F: Family, S: Update> {
     alloc: Global,
 }
 
-/// `bytes` in hexadecimal, in lower case.
+/// Returns `bytes` in hexadecimal, in lower case.
 pub(crate) fn hex_of_bytes(alloc: Global, bytes: &[u8]) -> Result<String, fmt::Error>
     ensures { IfOk result (λ text. string_bytes text ≡ encode_lower bytes.now) }
 {
     Ok(hex::encode(alloc, bytes)?)
 }
 
-/// What `value` is written as, in hexadecimal, in lower case.
+/// Returns what `value` is written as, in hexadecimal, in lower case.
 pub(crate) fn hex_of_value<V: Write + EncodeSize>(
     alloc: Global,
     value: &V,
@@ -64,9 +64,9 @@ fn write_empty_commit<F: Family, W: fmt::Write>(
 }
 
 impl<F: Family, S: Update> Operation<F, S> {
-    /// The operation as `Display`: `[key:KEY <deleted>]`, what its update is displayed as,
-    /// `[commit VALUE with inactivity floor: LOC]`, or `[commit with inactivity floor: LOC]`. Displaying it takes
-    /// memory; where there is none it answers an error.
+    /// Returns the operation as `Display`: `[key:KEY <deleted>]`, what its update is displayed as, `[commit VALUE with
+    /// inactivity floor: LOC]`, or `[commit with inactivity floor: LOC]`. Displaying it takes memory; if there is none
+    /// it answers an error.
     pub fn display(&self, alloc: Global) -> Displayed<'_, F, S>
         ensures { result.operation.now ≡ self.now }
     {

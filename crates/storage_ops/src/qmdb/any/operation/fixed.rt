@@ -29,7 +29,8 @@ use storage_codec::codec::{
 };
 use storage_merkle::merkle::{Family, Location};
 
-/// How many bytes an operation has, over keys of `key` bytes, updates of `update` bytes and values of `value` bytes.
+/// Returns how many bytes an operation has, over keys of `key` bytes, updates of `update` bytes and values of `value`
+/// bytes.
 fn total_size(key: usize, update: usize, value: usize) -> usize
     requires key { key ≤ 2 ^ 32 }
     requires update { update ≤ 3 * 2 ^ 32 }
@@ -42,7 +43,7 @@ fn total_size(key: usize, update: usize, value: usize) -> usize
     (1 + update).max(1 + 1 + value + 8).max(1 + key)
 }
 
-/// How many bytes an update of type `S` has.
+/// Returns how many bytes an update of type `S` has.
 fn update_size<S: FixedUpdate>() -> usize
     ensures value { result ≡ S.size }
     ensures few { S.size ≤ 3 * 2 ^ 32 }
@@ -63,7 +64,7 @@ fn write_padded<T: Write>(tag: u8, value: &T, n: usize, out: &mut Vec<u8>) -> Re
     Ok(())
 }
 
-/// Appends to `out` the value of a commit, or none, where a value has `size` bytes, its floor, and then `n` zeros.
+/// Appends to `out` the value of a commit, or none, if a value has `size` bytes, its floor, and then `n` zeros.
 #[tactic(auto, using(storage_codec::specs::Laws::Parts::starts_then, storage_codec::specs::Laws::Parts::starts_first))]
 fn write_commit_padded<F: Family, V: Write>(
     value: &Option<V>,
@@ -214,7 +215,7 @@ where
     ghost operation_same = { operation_same S.Key.view S.view V.view S.seen S.same_seen };
 }
 
-/// How many bytes each value of the type `T` is written as.
+/// Returns how many bytes each value of the type `T` is written as.
 fn size_of_all<T: FixedSize>() -> Option<u64>
     ensures { (x : T) → result ≡ size_of (length (T.text x)) }
 {

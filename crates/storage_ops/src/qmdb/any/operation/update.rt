@@ -45,21 +45,21 @@ pub trait Update: sealed::Sealed + Write + EncodeSize + Drop {
     /// The value of an update.
     ghost value_of: { Self → Self.Value };
 
-    /// The key that gets the value.
+    /// Returns the key that gets the value.
     fn key(&self) -> &Self::Key
         ensures { result.now ≡ key_of self.now };
 
-    /// The key that gets the value; the update is given up.
+    /// Returns the key that gets the value; the update is given up.
     fn into_key(self) -> Self::Key
     where
         Self: Sized,
         ensures { result ≡ key_of self };
 
-    /// The value that the key gets.
+    /// Returns the value that the key gets.
     fn value(&self) -> &Self::Value
         ensures { result.now ≡ value_of self.now };
 
-    /// The value that the key gets; the update is given up.
+    /// Returns the value that the key gets; the update is given up.
     fn into_value(self) -> Self::Value
     where
         Self: Sized,
@@ -74,7 +74,8 @@ pub trait Update: sealed::Sealed + Write + EncodeSize + Drop {
     /// Whether what is kept depends on the update.
     ghost depends: { Bool };
 
-    /// What is kept of an update that `update` answers. Where that is the same for all updates, `update` is not called.
+    /// Returns what is kept of an update that `update` answers. Where that is the same for all updates, `update` is not
+    /// called.
     fn cached<R: Deref<Target = Self> + Drop, C: FnOnce() -> R + Drop>(
         update: C,
     ) -> Result<Self::Cached, NoMemory>
@@ -88,14 +89,14 @@ pub trait Update: sealed::Sealed + Write + EncodeSize + Drop {
     /// What an update is displayed as: keys by their bytes and the value by its encoding, in hexadecimal.
     ghost shown: { Self → List ℕ };
 
-    /// Writes the update to `f`: keys by their bytes and the value by its encoding, in hexadecimal. It takes memory;
-    /// where there is none it answers an error.
+    /// Writes the update to `f`: keys by their bytes and the value by its encoding, in hexadecimal. It allocates, and
+    /// answers an error if it cannot.
     fn fmt<W: fmt::Write>(&self, alloc: Global, f: &mut fmt::Formatter<W>) -> fmt::Result
     where
         Self: Sized,
         ensures { WritesOnOk W.write_str_gives f.old result (shown self.now) f.new };
 
-    /// A copy of this update, which is seen and written as it. Out of memory is an error.
+    /// Returns a copy of this update, which is seen and written as it. Running out of memory is an error.
     fn clone(&self) -> Result<Self, NoMemory>
     where
         Self: Sized,
@@ -128,7 +129,7 @@ fn write_pair<A: Write, B: Write>(first: &A, second: &B, out: &mut Vec<u8>) -> R
     Ok(())
 }
 
-/// The sum of two numbers of bytes; none where it, or one of them, is no `u64`.
+/// Returns the sum of two numbers of bytes; none if it, or one of them, is no `u64`.
 pub(crate) fn sum_of_sizes(first: Option<u64>, second: Option<u64>) -> Option<u64>
     ensures { (m n : ℕ) → first ≡ size_of m → second ≡ size_of n → result ≡ size_of (m + n) }
 {

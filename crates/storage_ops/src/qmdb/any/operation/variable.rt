@@ -43,7 +43,7 @@ fn read_commit<F: Family, V: VariableValue, S: CodecUpdate + Update<Value = V>, 
     }
 }
 
-/// How many bytes `operation` is written as; none where that is no `u64`.
+/// Returns how many bytes `operation` is written as; none if that is no `u64`.
 #[tactic(auto, using(std::proofs::lemmas::Grind::common_steps))]
 fn variable_size<F: Family, S: Update>(operation: &Operation<F, S>) -> Option<u64>
     ensures { result ≡ size_of (length (variable_operation_text

@@ -87,7 +87,7 @@ impl<F: Graftable, K: Key, V: ValueEncoding, D: Digest, C: Chunk> EncodeSize
     }
 }
 
-/// How many bytes a tag, `first` and `second` are written as; none where that is no `u64`.
+/// Returns how many bytes a tag, `first` and `second` are written as; none if that is no `u64`.
 #[tactic(auto, using(std::proofs::lemmas::Grind::common_steps))]
 fn size_of_tagged<A: EncodeSize, B: EncodeSize>(first: &A, second: &B) -> Option<u64>
     ensures { result ≡ size_of (1 + length (A.text first.now ++ B.text second.now)) }
@@ -96,7 +96,7 @@ fn size_of_tagged<A: EncodeSize, B: EncodeSize>(first: &A, second: &B) -> Option
     both.checked_add(1)
 }
 
-/// Reads the tag, one byte, from the front of `buf`. Refuses `EndOfBuffer` where there is none.
+/// Reads the tag, one byte, from the front of `buf`. Refuses `EndOfBuffer` if there is none.
 fn read_tag<B: Buf>(buf: &mut B) -> Result<u8, Error>
     ensures gives { Gives (λ tag. tag) result (B.unread buf.new) (byte_at (B.unread buf.old)) }
     ensures ends { IsEnding (B.unread buf.old) (B.unread buf.new) }
@@ -223,15 +223,15 @@ impl<F: Graftable, K: Key, V: UpdateCodec<K>, D: Digest> ExclusionProof<F, K, V,
         }
     }
 
-    /// The proof that is all of `buf`, as `decode_cfg` reads it, with the configurations of the parts lent apart: `proof`,
-    /// the size of the chunk in bytes and the greatest number of digests; `update` and `value`, what the readers of the
-    /// update and of the value are told.
+    /// Returns the proof that is all of `buf`, as `decode_cfg` reads it, with the configurations of the parts lent
+    /// apart: `proof`, the size of the chunk in bytes and the greatest number of digests; `update` and `value`, what
+    /// the readers of the update and of the value are told.
     ///
     /// # Errors
     ///
-    /// The first of: `EndOfBuffer` where there is no tag; `InvalidEnum` of another tag than 0 and 1; those of the operation
-    /// proof; those of the update or of the value; `ExtraData` with the number of bytes left over. `Memory` may come at any
-    /// point.
+    /// The first of: `EndOfBuffer` if there is no tag; `InvalidEnum` of another tag than 0 and 1; those of the
+    /// operation proof; those of the update or of the value; `ExtraData` with the number of bytes left over. `Memory`
+    /// may come at any point.
     pub fn decode_with<B: Buf>(
         alloc: Global,
         mut buf: B,

@@ -84,8 +84,9 @@ impl<F: Graftable, K: Key, D: Digest> KeyValueProof<F, K, D, Bytes> {
         }
     }
 
-    /// The proof that is all of `buf`, as `decode_cfg` reads it, with the configurations of the parts lent apart: `proof`,
-    /// the size of the chunk in bytes and the greatest number of digests; `key`, what the key's reader is told.
+    /// Returns the proof that is all of `buf`, as `decode_cfg` reads it, with the configurations of the parts lent
+    /// apart: `proof`, the size of the chunk in bytes and the greatest number of digests; `key`, what the key's reader
+    /// is told.
     ///
     /// # Errors
     ///

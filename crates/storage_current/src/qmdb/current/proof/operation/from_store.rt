@@ -16,13 +16,13 @@ use storage_merkle::merkle::{self, Countable, ElementPlan, Graftable, Location, 
 use storage_ops::qmdb::Error;
 
 impl<F: Graftable, D: Digest, const N: usize> Proof<F, D, [u8; N]> {
-    /// The proof of the operation at `loc`, from `storage`, which has the grafted view's nodes; `status` are the
-    /// snapshot's bits, `floor` its inactivity floor, `ops_root` its operations root. Whether the bit of `loc` is set is
-    /// not looked at.
+    /// Returns the proof of the operation at `loc`, from `storage`, which has the grafted view's nodes; `status` are
+    /// the snapshot's bits, `floor` its inactivity floor, `ops_root` its operations root. Whether the bit of `loc` is
+    /// set is not looked at.
     ///
     /// # Errors
     ///
-    /// The first of: `OperationPruned(loc)` where the chunk of `loc` is pruned; those of [`RangeProof::new`] for this one
+    /// The first of: `OperationPruned(loc)` if the chunk of `loc` is pruned; those of [`RangeProof::new`] for this one
     /// location.
     pub fn new<H: Hasher<Digest = D>, R: Readable<N>, S: Storage<F, Digest = D>>(
         alloc: Global,

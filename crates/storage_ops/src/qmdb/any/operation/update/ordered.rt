@@ -39,7 +39,7 @@ pub struct Update<K: Key, V: ValueEncoding> {
 }
 
 impl<K: Key, V: ValueEncoding> Update<K, V> {
-    /// A copy of this update, which is seen and written as it. Out of memory is an error.
+    /// Returns a copy of this update, which is seen and written as it. Running out of memory is an error.
     pub fn clone(&self) -> Result<Update<K, V>, NoMemory>
         ensures seen { IfOk result (λ u. ◌≡◌ {A = K.View × V.Value.View × K.View}
             (K.view u.key, V.Value.view u.value, K.view u.next_key)

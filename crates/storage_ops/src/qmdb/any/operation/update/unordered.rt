@@ -32,7 +32,7 @@ use storage_codec::codec::{
 pub struct Update<K: Key, V: ValueEncoding>(pub K, pub V::Value);
 
 impl<K: Key, V: ValueEncoding> Update<K, V> {
-    /// A copy of this update, which is seen and written as it. Out of memory is an error.
+    /// Returns a copy of this update, which is seen and written as it. Running out of memory is an error.
     pub fn clone(&self) -> Result<Update<K, V>, NoMemory>
         ensures seen { IfOk result (λ u. ◌≡◌ {A = K.View × V.Value.View}
             (K.view u.0, V.Value.view u.1) (K.view self.now.0, V.Value.view self.now.1)) }
