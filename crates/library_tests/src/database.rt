@@ -7,10 +7,8 @@ use std::alloc::{AllocError, Global};
 use std::process::Abort;
 use storage_codec::codec::FixedBytes;
 use storage_codec::digest::{Digest, Hasher, Sha256, Sha512};
-use storage_db::db::{Error, Ordered};
+use storage_db::db::{Error, Ordered, OrderedCodec};
 use storage_merkle::merkle::{Family, Graftable, mmb, mmr};
-use storage_ops::qmdb::any::operation::OperationCodec;
-use storage_ops::qmdb::any::operation::update::Ordered as Update;
 use storage_ops::qmdb::any::{FixedEncoding, VariableEncoding};
 use storage_ops::qmdb::operation::Key;
 
@@ -150,13 +148,8 @@ trait ByNumber: Sized {
         requires { Self.is_sized };
 }
 
-impl<
-    F: Graftable,
-    H: Hasher,
-    K: Key + Numbered,
-    V: OperationCodec<F, Update<K, V>>,
-    const N: usize,
-> ByNumber for Ordered<F, H, K, V, N>
+impl<F: Graftable, H: Hasher, K: Key + Numbered, V: OrderedCodec<F, K>, const N: usize> ByNumber
+    for Ordered<F, H, K, V, N>
 where
     V::Value: Numbered,
 {

@@ -2,7 +2,9 @@
 use Rattle.std.proofs.Common.{◌≡◌, ℕ, ◌≤◌, ◌^◌, false, List, [], ◌∷◌, ◌++◌, length, cond, Option, refl, sym, ◌∙◌, subst}
 use Rattle.std.specs.Prelude.{Result, Ok, Err, OnOk, OnErr}
 use Rattle.storage_codec.specs.Digests.{HashFunction}
-use Rattle.storage_current.specs.Keys.{Keyed}
+use Rattle.std.specs.declared.cmp.Ordering.{Ordering}
+use Rattle.storage_current.specs.Keys.{Keyed, keyed_by}
+use Rattle.storage_ops.specs.Operations.{OperationView}
 use Rattle.storage_current.specs.Snapshots.{Grafting}
 use Rattle.storage_db.specs.declared.db.active.Active.{Active}
 use Rattle.storage_db.specs.declared.db.log.Log.{Log}
@@ -28,6 +30,15 @@ module _ {K W : Type 0} (e : Keyed K W) where
   maps_more (c ∷ commands) command d m = maps_more commands command (cond (is_full e d c) d (done e d c))
       (cond (is_full e d c) m (changed e m c))
 
+-- what operations are written as, by another name
+pub made_as : {K W Y : Type 0} (key : K → List ℕ) (value : W → List ℕ) (cmp : K → K → Ordering) (seen : W → Y)
+    (h : HashFunction) (g : Grafting) (kept : KeptDatabase K W)
+    (one other : OperationView (List ℕ) (List ℕ) (List ℕ) → List ℕ) → one ≡ other
+    → IsMade (keyed_by key value one cmp) seen h g kept → IsMade (keyed_by key value other cmp) seen h g kept
+made_as key value cmp seen h g kept one other same made =
+    subst (λ (text : OperationView (List ℕ) (List ℕ) (List ℕ) → List ℕ). IsMade (keyed_by key value text cmp) seen h g kept)
+    same made
+
 module _ {K W Y : Type 0} (e : Keyed K W) (seen : W → Y) (h : HashFunction) (g : Grafting) where
   pub each_call : EachCallIsKept e seen h g
   each_call old new command is_done commands keeps =
@@ -42,20 +53,21 @@ module _ {K W Y : Type 0} (e : Keyed K W) (seen : W → Y) (h : HashFunction) (g
   made_more old new command is_done made =
       (made.0 ++ command ∷ [], (each_call old new command is_done made.0 made.1).0)
 
-  module _ (log after : Log) (m n : List (K × Active W)) (last : Option (KeptCommit K W)) (old : KeptDatabase K W)
-      (is : kept_of log m last ≡ old) where
-    -- a command that is refused
-    pub made_still : ((l : Option (Committed K W)) → database_of after n l ≡ database_of log m l)
-        → IsMade e seen h g old → IsMade e seen h g (kept_of after n last)
-    made_still same made =
-        subst (λ (k : KeptDatabase K W). IsMade e seen h g k) (sym (same_kept log after m n last same ∙ is)) made
+  -- a command that is refused
+  pub made_still : (log after : Log) (m n : List (K × Active W)) (last : Option (KeptCommit K W))
+      → ((l : Option (Committed K W)) → database_of after n l ≡ database_of log m l)
+      → IsMade e seen h g (kept_of log m last) → IsMade e seen h g (kept_of after n last)
+  made_still log after m n last same made =
+      subst (λ (k : KeptDatabase K W). IsMade e seen h g k) (sym (same_kept log after m n last same)) made
 
-    -- a command that only changes the log and the active keys, or is refused
-    pub made_by : (command : Command K W) {T E : Type 0} (r : Result T E)
-        → OnOk r ((l : Option (Committed K W)) → database_of after n l ≡ done e (database_of log m l) command)
-        → length after.operations.items ≤ 2 ^ 62
-        → OnErr r ((l : Option (Committed K W)) → database_of after n l ≡ database_of log m l)
-        → IsMade e seen h g old → IsMade e seen h g (kept_of after n last)
-    made_by command (Ok x) steps few same made = made_more old (kept_of after n last) command
-        (done_from e seen h g (λ d. done e d command) log after m n last old is steps few) made
-    made_by command (Err y) steps few same made = made_still same made
+  -- a command that only changes the log and the active keys, or is refused
+  pub made_by : (command : Command K W) (log after : Log) (m n : List (K × Active W)) (last : Option (KeptCommit K W))
+      → {T E : Type 0} (r : Result T E)
+      → OnOk r ((l : Option (Committed K W)) → database_of after n l ≡ done e (database_of log m l) command)
+      → length after.operations.items ≤ 2 ^ 62
+      → OnErr r ((l : Option (Committed K W)) → database_of after n l ≡ database_of log m l)
+      → IsMade e seen h g (kept_of log m last) → IsMade e seen h g (kept_of after n last)
+  made_by command log after m n last (Ok x) steps few same made =
+      made_more (kept_of log m last) (kept_of after n last) command
+      (done_from e seen h g (λ d. done e d command) log after m n last (kept_of log m last) refl steps few) made
+  made_by command log after m n last (Err y) steps few same made = made_still log after m n last same made

@@ -3,11 +3,13 @@
 mod active;
 mod changes;
 mod commit;
+mod encoding;
 mod error;
 mod log;
 mod nodes;
 mod ordered;
 mod strings;
 
+pub use encoding::{KeyedEncoding, OrderedCodec};
 pub use error::Error;
 pub use ordered::Ordered;

@@ -3,8 +3,11 @@
 ghost use Rattle.storage_current.specs.Keys.{Keyed, keyed_by};
 ghost use Rattle.storage_db.specs.Keyed.{IsKeyed};
 ghost use Rattle.storage_current.specs.Snapshots.{grafting_of};
+ghost use Rattle.storage_bitmap.specs.Chunks.{IsChunkSize};
+ghost use Rattle.storage_db.specs.Kept.{IsMade};
 ghost use Rattle.storage_db.specs.Promises.{EachCallIsKept, EachListIsKept, EachProofIsAccepted, EachYesIsTrue};
 
+use crate::db::{Ordered as Database, OrderedCodec};
 use storage_codec::digest::Hasher;
 use storage_current::laws::own_operation_proofs_are_accepted;
 use storage_merkle::merkle::{Family, Graftable};
@@ -49,6 +52,22 @@ pub fn each_yes_is_true<
         EachYesIsTrue e H.hash_of (grafting_of F.shape N) }
 {
     operations_settle_keys::<F, K, V>();
+}
+
+/// Some list of commands, given to the empty database, leaves what `database` keeps: so the laws above hold of each database,
+/// whatever calls made it.
+pub fn each_database_is_made<
+    F: Graftable,
+    H: Hasher,
+    K: Key,
+    V: OrderedCodec<F, K>,
+    const N: usize,
+>(database: &Database<F, H, K, V, N>)
+    ensures size { IsChunkSize N }
+    ensures made { let e = keyed_by K.text V.Value.text V.operation_text K.cmp in
+        IsMade e V.Value.view H.hash_of (grafting_of F.shape N) database.now }
+{
+    database.is_made();
 }
 
 /// A command that a database has done stands at the end of the commands that made it, and the maps change as it says.

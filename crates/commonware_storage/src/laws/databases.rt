@@ -13,11 +13,9 @@ use std::alloc::Global;
 use storage_codec::codec::Read;
 use storage_codec::digest::Hasher;
 use storage_current::qmdb::current::ordered::UpdateCodec;
-use storage_db::db::{Error, Ordered};
+use storage_db::db::{Error, Ordered, OrderedCodec};
 use storage_db::laws::each_proof_is_accepted;
 use storage_merkle::merkle::Graftable;
-use storage_ops::qmdb::any::operation::OperationCodec;
-use storage_ops::qmdb::any::operation::update::Ordered as Update;
 use storage_ops::qmdb::operation::Key;
 
 /// Proves the value that `key` had at the last commit of `database`, writes the proof, and answers what
@@ -31,7 +29,7 @@ pub fn proved_values_are_accepted<
     F: Graftable,
     H: Hasher,
     K: Key,
-    V: OperationCodec<F, Update<K, V>>,
+    V: OrderedCodec<F, K>,
     const N: usize,
 >(alloc: Global, database: &Ordered<F, H, K, V, N>, key: K, cfg: &K::Cfg) -> Result<bool, Error<F>>
     requires size { IsChunkSize N }
@@ -68,7 +66,7 @@ pub fn proved_absences_are_accepted<
     F: Graftable,
     H: Hasher,
     K: Key,
-    V: OperationCodec<F, Update<K, V>> + UpdateCodec<K>,
+    V: OrderedCodec<F, K> + UpdateCodec<K>,
     const N: usize,
 >(
     alloc: Global,

@@ -11,11 +11,11 @@ ghost use Rattle.storage_db.specs.Databases.{Committed, Database, Put, Delete, C
 ghost use Rattle.storage_db.specs.Kept.{IsDone, IsCommandRefused, IsMade, Keeps};
 ghost use Rattle.storage_db.specs.Shown.{IsAbsenceProof, IsValueProof};
 
-use crate::db::Error;
 use crate::db::active::Active;
 use crate::db::changes::{put_active, put_commit, put_new, remove};
 use crate::db::commit::Commit;
 use crate::db::log::Log;
+use crate::db::{Error, KeyedEncoding, OrderedCodec};
 use crate::laws::operations_settle_keys;
 use std::alloc::Global;
 use std::collections::BTreeMap;
@@ -24,9 +24,6 @@ use storage_codec::digest::Hasher;
 use storage_current::qmdb::current::Snapshot;
 use storage_current::qmdb::current::ordered::constant::{ExclusionProof, KeyValueProof};
 use storage_merkle::merkle::{Graftable, Location};
-use storage_ops::qmdb::any::operation::OperationCodec;
-use storage_ops::qmdb::any::operation::update::Ordered as Update;
-use storage_ops::qmdb::any::value::ValueEncoding;
 use storage_ops::qmdb::operation::Key;
 
 /// A map of keys to values that proves what it has committed. It keeps its operations as they are written, a bit for each
@@ -35,27 +32,31 @@ use storage_ops::qmdb::operation::Key;
 /// `F` is the family of the trees, `H` the digest function, `V` the encoding of the values, `N` the bytes of a chunk of
 /// bits. After each refusal the database is as it was.
 #[derive(Drop)]
-pub struct Ordered<F: Graftable, H: Hasher, K: Key, V: ValueEncoding, const N: usize> {
+pub struct Ordered<F: Graftable, H: Hasher, K: Key, V: KeyedEncoding<K>, const N: usize> {
     alloc: Global,
     log: Log,
     active: BTreeMap<K, Active<V::Value>>,
     last: Option<Commit<F, H, K, V, N>>,
 }
 
-impl<F: Graftable, H: Hasher, K: Key, V: ValueEncoding, const N: usize> Model
+impl<F: Graftable, H: Hasher, K: Key, V: KeyedEncoding<K>, const N: usize> Model
     for Ordered<F, H, K, V, N> {
     ghost use Rattle.storage_bitmap.specs.Chunks.{IsChunkSize};
-    ghost use Rattle.storage_db.specs.Kept.{KeptDatabase};
+    ghost use Rattle.storage_current.specs.Keys.{keyed_by};
+    ghost use Rattle.storage_current.specs.Snapshots.{grafting_of};
+    ghost use Rattle.storage_db.specs.Kept.{IsMade, KeptDatabase};
     ghost use Rattle.storage_db.specs.Parts.{kept_of};
 
     ghost Value = { KeptDatabase K V.Value };
 
     ghost view = { λ s. kept_of s.log s.active.entries s.last };
 
-    ghost invariant = { λ s. IsChunkSize N };
+    ghost invariant = { λ s. IsChunkSize N × IsMade
+        (keyed_by K.text V.Value.text V.keyed_text K.cmp) V.Value.view H.hash_of
+        (grafting_of F.shape N) (kept_of s.log s.active.entries s.last) };
 }
 
-impl<F: Graftable, H: Hasher, K: Key, V: OperationCodec<F, Update<K, V>>, const N: usize> Ordered<
+impl<F: Graftable, H: Hasher, K: Key, V: OrderedCodec<F, K>, const N: usize> Ordered<
     F,
     H,
     K,
@@ -87,9 +88,6 @@ impl<F: Graftable, H: Hasher, K: Key, V: OperationCodec<F, Update<K, V>>, const 
     pub fn put(&mut self, key: K, value: V::Value) -> Result<(), Error<F>>
         ensures ok { let e = keyed_by K.text V.Value.text V.operation_text K.cmp in OnOk result
             (IsDone e V.Value.view H.hash_of (grafting_of F.shape N) self.old self.new (Put key value)) }
-        ensures made { let e = keyed_by K.text V.Value.text V.operation_text K.cmp in
-            IsMade e V.Value.view H.hash_of (grafting_of F.shape N) self.old
-            → IsMade e V.Value.view H.hash_of (grafting_of F.shape N) self.new }
         ensures err { OnErr result (self.new ≡ self.old) }
         ensures why { let e = keyed_by K.text V.Value.text V.operation_text K.cmp in IfErr result
             (IsCommandRefused e V.Value.view H.hash_of (grafting_of F.shape N) self.old (Put key value)) }
@@ -110,9 +108,6 @@ impl<F: Graftable, H: Hasher, K: Key, V: OperationCodec<F, Update<K, V>>, const 
     pub fn delete(&mut self, key: &K) -> Result<bool, Error<F>>
         ensures ok { let e = keyed_by K.text V.Value.text V.operation_text K.cmp in OnOk result
             (IsDone e V.Value.view H.hash_of (grafting_of F.shape N) self.old self.new (Delete key.now)) }
-        ensures made { let e = keyed_by K.text V.Value.text V.operation_text K.cmp in
-            IsMade e V.Value.view H.hash_of (grafting_of F.shape N) self.old
-            → IsMade e V.Value.view H.hash_of (grafting_of F.shape N) self.new }
         ensures answer { let e = keyed_by K.text V.Value.text V.operation_text K.cmp in
             IfOk result (λ was. (d : Database K V.Value)
             → Keeps e V.Value.view H.hash_of (grafting_of F.shape N) self.old d
@@ -141,9 +136,6 @@ impl<F: Graftable, H: Hasher, K: Key, V: OperationCodec<F, Update<K, V>>, const 
     pub fn commit(&mut self, metadata: Option<V::Value>) -> Result<(), Error<F>>
         ensures ok { let e = keyed_by K.text V.Value.text V.operation_text K.cmp in OnOk result
             (IsDone e V.Value.view H.hash_of (grafting_of F.shape N) self.old self.new (Committing metadata)) }
-        ensures made { let e = keyed_by K.text V.Value.text V.operation_text K.cmp in
-            IsMade e V.Value.view H.hash_of (grafting_of F.shape N) self.old
-            → IsMade e V.Value.view H.hash_of (grafting_of F.shape N) self.new }
         ensures err { OnErr result (self.new ≡ self.old) }
         ensures why { let e = keyed_by K.text V.Value.text V.operation_text K.cmp in IfErr result
             (IsCommandRefused e V.Value.view H.hash_of (grafting_of F.shape N) self.old (Committing metadata)) }
@@ -307,6 +299,15 @@ impl<F: Graftable, H: Hasher, K: Key, V: OperationCodec<F, Update<K, V>>, const 
             Some(last) => last.prove_absence(self.alloc, key),
             None => Err(Error::NotCommitted),
         }
+    }
+
+    /// Some list of commands leaves what the database keeps.
+    pub(crate) fn is_made(&self)
+        ensures size { IsChunkSize N }
+        ensures made { let e = keyed_by K.text V.Value.text V.operation_text K.cmp in
+            IsMade e V.Value.view H.hash_of (grafting_of F.shape N) self.now }
+    {
+        let _ = &self.log;
     }
 
     /// Where the last commit stands; none before the first commit.

@@ -4,7 +4,7 @@ use Rattle.storage_current.specs.Snapshots.{grafting_of}
 use Rattle.storage_db.specs.Databases.{Delete, delete}
 use Rattle.storage_db.proofs.Cases.{err_and}
 use Rattle.storage_db.proofs.Keeping.{done_from, refused_from, kept_from, on_err}
-use Rattle.storage_db.proofs.Made.{made_by}
+use Rattle.storage_db.proofs.Made.{made_as, made_by}
 use Rattle.storage_db.proofs.Told.{nothing_deleted, still_held}
 use Rattle.storage_db.proofs.db.ordered.Ordered.delete.Goals as goal
 
@@ -54,25 +54,21 @@ returns-in_err-remove-clause-active g c =
     c.self.view_is c.args.key.now (sym c.contains_key.ensures ∙ c.if-not-contains_key.false))
 
 pub invariant_of-self : goal.invariant_of-self
-invariant_of-self g c = c.self.invariant
+invariant_of-self g c =
+    let e : Keyed g.row.K.Denot g.row.V-Value.Denot
+    = keyed_by g.K.Write.text g.V.Value.Write.text g.V.OperationCodec.operation_text g.K.Ord.cmp in (
+      c.self.invariant.0,
+      made_as g.K.Write.text g.V.Value.Write.text g.K.Ord.cmp g.V.Value.Read.view g.H.Hasher.hash_of (grafting_of g.F.Family.shape g.row.N) _ g.V.OperationCodec.operation_text g.V.KeyedEncoding.keyed_text g.met.V.OrderedCodec.agrees (made_by e g.V.Value.Read.view g.H.Hasher.hash_of (grafting_of g.F.Family.shape g.row.N)
+          (Delete c.args.key.now) c.self.inside.log c.remove.new.log c.self.inside.active.entries c.remove.new.active.entries
+          c.self.inside.last c.remove.result c.remove.ensures.ok c.remove.ensures.few c.remove.ensures.err (made_as g.K.Write.text g.V.Value.Write.text g.K.Ord.cmp g.V.Value.Read.view g.H.Hasher.hash_of (grafting_of g.F.Family.shape g.row.N) _ g.V.KeyedEncoding.keyed_text g.V.OperationCodec.operation_text (sym g.met.V.OrderedCodec.agrees) c.self.invariant.1)),
+    )
 
 pub invariant_of-self-2 : goal.invariant_of-self-2
-invariant_of-self-2 g c = c.self.invariant
-
-pub returns-in_err-remove-clause-made : goal.returns-in_err-remove-clause-made
-returns-in_err-remove-clause-made g c =
+invariant_of-self-2 g c =
     let e : Keyed g.row.K.Denot g.row.V-Value.Denot
-    = keyed_by g.K.Write.text g.V.Value.Write.text g.V.OperationCodec.operation_text g.K.Ord.cmp in
-    made_by e g.V.Value.Read.view g.H.Hasher.hash_of (grafting_of g.F.Family.shape g.row.N)
-    c.self.inside.log c.remove.new.log c.self.inside.active.entries c.remove.new.active.entries c.self.inside.last
-    c.args.self.now c.self.view_is (Delete c.args.key.now) c.remove.result c.remove.ensures.ok c.remove.ensures.few
-    c.remove.ensures.err
-
-pub returns-clause-made : goal.returns-clause-made
-returns-clause-made g c =
-    let e : Keyed g.row.K.Denot g.row.V-Value.Denot
-    = keyed_by g.K.Write.text g.V.Value.Write.text g.V.OperationCodec.operation_text g.K.Ord.cmp in
-    made_by e g.V.Value.Read.view g.H.Hasher.hash_of (grafting_of g.F.Family.shape g.row.N)
-    c.self.inside.log c.remove.new.log c.self.inside.active.entries c.remove.new.active.entries c.self.inside.last
-    c.args.self.now c.self.view_is (Delete c.args.key.now) c.remove.result c.remove.ensures.ok c.remove.ensures.few
-    c.remove.ensures.err
+    = keyed_by g.K.Write.text g.V.Value.Write.text g.V.OperationCodec.operation_text g.K.Ord.cmp in (
+      c.self.invariant.0,
+      made_as g.K.Write.text g.V.Value.Write.text g.K.Ord.cmp g.V.Value.Read.view g.H.Hasher.hash_of (grafting_of g.F.Family.shape g.row.N) _ g.V.OperationCodec.operation_text g.V.KeyedEncoding.keyed_text g.met.V.OrderedCodec.agrees (made_by e g.V.Value.Read.view g.H.Hasher.hash_of (grafting_of g.F.Family.shape g.row.N)
+          (Delete c.args.key.now) c.self.inside.log c.remove.new.log c.self.inside.active.entries c.remove.new.active.entries
+          c.self.inside.last c.remove.result c.remove.ensures.ok c.remove.ensures.few c.remove.ensures.err (made_as g.K.Write.text g.V.Value.Write.text g.K.Ord.cmp g.V.Value.Read.view g.H.Hasher.hash_of (grafting_of g.F.Family.shape g.row.N) _ g.V.KeyedEncoding.keyed_text g.V.OperationCodec.operation_text (sym g.met.V.OrderedCodec.agrees) c.self.invariant.1)),
+    )

@@ -6,3 +6,6 @@ returns-clause-keeps g c = search rules
 
 pub returns-clause-made : goal.returns-clause-made
 returns-clause-made g c = ([], search rules)
+
+pub invariant_of-result : goal.invariant_of-result
+invariant_of-result g c = (c.requires, ([], search rules))
