@@ -1,5 +1,5 @@
 -- Databases in memory that commands left, and one command more.
-use Rattle.std.proofs.Common.{◌≡◌, ℕ, ◌≤◌, ◌^◌, false, List, [], ◌∷◌, ◌++◌, length, cond, Option, refl, sym, ◌∙◌, subst}
+use Rattle.std.proofs.Common.{◌≡◌, ℕ, ◌≤◌, ◌^◌, List, [], ◌∷◌, ◌++◌, length, cond, Option, refl, sym, ◌∙◌, subst}
 use Rattle.std.specs.Prelude.{Result, Ok, Err, OnOk, OnErr}
 use Rattle.storage_codec.specs.Digests.{HashFunction}
 use Rattle.std.specs.declared.cmp.Ordering.{Ordering}
@@ -31,13 +31,22 @@ module _ {K W : Type 0} (e : Keyed K W) where
       (cond (is_full e d c) m (changed e m c))
 
 -- what operations are written as, by another name
-pub made_as : {K W Y : Type 0} (key : K → List ℕ) (value : W → List ℕ) (cmp : K → K → Ordering) (seen : W → Y)
-    (h : HashFunction) (g : Grafting) (kept : KeptDatabase K W)
-    (one other : OperationView (List ℕ) (List ℕ) (List ℕ) → List ℕ) → one ≡ other
-    → IsMade (keyed_by key value one cmp) seen h g kept → IsMade (keyed_by key value other cmp) seen h g kept
-made_as key value cmp seen h g kept one other same made =
-    subst (λ (text : OperationView (List ℕ) (List ℕ) (List ℕ) → List ℕ). IsMade (keyed_by key value text cmp) seen h g kept)
-    same made
+module _ {K W Y : Type 0} (key : K → List ℕ) (value : W → List ℕ) (cmp : K → K → Ordering) (seen : W → Y)
+    (h : HashFunction) (g : Grafting) (text named : OperationView (List ℕ) (List ℕ) (List ℕ) → List ℕ)
+    (same : text ≡ named) where
+  pub made_as : (kept : KeptDatabase K W)
+      → IsMade (keyed_by key value named cmp) seen h g kept → IsMade (keyed_by key value text cmp) seen h g kept
+  made_as kept made = subst
+      (λ (t : OperationView (List ℕ) (List ℕ) (List ℕ) → List ℕ). IsMade (keyed_by key value t cmp) seen h g kept)
+      (sym same) made
+
+  -- a step from one database to the next
+  pub made_over : (old new : KeptDatabase K W)
+      → (IsMade (keyed_by key value text cmp) seen h g old → IsMade (keyed_by key value text cmp) seen h g new)
+      → IsMade (keyed_by key value named cmp) seen h g old → IsMade (keyed_by key value named cmp) seen h g new
+  made_over old new step made = subst
+      (λ (t : OperationView (List ℕ) (List ℕ) (List ℕ) → List ℕ). IsMade (keyed_by key value t cmp) seen h g new)
+      same (step (made_as old made))
 
 module _ {K W Y : Type 0} (e : Keyed K W) (seen : W → Y) (h : HashFunction) (g : Grafting) where
   pub each_call : EachCallIsKept e seen h g

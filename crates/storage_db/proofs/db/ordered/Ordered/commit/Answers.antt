@@ -5,7 +5,7 @@ use Rattle.storage_db.specs.Databases.{Commit, commit}
 use Rattle.storage_db.specs.Kept.{KeptDatabase, KeptCommit, Keeps}
 use Rattle.storage_db.proofs.Cases.{err_and}
 use Rattle.storage_db.specs.Parts.{kept_of}
-use Rattle.storage_db.proofs.Made.{made_as, made_more, made_still}
+use Rattle.storage_db.proofs.Made.{made_more, made_over, made_still}
 use Rattle.storage_db.proofs.Keeping.{kept_from, refused_from, on_err}
 use Rattle.storage_db.proofs.db.ordered.Ordered.commit.Goals as goal
 
@@ -44,9 +44,14 @@ invariant_of-self g c =
     let e : Keyed g.row.K.Denot g.row.V-Value.Denot
     = keyed_by g.K.Write.text g.V.Value.Write.text g.V.OperationCodec.operation_text g.K.Ord.cmp in (
       c.self.invariant.0,
-      made_as g.K.Write.text g.V.Value.Write.text g.K.Ord.cmp g.V.Value.Read.view g.H.Hasher.hash_of (grafting_of g.F.Family.shape g.row.N) _ g.V.OperationCodec.operation_text g.V.KeyedEncoding.keyed_text g.met.V.OrderedCodec.agrees (made_still e g.V.Value.Read.view g.H.Hasher.hash_of (grafting_of g.F.Family.shape g.row.N)
-          c.self.inside.log c.put_commit.new.log c.self.inside.active.entries c.self.inside.active.entries c.self.inside.last
-          c.in_err-commit.ensures.err (made_as g.K.Write.text g.V.Value.Write.text g.K.Ord.cmp g.V.Value.Read.view g.H.Hasher.hash_of (grafting_of g.F.Family.shape g.row.N) _ g.V.KeyedEncoding.keyed_text g.V.OperationCodec.operation_text (sym g.met.V.OrderedCodec.agrees) c.self.invariant.1)),
+      made_over g.K.Write.text g.V.Value.Write.text g.K.Ord.cmp g.V.Value.Read.view g.H.Hasher.hash_of
+          (grafting_of g.F.Family.shape g.row.N) g.V.OperationCodec.operation_text g.V.KeyedEncoding.keyed_text
+          g.met.V.OrderedCodec.agrees
+          (kept_of c.self.inside.log c.self.inside.active.entries c.self.inside.last)
+          (kept_of c.put_commit.new.log c.self.inside.active.entries c.self.inside.last)
+          (made_still e g.V.Value.Read.view g.H.Hasher.hash_of (grafting_of g.F.Family.shape g.row.N) c.self.inside.log
+          c.put_commit.new.log c.self.inside.active.entries c.self.inside.active.entries c.self.inside.last c.in_err-commit.ensures.err)
+          c.self.invariant.1,
     )
 
 pub invariant_of-self-2 : goal.invariant_of-self-2
@@ -54,11 +59,17 @@ invariant_of-self-2 g c =
     let e : Keyed g.row.K.Denot g.row.V-Value.Denot
     = keyed_by g.K.Write.text g.V.Value.Write.text g.V.OperationCodec.operation_text g.K.Ord.cmp in
     let location : KeptDatabase g.row.K.Denot g.row.V-Value.Denot → Option ℕ
-    = λ k. option_map (λ (x : KeptCommit g.row.K.Denot g.row.V-Value.Denot). x.count - 1) k.last in (
+    = λ k. option_map (λ (x : KeptCommit g.row.K.Denot g.row.V-Value.Denot). x.count - 1) k.last in
+    let old : KeptDatabase g.row.K.Denot g.row.V-Value.Denot
+    = kept_of c.self.inside.log c.self.inside.active.entries c.self.inside.last in
+    let new : KeptDatabase g.row.K.Denot g.row.V-Value.Denot
+    = kept_of c.put_commit.new.log c.self.inside.active.entries (Some c.in_ok-commit.commit) in (
       c.self.invariant.0,
-      made_as g.K.Write.text g.V.Value.Write.text g.K.Ord.cmp g.V.Value.Read.view g.H.Hasher.hash_of (grafting_of g.F.Family.shape g.row.N) _ g.V.OperationCodec.operation_text g.V.KeyedEncoding.keyed_text g.met.V.OrderedCodec.agrees (made_more e g.V.Value.Read.view g.H.Hasher.hash_of (grafting_of g.F.Family.shape g.row.N)
-          (kept_of c.self.inside.log c.self.inside.active.entries c.self.inside.last)
-          (kept_of c.put_commit.new.log c.self.inside.active.entries (Some c.in_ok-commit.commit)) (Commit c.args.metadata)
-          (c.in_ok-commit.ensures.ok c.self.inside.last (c.last_location-before.ensures ∙ ap location (sym c.self.view_is)))
-          (made_as g.K.Write.text g.V.Value.Write.text g.K.Ord.cmp g.V.Value.Read.view g.H.Hasher.hash_of (grafting_of g.F.Family.shape g.row.N) _ g.V.KeyedEncoding.keyed_text g.V.OperationCodec.operation_text (sym g.met.V.OrderedCodec.agrees) c.self.invariant.1)),
+      made_over g.K.Write.text g.V.Value.Write.text g.K.Ord.cmp g.V.Value.Read.view g.H.Hasher.hash_of
+          (grafting_of g.F.Family.shape g.row.N) g.V.OperationCodec.operation_text g.V.KeyedEncoding.keyed_text
+          g.met.V.OrderedCodec.agrees old new
+          (made_more e g.V.Value.Read.view g.H.Hasher.hash_of (grafting_of g.F.Family.shape g.row.N) old new
+          (Commit c.args.metadata)
+          (c.in_ok-commit.ensures.ok c.self.inside.last (c.last_location-before.ensures ∙ ap location (sym c.self.view_is))))
+          c.self.invariant.1,
     )

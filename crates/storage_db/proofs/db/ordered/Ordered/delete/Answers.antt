@@ -3,8 +3,9 @@ use Rattle.storage_current.specs.Keys.{Keyed, keyed_by}
 use Rattle.storage_current.specs.Snapshots.{grafting_of}
 use Rattle.storage_db.specs.Databases.{Delete, delete}
 use Rattle.storage_db.proofs.Cases.{err_and}
+use Rattle.storage_db.specs.Parts.{kept_of}
 use Rattle.storage_db.proofs.Keeping.{done_from, refused_from, kept_from, on_err}
-use Rattle.storage_db.proofs.Made.{made_as, made_by}
+use Rattle.storage_db.proofs.Made.{made_by, made_over}
 use Rattle.storage_db.proofs.Told.{nothing_deleted, still_held}
 use Rattle.storage_db.proofs.db.ordered.Ordered.delete.Goals as goal
 
@@ -58,9 +59,15 @@ invariant_of-self g c =
     let e : Keyed g.row.K.Denot g.row.V-Value.Denot
     = keyed_by g.K.Write.text g.V.Value.Write.text g.V.OperationCodec.operation_text g.K.Ord.cmp in (
       c.self.invariant.0,
-      made_as g.K.Write.text g.V.Value.Write.text g.K.Ord.cmp g.V.Value.Read.view g.H.Hasher.hash_of (grafting_of g.F.Family.shape g.row.N) _ g.V.OperationCodec.operation_text g.V.KeyedEncoding.keyed_text g.met.V.OrderedCodec.agrees (made_by e g.V.Value.Read.view g.H.Hasher.hash_of (grafting_of g.F.Family.shape g.row.N)
+      made_over g.K.Write.text g.V.Value.Write.text g.K.Ord.cmp g.V.Value.Read.view g.H.Hasher.hash_of
+          (grafting_of g.F.Family.shape g.row.N) g.V.OperationCodec.operation_text g.V.KeyedEncoding.keyed_text
+          g.met.V.OrderedCodec.agrees
+          (kept_of c.self.inside.log c.self.inside.active.entries c.self.inside.last)
+          (kept_of c.remove.new.log c.remove.new.active.entries c.self.inside.last)
+          (made_by e g.V.Value.Read.view g.H.Hasher.hash_of (grafting_of g.F.Family.shape g.row.N)
           (Delete c.args.key.now) c.self.inside.log c.remove.new.log c.self.inside.active.entries c.remove.new.active.entries
-          c.self.inside.last c.remove.result c.remove.ensures.ok c.remove.ensures.few c.remove.ensures.err (made_as g.K.Write.text g.V.Value.Write.text g.K.Ord.cmp g.V.Value.Read.view g.H.Hasher.hash_of (grafting_of g.F.Family.shape g.row.N) _ g.V.KeyedEncoding.keyed_text g.V.OperationCodec.operation_text (sym g.met.V.OrderedCodec.agrees) c.self.invariant.1)),
+          c.self.inside.last c.remove.result c.remove.ensures.ok c.remove.ensures.few c.remove.ensures.err)
+          c.self.invariant.1,
     )
 
 pub invariant_of-self-2 : goal.invariant_of-self-2
@@ -68,7 +75,13 @@ invariant_of-self-2 g c =
     let e : Keyed g.row.K.Denot g.row.V-Value.Denot
     = keyed_by g.K.Write.text g.V.Value.Write.text g.V.OperationCodec.operation_text g.K.Ord.cmp in (
       c.self.invariant.0,
-      made_as g.K.Write.text g.V.Value.Write.text g.K.Ord.cmp g.V.Value.Read.view g.H.Hasher.hash_of (grafting_of g.F.Family.shape g.row.N) _ g.V.OperationCodec.operation_text g.V.KeyedEncoding.keyed_text g.met.V.OrderedCodec.agrees (made_by e g.V.Value.Read.view g.H.Hasher.hash_of (grafting_of g.F.Family.shape g.row.N)
+      made_over g.K.Write.text g.V.Value.Write.text g.K.Ord.cmp g.V.Value.Read.view g.H.Hasher.hash_of
+          (grafting_of g.F.Family.shape g.row.N) g.V.OperationCodec.operation_text g.V.KeyedEncoding.keyed_text
+          g.met.V.OrderedCodec.agrees
+          (kept_of c.self.inside.log c.self.inside.active.entries c.self.inside.last)
+          (kept_of c.remove.new.log c.remove.new.active.entries c.self.inside.last)
+          (made_by e g.V.Value.Read.view g.H.Hasher.hash_of (grafting_of g.F.Family.shape g.row.N)
           (Delete c.args.key.now) c.self.inside.log c.remove.new.log c.self.inside.active.entries c.remove.new.active.entries
-          c.self.inside.last c.remove.result c.remove.ensures.ok c.remove.ensures.few c.remove.ensures.err (made_as g.K.Write.text g.V.Value.Write.text g.K.Ord.cmp g.V.Value.Read.view g.H.Hasher.hash_of (grafting_of g.F.Family.shape g.row.N) _ g.V.KeyedEncoding.keyed_text g.V.OperationCodec.operation_text (sym g.met.V.OrderedCodec.agrees) c.self.invariant.1)),
+          c.self.inside.last c.remove.result c.remove.ensures.ok c.remove.ensures.few c.remove.ensures.err)
+          c.self.invariant.1,
     )

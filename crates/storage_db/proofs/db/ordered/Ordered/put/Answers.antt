@@ -1,8 +1,9 @@
-use Rattle.storage_current.specs.Keys.{keyed_by}
+use Rattle.storage_current.specs.Keys.{Keyed, keyed_by}
 use Rattle.storage_current.specs.Snapshots.{grafting_of}
 use Rattle.storage_db.specs.Databases.{Put, put}
+use Rattle.storage_db.specs.Parts.{kept_of}
 use Rattle.storage_db.proofs.Keeping.{done_ok, refused_err, kept_err}
-use Rattle.storage_db.proofs.Made.{made_as, made_by}
+use Rattle.storage_db.proofs.Made.{made_by, made_over}
 use Rattle.std.proofs.Common.{sym}
 use Rattle.storage_db.proofs.db.ordered.Ordered.put.Goals as goal
 
@@ -46,19 +47,33 @@ pub put_new-requires : goal.put_new-requires
 put_new-requires g c = sym c.if-contains_key.ensures
 
 pub invariant_of-self : goal.invariant_of-self
-invariant_of-self g c = (
-  c.self.invariant.0,
-  made_as g.K.Write.text g.V.Value.Write.text g.K.Ord.cmp g.V.Value.Read.view g.H.Hasher.hash_of (grafting_of g.F.Family.shape g.row.N) _ g.V.OperationCodec.operation_text g.V.KeyedEncoding.keyed_text g.met.V.OrderedCodec.agrees (made_by (keyed_by g.K.Write.text g.V.Value.Write.text g.V.OperationCodec.operation_text g.K.Ord.cmp)
-      g.V.Value.Read.view g.H.Hasher.hash_of (grafting_of g.F.Family.shape g.row.N) (Put c.args.key c.args.value)
-      c.self.inside.log c.put_active.new.log c.self.inside.active.entries c.put_active.new.active.entries c.self.inside.last
-      c.put_active.result c.put_active.ensures.ok c.put_active.ensures.few c.put_active.ensures.err (made_as g.K.Write.text g.V.Value.Write.text g.K.Ord.cmp g.V.Value.Read.view g.H.Hasher.hash_of (grafting_of g.F.Family.shape g.row.N) _ g.V.KeyedEncoding.keyed_text g.V.OperationCodec.operation_text (sym g.met.V.OrderedCodec.agrees) c.self.invariant.1)),
-)
+invariant_of-self g c =
+    let e : Keyed g.row.K.Denot g.row.V-Value.Denot
+    = keyed_by g.K.Write.text g.V.Value.Write.text g.V.OperationCodec.operation_text g.K.Ord.cmp in (
+      c.self.invariant.0,
+      made_over g.K.Write.text g.V.Value.Write.text g.K.Ord.cmp g.V.Value.Read.view g.H.Hasher.hash_of
+          (grafting_of g.F.Family.shape g.row.N) g.V.OperationCodec.operation_text g.V.KeyedEncoding.keyed_text
+          g.met.V.OrderedCodec.agrees
+          (kept_of c.self.inside.log c.self.inside.active.entries c.self.inside.last)
+          (kept_of c.put_active.new.log c.put_active.new.active.entries c.self.inside.last)
+          (made_by e g.V.Value.Read.view g.H.Hasher.hash_of (grafting_of g.F.Family.shape g.row.N)
+          (Put c.args.key c.args.value) c.self.inside.log c.put_active.new.log c.self.inside.active.entries c.put_active.new.active.entries
+          c.self.inside.last c.put_active.result c.put_active.ensures.ok c.put_active.ensures.few c.put_active.ensures.err)
+          c.self.invariant.1,
+    )
 
 pub invariant_of-self-else-contains_key : goal.invariant_of-self-else-contains_key
-invariant_of-self-else-contains_key g c = (
-  c.self.invariant.0,
-  made_as g.K.Write.text g.V.Value.Write.text g.K.Ord.cmp g.V.Value.Read.view g.H.Hasher.hash_of (grafting_of g.F.Family.shape g.row.N) _ g.V.OperationCodec.operation_text g.V.KeyedEncoding.keyed_text g.met.V.OrderedCodec.agrees (made_by (keyed_by g.K.Write.text g.V.Value.Write.text g.V.OperationCodec.operation_text g.K.Ord.cmp)
-      g.V.Value.Read.view g.H.Hasher.hash_of (grafting_of g.F.Family.shape g.row.N) (Put c.args.key c.args.value)
-      c.self.inside.log c.put_new.new.log c.self.inside.active.entries c.put_new.new.active.entries c.self.inside.last
-      c.put_new.result c.put_new.ensures.ok c.put_new.ensures.few c.put_new.ensures.err (made_as g.K.Write.text g.V.Value.Write.text g.K.Ord.cmp g.V.Value.Read.view g.H.Hasher.hash_of (grafting_of g.F.Family.shape g.row.N) _ g.V.KeyedEncoding.keyed_text g.V.OperationCodec.operation_text (sym g.met.V.OrderedCodec.agrees) c.self.invariant.1)),
-)
+invariant_of-self-else-contains_key g c =
+    let e : Keyed g.row.K.Denot g.row.V-Value.Denot
+    = keyed_by g.K.Write.text g.V.Value.Write.text g.V.OperationCodec.operation_text g.K.Ord.cmp in (
+      c.self.invariant.0,
+      made_over g.K.Write.text g.V.Value.Write.text g.K.Ord.cmp g.V.Value.Read.view g.H.Hasher.hash_of
+          (grafting_of g.F.Family.shape g.row.N) g.V.OperationCodec.operation_text g.V.KeyedEncoding.keyed_text
+          g.met.V.OrderedCodec.agrees
+          (kept_of c.self.inside.log c.self.inside.active.entries c.self.inside.last)
+          (kept_of c.put_new.new.log c.put_new.new.active.entries c.self.inside.last)
+          (made_by e g.V.Value.Read.view g.H.Hasher.hash_of (grafting_of g.F.Family.shape g.row.N)
+          (Put c.args.key c.args.value) c.self.inside.log c.put_new.new.log c.self.inside.active.entries c.put_new.new.active.entries
+          c.self.inside.last c.put_new.result c.put_new.ensures.ok c.put_new.ensures.few c.put_new.ensures.err)
+          c.self.invariant.1,
+    )
