@@ -8,7 +8,8 @@ use Rattle.commonware_storage.proofs.DatabaseYes.{IsLast, absence_shown, shown_a
 use Rattle.commonware_storage.proofs.laws.databases.proved_absences_are_accepted.Goals as goal
 
 pub returns-clause-accepted : goal.returns-clause-accepted
-returns-clause-accepted g c = λ made d keeps admits.
+returns-clause-accepted g c = λ d keeps admits.
+    let made = c.each_database_is_made.ensures.made in
     let e : Keyed g.row.K.Denot g.row.V-Value.Denot = keyed_by g.K.Write.text g.V.Value.Write.text g.V.OperationCodec.operation_text g.K.Ord.cmp in
     let h = g.H.Hasher.hash_of in
     let gr : Grafting = grafting_of g.F.Family.shape g.row.N in
