@@ -21,6 +21,12 @@
 extern "C" {
 #endif
 
+/*
+ * How the library was built, as a text that is never given back: "gawerunoa 0.1.0 proved by" and the kit that proved it, or
+ * "gawerunoa 0.1.0-unproved" and the kit, where no proof was made and the code has run-time checks in place of it.
+ */
+const char *gawerunoa_build(void);
+
 /* What a call answers. The first of the refusals that holds, in this order: of the family, the digest function, the root, the
    key, the value, the lengths of lists. A refusal takes no memory. */
 enum gawerunoa_answer {

@@ -3,13 +3,14 @@
 
     tools/c_library.py FOLDER [--built TREE]
 
-Into the folder go `libgawerunoa.a` and `libgawerunoa.so`. Both have the code of the crate and the kit's three functions over malloc,
-realloc and free, and no names but those that begin with `gawerunoa_`. With --built the crate is proved and built here, over the
+Into the folder go `libgawerunoa.a`, `libgawerunoa.so` and a link to this. Both have the code of the crate, the kit's three functions over malloc,
+realloc and free, and `gawerunoa_build`, which says how they were built; and no names but those that begin with `gawerunoa_`. With --built the crate is proved and built here, over the
 libraries that stand in TREE and over what a proof of the crate kept there, and the LLVM module of its code goes into the folder too, for
 examples/page/wasm. It wants gcc with its binutils.
 """
 import argparse
 import pathlib
+import re
 import shlex
 import shutil
 import subprocess
@@ -21,6 +22,8 @@ ROOT = pathlib.Path(__file__).resolve().parent.parent
 CRATE = "light_c"
 BUILT = ROOT / f"crates/{CRATE}/out/lib{CRATE}.a"
 NAMES = "gawerunoa_*"
+# programs that are linked with one version run with each later one of this number
+ABI = 0
 LLVM = f"{CRATE}.bc"
 
 
@@ -65,25 +68,61 @@ def archive_over(built, kit, work):
     return archive
 
 
+def build_text(unproved=False):
+    """How the library is built, as `gawerunoa_build` says it: the version and the kit."""
+    packages = (ROOT / "packages/python/gawerunoa/__init__.py").read_text()
+    version = re.search(r'^__version__ = "(.*)"', packages, re.M)[1]
+    identity = subprocess.run(["rt", "version"], capture_output=True, text=True, check=True).stdout.strip()
+    return f"gawerunoa {version}-unproved with {identity}" if unproved else f"gawerunoa {version} proved by {identity}"
+
+
+def build_object(path, *compiler, unproved=False):
+    """The object of the one function in C, which answers the text of this build."""
+    source = path.with_suffix(".c")
+    text = build_text(unproved).replace('"', "")
+    source.write_text(f'const char *gawerunoa_build(void);\nconst char *gawerunoa_build(void) {{ return "{text}"; }}\n')
+    called(*compiler, "-c", source, "-o", path)
+    return path
+
+
+def joined(folder, parts, suffix=""):
+    """The archive and the shared object of the parts, objects and archives, with no names but the library's own."""
+    name = f"libgawerunoa{suffix}"
+    with tempfile.TemporaryDirectory() as work:
+        for part in parts:
+            if part.suffix == ".a":
+                called("ar", "x", part.resolve(), folder=work)
+            else:
+                shutil.copy(part, work)
+        one = pathlib.Path(work, "gawerunoa.o")
+        called("ld", "-r", "-o", one, *sorted(pathlib.Path(work).glob("*.o")))
+        called("objcopy", "--wildcard", f"--keep-global-symbol={NAMES}", one)
+        called("ar", "rcsD", f"{name}.a", one.name, folder=work)
+        soname = f"-Wl,-soname,{name}.so.{ABI}"
+        called("gcc", "-shared", "-o", f"{name}.so", soname, "-Wl,-z,defs", "-Wl,-z,relro,-z,now", one.name, folder=work)
+        folder.mkdir(parents=True, exist_ok=True)
+        for it in (f"{name}.a", f"{name}.so"):
+            shutil.copy(pathlib.Path(work, it), folder / it)
+    # the name by which a program that is linked with it asks for it
+    link = folder / f"{name}.so.{ABI}"
+    link.unlink(missing_ok=True)
+    link.symlink_to(f"{name}.so")
+    return folder / f"{name}.a"
+
+
 def make(folder, built=None):
     """Makes both, and answers the path of the archive."""
     if built is None and not BUILT.is_file():
         raise SystemExit(f"crates/{CRATE} is not built: run `rt lib` in crates/{CRATE} first")
     kit = kit_folder()
-    with tempfile.TemporaryDirectory() as room, tempfile.TemporaryDirectory() as work:
-        for archive in (BUILT if built is None else archive_over(built, kit, room), kit / "c/liblibc_c.a"):
-            called("ar", "x", archive, folder=work)
-        joined = pathlib.Path(work, "gawerunoa.o")
-        called("ld", "-r", "-o", joined, *sorted(pathlib.Path(work).glob("*.o")))
-        called("objcopy", "--wildcard", f"--keep-global-symbol={NAMES}", joined)
-        called("ar", "rcsD", "libgawerunoa.a", joined.name, folder=work)
-        called("gcc", "-shared", "-o", "libgawerunoa.so", "-Wl,-soname,libgawerunoa.so", "-Wl,-z,defs", joined.name, folder=work)
-        folder.mkdir(parents=True, exist_ok=True)
-        for name in ("libgawerunoa.a", "libgawerunoa.so"):
-            shutil.copy(pathlib.Path(work, name), folder / name)
+    with tempfile.TemporaryDirectory() as room:
+        room = pathlib.Path(room)
+        checks = BUILT if built is None else archive_over(built, kit, room)
+        text = build_object(room / "gawerunoa_build.o", "gcc", "-O2", "-fPIC")
+        archive = joined(folder, [checks, kit / "c/liblibc_c.a", text])
         if built is not None:
-            shutil.copy(pathlib.Path(room, LLVM), folder / LLVM)
-    return folder / "libgawerunoa.a"
+            shutil.copy(room / LLVM, folder / LLVM)
+    return archive
 
 
 if __name__ == "__main__":

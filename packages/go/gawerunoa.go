@@ -77,6 +77,26 @@ type Values struct {
 	Min, Max uint64
 }
 
+// Answer is what the library answers, by the names of its C header. The errors below stand for those that are neither Yes nor No.
+type Answer int32
+
+const (
+	Yes           Answer = C.GAWERUNOA_YES
+	No            Answer = C.GAWERUNOA_NO
+	NoMemory      Answer = C.GAWERUNOA_NO_MEMORY
+	OtherRoot     Answer = C.GAWERUNOA_OTHER_ROOT
+	OtherFamily   Answer = C.GAWERUNOA_OTHER_FAMILY
+	OtherHash     Answer = C.GAWERUNOA_OTHER_HASH
+	OtherLengths  Answer = C.GAWERUNOA_OTHER_LENGTHS
+	OtherKey      Answer = C.GAWERUNOA_OTHER_KEY
+	OtherValue    Answer = C.GAWERUNOA_OTHER_VALUE
+)
+
+// Build tells how the library inside was built: its version, and the kit that proved it.
+func Build() string {
+	return C.GoString(C.gawerunoa_build())
+}
+
 var (
 	ErrMemory       = errors.New("memory ran out during the check")
 	ErrOtherRoot    = errors.New("the root has another length than a digest of the hash function")

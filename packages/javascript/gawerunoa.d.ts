@@ -5,8 +5,8 @@
  * chunk size; or that two different byte strings have one digest, one hashed by the check, the other by the calculation of the root.
  * `false` means nothing more than that this proof does not show the claim. Whether the root is recent the caller has to know.
  *
- * A call throws `OutOfMemory` where memory ran out, which says nothing of the claim, and `RangeError` where an argument can be part of no
- * question: a root with another length than a digest, say.
+ * A call throws `OutOfMemory` where memory ran out, which says nothing of the claim, and `Refused` or another `RangeError` where an argument
+ * can be part of no question: a root with another length than a digest, say.
  */
 
 export const version: string;
@@ -34,6 +34,24 @@ export const ANY_LENGTH: Lengths;
 
 export class OutOfMemory extends Error {}
 
+/** What the module answers, by the names of its C header. */
+export const Answer: Readonly<{
+  YES: 1;
+  NO: 0;
+  NO_MEMORY: -1;
+  OTHER_ROOT: -2;
+  OTHER_FAMILY: -3;
+  OTHER_HASH: -4;
+  OTHER_LENGTHS: -5;
+  OTHER_KEY: -6;
+  OTHER_VALUE: -7;
+}>;
+
+/** An argument can be part of no question. `answer` names what is wrong with it. */
+export class Refused extends RangeError {
+  readonly answer: number;
+}
+
 /** What the server and the client have agreed on. */
 export interface Agreed {
   family: Family;
@@ -52,6 +70,9 @@ export interface AgreedKeys extends Agreed {
 }
 
 export interface Checks {
+  /** How the module was built: its version, and the kit that proved its sources. */
+  build(): string;
+
   /** Whether `operation` stands at `location` and is active, by an operation proof of at most 128 digests. */
   checkOperation(asked: Agreed & { location: number | bigint; proof: Uint8Array; operation: Uint8Array; root: Uint8Array }): boolean;
 

@@ -15,23 +15,45 @@ export class OutOfMemory extends Error {
   }
 }
 
-const YES = 1;
-const NO = 0;
-const NO_MEMORY = -1;
+/** What the module answers, by the names of its C header. */
+export const Answer = Object.freeze({
+  YES: 1,
+  NO: 0,
+  NO_MEMORY: -1,
+  OTHER_ROOT: -2,
+  OTHER_FAMILY: -3,
+  OTHER_HASH: -4,
+  OTHER_LENGTHS: -5,
+  OTHER_KEY: -6,
+  OTHER_VALUE: -7,
+});
+
+/** An argument can be part of no question. `answer` names what is wrong with it. */
+export class Refused extends RangeError {
+  constructor(answer) {
+    super(REFUSALS.get(answer));
+    this.name = "Refused";
+    this.answer = answer;
+  }
+}
+
 const REFUSALS = new Map([
-  [-2, "the root has another length than a digest of the hash function"],
-  [-3, "there is no such family"],
-  [-4, "there is no such hash function"],
-  [-5, "the lengths of a list do not add up to its bytes"],
-  [-6, "the key has a length that no key of one size has: these have 4, 8, 20 or 32 bytes"],
-  [-7, "the value has a size that no value of one size has: these have 4, 8, 20 or 32 bytes"],
+  [Answer.OTHER_ROOT, "the root has another length than a digest of the hash function"],
+  [Answer.OTHER_FAMILY, "there is no such family"],
+  [Answer.OTHER_HASH, "there is no such hash function"],
+  [Answer.OTHER_LENGTHS, "the lengths of a list do not add up to its bytes"],
+  [Answer.OTHER_KEY, "the key has a length that no key of one size has: these have 4, 8, 20 or 32 bytes"],
+  [Answer.OTHER_VALUE, "the value has a size that no value of one size has: these have 4, 8, 20 or 32 bytes"],
 ]);
 const MOST = 2n ** 64n - 1n;
 
-/** Loads the module: from its bytes, else from the file beside this one, which Node reads and a browser fetches. */
+let compiled;
+
+/** Loads the module: from its bytes, else from the file beside this one, which Node reads and a browser fetches, but once. */
 export async function load(bytes) {
-  const { instance } = await WebAssembly.instantiate(bytes ?? (await beside("gawerunoa.wasm")));
-  return new Checks(instance.exports);
+  compiled ??= bytes ? undefined : WebAssembly.compile(await beside("gawerunoa.wasm"));
+  const { exports } = await WebAssembly.instantiate(bytes ? await WebAssembly.compile(bytes) : await compiled);
+  return new Checks(exports);
 }
 
 async function beside(name) {
@@ -51,6 +73,12 @@ class Checks {
 
   constructor(exports) {
     this.#exports = exports;
+  }
+
+  /** How the module was built: its version, and the kit that proved its sources. */
+  build() {
+    const bytes = new Uint8Array(this.#exports.memory.buffer).subarray(Number(this.#exports.gawerunoa_build()));
+    return new TextDecoder().decode(bytes.subarray(0, bytes.indexOf(0)));
   }
 
   checkOperation({ family, hash, chunkSize, location, proof, operation, root }) {
@@ -98,10 +126,10 @@ class Checks {
 }
 
 function told(answer) {
-  if (answer === NO_MEMORY) throw new OutOfMemory();
-  if (REFUSALS.has(answer)) throw new RangeError(REFUSALS.get(answer));
-  if (answer !== YES && answer !== NO) throw new Error(`the module answered ${answer}`);
-  return answer === YES;
+  if (answer === Answer.NO_MEMORY) throw new OutOfMemory();
+  if (REFUSALS.has(answer)) throw new Refused(answer);
+  if (answer !== Answer.YES && answer !== Answer.NO) throw new Error(`the module answered ${answer}`);
+  return answer === Answer.YES;
 }
 
 function size(number) {

@@ -7,7 +7,8 @@ With --built the crate is built here, over the libraries that a gate left in TRE
 these is a part:
 
 1. The header compiles alone, as C11 and as C++17, with all warnings.
-2. Its functions are those that the sources export, and those whose names the archive has; its numbers are the sources' constants.
+2. Its functions are those that the sources export, and those whose names the archive has; its numbers are the sources' constants, and the
+   library says how it was built.
 3. All cases of the lists `program_checks`, `ranges_checks`, `key_values` and `exclusions` of `replay` are answered from C as they say,
    but for claimed bytes that are no whole key or value as it is written: a call is given the bytes of a vector alone.
 4. Two cases of each call over each digest function, with each request for memory refused in turn, alone and with all later ones: the
@@ -19,6 +20,7 @@ these is a part:
 A part that fails says why. The last line is 'N passed, M failed'; the status is 0 where none failed, and 77 where there is no gcc.
 """
 import argparse
+import ctypes
 import pathlib
 import re
 import shutil
@@ -37,6 +39,7 @@ from cases import cases_of
 HEADER = ROOT / "include/gawerunoa.h"
 SOURCES = ROOT / "crates/light_c/src"
 NOT_RUN = 77
+EXAMPLE = ROOT / "examples/data"
 WARNINGS = ["-Wall", "-Wextra", "-Wpedantic", "-Wconversion", "-Wshadow", "-Werror"]
 LANGUAGES = [("gcc", "c", "c11"), ("g++", "c++", "c++17")]
 FAMILIES = {"mmr": 0, "mmb": 1}
@@ -92,13 +95,17 @@ def names(folder):
     """The functions and the numbers of the header."""
     header = HEADER.read_text()
     sources = "\n".join(path.read_text() for path in sorted(SOURCES.rglob("*.rt")))
-    declared = sorted(re.findall(r"^int32_t (gawerunoa_\w+)\(", header, re.M))
-    same("functions of the header and of the sources", declared, sorted(re.findall(r'extern "C" fn (\w+)', sources)))
+    declared = sorted(re.findall(r"^(?:int32_t |const char \*)(gawerunoa_\w+)\(", header, re.M))
+    exported = [*re.findall(r'extern "C" fn (\w+)', sources), "gawerunoa_build"]
+    same("functions of the header and of the sources", declared, sorted(exported))
     symbols = run("nm", "--defined-only", "--extern-only", "--format=posix", folder / "libgawerunoa.a")
     same("functions of the header and of the archive", declared, sorted(re.findall(r"^(\w+) T ", symbols, re.M)))
     numbers = {name: int(value) for name, value in re.findall(r"GAWERUNOA_(\w+) = (-?\d+)", header)}
     constants = {name: int(value) for name, value in re.findall(r"pub const (\w+): [ui]32 = (-?\d+);", sources)}
     same("numbers of the header and of the sources", numbers, constants)
+    library = ctypes.CDLL(str((folder / "libgawerunoa.so").resolve()))
+    library.gawerunoa_build.restype = ctypes.c_char_p
+    same("how the library was built", c_library.build_text(), library.gawerunoa_build().decode())
 
 
 def bytes_or_none(text):

@@ -6,8 +6,8 @@ Strangers hand it a proof and a claim. Each call answers True or False:
   strings have one digest, one hashed by the check, the other by the calculation of the root.
 - False means nothing more than that this proof does not show the claim.
 
-Every call raises ValueError where an argument can be part of no question (a root with another length than a digest, say), and
-MemoryError where memory ran out, which says nothing of the claim. Calls may run side by side in several threads.
+Every call raises Refused, a ValueError, where an argument can be part of no question (a root with another length than a digest, say),
+and MemoryError where memory ran out, which says nothing of the claim. Calls may run side by side in several threads.
 
 Whether the root is recent the caller has to know.
 """
@@ -17,7 +17,19 @@ import enum
 import pathlib
 from collections.abc import Sequence
 
-__all__ = ["ANY_LENGTH", "Family", "Hash", "Values", "check_absence", "check_operation", "check_range", "check_value"]
+__all__ = [
+    "ANY_LENGTH",
+    "Answer",
+    "Family",
+    "Hash",
+    "Refused",
+    "Values",
+    "build",
+    "check_absence",
+    "check_operation",
+    "check_range",
+    "check_value",
+]
 __version__ = "0.1.0"
 
 ANY_LENGTH = (0, 2**64 - 1)
@@ -49,6 +61,33 @@ class Values(enum.Enum):
     VARIABLE = ""
     SIZED = "sized_"
     FIXED = "fixed_"
+
+
+class Answer(enum.IntEnum):
+    """What the library answers, by the names of its C header."""
+
+    YES = 1
+    NO = 0
+    NO_MEMORY = -1
+    OTHER_ROOT = -2
+    OTHER_FAMILY = -3
+    OTHER_HASH = -4
+    OTHER_LENGTHS = -5
+    OTHER_KEY = -6
+    OTHER_VALUE = -7
+
+
+class Refused(ValueError):
+    """An argument can be part of no question. `answer` names what is wrong with it."""
+
+    def __init__(self, answer: Answer):
+        super().__init__(_REFUSALS[answer])
+        self.answer = answer
+
+
+def build() -> str:
+    """How the library inside was built: its version, and the kit that proved it."""
+    return _LIBRARY.gawerunoa_build().decode()
 
 
 def check_operation(
@@ -132,14 +171,14 @@ def check_absence(
 
 
 _LIBRARY = ctypes.CDLL(str(pathlib.Path(__file__).with_name("libgawerunoa.so")))
-_YES, _NO, _NO_MEMORY = 1, 0, -1
+_LIBRARY.gawerunoa_build.restype = ctypes.c_char_p
 _REFUSALS = {
-    -2: "the root has another length than a digest of the hash function",
-    -3: "there is no such family",
-    -4: "there is no such hash function",
-    -5: "the lengths of a list do not add up to its bytes",
-    -6: "the key has a length that no key of one size has: these have 4, 8, 20 or 32 bytes",
-    -7: "the value has a size that no value of one size has: these have 4, 8, 20 or 32 bytes",
+    Answer.OTHER_ROOT: "the root has another length than a digest of the hash function",
+    Answer.OTHER_FAMILY: "there is no such family",
+    Answer.OTHER_HASH: "there is no such hash function",
+    Answer.OTHER_LENGTHS: "the lengths of a list do not add up to its bytes",
+    Answer.OTHER_KEY: "the key has a length that no key of one size has: these have 4, 8, 20 or 32 bytes",
+    Answer.OTHER_VALUE: "the value has a size that no value of one size has: these have 4, 8, 20 or 32 bytes",
 }
 
 
@@ -147,12 +186,12 @@ def _ask(call: str, family: Family, hash: Hash, chunk_size: int, *rest) -> bool:
     """What the library answers. All arguments have their C types, since ctypes would cut a number of 64 bits to an int."""
     function = getattr(_LIBRARY, f"gawerunoa_check_{call}")
     function.restype = ctypes.c_int32
-    answer = function(ctypes.c_uint32(Family(family)), ctypes.c_uint32(Hash(hash)), _size(chunk_size), *rest)
-    if answer == _NO_MEMORY:
+    answer = Answer(function(ctypes.c_uint32(Family(family)), ctypes.c_uint32(Hash(hash)), _size(chunk_size), *rest))
+    if answer is Answer.NO_MEMORY:
         raise MemoryError("memory ran out during the check")
-    if answer in _REFUSALS:
-        raise ValueError(_REFUSALS[answer])
-    return {_YES: True, _NO: False}[answer]
+    if answer < Answer.NO_MEMORY:
+        raise Refused(answer)
+    return answer is Answer.YES
 
 
 def _keys(key_lengths: tuple[int, int] | None, values: Values) -> tuple[str, list]:

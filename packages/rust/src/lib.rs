@@ -22,9 +22,15 @@
 //! ```
 #![no_std]
 
+pub mod answer;
 mod raw;
 
-use core::fmt;
+use core::{ffi::CStr, fmt};
+
+/// How the library inside was built: its version, and the kit that proved it.
+pub fn build() -> &'static CStr {
+    raw::build()
+}
 
 /// What the server and the client have agreed on. Of another family, hash function or chunk size a yes says nothing.
 #[derive(Clone, Copy, Debug, PartialEq, Eq)]

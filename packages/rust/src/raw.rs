@@ -1,6 +1,17 @@
 //! The functions of the static library, and what their answers mean.
 
+use crate::answer::{NO, OTHER_KEY, OTHER_LENGTHS, OTHER_ROOT, OTHER_VALUE, YES};
 use crate::{Agreed, Error, Keys, Strings, Values};
+use core::ffi::{c_char, CStr};
+
+extern "C" {
+    fn gawerunoa_build() -> *const c_char;
+}
+
+pub fn build() -> &'static CStr {
+    // SAFETY: it answers a text that ends with a zero byte and is never given back
+    unsafe { CStr::from_ptr(gawerunoa_build()) }
+}
 
 /// Declares the functions, each with what is agreed before and the root behind its own arguments.
 macro_rules! declare {
@@ -76,13 +87,13 @@ fn lent<T>(slice: &[T]) -> (*const T, usize) {
 
 fn answer(number: i32) -> Result<bool, Error> {
     match number {
-        1 => Ok(true),
-        0 => Ok(false),
-        -2 => Err(Error::OtherRoot),
-        -5 => Err(Error::OtherLengths),
-        -6 => Err(Error::OtherKey),
-        -7 => Err(Error::OtherValue),
-        // -1; families and hash functions are of types that have no other value, so that -3 and -4 never come
+        YES => Ok(true),
+        NO => Ok(false),
+        OTHER_ROOT => Err(Error::OtherRoot),
+        OTHER_LENGTHS => Err(Error::OtherLengths),
+        OTHER_KEY => Err(Error::OtherKey),
+        OTHER_VALUE => Err(Error::OtherValue),
+        // NO_MEMORY; families and hash functions are of types that have no other value, so that those of others never come
         _ => Err(Error::Memory),
     }
 }
