@@ -1,16 +1,19 @@
 #!/usr/bin/env python3
 """Tests the packages: makes each, installs it in an empty place, and asks it every case that the library for C is asked.
 
-    packages/test_packages.py [FOLDER]
+    packages/test_packages.py [FOLDER] [--program FILE] [--unproved] [--only NAME]
 
-FOLDER has what `tools/c_library.py FOLDER --built TREE` leaves: the library and the LLVM module of its code, of which the WebAssembly module
-is made here. Without it what `./build` left in dist/ is taken. A package whose language is not there (cargo, go; for JavaScript npm and a
-node that takes wasm64, or Chromium) is named and not tested. The last line is 'N passed, M failed'; the status is 77 where there is no
-library.
+FOLDER has what `tools/c_library.py FOLDER --built TREE` leaves, or with --unproved `tools/unproved.py FOLDER`: the library and the LLVM module
+of its code, of which the WebAssembly module is made here. Without it what `./build` left in dist/ is taken. FILE is the program `stateproof`
+for Debian's packages. A package whose language is not there (cargo, go; for JavaScript npm and a node that takes wasm64, or Chromium; for
+Debian dpkg, gcc and a program) is named and not tested. Each package has the names of the answers that the C header has, and says the
+same version. The last line is 'N passed, M failed'; the status is 77 where there is no library.
 """
 import argparse
+import functools
 import os
 import pathlib
+import re
 import shutil
 import subprocess
 import sys
@@ -20,10 +23,19 @@ HERE = pathlib.Path(__file__).resolve().parent
 ROOT = HERE.parent
 sys.path += [str(HERE), *(str(ROOT / it) for it in ("tools", "crates/light_c/tests", "examples/page"))]
 
+import debs
 import make
-from interface import LISTS, hash_of, question, whole_cases
+from interface import ANSWERS, EXAMPLE, HEADER, LISTS, hash_of, question, whole_cases
 from test_page import BROWSERS, Browser, served
 
+ANSWERS_IN_C = ROOT / "crates/light_c/tests/answers.c"
+# where each language has the constant names of the answers, and how they stand there
+CONSTANTS = {
+    "packages/python/gawerunoa/__init__.py": r"^    ([A-Z_]+) = (-?\d+)$",
+    "packages/rust/src/answer.rs": r"^pub const ([A-Z_]+): i32 = (-?\d+);$",
+    "packages/javascript/gawerunoa.js": r"^  ([A-Z_]+): (-?\d+),$",
+    "packages/javascript/gawerunoa.d.ts": r"^  ([A-Z_]+): (-?\d+);$",
+}
 NOT_THERE = None
 NOT_RUN = 77
 
@@ -126,37 +138,117 @@ def in_browser(made, asked, work):
             browser.close()
 
 
+def names():
+    """That each language has the names of the answers that the header has; Go's are the header's own."""
+    enum = re.search(r"^enum gawerunoa_answer \{(.*?)\};", HEADER.read_text(), re.M | re.S)[1]
+    wanted = dict(re.findall(r"GAWERUNOA_(\w+) = (-?\d+)", enum))
+    for file, pattern in CONSTANTS.items():
+        text = (ROOT / file).read_text()
+        text = re.search(r"^class Answer.*?\n\n\n", text, re.M | re.S)[0] if file.endswith(".py") else text
+        if (found := dict(re.findall(pattern, text, re.M))) != wanted:
+            raise AssertionError(f"{file} has {found}, and the header {wanted}")
+    go_names = re.findall(r"Answer = C\.GAWERUNOA_(\w+)", (HERE / "go/gawerunoa.go").read_text())
+    if sorted(go_names) != sorted(wanted):
+        raise AssertionError(f"Go has {go_names}, and the header {[*wanted]}")
+    return f"{len(wanted)} names of answers, version {make.version()}"
+
+
+def debian(made, questions, work):
+    """The packages in an empty root: a program in C is linked with them, `stateproof` is run, and all of it is removed."""
+    if not all(map(shutil.which, ("dpkg", "gcc"))):
+        return NOT_THERE
+    root = work / "root"
+    for it in ("info", "updates", "triggers"):
+        (root / "var/lib/dpkg" / it).mkdir(parents=True)
+    for it in ("status", "available"):
+        (root / "var/lib/dpkg" / it).touch()
+    # what they stand on is not there; nothing runs in that root
+    dpkg = functools.partial(run, "dpkg", f"--root={root}", "--force-depends", "--force-not-root", "--force-bad-path", "--log=/dev/null")
+    dpkg("--install", *made)
+    told = [asked_in_c(root, questions, work), checked_by_program(root), linted(made)]
+    names = [it.name.partition("_")[0] for it in made]
+    dpkg("--purge", *reversed(names))
+    left = [it for it in root.rglob("*") if not it.is_dir() and root / "var" not in it.parents]
+    if left:
+        raise AssertionError(f"{left} are left when the packages are removed")
+    return ", ".join(filter(None, told))
+
+
+def asked_in_c(root, questions, work):
+    """The cases, by a program that is linked with the shared object as pkg-config says it."""
+    libraries = root / debs.LIB
+    config = next((libraries / "pkgconfig").iterdir())
+    words = dict(line.split(": ", 1) for line in config.read_text().splitlines() if ": " in line)
+    link = words["Libs"].replace("${libdir}", str(libraries)).split()
+    program = work / "asks_installed"
+    run("gcc", "-std=c11", ANSWERS_IN_C, f"-I{root / 'usr/include'}", *link, "-o", program)
+    told = run(program, text="".join(f"{it}\n" for it, _ in questions), LD_LIBRARY_PATH=libraries)
+    by_number = {str(number): word for word, number in ANSWERS.items()}
+    return compare(questions, "".join(f"{by_number.get(it, it)}\n" for it in told.split()))
+
+
+def checked_by_program(root):
+    """The example, by the installed program, whose page of the manual is there."""
+    program = next((root / "usr/bin").iterdir())
+    root_digest, operation, proof = ((EXAMPLE / f"{it}.bin").read_bytes().hex() for it in ("root", "operation", "proof"))
+    told = run(program, "check", "mmr", "1", root_digest, "3", text=f"{operation}\n{proof}\n")
+    if told != "yes\n" or not (root / f"usr/share/man/man1/{program.name}.1.gz").is_file():
+        raise AssertionError(f"{program.name} says {told}, or has no page")
+    return f"{program.name} says yes"
+
+
+def linted(made):
+    """That lintian finds no error."""
+    if not shutil.which("lintian"):
+        return "lintian is not there"
+    run("lintian", "--allow-root", "--fail-on", "error", *made)
+    return "lintian finds no error"
+
+
 def is_run_by_node(module, flags):
     """Whether node takes the module, which has a memory and a table of 64 bits."""
     script = "process.exit(WebAssembly.validate(require('fs').readFileSync(process.argv[1])) ? 0 : 1)"
     return subprocess.run(["node", *flags, "-e", script, module], stderr=subprocess.DEVNULL).returncode == 0
 
 
-TESTS = {"python": python, "rust": rust, "go": go, "javascript": javascript}
+TESTS = {"python": python, "rust": rust, "go": go, "javascript": javascript, "debian": debian}
 
 
-def made_of(folder, work):
+def made_of(given, work):
     """Makes the packages, from what a build of the library left in a folder or else in dist/."""
-    if folder is None:
-        return make.make(work / "made", ROOT / "dist/lib", ROOT / "dist/wasm")
-    run(ROOT / "examples/page/wasm", work / "wasm", "--kept", folder)
-    return make.make(work / "made", folder, work / "wasm")
+    suffix = "-unproved" if given.unproved else ""
+    library, module = given.folder, work / "wasm"
+    program = given.program or (library / f"stateproof{suffix}" if library and suffix else ROOT / f"dist/bin/stateproof{suffix}")
+    if library is None:
+        library, module = ROOT / "dist/lib", ROOT / "dist/wasm"
+    else:
+        run(ROOT / "examples/page/wasm", module, "--kept", library, *["--unproved"] * given.unproved)
+    made = make.make(work / "made", library, module, suffix)
+    if shutil.which("dpkg-deb") and program.is_file():
+        made["debian"] = debs.make_debs(work / "made", library, program, given.unproved)
+    return made
 
 
 def main():
-    words = argparse.ArgumentParser(usage="test_packages.py [FOLDER]")
-    words.add_argument("folder", type=pathlib.Path, nargs="?")
+    words = argparse.ArgumentParser(usage="test_packages.py [FOLDER] [--program FILE] [--unproved] [--only NAME]")
+    words.add_argument("folder", type=lambda it: pathlib.Path(it).resolve(), nargs="?")
+    words.add_argument("--program", type=lambda it: pathlib.Path(it).resolve())
+    words.add_argument("--unproved", action="store_true")
+    words.add_argument("--only", choices=TESTS)
     given = words.parse_args()
-    if not (given.folder or ROOT / "dist/lib").joinpath("libgawerunoa.a").is_file():
+    if not (given.folder or ROOT / "dist/lib").joinpath(f"libgawerunoa{'-unproved' * given.unproved}.a").is_file():
         print("packages: there is no library: not run")
         return NOT_RUN
     questions = [(question(name, hash_of(it), it["in"]), it["out"]) for name in LISTS for it in whole_cases(name)]
     passed = failed = 0
-    with tempfile.TemporaryDirectory() as work:
-        made = made_of(given.folder and given.folder.resolve(), pathlib.Path(work))
-        for name, test in TESTS.items():
+    with tempfile.TemporaryDirectory() as folder:
+        work = pathlib.Path(folder)
+        made = made_of(given, work)
+        tests = {name: functools.partial(test, made.get(name), questions, work) for name, test in TESTS.items()}
+        tests = {given.only: tests[given.only]} if given.only else {"names": names, **tests}
+        for name, test in tests.items():
             try:
-                told = test(made[name], questions, pathlib.Path(work)) if name in made else NOT_THERE
+                told = test() if name == "names" or name in made else NOT_THERE
                 passed += told is not NOT_THERE
                 print(f"packages: {name}: {told or 'not tested, since what it wants is not there'}", flush=True)
             except AssertionError as error:
