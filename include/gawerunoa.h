@@ -21,14 +21,21 @@
 extern "C" {
 #endif
 
+/* The version of this header: its major number a million times, its minor number a thousand times, and its patch number. */
+#define GAWERUNOA_VERSION 1000 /* 0.1.0 */
+
+/* The version of the library that is linked, in the same form. */
+uint32_t gawerunoa_version(void);
+
 /*
  * How the library was built, as a text that is never given back: "gawerunoa 0.1.0 proved by" and the kit that proved it, or
  * "gawerunoa 0.1.0-unproved" and the kit, where no proof was made and the code has run-time checks in place of it.
  */
 const char *gawerunoa_build(void);
 
-/* What a call answers. The first of the refusals that holds, in this order: of the family, the digest function, the root, the
-   key, the value, the lengths of lists. A refusal takes no memory. */
+/* What a call answers. The first of the refusals that holds, in this order: of the struct of what is agreed, the kind of keys, the
+   encoding of values, the family, the digest function, the root, the key, the value, the lengths of lists. A refusal takes no
+   memory. */
 enum gawerunoa_answer {
     GAWERUNOA_YES = 1,
     GAWERUNOA_NO = 0,
@@ -38,7 +45,10 @@ enum gawerunoa_answer {
     GAWERUNOA_OTHER_HASH = -4,    /* no such digest function */
     GAWERUNOA_OTHER_LENGTHS = -5, /* the lengths of a list of byte strings do not add up to its bytes */
     GAWERUNOA_OTHER_KEY = -6,     /* the key has a length that no key of one size has: these have 4, 8, 20 or 32 bytes */
-    GAWERUNOA_OTHER_VALUE = -7    /* the value has a size that no value of one size has: these have 4, 8, 20 or 32 bytes */
+    GAWERUNOA_OTHER_VALUE = -7,   /* the value has a size that no value of one size has: these have 4, 8, 20 or 32 bytes */
+    GAWERUNOA_OTHER_AGREED = -8,  /* there is not one struct of what is agreed, but none or several */
+    GAWERUNOA_OTHER_KIND = -9,    /* no such kind of keys */
+    GAWERUNOA_OTHER_ENCODING = -10 /* no such encoding of values, or none for keys of this kind */
 };
 
 /* The family of the trees: mountain ranges or mountain belts. */
@@ -46,6 +56,63 @@ enum gawerunoa_family { GAWERUNOA_MMR = 0, GAWERUNOA_MMB = 1 };
 
 /* The digest function. Digests of SHA-256 have 32 bytes, those of SHA-512 have 64. */
 enum gawerunoa_hash { GAWERUNOA_SHA256 = 0, GAWERUNOA_SHA512 = 1 };
+
+/* The kind of the keys of a database: all have 4, 8, 20 or 32 bytes, or they are strings, of any length. */
+enum gawerunoa_keys { GAWERUNOA_ONE_SIZE = 0, GAWERUNOA_STRINGS = 1 };
+
+/* The encoding of its values, as the twelve calls below name them. Fixed values go with keys of one size alone. */
+enum gawerunoa_values { GAWERUNOA_VARIABLE = 0, GAWERUNOA_SIZED = 1, GAWERUNOA_FIXED = 2 };
+
+/*
+ * What a server and its clients have agreed on, in one struct. All its numbers 0 but the size of a chunk are MMR, SHA-256, keys of
+ * one size and variable values.
+ */
+struct gawerunoa_agreed {
+    uint32_t family; /* of enum gawerunoa_family */
+    uint32_t hash;   /* of enum gawerunoa_hash */
+    uint32_t keys;   /* of enum gawerunoa_keys */
+    uint32_t values; /* of enum gawerunoa_values */
+    size_t chunk_size;                         /* bytes of a chunk of activity bits */
+    size_t min_key_length, max_key_length;     /* of keys in a proof, where keys are strings */
+    size_t min_value_length, max_value_length; /* of the value in an exclusion proof; both are the size, where values have one */
+    size_t max_digests;                        /* of a range proof */
+};
+
+/*
+ * The four calls over it. Each answers what one of the twelve calls below answers, which has the same words in its name, or of keys the
+ * one for this kind of keys and this encoding of values.
+ *
+ * `agreed_count` is 1: it says how many structs stand at `agreed`. With 0 the pointer is not read and may be null, and the answer is
+ * GAWERUNOA_OTHER_AGREED. The kind of keys and the encoding of values are looked at in each call. A value of another size than the
+ * one that is agreed is GAWERUNOA_OTHER_VALUE, where values have one size.
+ */
+int32_t gawerunoa_ask_operation(
+    const struct gawerunoa_agreed *agreed, size_t agreed_count, uint64_t location,
+    const uint8_t *proof, size_t proof_length,
+    const uint8_t *operation, size_t operation_length,
+    const uint8_t *root, size_t root_length);
+
+int32_t gawerunoa_ask_range(
+    const struct gawerunoa_agreed *agreed, size_t agreed_count, uint64_t start,
+    const uint8_t *proof, size_t proof_length,
+    const uint8_t *operations, size_t operations_length,
+    const size_t *operation_lengths, size_t operations_count,
+    const uint8_t *chunks, size_t chunks_length,
+    const size_t *chunk_lengths, size_t chunks_count,
+    const uint8_t *root, size_t root_length);
+
+int32_t gawerunoa_ask_value(
+    const struct gawerunoa_agreed *agreed, size_t agreed_count,
+    const uint8_t *proof, size_t proof_length,
+    const uint8_t *key, size_t key_length,
+    const uint8_t *value, size_t value_length,
+    const uint8_t *root, size_t root_length);
+
+int32_t gawerunoa_ask_absence(
+    const struct gawerunoa_agreed *agreed, size_t agreed_count,
+    const uint8_t *proof, size_t proof_length,
+    const uint8_t *key, size_t key_length,
+    const uint8_t *root, size_t root_length);
 
 /*
  * Whether `operation` stands at `location` and is active. `proof` is an operation proof over a chunk of activity bits of

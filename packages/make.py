@@ -40,6 +40,8 @@ TAG = "py3-none-manylinux_2_17_x86_64"
 SAME_TIME = (1980, 1, 1, 0, 0, 0)
 
 
+# where it is said as one number
+NUMBERS = {"include/gawerunoa.h": r"GAWERUNOA_VERSION (\d+)", "crates/light_c/src/version.rt": r"^    (\d+)$"}
 # what is said otherwise in a package of what is not proved: the file, the text there, and the other one
 RENAMED = {
     "rust": [
@@ -57,8 +59,10 @@ RENAMED = {
 
 
 def version():
-    """The version, which each package says alike."""
-    found = {file: re.search(pattern, (ROOT / file).read_text(), re.M)[1] for file, pattern in VERSIONS.items()}
+    """The version, which each package, the header and the library say alike."""
+    said = lambda places: {file: re.search(pattern, (ROOT / file).read_text(), re.M)[1] for file, pattern in places.items()}
+    found = said(VERSIONS)
+    found |= {file: f"{int(it) // 1_000_000}.{int(it) // 1000 % 1000}.{int(it) % 1000}" for file, it in said(NUMBERS).items()}
     if len(set(found.values())) != 1:
         raise SystemExit(f"make: versions differ: {found}")
     return next(iter(found.values()))

@@ -90,6 +90,9 @@ const (
 	OtherLengths  Answer = C.GAWERUNOA_OTHER_LENGTHS
 	OtherKey      Answer = C.GAWERUNOA_OTHER_KEY
 	OtherValue    Answer = C.GAWERUNOA_OTHER_VALUE
+	OtherAgreed   Answer = C.GAWERUNOA_OTHER_AGREED
+	OtherKind     Answer = C.GAWERUNOA_OTHER_KIND
+	OtherEncoding Answer = C.GAWERUNOA_OTHER_ENCODING
 )
 
 // Build tells how the library inside was built: its version, and the kit that proved it.

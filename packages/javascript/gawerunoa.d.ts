@@ -45,6 +45,9 @@ export const Answer: Readonly<{
   OTHER_LENGTHS: -5;
   OTHER_KEY: -6;
   OTHER_VALUE: -7;
+  OTHER_AGREED: -8;
+  OTHER_KIND: -9;
+  OTHER_ENCODING: -10;
 }>;
 
 /** An argument can be part of no question. `answer` names what is wrong with it. */

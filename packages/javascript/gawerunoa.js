@@ -26,6 +26,9 @@ export const Answer = Object.freeze({
   OTHER_LENGTHS: -5,
   OTHER_KEY: -6,
   OTHER_VALUE: -7,
+  OTHER_AGREED: -8,
+  OTHER_KIND: -9,
+  OTHER_ENCODING: -10,
 });
 
 /** An argument can be part of no question. `answer` names what is wrong with it. */
@@ -43,7 +46,10 @@ const REFUSALS = new Map([
   [Answer.OTHER_HASH, "there is no such hash function"],
   [Answer.OTHER_LENGTHS, "the lengths of a list do not add up to its bytes"],
   [Answer.OTHER_KEY, "the key has a length that no key of one size has: these have 4, 8, 20 or 32 bytes"],
-  [Answer.OTHER_VALUE, "the value has a size that no value of one size has: these have 4, 8, 20 or 32 bytes"],
+  [Answer.OTHER_VALUE, "the value has a size that no value of one size has: these have 4, 8, 20 or 32 bytes, all the same"],
+  [Answer.OTHER_AGREED, "there is not one struct of what is agreed"],
+  [Answer.OTHER_KIND, "there is no such kind of keys"],
+  [Answer.OTHER_ENCODING, "there is no such encoding of values, or none for keys of this kind: fixed values have keys of one size"],
 ]);
 const MOST = 2n ** 64n - 1n;
 

@@ -7,7 +7,7 @@ import sys
 
 import gawerunoa
 
-FORMS = {it.value: it for it in gawerunoa.Values}
+FORMS = {"": gawerunoa.Values.VARIABLE, "sized_": gawerunoa.Values.SIZED, "fixed_": gawerunoa.Values.FIXED}
 
 
 def bytes_of(word):

@@ -2,16 +2,19 @@
 use Rattle.std.specs.Prelude.{ℤ, pos, negsuc, ◌==◌, ◌⊎◌, IsTrue, IfOk, Option, Some, None, if◌then◌else◌}
 use Rattle.std.specs.declared.alloc.Global.{Global}
 use Rattle.std.specs.declared.vec.Vec.{Vec}
-use Rattle.std.proofs.Common.{◌≡◌, ◌↔◌, ◌∙◌, ℕ, List, length, Bool, true, false, Result, Ok, Err, refl, sym, subst, ap, inl, inr, to_z, of_z, w32}
+use Rattle.std.proofs.Common.{◌≡◌, ◌↔◌, ◌∙◌, ℕ, List, [], ◌∷◌, length, Bool, true, false, Result, Ok, Err, refl, sym, subst, ap, inl, inr, to_z, of_z, w32}
 use Rattle.storage_codec.specs.Laws.DigestValues.{one_digest}
 use Rattle.storage_codec.specs.declared.codec.fixed.FixedBytes.{FixedBytes}
 use Rattle.storage_bitmap.specs.Chunks.{IsChunkSize}
 use Rattle.light_c.specs.Agreed.{digest_size_of}
-use Rattle.light_c.specs.Answers.{IsTold, Says, no, no_memory, yes}
+use Rattle.light_c.specs.Agreement.{AsAgreed, OfKind, kind_of}
+use Rattle.light_c.specs.Answers.{IsTold, Says, no, no_memory, or_then, yes}
 use Rattle.light_c.specs.KeyBytes.{OfSized}
 use Rattle.light_c.specs.KeyParts.{IsAnswer, Setting, Statement, code_of, of_check, of_sized, of_vector}
+use Rattle.light_c.specs.declared.agreement.Agreed.{Agreed}
+use Rattle.light_c.specs.declared.agreement.Kind.{Kind}
 use Rattle.light_c.specs.declared.answer.Fault.{Fault}
-use Rattle.light_c.specs.declared.answer.Fault.TheVariants.{Memory, OtherFamily, OtherHash, OtherKey, OtherLengths, OtherRoot, OtherValue}
+use Rattle.light_c.specs.declared.answer.Fault.TheVariants.{Memory, OtherAgreed, OtherEncoding, OtherFamily, OtherHash, OtherKey, OtherKind, OtherLengths, OtherRoot, OtherValue}
 
 -- ---- numbers
 
@@ -38,6 +41,9 @@ word_of (Err OtherHash) = refl
 word_of (Err OtherLengths) = refl
 word_of (Err OtherKey) = refl
 word_of (Err OtherValue) = refl
+word_of (Err OtherAgreed) = refl
+word_of (Err OtherKind) = refl
+word_of (Err OtherEncoding) = refl
 
 -- what holds of an answer holds of the number that it is told as
 pub answered : {refusal : Option ℤ} {asked : Setting → Statement} {s : Setting} (answer : Result Bool Fault) (code : ℤ)
@@ -155,3 +161,37 @@ vector_answer {refusal} {code} {s} asked vector bytes e alike =
       λ of. alike of.vector (of.is ∙ sym e) of.said,
     )
     (λ t. record { vector = vector; is = e; said = t })
+
+-- ---- what is agreed in one struct
+
+-- a refusal is one to each question
+refusal_along : (c : ℤ) {code : ℤ} {asked other : Setting → Statement} {s : Setting} → IsAnswer (Some c) code asked s
+    → IsAnswer (Some c) code other s
+refusal_along c is = record {
+  exact = is.exact;
+  meaning = λ none. let f : Some c ≡ None = none in absurd cc;
+  refused = λ none. let f : Some c ≡ None = none in absurd cc;
+}
+
+-- an answer about a value or a size that is the claimed one where that is not refused is one about what is claimed
+agreed_one : {A : Type 0} (before refusal : Option ℤ) (code : ℤ) (asked : A → Setting → Statement) (s : Setting)
+    (claimed given : A) → (refusal ≡ None → given ≡ claimed) → IsAnswer (or_then before refusal) code (asked given) s
+    → IsAnswer (or_then before refusal) code (asked claimed) s
+agreed_one {A = A} None None code asked s claimed given same is =
+    subst (λ (x : A). IsAnswer None code (asked x) s) (same refl) is
+agreed_one None (Some c) code asked s claimed given same is = refusal_along c is
+agreed_one (Some c) refusal code asked s claimed given same is = refusal_along c is
+
+pub of_agreed : {A : Type 0} (before refusal other : Option ℤ) {code : ℤ} (asked : A → Setting → Statement) {s : Setting}
+    (claimed given : A) → refusal ≡ other → (refusal ≡ None → given ≡ claimed)
+    → IsAnswer (or_then before other) code (asked given) s → IsAnswer (or_then before refusal) code (asked claimed) s
+of_agreed {A = A} before refusal other {code} asked {s} claimed given e same is =
+    agreed_one before refusal code asked s claimed given same
+    (subst (λ (x : Option ℤ). IsAnswer (or_then before x) code (asked given) s) (sym e) is)
+
+-- what is told of one struct and its kind is told of the list with that struct
+pub as_agreed : (agreed : List Agreed) (it : Agreed) (kind : Kind) (code : ℤ) (Told : Agreed → Kind → Type 0)
+    → agreed ≡ it ∷ [] → kind_of it.keys it.values ≡ Ok kind → Told it kind → AsAgreed agreed code Told
+as_agreed agreed it kind code Told one is told =
+    subst (λ (them : List Agreed). AsAgreed them code Told) (sym one)
+    (subst (λ (found : Result Kind ℤ). OfKind found code (Told it)) (sym is) told)

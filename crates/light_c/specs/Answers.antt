@@ -29,6 +29,15 @@ other_key = negsuc 5
 abbrev pub other_value : ℤ
 other_value = negsuc 6
 
+abbrev pub other_agreed : ℤ
+other_agreed = negsuc 7
+
+abbrev pub other_kind : ℤ
+other_kind = negsuc 8
+
+abbrev pub other_encoding : ℤ
+other_encoding = negsuc 9
+
 -- the answer says whether a check accepts, or that memory ran out
 abbrev pub Says : ℤ → Type 0 → Type 0
 Says answer Accepts = ((answer ≡ yes) × Accepts) ⊎ ((answer ≡ no) × ¬ Accepts) ⊎ (answer ≡ no_memory)

@@ -20,10 +20,13 @@ use Rattle.storage_current.specs.Keys.{Keyed, keyed_by}
 use Rattle.commonware_storage.specs.Light.{IsAcceptedAt, IsTrueAt}
 use Rattle.commonware_storage.specs.LightRanges.{IsAcceptedRange, IsTrueRange}
 use Rattle.commonware_storage.specs.LightKeys.{IsAcceptedAbsence, IsAcceptedValue, IsTrueAbsence, IsTrueValue}
-use Rattle.light_c.specs.Answers.{IsTold, Says, no, no_memory, other_family, other_hash, other_key, other_lengths, other_root, other_value, yes}
+use Rattle.light_c.specs.Answers.{IsTold, Says, no, no_memory, other_agreed, other_encoding, other_family, other_hash, other_key, other_kind, other_lengths, other_root, other_value, yes}
 use Rattle.light_c.specs.KeyBytes.{OfSized, OfVector}
+use Rattle.light_c.specs.Agreement.{IsAcceptedAbsenceIn, IsAcceptedValueIn, IsTrueAbsenceIn, IsTrueValueIn}
+use Rattle.light_c.specs.declared.agreement.Agreed.{Agreed}
+use Rattle.light_c.specs.declared.agreement.Kind.{Kind}
 use Rattle.light_c.specs.declared.answer.Fault.{Fault}
-use Rattle.light_c.specs.declared.answer.Fault.TheVariants.{Memory, OtherFamily, OtherHash, OtherKey, OtherLengths, OtherRoot, OtherValue}
+use Rattle.light_c.specs.declared.answer.Fault.TheVariants.{Memory, OtherAgreed, OtherEncoding, OtherFamily, OtherHash, OtherKey, OtherKind, OtherLengths, OtherRoot, OtherValue}
 
 -- ---- answers
 
@@ -36,6 +39,9 @@ fault_code OtherHash = other_hash
 fault_code OtherLengths = other_lengths
 fault_code OtherKey = other_key
 fault_code OtherValue = other_value
+fault_code OtherAgreed = other_agreed
+fault_code OtherKind = other_kind
+fault_code OtherEncoding = other_encoding
 
 -- what an answer is told as
 abbrev pub code_of : Result Bool Fault → ℤ
@@ -185,3 +191,18 @@ module _ {K X : Type 0} (keys : Keys K X) where
   abbrev pub lacks_sized : (ℕ → Written) → ℕ → K → Setting → Statement
   lacks_sized written m =
       lacks_value {V = FixedBytes m} keys (λ v. v.bytes) (λ v. v.bytes) (fixed_at m) (written m)
+
+-- ---- databases of each kind
+
+-- a key has a value, and a key has none
+abbrev pub value_in : Kind → Agreed → List ℕ → List ℕ → Setting → Statement
+value_in kind it key value s = record {
+  Accepted = IsAcceptedValueIn it s.hash s.grafting s.has_pending s.digest_size s.proof key kind value s.root;
+  Truth = IsTrueValueIn it s.hash s.grafting s.has_pending s.digest_size s.proof key kind value s.root;
+}
+
+abbrev pub absent_in : Kind → Agreed → List ℕ → Setting → Statement
+absent_in kind it key s = record {
+  Accepted = IsAcceptedAbsenceIn it s.hash s.grafting s.has_pending s.digest_size s.proof key kind s.root;
+  Truth = IsTrueAbsenceIn it s.hash s.grafting s.has_pending s.digest_size s.proof key kind s.root;
+}

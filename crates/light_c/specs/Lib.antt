@@ -1,4 +1,5 @@
 pub mod Agreed
+pub mod Agreement
 pub mod Answers
 pub mod ByteStrings
 pub mod KeyBytes

@@ -32,6 +32,15 @@ pub const OTHER_KEY: i32 = -6;
 /// The value, or its size, is one that no value of one size has: these have 4, 8, 20 or 32 bytes.
 pub const OTHER_VALUE: i32 = -7;
 
+/// There is not one struct of what is agreed, but none or several.
+pub const OTHER_AGREED: i32 = -8;
+
+/// There is no such kind of keys.
+pub const OTHER_KIND: i32 = -9;
+
+/// There is no such encoding of values, or none for keys of this kind.
+pub const OTHER_ENCODING: i32 = -10;
+
 /// Why an answer is neither yes nor no.
 #[derive(Clone, Copy, Drop)]
 pub enum Fault {
@@ -55,6 +64,15 @@ pub enum Fault {
 
     /// Told as [`OTHER_VALUE`].
     OtherValue,
+
+    /// Told as [`OTHER_AGREED`].
+    OtherAgreed,
+
+    /// Told as [`OTHER_KIND`].
+    OtherKind,
+
+    /// Told as [`OTHER_ENCODING`].
+    OtherEncoding,
 }
 
 /// Returns what an answer is told as.
@@ -71,6 +89,9 @@ pub fn told(answer: Result<bool, Fault>) -> i32
         Err(Fault::OtherLengths) => OTHER_LENGTHS,
         Err(Fault::OtherKey) => OTHER_KEY,
         Err(Fault::OtherValue) => OTHER_VALUE,
+        Err(Fault::OtherAgreed) => OTHER_AGREED,
+        Err(Fault::OtherKind) => OTHER_KIND,
+        Err(Fault::OtherEncoding) => OTHER_ENCODING,
     }
 }
 

@@ -20,7 +20,7 @@ use std::alloc::Global;
 /// root `root`. `proof` is a key-value proof as it is written, over a chunk of `chunk_size` bytes. Keys have 4, 8, 20
 /// or 32 bytes, and are written as they are; values have any length, and it is written before them.
 ///
-/// The answer is one of those of `answer`.
+/// The answer is one of those of `answer`. A no for a chunk size that no chunk has allocates nothing.
 #[unsafe(no_mangle)]
 pub extern "C" fn gawerunoa_check_value(
     alloc: Global,
@@ -43,6 +43,8 @@ pub extern "C" fn gawerunoa_check_value(
         (grafting_of (shape_of family) chunk_size) (has_pending_of family)
         (digest_size_of hash) proof.now
         key.now value.now root.now }
+    ensures refused { or_then (agreed_refusal family hash root.now) (key_refusal key.now) ≡ None
+        → ¬ IsChunkSize chunk_size → result ≡ no }
 {
     let question = SizedKey {
         key,

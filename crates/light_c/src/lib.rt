@@ -10,11 +10,14 @@
 #![tactic(auto)]
 
 pub mod agreed;
+pub mod agreement;
 pub mod answer;
 mod byte_strings;
 mod claim;
+pub mod database;
 mod fixed;
 pub mod keys;
+mod kinds;
 pub mod operation;
 mod question;
 pub mod range;
@@ -22,3 +25,4 @@ mod sized;
 pub mod string_keys;
 mod strings;
 mod variable;
+pub mod version;

@@ -5,7 +5,7 @@ ghost use Rattle.storage_bitmap.specs.Chunks.{IsChunkSize};
 ghost use Rattle.storage_current.specs.Snapshots.{grafting_of};
 ghost use Rattle.commonware_storage.specs.LightRanges.{IsAcceptedRange, IsTrueRange};
 ghost use Rattle.light_c.specs.Agreed.{function_of, has_pending_of, agreed_refusal, shape_of, digest_size_of};
-ghost use Rattle.light_c.specs.Answers.{IsTold, Says, lengths_refusal, or_then, yes};
+ghost use Rattle.light_c.specs.Answers.{IsTold, Says, lengths_refusal, no, or_then, yes};
 ghost use Rattle.light_c.specs.ByteStrings.{cut};
 ghost use Rattle.light_c.specs.KeyParts.{IsAnswer, code_of, of_check, range_of, setting_of};
 
@@ -24,7 +24,7 @@ use std::alloc::Global;
 /// written, over chunks of `chunk_size` bytes, with at most `max_digests` digests. Operations and chunks are each one
 /// byte string, and the length of each of its parts.
 ///
-/// The answer is one of those of `answer`.
+/// The answer is one of those of `answer`. A no for a chunk size that no chunk has allocates nothing.
 #[unsafe(no_mangle)]
 pub extern "C" fn gawerunoa_check_range<'a>(
     alloc: Global,
@@ -52,6 +52,9 @@ pub extern "C" fn gawerunoa_check_range<'a>(
         → result ≡ yes → IsTrueRange (function_of hash) (grafting_of (shape_of family) chunk_size)
         (has_pending_of family) (digest_size_of hash) max_digests start proof.now
         (cut operation_lengths.now operations.now) (cut chunk_lengths.now chunks.now) root.now }
+    ensures refused { or_then (agreed_refusal family hash root.now)
+        (lengths_refusal operations.now operation_lengths.now chunks.now chunk_lengths.now) ≡ None
+        → ¬ IsChunkSize chunk_size → result ≡ no }
 {
     let question = Range {
         max_digests,

@@ -4,77 +4,13 @@
  * between, and - for no bytes and for no strings. Each byte string stands in memory of just its length, or nowhere where it is empty.
  */
 #define _POSIX_C_SOURCE 200809L
-#include <stdio.h>
-#include <stdlib.h>
-#include <string.h>
-#include "gawerunoa.h"
-
-struct bytes {
-    uint8_t *at;
-    size_t length;
-};
-
-struct list {
-    struct bytes joined;
-    size_t *lengths;
-    size_t count;
-};
-
-static const char *next(void) {
-    const char *word = strtok(NULL, " \n");
-    if (!word) exit(3);
-    return word;
-}
-
-static size_t number(void) {
-    return strtoull(next(), NULL, 10);
-}
-
-static void *taken(size_t size) {
-    void *at = size ? malloc(size) : NULL;
-    if (size && !at) exit(4);
-    return at;
-}
-
-static int digit(char c) {
-    return c <= '9' ? c - '0' : c - 'a' + 10;
-}
-
-static struct bytes bytes(void) {
-    const char *word = next();
-    struct bytes it = {NULL, 0};
-    it.length = strcmp(word, "-") ? strlen(word) / 2 : 0;
-    it.at = taken(it.length);
-    for (size_t i = 0; i < it.length; i++) it.at[i] = (uint8_t)(16 * digit(word[2 * i]) + digit(word[2 * i + 1]));
-    return it;
-}
-
-/* A list is written as its strings joined with commas; an empty string between commas is one of no bytes. */
-static struct list list(void) {
-    const char *word = next();
-    struct list it = {{NULL, 0}, NULL, 0};
-    if (!strcmp(word, "-")) return it;
-    it.count = 1;
-    for (const char *c = word; *c; c++) it.count += *c == ',';
-    it.lengths = taken(it.count * sizeof *it.lengths);
-    size_t digits = strlen(word) - (it.count - 1);
-    it.joined.length = digits / 2;
-    it.joined.at = taken(it.joined.length);
-    uint8_t *at = it.joined.at;
-    for (size_t i = 0; i < it.count; i++) {
-        size_t span = strcspn(word, ",");
-        it.lengths[i] = span / 2;
-        for (size_t k = 0; k < span; k += 2) *at++ = (uint8_t)(16 * digit(word[k]) + digit(word[k + 1]));
-        word += span + 1;
-    }
-    return it;
-}
+#include "lines.h"
 
 static int32_t operation(void) {
     uint32_t family = (uint32_t)number(), hash = (uint32_t)number();
     size_t chunk_size = number();
     uint64_t location = number();
-    struct bytes proof = bytes(), operation = bytes(), root = bytes();
+    struct bytes proof = next_bytes(), operation = next_bytes(), root = next_bytes();
     int32_t answer = gawerunoa_check_operation(family, hash, chunk_size, location, proof.at, proof.length,
         operation.at, operation.length, root.at, root.length);
     free(proof.at), free(operation.at), free(root.at);
@@ -85,9 +21,9 @@ static int32_t range(void) {
     uint32_t family = (uint32_t)number(), hash = (uint32_t)number();
     size_t chunk_size = number(), max_digests = number();
     uint64_t start = number();
-    struct bytes proof = bytes();
-    struct list operations = list(), chunks = list();
-    struct bytes root = bytes();
+    struct bytes proof = next_bytes();
+    struct list operations = next_list(), chunks = next_list();
+    struct bytes root = next_bytes();
     int32_t answer = gawerunoa_check_range(family, hash, chunk_size, max_digests, start, proof.at, proof.length,
         operations.joined.at, operations.joined.length, operations.lengths, operations.count,
         chunks.joined.at, chunks.joined.length, chunks.lengths, chunks.count, root.at, root.length);
@@ -115,7 +51,7 @@ typedef int32_t value_call(uint32_t, uint32_t, size_t, const uint8_t *, size_t, 
 
 static int32_t value(value_call *call) {
     struct agreed it = agreed();
-    struct bytes proof = bytes(), key = bytes(), value = bytes(), root = bytes();
+    struct bytes proof = next_bytes(), key = next_bytes(), value = next_bytes(), root = next_bytes();
     int32_t answer = call(it.family, it.hash, it.chunk_size, proof.at, proof.length, key.at, key.length, value.at, value.length,
         root.at, root.length);
     free(proof.at), free(key.at), free(value.at), free(root.at);
@@ -128,7 +64,7 @@ typedef int32_t string_value_call(uint32_t, uint32_t, size_t, size_t, size_t, co
 static int32_t string_value(string_value_call *call) {
     struct agreed it = agreed();
     size_t least = number(), most = number();
-    struct bytes proof = bytes(), key = bytes(), value = bytes(), root = bytes();
+    struct bytes proof = next_bytes(), key = next_bytes(), value = next_bytes(), root = next_bytes();
     int32_t answer = call(it.family, it.hash, it.chunk_size, least, most, proof.at, proof.length, key.at, key.length,
         value.at, value.length, root.at, root.length);
     free(proof.at), free(key.at), free(value.at), free(root.at);
@@ -142,7 +78,7 @@ static int32_t absence(size_t count, int32_t (*call)(struct agreed, const size_t
     struct agreed it = agreed();
     size_t numbers[NUMBERS] = {0};
     for (size_t i = 0; i < count; i++) numbers[i] = number();
-    struct bytes proof = bytes(), key = bytes(), root = bytes();
+    struct bytes proof = next_bytes(), key = next_bytes(), root = next_bytes();
     int32_t answer = call(it, numbers, proof, key, root);
     free(proof.at), free(key.at), free(root.at);
     return answer;

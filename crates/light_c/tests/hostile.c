@@ -1,7 +1,8 @@
 /*
  * Calls the library so many times with arguments that nobody means: numbers at the edges, byte strings that are null, empty, at odd
- * addresses, random, or a right proof with bytes changed, cut off or added. Every answer must be one that the header names for the
- * call; a yes must be to the right proof, unchanged, but for the key where a key has no value: one proof is of many keys. Byte
+ * addresses, random, or a right proof with bytes changed, cut off or added. Each is asked by one of the twelve calls, and by that of the
+ * four over a struct, which must answer the same; one in eight structs is none, two, or has a kind or an encoding that there is
+ * not, which must be refused as such. Every answer must be one that the header names for the call; a yes must be to the right proof, unchanged, but for the key where a key has no value: one proof is of many keys. Byte
  * strings end where their memory does, so that a read past one is a fault of the address sanitizer. Prints how often each answer came.
  *
  *     hostile CALLS SEED FOLDER HASH     FOLDER has the files CALL_STRING.bin with the strings of a right proof for each call that
@@ -14,12 +15,15 @@
 #include <string.h>
 #include "gawerunoa.h"
 
-enum { ROOM = 4096, STRINGS = 4, LENGTHS = 8, LEAST = -7 };
+enum { ROOM = 4096, STRINGS = 4, LENGTHS = 8, LIMITS = 5, LEAST = -10 };
 
 /* What the answer is to be: a yes or not, or either. */
 enum wanted { OTHER, YES, EITHER };
 
 static uint64_t state;
+
+/* How many structs were refused. */
+static size_t seen_refusals;
 
 static uint64_t random64(void) {
     state ^= state << 13;
@@ -163,11 +167,62 @@ struct agreed {
     size_t chunk;
 };
 
+/* The struct of what is agreed, and how many there are. `refusal` is what must be answered of the struct alone, or 0. */
+struct over {
+    struct gawerunoa_agreed structs[2];
+    size_t count;
+    int32_t refusal;
+};
+
+static struct over over(struct agreed it, uint32_t keys, uint32_t values, const size_t *limits) {
+    struct over over = {.structs = {{it.family, it.hash, keys, values, it.chunk, limits[0], limits[1], limits[2], limits[3], limits[4]}},
+        .count = 1};
+    switch (below(32)) {
+    case 0:
+        over.count = 0;
+        over.refusal = GAWERUNOA_OTHER_AGREED;
+        break;
+    case 1:
+        over.count = 2;
+        over.structs[1] = over.structs[0];
+        over.refusal = GAWERUNOA_OTHER_AGREED;
+        break;
+    case 2:
+        over.structs[0].keys = 2 + (uint32_t)below(UINT32_MAX - 1);
+        over.refusal = GAWERUNOA_OTHER_KIND;
+        break;
+    case 3:
+        over.structs[0].values = 3 + (uint32_t)below(UINT32_MAX - 2);
+        over.refusal = GAWERUNOA_OTHER_ENCODING;
+        break;
+    default:
+        break;
+    }
+    return over;
+}
+
+static const struct gawerunoa_agreed *at(const struct over *over) {
+    return over->count ? over->structs : NULL;
+}
+
+/* The answer of one of the twelve, which that over a struct is to be too, but where the struct is refused. */
+static int32_t both(int32_t one, const struct over *over, int32_t other) {
+    if (other != (over->refusal ? over->refusal : one)) {
+        printf("answered %d, and over a struct %d\n", one, other);
+        exit(1);
+    }
+    seen_refusals += over->refusal != 0;
+    return one;
+}
+
 static int32_t operation(struct agreed it, const struct bytes *of, enum wanted *wanted) {
     uint64_t location = number(3);
     if (location != 3) *wanted = OTHER;
-    return gawerunoa_check_operation(it.family, it.hash, it.chunk, location, of[1].at, of[1].length, of[2].at, of[2].length,
-        of[0].at, of[0].length);
+    size_t limits[LIMITS] = {number(0), number(0), number(0), number(0), number(0)};
+    struct over o = over(it, (uint32_t)below(2), (uint32_t)below(2), limits);
+    return both(gawerunoa_check_operation(it.family, it.hash, it.chunk, location, of[1].at, of[1].length, of[2].at, of[2].length,
+        of[0].at, of[0].length), &o, gawerunoa_ask_operation(at(&o), o.count, location, of[1].at, of[1].length,
+        of[2].at, of[2].length, of[0].at, of[0].length));
 }
 
 static int32_t range(struct agreed it, const struct bytes *of, enum wanted *wanted) {
@@ -175,18 +230,34 @@ static int32_t range(struct agreed it, const struct bytes *of, enum wanted *want
     struct bytes chunks = random_bytes(64);
     size_t firsts = lengths(of[2].length, first), seconds = lengths(chunks.length, second);
     *wanted = OTHER;
-    int32_t answer = gawerunoa_check_range(it.family, it.hash, it.chunk, number(128), number(3), of[1].at, of[1].length,
+    size_t most = number(128), start = number(3), limits[LIMITS] = {number(0), number(0), number(0), number(0), most};
+    struct over o = over(it, (uint32_t)below(2), (uint32_t)below(2), limits);
+    int32_t answer = both(gawerunoa_check_range(it.family, it.hash, it.chunk, most, start, of[1].at, of[1].length,
         of[2].at, of[2].length, firsts ? first : NULL, firsts, chunks.at, chunks.length, seconds ? second : NULL, seconds,
-        of[0].at, of[0].length);
+        of[0].at, of[0].length), &o, gawerunoa_ask_range(at(&o), o.count, start, of[1].at, of[1].length,
+        of[2].at, of[2].length, firsts ? first : NULL, firsts, chunks.at, chunks.length, seconds ? second : NULL, seconds,
+        of[0].at, of[0].length));
     free(chunks.block);
     return answer;
 }
 
+static int32_t value_over(const struct over *o, const struct bytes *of) {
+    return gawerunoa_ask_value(at(o), o->count, of[1].at, of[1].length, of[2].at, of[2].length, of[3].at, of[3].length,
+        of[0].at, of[0].length);
+}
+
+static int32_t absence_over(const struct over *o, const struct bytes *of) {
+    return gawerunoa_ask_absence(at(o), o->count, of[1].at, of[1].length, of[2].at, of[2].length, of[0].at, of[0].length);
+}
+
 static int32_t value(enum call call, struct agreed it, const struct bytes *of) {
-    return (call == VALUE ? gawerunoa_check_value
+    size_t size = call == VALUE ? number(0) : of[3].length, limits[LIMITS] = {number(0), number(0), size, size, number(0)};
+    uint32_t values = call == VALUE ? GAWERUNOA_VARIABLE : call == FIXED_VALUE ? GAWERUNOA_FIXED : GAWERUNOA_SIZED;
+    struct over o = over(it, GAWERUNOA_ONE_SIZE, values, limits);
+    return both((call == VALUE ? gawerunoa_check_value
         : call == FIXED_VALUE ? gawerunoa_check_fixed_value
         : gawerunoa_check_sized_value)(it.family, it.hash, it.chunk, of[1].at, of[1].length, of[2].at, of[2].length,
-        of[3].at, of[3].length, of[0].at, of[0].length);
+        of[3].at, of[3].length, of[0].at, of[0].length), &o, value_over(&o, of));
 }
 
 /* Bounds of lengths, usually those that admit all. With others a right proof may be a no. */
@@ -202,20 +273,27 @@ static struct bounds bounds(enum wanted *wanted) {
 
 static int32_t string_value(enum call call, struct agreed it, const struct bytes *of, enum wanted *wanted) {
     struct bounds keys = bounds(wanted);
-    return (call == STRING_VALUE ? gawerunoa_check_string_value : gawerunoa_check_string_sized_value)(it.family, it.hash, it.chunk,
-        keys.least, keys.most, of[1].at, of[1].length, of[2].at, of[2].length, of[3].at, of[3].length, of[0].at, of[0].length);
+    size_t size = call == STRING_VALUE ? number(0) : of[3].length, limits[LIMITS] = {keys.least, keys.most, size, size, number(0)};
+    struct over o = over(it, GAWERUNOA_STRINGS, call == STRING_VALUE ? GAWERUNOA_VARIABLE : GAWERUNOA_SIZED, limits);
+    return both((call == STRING_VALUE ? gawerunoa_check_string_value : gawerunoa_check_string_sized_value)(it.family, it.hash, it.chunk,
+        keys.least, keys.most, of[1].at, of[1].length, of[2].at, of[2].length, of[3].at, of[3].length, of[0].at, of[0].length),
+        &o, value_over(&o, of));
 }
 
 static int32_t absence(struct agreed it, const struct bytes *of, enum wanted *wanted) {
     struct bounds values = bounds(wanted);
-    return gawerunoa_check_absence(it.family, it.hash, it.chunk, values.least, values.most, of[1].at, of[1].length,
-        of[2].at, of[2].length, of[0].at, of[0].length);
+    size_t limits[LIMITS] = {number(0), number(0), values.least, values.most, number(0)};
+    struct over o = over(it, GAWERUNOA_ONE_SIZE, GAWERUNOA_VARIABLE, limits);
+    return both(gawerunoa_check_absence(it.family, it.hash, it.chunk, values.least, values.most, of[1].at, of[1].length,
+        of[2].at, of[2].length, of[0].at, of[0].length), &o, absence_over(&o, of));
 }
 
 static int32_t string_absence(struct agreed it, const struct bytes *of, enum wanted *wanted) {
     struct bounds keys = bounds(wanted), values = bounds(wanted);
-    return gawerunoa_check_string_absence(it.family, it.hash, it.chunk, keys.least, keys.most, values.least, values.most,
-        of[1].at, of[1].length, of[2].at, of[2].length, of[0].at, of[0].length);
+    size_t limits[LIMITS] = {keys.least, keys.most, values.least, values.most, number(0)};
+    struct over o = over(it, GAWERUNOA_STRINGS, GAWERUNOA_VARIABLE, limits);
+    return both(gawerunoa_check_string_absence(it.family, it.hash, it.chunk, keys.least, keys.most, values.least, values.most,
+        of[1].at, of[1].length, of[2].at, of[2].length, of[0].at, of[0].length), &o, absence_over(&o, of));
 }
 
 /* The size of all values, usually that of the right proofs. With another one a right proof of a commit may be a yes. */
@@ -227,15 +305,18 @@ static size_t size_of_values(enum wanted other, enum wanted *wanted) {
 
 static int32_t sized_absence(enum call call, struct agreed it, const struct bytes *of, enum wanted *wanted) {
     size_t size = size_of_values(call == FIXED_ABSENCE ? OTHER : EITHER, wanted);
-    return (call == FIXED_ABSENCE ? gawerunoa_check_fixed_absence : gawerunoa_check_sized_absence)(it.family, it.hash, it.chunk,
-        size, of[1].at, of[1].length, of[2].at, of[2].length, of[0].at, of[0].length);
+    size_t limits[LIMITS] = {number(0), number(0), size, size, number(0)};
+    struct over o = over(it, GAWERUNOA_ONE_SIZE, call == FIXED_ABSENCE ? GAWERUNOA_FIXED : GAWERUNOA_SIZED, limits);
+    return both((call == FIXED_ABSENCE ? gawerunoa_check_fixed_absence : gawerunoa_check_sized_absence)(it.family, it.hash, it.chunk,
+        size, of[1].at, of[1].length, of[2].at, of[2].length, of[0].at, of[0].length), &o, absence_over(&o, of));
 }
 
 static int32_t string_sized_absence(struct agreed it, const struct bytes *of, enum wanted *wanted) {
     struct bounds keys = bounds(wanted);
-    size_t size = size_of_values(EITHER, wanted);
-    return gawerunoa_check_string_sized_absence(it.family, it.hash, it.chunk, keys.least, keys.most, size,
-        of[1].at, of[1].length, of[2].at, of[2].length, of[0].at, of[0].length);
+    size_t size = size_of_values(EITHER, wanted), limits[LIMITS] = {keys.least, keys.most, size, size, number(0)};
+    struct over o = over(it, GAWERUNOA_STRINGS, GAWERUNOA_SIZED, limits);
+    return both(gawerunoa_check_string_sized_absence(it.family, it.hash, it.chunk, keys.least, keys.most, size,
+        of[1].at, of[1].length, of[2].at, of[2].length, of[0].at, of[0].length), &o, absence_over(&o, of));
 }
 
 static int32_t answer(enum call call, struct agreed it, const struct bytes *of, enum wanted *wanted) {
@@ -290,7 +371,9 @@ int main(int count, char **words) {
         }
         seen[answer - LEAST]++;
     }
-    for (int answer = LEAST; answer <= GAWERUNOA_YES; answer++) printf("%d: %zu\n", answer, seen[answer - LEAST]);
+    for (int answer = LEAST; answer <= GAWERUNOA_YES; answer++)
+        if (seen[answer - LEAST]) printf("%d: %zu\n", answer, seen[answer - LEAST]);
+    printf("structs refused: %zu\n", seen_refusals);
     for (size_t i = 0; i < RIGHT; i++)
         for (size_t k = 0; k < STRINGS; k++) free(rights[i].of[k].at);
     return 0;

@@ -7,15 +7,17 @@ With --built the crate is built here, over the libraries that a gate left in TRE
 these is a part:
 
 1. The header compiles alone, as C11 and as C++17, with all warnings.
-2. Its functions are those that the sources export, and those whose names the archive has; its numbers are the sources' constants, and the
-   library says how it was built.
+2. Its functions are those that the sources export, and those whose names the archive has; its numbers and its struct are the sources'
+   own, and the library says the header's version and how it was built.
 3. All cases of the lists `program_checks`, `ranges_checks`, `key_values` and `exclusions` of `replay` are answered from C as they say,
    but for claimed bytes that are no whole key or value as it is written: a call is given the bytes of a vector alone.
-4. Two cases of each call over each digest function, with each request for memory refused in turn, alone and with all later ones: the
+4. The same cases, asked from C and from C++ by the four calls over a struct of what is agreed.
+5. What these refuse of the struct and of what they are given, from Python and from Rust.
+6. Two cases of each call over each digest function, with each request for memory refused in turn, alone and with all later ones: the
    answer is the right one or -1, and of each call -1 at least once.
-5. N hostile calls over each digest function (200,000 where nothing is said), under the address sanitizer of the caller:
+7. N hostile calls over each digest function (200,000 where nothing is said), under the address sanitizer of the caller:
    hostile.c says which.
-6. The examples.
+8. The examples.
 
 A part that fails says why. The last line is 'N passed, M failed'; the status is 0 where none failed, and 77 where there is no gcc.
 """
@@ -39,7 +41,7 @@ from cases import cases_of
 HEADER = ROOT / "include/gawerunoa.h"
 SOURCES = ROOT / "crates/light_c/src"
 NOT_RUN = 77
-EXAMPLE = ROOT / "examples/data"
+SANITIZER = ["-fsanitize=address,undefined", "-fno-sanitize-recover=all", "-g"]
 WARNINGS = ["-Wall", "-Wextra", "-Wpedantic", "-Wconversion", "-Wshadow", "-Werror"]
 LANGUAGES = [("gcc", "c", "c11"), ("g++", "c++", "c++17")]
 FAMILIES = {"mmr": 0, "mmb": 1}
@@ -67,6 +69,12 @@ RIGHT = [
     *((f"{form}absence", "exclusions", ["root", "proof", "key"]) for form in FORMS.values()),
 ]
 CALLS = [*(it[0] for it in RIGHT), "range"]
+# what the four calls over a struct are given, and their answers: the struct of a right proof is all 0 but the size of a chunk
+AGREED = {name: ctypes.c_uint32 for name in ("family", "hash", "keys", "values")} | {
+    name: ctypes.c_size_t
+    for name in ("chunk_size", "min_key_length", "max_key_length", "min_value_length", "max_value_length", "max_digests")
+}
+EXAMPLE = ROOT / "examples/data"
 # what such a case must have, where it has it
 RIGHT_OVER = {"chunk": "1", "location": "3"}
 
@@ -92,10 +100,10 @@ def compiles(folder):
 
 
 def names(folder):
-    """The functions and the numbers of the header."""
+    """The functions, the numbers and the struct of the header, and what the library says of itself."""
     header = HEADER.read_text()
     sources = "\n".join(path.read_text() for path in sorted(SOURCES.rglob("*.rt")))
-    declared = sorted(re.findall(r"^(?:int32_t |const char \*)(gawerunoa_\w+)\(", header, re.M))
+    declared = sorted(re.findall(r"^(?:u?int32_t |const char \*)(gawerunoa_\w+)\(", header, re.M))
     exported = [*re.findall(r'extern "C" fn (\w+)', sources), "gawerunoa_build"]
     same("functions of the header and of the sources", declared, sorted(exported))
     symbols = run("nm", "--defined-only", "--extern-only", "--format=posix", folder / "libgawerunoa.a")
@@ -103,9 +111,23 @@ def names(folder):
     numbers = {name: int(value) for name, value in re.findall(r"GAWERUNOA_(\w+) = (-?\d+)", header)}
     constants = {name: int(value) for name, value in re.findall(r"pub const (\w+): [ui]32 = (-?\d+);", sources)}
     same("numbers of the header and of the sources", numbers, constants)
-    library = ctypes.CDLL(str((folder / "libgawerunoa.so").resolve()))
+    members = re.search(r"^struct gawerunoa_agreed \{\n(.*?)^\};", header, re.M | re.S)[1]
+    fields = [name for them in re.findall(r"^    \w+ ([\w, ]+);", members, re.M) for name in them.split(", ")]
+    same("fields of the header's struct and of the tests'", fields, [*AGREED])
+    source = re.search(r"^pub struct Agreed \{\n(.*?)^\}", sources, re.M | re.S)[1]
+    same("fields of the header's struct and of the sources'", fields, re.findall(r"^    pub (\w+): \w+,$", source, re.M))
+    version = int(re.search(r"#define GAWERUNOA_VERSION (\d+)", header)[1])
+    library = library_in(folder)
+    same("versions of the header and of the library", version, library.gawerunoa_version())
     library.gawerunoa_build.restype = ctypes.c_char_p
     same("how the library was built", c_library.build_text(), library.gawerunoa_build().decode())
+    written = ".".join(map(str, (version // 1_000_000, version // 1000 % 1000, version % 1000)))
+    same("the version in a number and in words", written, c_library.build_text().split()[1])
+
+
+def library_in(folder):
+    """The shared object, as Python loads it."""
+    return ctypes.CDLL(str((folder / "libgawerunoa.so").resolve()))
 
 
 def bytes_or_none(text):
@@ -181,16 +203,28 @@ def question(name, hash_, case):
     return f"range {head} {case['most']} {case['start']} {proof} {lists} {root}"
 
 
-def answering(folder, name, *flags):
-    """The program that answers lines from C."""
-    source = [HERE / "answers.c", folder / "libgawerunoa.a"]
-    run("gcc", "-std=c11", *WARNINGS, *flags, f"-I{HEADER.parent}", *source, "-o", folder / name)
+def answering(folder, name, *flags, source="answers.c", language=LANGUAGES[0]):
+    """The program that answers lines, from C where no other language is said."""
+    compiler, words, standard = language
+    parts = ["-x", words, HERE / source, "-x", "none", folder / "libgawerunoa.a"]
+    run(compiler, f"-std={standard}", *WARNINGS, *flags, f"-I{HEADER.parent}", *parts, "-o", folder / name)
     return folder / name
 
 
 def answers(folder):
-    """The cases of four lists."""
-    program = answering(folder, "answers", "-fsanitize=address,undefined", "-fno-sanitize-recover=all", "-g")
+    """The cases of four lists, by the twelve calls."""
+    answered_by(answering(folder, "answers", *SANITIZER), "C")
+
+
+def asks(folder):
+    """The cases of four lists, by the four calls over a struct."""
+    for language in LANGUAGES:
+        if shutil.which(language[0]):
+            answered_by(answering(folder, "asks", *SANITIZER, source="asks.c", language=language), f"{language[1]}, over a struct")
+
+
+def answered_by(program, how):
+    """That a program answers the cases of four lists as they say."""
     for name in LISTS:
         cases = whole_cases(name)
         asked = [question(name, hash_of(case), case["in"]) for case in cases]
@@ -199,7 +233,7 @@ def answers(folder):
         for answer, line, case in zip(said, asked, cases):
             same(f"{name}: {line}", int(answer), ANSWERS[case["out"]])
         longer = sum(map(hash_of, cases))
-        print(f"interface: {name}: all {len(cases)} cases answered from C, {longer} over SHA-512", flush=True)
+        print(f"interface: {name}: all {len(cases)} cases answered from {how}, {longer} over SHA-512", flush=True)
 
 
 def first_cases():
@@ -217,7 +251,13 @@ def refused(folder):
     room = folder / "memory"
     room.mkdir(exist_ok=True)
     shim = refused_memory.compiled_shim(room)
-    program, wanted, runs = answering(folder, "answers_alone"), dict.fromkeys(CALLS, 0), 0
+    for source in ("answers.c", "asks.c"):
+        refused_by(shim, answering(folder, "answers_alone", source=source), source)
+
+
+def refused_by(shim, program, source):
+    """The calls of one program."""
+    wanted, runs = dict.fromkeys(CALLS, 0), 0
     for line, answer in first_cases():
         ask = lambda *refusals: refused_memory.ended(shim, [program], f"{line}\n", *refusals)
         whole = ask()
@@ -232,15 +272,83 @@ def refused(folder):
                 wanted[line.split()[0]] += ending.output == "-1\n"
                 runs += 1
     same("calls that never want memory", [], [it for it, count in wanted.items() if not count])
-    print(f"interface: {runs} calls with memory refused, of which {sum(wanted.values())} wanted memory", flush=True)
+    print(f"interface: {source}: {runs} calls with memory refused, of which {sum(wanted.values())} wanted memory", flush=True)
+
+
+class Asking:
+    """The four calls over a struct, from Python, each with what it is given beside the struct and the root, and the example's answer."""
+
+    def __init__(self, folder):
+        self.library = library_in(folder)
+        self.struct = type("Agreed", (ctypes.Structure,), {"_fields_": [*AGREED.items()]})
+        self.given = {it: (EXAMPLE / f"{it}.bin").read_bytes() for it in ("root", "proof", "operation")}
+
+    def __call__(self, call, *parts, count=1, root=None, **agreed):
+        """What a call answers over so many structs: for none a null pointer is handed over."""
+        structs = (self.struct * count)(*[self.struct(**{"chunk_size": 1} | agreed)] * count)
+        words = [structs if count else None, ctypes.c_size_t(count)]
+        for it in (*parts, self.given["root"] if root is None else root):
+            words += [ctypes.c_char_p(it), ctypes.c_size_t(len(it))] if isinstance(it, bytes) else [it]
+        return getattr(self.library, f"gawerunoa_ask_{call}")(*words)
+
+
+def refusals(folder):
+    """What is refused, and in which order, from Python; the same of an operation from Rust."""
+    ask = Asking(folder)
+    numbers = {name: int(value) for name, value in re.findall(r"GAWERUNOA_(\w+) = (-?\d+)", HEADER.read_text())}
+    proof, operation = ask.given["proof"], ask.given["operation"]
+    empty_list = [b"", None, ctypes.c_size_t(0)]
+    sized = {"values": numbers["SIZED"], "min_value_length": 8, "max_value_length": 8}
+    string_sized = sized | {"keys": numbers["STRINGS"]}
+    calls = {
+        "operation": [ctypes.c_uint64(3), proof, operation],
+        "range": [ctypes.c_uint64(0), b"", *empty_list, *empty_list],
+        "value": [b"", b"k" * 8, b"v" * 8],
+        "absence": [b"", b"k" * 8],
+    }
+    # each refusal, with all that comes after it in the order wrong too
+    root, family = {"root": b"r" * 31}, {"family": 2}
+    later = [root, {"hash": 2}, family, {"values": 3}, {"keys": 2}]
+    names_of = ["OTHER_ROOT", "OTHER_HASH", "OTHER_FAMILY", "OTHER_ENCODING", "OTHER_KIND"]
+    for call, parts in calls.items():
+        for count in (0, 2):
+            same(f"{call}: {count} structs", numbers["OTHER_AGREED"], ask(call, *parts, count=count, **family, keys=2))
+        wrong = {}
+        for more, name in zip(later, names_of):
+            wrong |= more
+            same(f"{call}: {name}", numbers[name], ask(call, *parts, **wrong))
+        same(f"{call}: fixed values and strings", numbers["OTHER_ENCODING"], ask(call, *parts, keys=1, values=2, **family))
+    same("a right proof", numbers["YES"], ask("operation", *calls["operation"]))
+    same("another location", numbers["NO"], ask("operation", ctypes.c_uint64(4), proof, operation))
+    same("a size that no chunk has", numbers["NO"], ask("operation", *calls["operation"], chunk_size=3))
+    lengths = (ctypes.c_size_t * 1)(2)
+    bad_list = [b"a", lengths, ctypes.c_size_t(1)]
+    same("lengths", numbers["OTHER_LENGTHS"], ask("range", ctypes.c_uint64(0), b"", *bad_list, *empty_list))
+    for values in ("VARIABLE", "SIZED", "FIXED"):
+        agreed = {**sized, "values": numbers[values]}
+        same(f"a key of 7 bytes, {values}", numbers["OTHER_KEY"], ask("value", b"", b"k" * 7, b"v" * 7, **agreed))
+        same(f"no value of a key of 7 bytes, {values}", numbers["OTHER_KEY"], ask("absence", b"", b"k" * 7, **agreed))
+    for agreed in (sized, sized | {"values": numbers["FIXED"]}, string_sized):
+        for least, most, length in ((4, 4, 8), (8, 4, 8), (4, 8, 8), (7, 7, 7)):
+            limits = {"min_value_length": least, "max_value_length": most}
+            same("the size of a value", numbers["OTHER_VALUE"], ask("value", b"", b"k" * 8, b"v" * length, **agreed | limits))
+        for least, most in ((8, 4), (4, 8), (7, 7), (0, 0)):
+            limits = {"min_value_length": least, "max_value_length": most}
+            same("the size of values", numbers["OTHER_VALUE"], ask("absence", b"", b"k" * 8, **agreed | limits))
+        same("no proof of a value", numbers["NO"], ask("value", b"", b"k" * 8, b"v" * 8, **agreed))
+        same("no proof of an absence", numbers["NO"], ask("absence", b"", b"k" * 8, **agreed))
+    if shutil.which("rustc"):
+        run("rustc", "--edition", "2021", "-O", "-L", f"native={folder}", "-o", folder / "asks_rs", HERE / "asks.rs")
+        of_struct = ["OTHER_AGREED", "OTHER_AGREED", "OTHER_KIND", "OTHER_ENCODING", "OTHER_ENCODING", "OTHER_FAMILY", "OTHER_HASH"]
+        wanted = [*(numbers[it] for it in ("YES", "NO", *of_struct)), ask.library.gawerunoa_version()]
+        same("from Rust", wanted, [*map(int, run(folder / "asks_rs", EXAMPLE).split())])
 
 
 def hostile(folder, calls, seed):
     """Calls that nobody means."""
     program = folder / "hostile"
-    sanitizer = ["-fsanitize=address,undefined", "-fno-sanitize-recover=all", "-g", "-O1"]
     source = [HERE / "hostile.c", folder / "libgawerunoa.a"]
-    run("gcc", "-std=c11", *WARNINGS, *sanitizer, f"-I{HEADER.parent}", *source, "-o", program)
+    run("gcc", "-std=c11", *WARNINGS, *SANITIZER, "-O1", f"-I{HEADER.parent}", *source, "-o", program)
     for name, hash_ in HASHES.items():
         seen = run(program, calls, seed, right_proof(folder, hash_), hash_)
         print(f"interface: {calls} hostile calls, {name}, answers and how often: {', '.join(seen.splitlines())}", flush=True)
@@ -286,6 +394,8 @@ def main():
             ("the header compiles", lambda: compiles(folder)),
             ("its names and numbers", lambda: names(folder)),
             ("the cases of four lists", lambda: answers(folder)),
+            ("the same over a struct", lambda: asks(folder)),
+            ("refusals over a struct", lambda: refusals(folder)),
             ("calls with memory refused", lambda: refused(folder)),
             ("hostile calls", lambda: hostile(folder, given.calls, given.seed)),
             ("the examples", lambda: print(run(ROOT / "examples/run", folder), end="")),

@@ -50,7 +50,7 @@ class Hash(enum.IntEnum):
     SHA512 = 1
 
 
-class Values(enum.Enum):
+class Values(enum.IntEnum):
     """How a database encodes its values.
 
     VARIABLE: a value has any length, which is written before it.
@@ -58,9 +58,9 @@ class Values(enum.Enum):
     FIXED: as SIZED, but zeros fill up all operations to one size. Such a database has keys of one size.
     """
 
-    VARIABLE = ""
-    SIZED = "sized_"
-    FIXED = "fixed_"
+    VARIABLE = 0
+    SIZED = 1
+    FIXED = 2
 
 
 class Answer(enum.IntEnum):
@@ -75,6 +75,9 @@ class Answer(enum.IntEnum):
     OTHER_LENGTHS = -5
     OTHER_KEY = -6
     OTHER_VALUE = -7
+    OTHER_AGREED = -8
+    OTHER_KIND = -9
+    OTHER_ENCODING = -10
 
 
 class Refused(ValueError):
@@ -98,7 +101,7 @@ def check_operation(
     `chunk_size` is the number of bytes of a chunk of activity bits. A size that no chunk has gives False, and so do more than 128
     digests in the proof.
     """
-    return _ask("operation", family, hash, chunk_size, _size(location), *_bytes(proof, operation, root))
+    return _ask("operation", _agreed(family, hash, chunk_size), _size(location), *_bytes(proof, operation, root))
 
 
 def check_range(
@@ -117,8 +120,8 @@ def check_range(
 
     `proof` is a range proof. More than `max_digests` digests in it give False.
     """
-    lists = [*_list(operations), *_list(chunks)]
-    return _ask("range", family, hash, chunk_size, _size(max_digests), _size(start), *_bytes(proof), *lists, *_bytes(root))
+    agreed = _agreed(family, hash, chunk_size, max_digests=max_digests)
+    return _ask("range", agreed, _size(start), *_bytes(proof), *_list(operations), *_list(chunks), *_bytes(root))
 
 
 def check_value(
@@ -138,8 +141,8 @@ def check_value(
     Without `key_lengths` all keys have one size: 4, 8, 20 or 32 bytes. With it keys are strings, and it gives the least and the greatest
     length of a key that the proof may name (`ANY_LENGTH`, say); another one gives False.
     """
-    call, lengths = _keys(key_lengths, values)
-    return _ask(f"{call}value", family, hash, chunk_size, *lengths, *_bytes(proof, key, value, root))
+    agreed = _agreed(family, hash, chunk_size, values, key_lengths, (len(value), len(value)))
+    return _ask("value", agreed, *_bytes(proof, key, value, root))
 
 
 def check_absence(
@@ -159,48 +162,53 @@ def check_absence(
     `value_lengths` are the least and the greatest length of a value that the proof may name; where values have one size, both are that
     size. For `key_lengths` see `check_value`.
     """
-    call, lengths = _keys(key_lengths, values)
-    least, greatest = value_lengths
-    if values is Values.VARIABLE:
-        lengths += [_size(least), _size(greatest)]
-    elif least == greatest:
-        lengths.append(_size(least))
-    else:
-        raise ValueError("values of one size have one length")
-    return _ask(f"{call}absence", family, hash, chunk_size, *lengths, *_bytes(proof, key, root))
+    agreed = _agreed(family, hash, chunk_size, values, key_lengths, value_lengths)
+    return _ask("absence", agreed, *_bytes(proof, key, root))
+
+
+class _Agreed(ctypes.Structure):
+    """What is agreed, as the C header lays it out."""
+
+    _fields_ = [
+        *((name, ctypes.c_uint32) for name in ("family", "hash", "keys", "values")),
+        *((name, ctypes.c_size_t) for name in ("chunk_size", "min_key_length", "max_key_length")),
+        *((name, ctypes.c_size_t) for name in ("min_value_length", "max_value_length", "max_digests")),
+    ]
 
 
 _LIBRARY = ctypes.CDLL(str(pathlib.Path(__file__).with_name("libgawerunoa.so")))
 _LIBRARY.gawerunoa_build.restype = ctypes.c_char_p
+_ONE_SIZE, _STRINGS = 0, 1
 _REFUSALS = {
     Answer.OTHER_ROOT: "the root has another length than a digest of the hash function",
     Answer.OTHER_FAMILY: "there is no such family",
     Answer.OTHER_HASH: "there is no such hash function",
     Answer.OTHER_LENGTHS: "the lengths of a list do not add up to its bytes",
     Answer.OTHER_KEY: "the key has a length that no key of one size has: these have 4, 8, 20 or 32 bytes",
-    Answer.OTHER_VALUE: "the value has a size that no value of one size has: these have 4, 8, 20 or 32 bytes",
+    Answer.OTHER_VALUE: "the value has a size that no value of one size has: these have 4, 8, 20 or 32 bytes, all the same",
+    Answer.OTHER_AGREED: "there is not one struct of what is agreed",
+    Answer.OTHER_KIND: "there is no such kind of keys",
+    Answer.OTHER_ENCODING: "there is no such encoding of values, or none for keys of this kind: fixed values have keys of one size",
 }
 
 
-def _ask(call: str, family: Family, hash: Hash, chunk_size: int, *rest) -> bool:
+def _agreed(family, hash, chunk_size, values=Values.VARIABLE, key_lengths=None, value_lengths=ANY_LENGTH, max_digests=0) -> _Agreed:
+    """What is agreed. Each number is looked at, since ctypes would cut one that its field does not hold."""
+    numbers = [Family(family), Hash(hash), _ONE_SIZE if key_lengths is None else _STRINGS, Values(values)]
+    sizes = [chunk_size, *(key_lengths or ANY_LENGTH), *value_lengths, max_digests]
+    return _Agreed(*numbers, *(_size(it).value for it in sizes))
+
+
+def _ask(call: str, agreed: _Agreed, *rest) -> bool:
     """What the library answers. All arguments have their C types, since ctypes would cut a number of 64 bits to an int."""
-    function = getattr(_LIBRARY, f"gawerunoa_check_{call}")
+    function = getattr(_LIBRARY, f"gawerunoa_ask_{call}")
     function.restype = ctypes.c_int32
-    answer = Answer(function(ctypes.c_uint32(Family(family)), ctypes.c_uint32(Hash(hash)), _size(chunk_size), *rest))
+    answer = Answer(function(ctypes.byref(agreed), ctypes.c_size_t(1), *rest))
     if answer is Answer.NO_MEMORY:
         raise MemoryError("memory ran out during the check")
     if answer < Answer.NO_MEMORY:
         raise Refused(answer)
     return answer is Answer.YES
-
-
-def _keys(key_lengths: tuple[int, int] | None, values: Values) -> tuple[str, list]:
-    """What the name of the call about a key begins with, and the lengths that it is told of keys."""
-    if key_lengths is None:
-        return values.value, []
-    if values is Values.FIXED:
-        raise ValueError("a database of fixed values has keys of one size")
-    return f"string_{values.value}", [_size(it) for it in key_lengths]
 
 
 def _size(number: int) -> ctypes.c_size_t:

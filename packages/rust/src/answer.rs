@@ -9,3 +9,6 @@ pub const OTHER_HASH: i32 = -4;
 pub const OTHER_LENGTHS: i32 = -5;
 pub const OTHER_KEY: i32 = -6;
 pub const OTHER_VALUE: i32 = -7;
+pub const OTHER_AGREED: i32 = -8;
+pub const OTHER_KIND: i32 = -9;
+pub const OTHER_ENCODING: i32 = -10;

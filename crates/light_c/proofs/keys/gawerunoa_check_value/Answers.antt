@@ -7,3 +7,6 @@ returns-clause-exact c = (answered c.ask.result c.told.result c.told.ensures c.a
 pub returns-clause-meaning : goal.returns-clause-meaning
 returns-clause-meaning c = λ none is.
     (answered c.ask.result c.told.result c.told.ensures c.ask.ensures).meaning none is (wide_of c.args.hash)
+
+pub returns-clause-refused : goal.returns-clause-refused
+returns-clause-refused c = (answered c.ask.result c.told.result c.told.ensures c.ask.ensures).refused
