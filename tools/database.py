@@ -1,10 +1,14 @@
 #!/usr/bin/env python3
-"""What a database answers, from the definitions over whole lists: `stateproof db`, and the program `example_server`.
+"""What a database answers, from the definitions over whole lists: `stateproof db`, and the programs `example_server` and
+`example_follower`.
 
     tools/database.py FAMILY CHUNK
     tools/database.py example
+    tools/database.py log
+    tools/database.py follower
 
 Standard input has the commands and questions, a line for each, all of them as they should be: of `stateproof db`, or of `example_server`.
+With `log` its commands give the log that `example_follower` reads, with questions after each batch; with `follower` what it answers to it.
 Nothing is taken from the sources of the crates: tools/definitions.py has trees, snapshots and proofs, docs/DEFINITIONS.md says in words
 what a command appends.
 """
@@ -85,8 +89,8 @@ class Commit:
 class Database:
     """Operations, a bit for each, the active keys with their values and locations, and the last commit."""
 
-    def __init__(self, family, size, encoding=Fixed()):
-        self.family, self.size, self.encoding = Family(family), size, encoding
+    def __init__(self, family, size, encoding=Fixed(), function="sha256"):
+        self.family, self.size, self.encoding, self.digests = Family(family), size, encoding, Digests(function)
         self.operations, self.bits, self.active, self.last = [], [], {}, None
 
     def append(self, operation, bit):
@@ -122,7 +126,7 @@ class Database:
         if self.last:
             self.bits[self.last.location] = "0"
         self.append(self.encoding.commit(floor), "1")
-        snapshot = Snapshot(Digests("sha256"), self.family, [*self.operations], "".join(self.bits), floor, self.size)
+        snapshot = Snapshot(self.digests, self.family, [*self.operations], "".join(self.bits), floor, self.size)
         self.last = Commit(self.encoding, location, dict(self.active), snapshot)
         return snapshot.root.hex()
 
@@ -169,10 +173,37 @@ def example(lines):
     return lines_of([database.answer_of_example(it) for it in lines]), database
 
 
+def followed(lines):
+    """The lines of the log of the database that some lines for `example_server` make, with questions after each batch, and what
+    `example_follower` answers: a batch is what a commit ends."""
+    database, log, told, before = Database("mmb", 32, Variable()), [], [], ""
+    for line in lines:
+        database.answer_of_example(line)
+        if line != "commit":
+            continue
+        snapshot, bits = database.last.snapshot, "".join(database.bits)
+        count = len(before)
+        log += [f"{'active' if it == '1' else 'inactive'} {them.hex()}" for it, them in zip(bits[count:], database.operations[count:])]
+        log += [f"clear {it}" for it in range(count) if before[it] > bits[it]]
+        log.append(f"end {snapshot.floor}")
+        told.append(f"root {snapshot.root.hex()}")
+        end, start = len(bits), 3 * len(bits) // 5
+        chunks = b"".join(snapshot.chunks[start // snapshot.width : -(-end // snapshot.width)])
+        for it in sorted({end // 2, end - 1}):
+            log.append(f"operation {it}")
+            told.append(f"operation {it} {snapshot.operation_proof(it).hex()}")
+        log.append(f"range {start} {end}")
+        told.append(f"range {start} {end} {chunks.hex()} {snapshot.range_part(start, end).hex()}")
+        before = bits
+    return lines_of(log), lines_of(told)
+
+
 def main():
     lines = sys.stdin.read().splitlines()
     if sys.argv[1:] == ["example"]:
         print(example(lines)[0], end="")
+    elif sys.argv[1:] in (["log"], ["follower"]):
+        print(followed(lines)[sys.argv[1] == "follower"], end="")
     else:
         family, size = sys.argv[1:]
         print(answers(family, int(size), lines), end="")

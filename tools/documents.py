@@ -19,8 +19,8 @@ of the repository.
 
 `examples`: a block of code that is marked as `rust` is the text of a file of a crate that crates.txt lists, word for word: the last path
 before the block, as `crates/example_client/src/client.rt`. README.md has such a block. One that is marked as `text PATH` has lines of
-that file, in their order: `..` inside a line is any text that was left out, a line `..` any lines. What `example_server` and
-`example_client` are to write is what tools/database.py computes.
+that file, in their order: `..` inside a line is any text that was left out, a line `..` any lines. What `example_server`,
+`example_follower` and `example_client` are to write is what tools/database.py computes.
 
 `refusals`: each edit of crates/*/must-not-compile, in a copy of the repository, is refused by the compiler with the error that it names.
 
@@ -166,14 +166,18 @@ def fault_of_lines(block):
 
 
 def wrong_answers():
-    """What is wrong with the files of `example_server` and `example_client`: a server's answer is right where the definitions give it, and
-    a client takes it where they give it of the last commit."""
+    """What is wrong with the files of the examples: a server's answer is right where the definitions give it, and a client takes it where
+    they give it of the last commit. The log that is followed is that of the server's database."""
     told = lambda name: (ROOT / "crates" / name).read_text()
-    served, kept = database.example(told("example_server/stdin").splitlines())
+    commands = told("example_server/stdin").splitlines()
+    served, kept = database.example(commands)
+    log, followed = database.followed(commands)
     asked = [it for it in told("example_client/stdin").splitlines() if not it.startswith("demo ")]
     answers = "".join("yes\n" if it == kept.last.claim(it.split(" ")[1].encode()) else "no\n" for it in asked)
     right = {
         "example_server/stdout": told("example_server/stdout") == served,
+        "example_follower/stdin": told("example_follower/stdin") == log,
+        "example_follower/stdout": told("example_follower/stdout") == followed,
         "example_client/args": told("example_client/args") == f"{kept.last.snapshot.root.hex()}\n",
         "example_client/stdout": told("example_client/stdout").startswith(answers),
     }
