@@ -3,9 +3,9 @@
 
     tools/refused_memory.py [CRATE..]
 
-Takes what `rt ci` left: the tests of each crate that has some, and the programs `stateproof`, `replay` and `benchmarks`; or of
-the named crates alone. A case is a test, a command of `stateproof`, a line for `replay`, or for `benchmarks` the shortest line of each
-kind of its rows. Of the lines for `replay` that are of a worked row, which begin with its name and a colon, all of each list are taken where they
+Takes what `rt ci` left: the tests of each crate that has some, and the programs `stateproof`, `gawerunoa`, `replay` and `benchmarks`; or of
+the named crates alone. A case is a test, a command of `stateproof` or `gawerunoa`, a line for `replay`, or for `benchmarks` the shortest line
+of each kind of its rows. Of the lines for `replay` that are of a worked row, which begin with its name and a colon, all of each list are taken where they
 are at most LINES_OF_ROW or the row is one of WHOLE, else LINES of them and those that ALSO names; of the others LINES of each list. A case
 is run once with all memory that it asks for, and must give the right answer. Then each of its requests for memory is refused in turn: once
 alone, and once with all that come after it. Such a run must give the right answer too, or name want of memory, and write nothing else.
@@ -140,6 +140,26 @@ def commands(shim, tree):
             yield Case(line, [program, *line.split()], given, right, is_want_of_command)
 
 
+def is_want_of_question(ending):
+    """Whether `gawerunoa` answered nothing but that it wants memory."""
+    return ending[:3] == (4, "", "error: out of memory\n")
+
+
+def questions(shim, tree):
+    """Proofs and checks of `gawerunoa`, over both families and two chunk sizes, which its cases compare with the definitions, and its help."""
+    program = built(tree, "gawerunoa")
+    asked = [(["--help"], "")]
+    for family, size in itertools.product(("mmr", "mmb"), ("1", "32")):
+        shape = ["--family", family, "--chunk", size]
+        words = ["prove", *shape, "--floor", "0", "--at", "7", "-"]
+        shown = dict(line.split(": ") for line in ended(shim, [program, *words], OPERATIONS).output.splitlines())
+        check = ["check", "operation", *shape, "--root", shown["root"], "--at", "7", "--operation", "ab" * 8, "--proof", "@-"]
+        asked += [(words, OPERATIONS), (check, f"{shown['proof']}\n"), ([*check, "--floor"], "")]
+    for words, given in asked:
+        right = ended(shim, [program, *words], given)[:3]
+        yield Case(" ".join(words), [program, *words], given, right, is_want_of_question)
+
+
 def is_want_of_line(ending):
     """Whether `replay`, or `benchmarks`, answered nothing but that it wants memory."""
     return ending.status == 1 and ending.output == "" and re.fullmatch(rf"Error: {WANT}\n", ending.errors) is not None
@@ -245,6 +265,8 @@ def cases_of(shim, tree, crate):
     """All cases of a crate, of what is built of it in a tree."""
     if crate == "stateproof":
         return [*commands(shim, tree)]
+    if crate == "gawerunoa":
+        return [*questions(shim, tree)]
     if crate == "replay":
         return [*lines(tree)]
     if crate == "benchmarks":

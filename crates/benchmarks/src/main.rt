@@ -7,6 +7,7 @@ mod bitmap;
 mod cases;
 mod columns;
 mod database;
+mod extended;
 mod hash;
 mod snapshot;
 
@@ -21,6 +22,7 @@ fn answer(alloc: Global, words: &[&str]) -> Result<String, Fault> {
         ["bitmap", words @ ..] => bitmap::reply(alloc, words),
         ["snapshot", words @ ..] => snapshot::reply(alloc, words),
         ["database", words @ ..] => database::reply(alloc, words),
+        [work @ ("extend" | "prove"), words @ ..] => extended::reply(alloc, *work, words),
         ["check", words @ ..] => cases::check(alloc, words),
         [row, words @ ..] => cases::reply(alloc, *row, words),
         [] => Err(Fault::Malformed),

@@ -1,9 +1,9 @@
 -- What bytes are read as, and what a check of them answers.
-use Rattle.std.proofs.Common.{◌≡◌, ℕ, ◌^◌, ◌↔◌, Bool, true, false, cond, leb, ltb, ◌&&◌, List, [], length, take, drop, Result, Ok, Err, refl, sym, ap, subst, ◌∙◌, append-nil, arith, inl, inr}
+use Rattle.std.proofs.Common.{◌≡◌, ℕ, ◌<◌, ◌^◌, ◌↔◌, Bool, true, false, cond, leb, ltb, ◌&&◌, List, [], length, take, drop, Result, Ok, Err, refl, sym, ap, subst, ◌∙◌, append-nil, arith, inl, inr}
 use Rattle.std.specs.Prelude.{codes}
 use Rattle.std.specs.Bool.{IsTrue, one_answer}
 use Rattle.std.specs.Result.{IfOk}
-use Rattle.std.proofs.lemmas.List.{length-take}
+use Rattle.std.proofs.lemmas.List.{length-take, nil_from_length}
 use Rattle.std.proofs.lemmas.Bool.{ltb-false}
 use Rattle.storage_codec.specs.declared.codec.error.Error.{Error}
 use Rattle.storage_codec.specs.declared.codec.error.Error.TheVariants as code
@@ -72,6 +72,21 @@ nothing_read code.InvalidVarint answer y m other e = let f = sym m ∙ e in cc
 nothing_read (code.InvalidLength n) answer y m other e = let f = sym m ∙ e in cc
 nothing_read (code.Invalid a b) answer y m other e = let f = sym m ∙ e in cc
 nothing_read (code.ExtraData n) answer y m other e = let f = sym m ∙ e in cc
+
+-- a value that was read with no bytes left is all of them
+pub all_read : {V : Type 0} (answer : Answer V) (v : V) (rest : List ℕ) → answer ≡ Ok (v, rest) → length rest ≡ 0
+    → whole answer ≡ Ok (v, [])
+all_read answer v rest e none = let nothing : rest ≡ [] = nil_from_length rest none in rw (e, nothing) refl
+
+-- and one that was read with some left is not
+pub left_over : {V : Type 0} (answer : Answer V) (v w : V) (rest : List ℕ) → answer ≡ Ok (v, rest) → 0 < length rest
+    → whole answer ≡ Ok (w, []) → ⊥
+left_over {V} answer v w rest e some f =
+    let none : List ℕ = [] in
+    let same = ok_is (v, rest) (w, none) (sym e ∙ (whole_ok answer w none f).0) in
+    let nothing : rest ≡ none = ap (λ (x : V × List ℕ). x.1) same in
+    let zero : length rest ≡ 0 = ap (λ (bytes : List ℕ). length bytes) nothing in
+    absurd (omega arith)
 
 same_proof : {answer : Answer OperationProof} {p q : OperationProof} → answer ≡ Ok (p, []) → answer ≡ Ok (q, []) → p ≡ q
 same_proof {answer} {p} {q} e f = let none : List ℕ = [] in

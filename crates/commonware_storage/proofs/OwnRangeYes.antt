@@ -1,7 +1,6 @@
 -- What the check of the bytes of a snapshot's own range proof answers, and why none is built.
-use Rattle.std.proofs.Common.{◌≡◌, ℕ, ◌+◌, ◌<◌, ◌^◌, Bool, true, List, length, map, Option, sym, ap, ◌∙◌, subst, ◌↔◌}
+use Rattle.std.proofs.Common.{◌≡◌, ℕ, ◌+◌, ◌<◌, ◌≤◌, ◌^◌, Bool, true, List, length, map, Option, sym, ap, ◌∙◌, subst, ◌↔◌}
 use Rattle.std.specs.Bool.{IsTrue}
-use Rattle.std.specs.List.{slice_get}
 use Rattle.std.specs.Option.{option_map}
 use Rattle.std.proofs.lemmas.List.{length-map}
 use Rattle.storage_codec.specs.Digests.{HashFunction, IsSized}
@@ -12,7 +11,8 @@ use Rattle.storage_ops.specs.declared.qmdb.error.Error.{Error}
 use Rattle.storage_ops.specs.declared.qmdb.error.Error.TheVariants.{Memory}
 use Rattle.storage_current.specs.BuiltProofs.{IsNotBuilt}
 use Rattle.storage_current.specs.KeptSnapshots.{KeptSnapshot, StandsForSnapshot}
-use Rattle.storage_current.specs.Snapshots.{Grafting, IsGrafting, Snapshot, IsSnapshot, Holds, RangeProof, canonical_root, own_range_proof}
+use Rattle.storage_current.specs.NodeLists.{told_by}
+use Rattle.storage_current.specs.Snapshots.{Grafting, IsGrafting, Snapshot, IsSnapshot, first_chunk, Holds, RangeProof, canonical_root, own_range_proof}
 use Rattle.storage_current.specs.CurrentWire.{range_proof_text}
 use Rattle.storage_current.specs.OwnWire.{IsPrompt}
 use Rattle.commonware_storage.specs.LightRanges.{HasFewDigests, IsAcceptedRange, OwnRangesAreAccepted, own_range_text}
@@ -56,9 +56,9 @@ range_yes accepted d h sized g grafting has_pending prompt s snapshot most start
 pub range_refused_for_memory : {D : Type 0} (text : D → List ℕ) (answers : ℕ → Option D → Type 0) (h : HashFunction)
     (g : Grafting) → Laws g.shape → GreatestNodesArePlanned → (plan : PlanOf) (kept : KeptSnapshot) (s : Snapshot)
     → IsSnapshot s → StandsForSnapshot h g kept s → plan.leaves ≡ length s.operations
-    → ((p : ℕ) (o : Option D) → answers p o → option_map text o ≡ slice_get kept.nodes p)
-    → {F : Type 0} (error : Error F) (status : Retained) → status ≡ kept.status
+    → ((p : ℕ) (o : Option D) → answers p o → option_map text o ≡ told_by kept.nodes p)
+    → kept.status.pruned ≤ first_chunk g plan.start → {F : Type 0} (error : Error F) (status : Retained) → status ≡ kept.status
     → IsNotBuilt answers g plan status error → error ≡ Memory
-range_refused_for_memory text answers h g laws greatest plan kept s snapshot stands count served error status same not_built =
-    never_refused text answers h g laws greatest plan kept s snapshot stands count served error
+range_refused_for_memory text answers h g laws greatest plan kept s snapshot stands count served from error status same not_built =
+    never_refused text answers h g laws greatest plan kept s snapshot stands count served from error
     (subst (λ r. IsNotBuilt answers g plan r error) same not_built)

@@ -33,6 +33,7 @@ use storage_merkle::laws::greatest_nodes_are_planned;
 use storage_merkle::merkle::{ElementPlan, Graftable, Location, Position};
 pub use storage_ops::laws as operations;
 use storage_ops::qmdb::Error;
+pub use storage_sync::laws as sync;
 
 /// What a snapshot's own proof of an active operation is written as is accepted at its location: in each family, for each
 /// chunk size, with at most 128 digests.

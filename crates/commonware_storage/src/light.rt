@@ -18,9 +18,8 @@ pub use ranges::check_range;
 pub use shared::{check_absence_shared, check_operation_shared, check_value_shared};
 use std::alloc::Global;
 use storage_codec::NoMemory;
-use storage_codec::codec::{Buf, Decode, Error};
+use storage_codec::codec::{Buf, Error, Read};
 use storage_codec::digest::Hasher;
-use storage_current::qmdb::current::grafting;
 use storage_current::qmdb::current::proof::dynamic;
 use storage_merkle::merkle::{Graftable, Location};
 pub use text_error::TextError;
@@ -59,7 +58,7 @@ pub fn check_operation<F: Graftable, H: Hasher>(
 /// Returns what [`check_operation`] answers for the bytes that `buf` holds.
 fn operation_from<F: Graftable, H: Hasher, B: Buf>(
     alloc: Global,
-    buf: B,
+    mut buf: B,
     chunk_size: usize,
     loc: Location<F>,
     operation: &[u8],
@@ -75,12 +74,11 @@ fn operation_from<F: Graftable, H: Hasher, B: Buf>(
     ensures whole { IfOk result (λ yes. IsTrue yes
         → IsProofAt F.has_pending H.Digest.size chunk_size loc (B.unread buf)) }
 {
-    if grafting::chunk_height(chunk_size).is_none() {
-        return Ok(false);
-    }
     let cfg = (chunk_size, MAX_DIGESTS);
-    match dynamic::OperationProof::<F, H::Digest>::decode_cfg(alloc, buf, &cfg) {
-        Ok(proof) if proof.loc == loc => proof.verify_encoded::<H>(alloc, operation, root),
+    match dynamic::OperationProof::<F, H::Digest>::read_cfg(alloc, &mut buf, &cfg) {
+        Ok(proof) if buf.remaining() == 0 && proof.loc == loc => {
+            proof.verify_encoded::<H>(alloc, operation, root)
+        }
         Ok(_) => Ok(false),
         Err(Error::Memory) => Err(NoMemory),
         Err(_) => Ok(false),

@@ -2,3 +2,4 @@
 
 pub use storage_current::qmdb::current;
 pub use storage_ops::qmdb::{Error, any, hasher, operation, verify};
+pub use storage_sync::sync;

@@ -13,7 +13,7 @@ use storage_ops::qmdb::any::{FixedEncoding, VariableEncoding};
 use storage_ops::qmdb::operation::Key;
 
 /// A key or a value for each number, and for no other number below 2^32 the same one.
-trait Numbered: PartialEq + Sized {
+pub trait Numbered: PartialEq + Sized {
     /// Returns that of `number`.
     fn numbered(alloc: Global, number: u64) -> Result<Self, AllocError>;
 }
@@ -44,7 +44,7 @@ impl Numbered for Vec<u8> {
 
 /// What a database answers.
 #[derive(Clone, Copy, Drop)]
-enum Told {
+pub enum Told {
     Yes,
     No,
     /// It is out of memory.
@@ -74,14 +74,14 @@ struct Plain {
 }
 
 /// Returns the next of some numbers that look random, the high bits most.
-fn next_number(number: u64) -> u64 {
+pub fn next_number(number: u64) -> u64 {
     number
         .wrapping_mul(6_364_136_223_846_793_005)
         .wrapping_add(1_442_695_040_888_963_407)
 }
 
 /// A database whose keys and values are those of numbers.
-trait ByNumber: Sized {
+pub trait ByNumber: Sized {
     /// Its keys.
     type Key: Numbered + Drop;
 
@@ -255,7 +255,7 @@ fn is_same<T: PartialEq>(left: Option<&T>, right: Option<&T>) -> bool {
 }
 
 /// Returns the key or the value of `number`.
-fn of_number<T: Numbered>(rt: &impl Abort, alloc: Global, number: u64) -> T {
+pub fn of_number<T: Numbered>(rt: &impl Abort, alloc: Global, number: u64) -> T {
     match T::numbered(alloc, number) {
         Ok(numbered) => numbered,
         Err(_) => out_of_memory(rt),
@@ -271,7 +271,7 @@ fn of_option<T: Numbered>(rt: &impl Abort, alloc: Global, number: Option<u64>) -
 }
 
 /// Ends the test if memory is refused to it, or if `told` is not what is right.
-fn see(rt: &impl Abort, told: Told, right: bool) {
+pub fn see(rt: &impl Abort, told: Told, right: bool) {
     match told {
         Told::Yes => assert!(rt; right),
         Told::No => assert!(rt; !right),

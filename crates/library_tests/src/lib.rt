@@ -5,7 +5,11 @@
 #[cfg(test)]
 mod bounds;
 #[cfg(test)]
+mod commands;
+#[cfg(test)]
 mod database;
+#[cfg(test)]
+mod db_ranges;
 #[cfg(test)]
 mod definitions;
 #[cfg(test)]
@@ -15,6 +19,14 @@ mod grafted;
 #[cfg(test)]
 mod joined;
 #[cfg(test)]
+mod opened;
+#[cfg(test)]
+mod pruned_snapshots;
+#[cfg(test)]
 mod refused;
 #[cfg(test)]
 mod stops;
+#[cfg(test)]
+mod sync_copies;
+#[cfg(test)]
+mod sync_served;

@@ -1,8 +1,8 @@
 //! The check of a range proof.
 
 ghost use Rattle.std.specs.Prelude.{◌≡◌, ◌↔◌, ℕ, ◌+◌, ◌-◌, ◌^◌, ◌<◌, ◌≤◌, ◌++◌, List, [], length, map, option_map, get_or, IfOk, OnOk, IsTrue};
+ghost use Rattle.storage_codec.specs.Digests.{or_nothing};
 ghost use Rattle.storage_merkle.specs.Calc.{back, eval, front, given};
-ghost use Rattle.storage_merkle.specs.Hashers.{or_nothing};
 ghost use Rattle.storage_merkle.specs.Trees.{eval_bag, content_of};
 ghost use Rattle.storage_merkle.specs.Checks.{IsRecomputed};
 ghost use Rattle.storage_merkle.specs.Held.{proof_of};

@@ -1,11 +1,11 @@
 //! Folds of digests, and roots from the digests of peaks.
 
 ghost use Rattle.std.specs.Prelude.{◌≡◌, ◌≤◌, ◌++◌, List, [], length, map, option_map};
-ghost use Rattle.storage_merkle.specs.Hashers.{or_nothing};
+ghost use Rattle.storage_codec.specs.Digests.{or_nothing};
 ghost use Rattle.storage_merkle.specs.Hashing.{bagged, bagged_peaks, folded_backward, folded_forward, root_of};
 ghost use Rattle.storage_merkle.specs.Trees.{root_head, ungrafted};
 
-use storage_codec::digest::{Digest, Hasher};
+use storage_codec::digest::{Digest, Hasher, bytes_or_nothing};
 use storage_merkle::merkle::{Bagging, Family};
 
 /// `first` and `others` folded from the left.
@@ -93,17 +93,7 @@ pub fn root_over<F: Family, H: Hasher>(
     let head = [F::byte(), bagging.byte()];
     let leaves = leaves.to_be_bytes();
     let inactive = inactive.to_be_bytes();
-    hash_four::<H>(&head, &leaves, &inactive, bag_bytes(&bag))
-}
-
-/// Returns the bytes of the digest `bag`; no bytes for none.
-fn bag_bytes<D: Digest>(bag: &Option<D>) -> &[u8]
-    ensures { result.now ≡ or_nothing (option_map D.text bag.now) }
-{
-    match bag {
-        None => &[],
-        Some(digest) => digest.bytes(),
-    }
+    hash_four::<H>(&head, &leaves, &inactive, bytes_or_nothing(&bag))
 }
 
 /// Returns the digest of the four parts, joined.

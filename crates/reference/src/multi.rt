@@ -1,8 +1,8 @@
 //! Multi proofs: a tree's own, and their check.
 
 ghost use Rattle.std.specs.Prelude.{◌≡◌, ◌↔◌, ℕ, ◌+◌, ◌≤◌, ◌<◌, ◌++◌, List, [], Bool, length, map, option_map, IfOk, OnOk, IsTrue};
+ghost use Rattle.storage_codec.specs.Digests.{or_nothing};
 ghost use Rattle.storage_merkle.specs.Calc.{Calc};
-ghost use Rattle.storage_merkle.specs.Hashers.{or_nothing};
 ghost use Rattle.storage_merkle.specs.Held.{proof_of};
 ghost use Rattle.storage_merkle.specs.Multi.{Ascend, IsMultiAccepted, claims_of, default_proof, element_at, locations, needed_sites, own_multi_proof, touched, tree_digest, untouched};
 ghost use Rattle.storage_merkle.specs.MultiParts.{IsMultiRecomputed};

@@ -3,6 +3,7 @@
 ghost use Rattle.std.specs.Prelude.{◌≤◌};
 ghost use Rattle.storage_bitmap.specs.Chunks.{IsChunkSize};
 
+mod errors;
 mod program;
 
 use commonware_storage::codec::FixedBytes;
@@ -11,8 +12,8 @@ use commonware_storage::merkle::{Graftable, mmb, mmr};
 use replay_columns::columns::Fault;
 use replay_snapshots::lists;
 use replay_trees::{
-    asked, bitmaps, both_chunks, checks, codecs, errors, extracted, grafted_trees, key_proofs,
-    mems, operations, own, places, stores, trees, values, verifiers, witnesses,
+    asked, bitmaps, both_chunks, checks, codecs, extracted, grafted_trees, key_proofs, mems,
+    operations, own, places, stores, trees, values, verifiers, witnesses,
 };
 use std::alloc::Global;
 

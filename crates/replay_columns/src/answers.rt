@@ -1,11 +1,10 @@
 //! How answers are told.
 
-use crate::columns::{Digests, Fault, Hex};
-use crate::refusals::{codec_refusal, merkle_refusal};
+use crate::columns::{Digests, Fault, Hex, List};
 use std::alloc::{AllocError, Global};
-use storage_codec::codec::{self, Encode, EncodeSize};
+use storage_codec::codec::{Encode, EncodeSize};
 use storage_codec::digest::Digest;
-use storage_merkle::merkle::{self, Family, Location, Position, RangePlan};
+use storage_merkle::merkle::{Family, Location, Position, RangePlan};
 
 /// What an answer tells.
 pub trait Answer: Sized {
@@ -14,10 +13,19 @@ pub trait Answer: Sized {
 }
 
 /// Returns the text of an answer.
-pub fn told<A: Answer + Drop>(alloc: Global, answer: A) -> Result<String, Fault> {
+pub fn told<A: Answer>(alloc: Global, answer: &A) -> Result<String, Fault> {
     let mut text = String::new(alloc);
     answer.tell(alloc, &mut text)?;
     Ok(text)
+}
+
+/// Returns an answer where another one is the same.
+pub fn agreed(yes: bool, other: bool) -> Result<bool, Fault> {
+    if yes == other {
+        Ok(yes)
+    } else {
+        Err(Fault::Differs)
+    }
 }
 
 /// `yes` or `no`.
@@ -88,22 +96,42 @@ fn push_bytes(alloc: Global, out: &mut String, bytes: &[u8]) -> Result<(), Fault
 /// Commas between them; `none` is none.
 impl<D: Digest> Answer for Digests<D> {
     fn tell(&self, alloc: Global, out: &mut String) -> Result<(), Fault> {
-        let mut series = Series::new(alloc);
-        for digest in &self.0 {
-            series.push(alloc, &Hex(*digest))?;
+        let [first, rest @ ..] = self.0.as_slice() else {
+            return Ok(out.push_str("none")?);
+        };
+        push_bytes(alloc, out, first.bytes())?;
+        for digest in rest {
+            out.push(',')?;
+            push_bytes(alloc, out, digest.bytes())?;
         }
-        Ok(out.push_str(series.finish()?.as_str())?)
+        Ok(())
+    }
+}
+
+/// Adds answers with commas between them; `none` is none.
+fn tell_all<A: Answer>(alloc: Global, answers: &[A], out: &mut String) -> Result<(), Fault> {
+    let [first, rest @ ..] = answers else {
+        return Ok(out.push_str("none")?);
+    };
+    first.tell(alloc, out)?;
+    for answer in rest {
+        out.push(',')?;
+        answer.tell(alloc, out)?;
+    }
+    Ok(())
+}
+
+/// Commas between them; `none` is none.
+impl<A: Answer> Answer for List<A> {
+    fn tell(&self, alloc: Global, out: &mut String) -> Result<(), Fault> {
+        tell_all(alloc, &self.0, out)
     }
 }
 
 /// Its positions with commas between them; `none` is none.
 impl<F: Family> Answer for RangePlan<F> {
     fn tell(&self, alloc: Global, out: &mut String) -> Result<(), Fault> {
-        let mut series = Series::new(alloc);
-        for position in self.positions() {
-            series.push(alloc, position)?;
-        }
-        Ok(out.push_str(series.finish()?.as_str())?)
+        tell_all(alloc, self.positions(), out)
     }
 }
 
@@ -114,28 +142,6 @@ impl<A: Answer> Answer for Option<A> {
             Some(answer) => answer.tell(alloc, out),
             None => Ok(out.push('-')?),
         }
-    }
-}
-
-/// The answer, or the name of the refusal.
-impl<A: Answer, E: Answer> Answer for Result<A, E> {
-    fn tell(&self, alloc: Global, out: &mut String) -> Result<(), Fault> {
-        match self {
-            Ok(answer) => answer.tell(alloc, out),
-            Err(refusal) => refusal.tell(alloc, out),
-        }
-    }
-}
-
-impl Answer for codec::Error {
-    fn tell(&self, alloc: Global, out: &mut String) -> Result<(), Fault> {
-        codec_refusal(alloc, *self)?.tell(alloc, out)
-    }
-}
-
-impl<F> Answer for merkle::Error<F> {
-    fn tell(&self, alloc: Global, out: &mut String) -> Result<(), Fault> {
-        merkle_refusal(alloc, self)?.tell(alloc, out)
     }
 }
 

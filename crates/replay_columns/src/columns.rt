@@ -2,7 +2,7 @@
 
 use hex::{FromHex, FromHexError};
 use std::alloc::{AllocError, AllocFailed, Global};
-use storage_codec::codec::FixedBytes;
+use storage_codec::codec::{FixedBytes, RangeCfg};
 use storage_codec::digest::Digest;
 use storage_codec::{NoMemory, codec};
 use storage_merkle::merkle::{self, Bagging, Family, Location, Position, Proof};
@@ -183,6 +183,34 @@ pub fn parts_between<T: Column>(
         }
     }
     Ok(parts)
+}
+
+/// Places and their digests, `PLACE=DIGEST` with slashes between them; `-` is none.
+pub fn placed<P: Column, D: Digest>(alloc: Global, text: &str) -> Result<Vec<(P, D)>, Fault> {
+    let mut placed = Vec::new(alloc);
+    if text != "-" {
+        for part in text.split('/') {
+            placed.push(digest_at(alloc, part)?)?;
+        }
+    }
+    Ok(placed)
+}
+
+/// Returns a place and its digest.
+fn digest_at<P: Column, D: Digest>(alloc: Global, text: &str) -> Result<(P, D), Fault> {
+    let (place, written) = halves(text, '=')?;
+    let place = parse(alloc, &[place])?;
+    Ok((place, digest(alloc, written)?))
+}
+
+/// Returns the lengths of a type `vec:LEAST:MOST`.
+pub fn lengths(kind: &str) -> Result<RangeCfg, Fault> {
+    let rest = kind.strip_prefix("vec:").ok_or(Fault::Malformed)?;
+    let (min, max) = halves(rest, ':')?;
+    Ok(RangeCfg {
+        min: number(min)? as usize,
+        max: number(max)? as usize,
+    })
 }
 
 /// Returns whether a text stands for no parts with a separator between them.

@@ -6,10 +6,9 @@ use commonware_storage::light::{MAX_DIGESTS, TextError, check_range, check_text}
 use commonware_storage::merkle::{Graftable, Location};
 use commonware_storage::qmdb::current::proof::RangeProof;
 use commonware_storage::qmdb::current::proof::dynamic::OperationProof;
-use replay_columns::answers::{owned, told};
+use replay_columns::answers::{agreed, owned, told};
 use replay_columns::columns::{Fault, Hex, List, lent, parse};
 use replay_columns::refusals::codec_refusal;
-use replay_columns::shared::agreed;
 use replay_columns::unframed::Unframed;
 use std::alloc::Global;
 
@@ -45,7 +44,7 @@ pub fn ranges_checks<F: Graftable, H: Hasher>(
         Err(Error::Memory) => return Err(Fault::Memory),
         Err(_) => false,
     };
-    told(alloc, agreed(yes, other)?)
+    told(alloc, &agreed(yes, other)?)
 }
 
 /// `leaves operation proof root label`: whether the bytes, read as the proof of an operation and said to be over that
@@ -72,7 +71,7 @@ pub fn operation_checks<F: Graftable, H: Hasher>(
             if let Some(leaves) = leaves {
                 proof.range_proof.proof.leaves = Location::new(leaves);
             }
-            told(alloc, is_shown::<F, H>(alloc, &proof, operation, &root)?)
+            told(alloc, &is_shown::<F, H>(alloc, &proof, operation, &root)?)
         }
         Err(error) => codec_refusal(alloc, error),
     }
@@ -115,7 +114,7 @@ pub fn texts<F: Graftable, H: Hasher>(
         operation.as_str(),
         &root,
     ) {
-        Ok(yes) => told(alloc, yes),
+        Ok(yes) => told(alloc, &yes),
         Err(TextError::Operation) => owned(alloc, "operation"),
         Err(TextError::Proof) => owned(alloc, "proof"),
         Err(TextError::Memory) => Err(Fault::Memory),

@@ -125,10 +125,10 @@ impl<F: Graftable + Countable, H: Hasher, const N: usize> Asked for Kept<F, H, N
     }
 
     fn roots(&self, alloc: Global) -> Result<(String, String), Fault> {
-        let root = told(alloc, Hex(self.snapshot.root()))?;
+        let root = told(alloc, &Hex(self.snapshot.root()))?;
         let witness = self.snapshot.witness();
         let roots = (Hex(self.snapshot.ops_root()), Hex(witness.grafted_root));
-        let witness = told(alloc, (roots, encoded(alloc, &witness)?))?;
+        let witness = told(alloc, &(roots, encoded(alloc, &witness)?))?;
         Ok((root, witness))
     }
 

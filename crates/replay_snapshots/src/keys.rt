@@ -1,13 +1,13 @@
 //! Lists on checks of the values of keys, and that keys have none.
 
+use crate::shared::Given;
 use commonware_storage::codec::{Decode, Error, FixedBytes, RangeCfg, Read, Small, U64};
 use commonware_storage::digest::Hasher;
 use commonware_storage::merkle::Graftable;
 use commonware_storage::qmdb::any::{FixedEncoding, VariableEncoding, VariableValue};
 use commonware_storage::qmdb::operation::Key;
 use replay_columns::answers::told;
-use replay_columns::columns::{Fault, Hex, bytes, halves, number, parse};
-use replay_columns::shared::Given;
+use replay_columns::columns::{Fault, Hex, bytes, halves, lengths, number, parse};
 use std::alloc::Global;
 
 /// A check of a key, by its bytes: its value by its encoding, and none if the key is to have no value.
@@ -45,7 +45,7 @@ pub fn answer<F: Graftable, H: Hasher>(
         root,
     };
     let case = Case { given, key, value };
-    told(alloc, by_type::<F, H>(alloc, kind, &case)?)
+    told(alloc, &by_type::<F, H>(alloc, kind, &case)?)
 }
 
 /// Returns the encoding of a number; none for `absent`.
@@ -82,37 +82,26 @@ fn by_type<F: Graftable, H: Hasher>(
             variable::<F, H, U64, u64>(alloc, &(((), ()), ()), (&(), &()), case)
         }
         ("ordered-variable", "fixed4", _) => {
-            let value = lengths(value)?;
+            let value = (lengths(value)?, ());
             let cfgs = (((), value), value);
             variable::<F, H, FixedBytes<4>, Vec<u8>>(alloc, &cfgs, (&(), &any), case)
         }
         ("ordered-variable", "u64", _) => {
-            let value = lengths(value)?;
+            let value = (lengths(value)?, ());
             let cfgs = (((), value), value);
             variable::<F, H, U64, Vec<u8>>(alloc, &cfgs, (&(), &any), case)
         }
         ("ordered-variable", _, "u64") => {
-            let cfgs = ((lengths(key)?, ()), ());
+            let cfgs = (((lengths(key)?, ()), ()), ());
             variable::<F, H, Vec<u8>, u64>(alloc, &cfgs, (&any, &()), case)
         }
         ("ordered-variable", _, _) => {
-            let value = lengths(value)?;
-            let cfgs = ((lengths(key)?, value), value);
+            let value = (lengths(value)?, ());
+            let cfgs = (((lengths(key)?, ()), value), value);
             variable::<F, H, Vec<u8>, Vec<u8>>(alloc, &cfgs, (&any, &any), case)
         }
         _ => Err(Fault::Malformed),
     }
-}
-
-/// Returns the lengths of a type `vec:LEAST:MOST`.
-fn lengths(kind: &str) -> Result<(RangeCfg, ()), Fault> {
-    let rest = kind.strip_prefix("vec:").ok_or(Fault::Malformed)?;
-    let (min, max) = halves(rest, ':')?;
-    let lengths = RangeCfg {
-        min: number(min)? as usize,
-        max: number(max)? as usize,
-    };
-    Ok((lengths, ()))
 }
 
 /// Returns the key or value that claimed bytes are; none if they are not one whole of its type.

@@ -7,6 +7,7 @@ mod kept;
 mod keys;
 pub mod lists;
 mod served;
+pub mod shared;
 mod snapshots;
 mod stores;
 mod trees;

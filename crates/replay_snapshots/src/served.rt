@@ -8,15 +8,14 @@ use crate::kept::Kept;
 use crate::stores::{Call, Left, Told, Wanted};
 use crate::trees::{grafted_tree, operations_nodes, status_of};
 use commonware_storage::bitmap::{Prunable, Readable as _};
-use commonware_storage::digest::{Digest, Hasher};
+use commonware_storage::digest::Hasher;
 use commonware_storage::merkle::{self, Countable, Graftable, Location, Position, Storage as _};
-use commonware_storage::qmdb::Error;
 use commonware_storage::qmdb::current::Contiguous as _;
 use commonware_storage::qmdb::current::grafting::{self, Storage};
 use commonware_storage::qmdb::current::proof::constant::OperationProof;
 use commonware_storage::qmdb::current::proof::{RangeProof, RangeProofSpec};
-use replay_columns::answers::{Series, encoded, told};
-use replay_columns::columns::Fault;
+use replay_columns::answers::{encoded, told};
+use replay_columns::columns::{Fault, List};
 use replay_columns::refusals::database_refusal;
 use std::alloc::Global;
 
@@ -144,7 +143,7 @@ fn nodes_text<F: Graftable, S: merkle::Storage<F>>(
         }
     }
     match first {
-        None => told(alloc, nodes),
+        None => told(alloc, &nodes),
         Some(first) => Ok(format!(in alloc; "{first}:{}", store.failures())?),
     }
 }
@@ -260,30 +259,13 @@ fn with_operations_text<
         inactivity_floor: Location::new(floor),
         ops_root,
     };
-    let answer = RangeProof::new_with_ops::<H, Prunable<N>, _, S, N>(
+    let text = match RangeProof::new_with_ops::<H, Prunable<N>, _, S, N>(
         alloc, status, store, &mut log, spec,
-    );
-    Ok((answer_text(alloc, &answer)?, log.failures()))
-}
-
-/// What a store and a log serve: a proof, operations and their chunks, or the refusal.
-type Answer<F, D, const N: usize> = Result<(RangeProof<F, D>, Vec<u64>, Vec<[u8; N]>), Error<F>>;
-
-fn answer_text<F: Graftable, D: Digest, const N: usize>(
-    alloc: Global,
-    answer: &Answer<F, D, N>,
-) -> Result<String, Fault> {
-    let (proof, items, chunks) = match answer {
-        Ok((proof, items, chunks)) => (encoded(alloc, proof)?, items, chunks),
-        Err(error) => return database_refusal(alloc, error),
+    ) {
+        Ok((proof, items, chunks)) => {
+            told(alloc, &(encoded(alloc, &proof)?, List(items), List(chunks)))?
+        }
+        Err(error) => database_refusal(alloc, &error)?,
     };
-    let mut operations = Series::new(alloc);
-    for item in items {
-        operations.push(alloc, item)?;
-    }
-    let mut touched = Series::new(alloc);
-    for chunk in chunks {
-        touched.push(alloc, chunk)?;
-    }
-    told(alloc, (proof, operations.finish()?, touched.finish()?))
+    Ok((text, log.failures()))
 }

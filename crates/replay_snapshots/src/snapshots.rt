@@ -42,7 +42,7 @@ pub fn golden<S: Asked>(alloc: Global, kept: &S, columns: &[&str]) -> Result<Str
         1 => own(alloc, kept, Wanted::Operation(start))?,
         _ => owned(alloc, "-")?,
     };
-    told(alloc, (kept.roots(alloc)?, range, operation))
+    told(alloc, &(kept.roots(alloc)?, range, operation))
 }
 
 /// `start count`: the proof of `count` operations from `start` on, the canonical root, and what a client answers of them.
@@ -50,7 +50,7 @@ pub fn ranges<S: Asked>(alloc: Global, kept: &S, columns: &[&str]) -> Result<Str
     let Span { start, end, .. } = parse(alloc, columns)?;
     let proof = own(alloc, kept, Wanted::Range(start, end))?;
     let root = kept.roots(alloc)?.0;
-    told(alloc, (proof, root, kept.shows_range(alloc, start, end)?))
+    told(alloc, &(proof, root, kept.shows_range(alloc, start, end)?))
 }
 
 /// Returns a digit for each location, 1 where the snapshot's own proof of the operation there, which is built, written
@@ -74,7 +74,7 @@ pub fn each_range<S: Asked>(alloc: Global, kept: &S) -> Result<String, Fault> {
             }
         }
     }
-    told(alloc, shown)
+    told(alloc, &shown)
 }
 
 /// `location key value`: whether the operation at the location shows that the key, of four bytes, has the value, a
@@ -85,5 +85,5 @@ pub fn keyed<S: Asked>(alloc: Global, kept: &S, columns: &[&str]) -> Result<Stri
         "absent" => kept.shows_absence(alloc, location, key)?,
         value => kept.shows_value(alloc, location, key, number(value)?)?,
     };
-    told(alloc, shown)
+    told(alloc, &shown)
 }

@@ -147,7 +147,7 @@ pub fn combined_asked<S: Asked>(
         codes: (STORE_FAULT, LOG_FAULT),
     };
     let asked = kept.fetch(alloc, &call, left)?;
-    told(alloc, (asked.text, asked.calls, asked.failures))
+    told(alloc, &(asked.text, asked.calls, asked.failures))
 }
 
 /// Returns how many nodes both trees have, where each is that of the snapshot's grafted view, and there are none after
@@ -188,7 +188,7 @@ pub fn combined_marks<S: Asked>(
     let call = Call::of(TREES, Wanted::WithOperations(start, count));
     let own = kept.fetch(alloc, &call, ALL)?.text;
     let rows = rows(alloc, kept, &call, own.as_str(), None)?;
-    told(alloc, (operation, range, rows))
+    told(alloc, &(operation, range, rows))
 }
 
 /// `start most`: the operations that both trees and a log serve, their chunks, and whether the proof is accepted, if it
@@ -210,7 +210,7 @@ pub fn combined_ranges<S: Asked>(
         return Err(Fault::Differs);
     }
     let yes = kept.shows_range(alloc, start, end)?;
-    told(alloc, (owned(alloc, parts)?, yes))
+    told(alloc, &(owned(alloc, parts)?, yes))
 }
 
 /// `pruned nodes first start most`: what is answered where `pruned` chunks of the status are pruned, the store says to
@@ -233,7 +233,7 @@ pub fn fetched_ranges<S: Asked>(
     let own = kept.fetch(alloc, &call, ALL)?.text;
     let codes = Some((STORE_FAULT, LOG_FAULT));
     let rows = rows(alloc, kept, &call, own.as_str(), codes)?;
-    told(alloc, (own, rows))
+    told(alloc, &(own, rows))
 }
 
 /// Returns what is told for each number of answers of the store, with this number as its code.

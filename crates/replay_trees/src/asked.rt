@@ -45,7 +45,7 @@ where
         ("valued", [operation]) => parsed::<S>(alloc, *operation)?.valued(alloc),
         ("equal", [first, second]) => {
             let copy = parsed::<S>(alloc, *first)?.copied()?;
-            told(alloc, copy == parsed::<S>(alloc, *second)?)
+            told(alloc, &(copy == parsed::<S>(alloc, *second)?))
         }
         _ => Err(Fault::Malformed),
     }

@@ -8,10 +8,9 @@ mod histories;
 mod read;
 mod verified;
 
-use crate::stores::digests_of;
 use histories::{History, after, begun, bits_proved, called, kept, nodes};
 use replay_columns::answers::told;
-use replay_columns::columns::{Digests, Fault, Hex, List, parse};
+use replay_columns::columns::{Digests, Fault, Hex, number, parse};
 use replay_columns::refusals::merkle_refusal;
 use std::alloc::Global;
 use storage_bitmap::bitmap::authenticated::{BitMap, MerkleizedBitMap, PrunedState};
@@ -54,49 +53,58 @@ where
     requires chunk { IsChunkSize N }
     requires small { D ≤ 64 }
 {
-    match list {
-        "bitmaps" => bitmaps::<H, D, N>(alloc, hasher, columns),
-        "bitmaps_stages" => bitmaps_stages::<H, D, N>(alloc, hasher, columns),
-        "bitmaps_read" => read::bitmaps_read::<H, D, N>(alloc, hasher, columns),
-        "bitmaps_served" => read::bitmaps_served::<H, D, N>(alloc, hasher, columns),
-        "bit_proofs" => bit_proofs::<H, D, N>(alloc, hasher, columns),
-        "bitmaps_verified" => verified::bitmaps_verified::<H, D, N>(alloc, hasher, columns),
-        "bitmaps_checks" => bitmaps_checks::<H, N>(alloc, hasher, columns),
-        "bitmaps_init" => bitmaps_init::<H, D, N>(alloc, hasher, columns),
+    match (list, columns) {
+        ("bitmaps_checks", _) => bitmaps_checks::<H, N>(alloc, hasher, columns),
+        ("bitmaps_init", _) => bitmaps_init::<H, D, N>(alloc, hasher, columns),
+        ("bitmaps_stages", [calls]) => bitmaps_stages::<H, D, N>(alloc, hasher, *calls),
+        ("bit_proofs", [digits, bit]) => {
+            let calls = format!(in alloc; "d,p:{},m", *digits)?;
+            of_bitmap::<H, D, N>(alloc, hasher, list, calls.as_str(), *bit)
+        }
+        (_, [calls, asked]) => of_bitmap::<H, D, N>(alloc, hasher, list, *calls, *asked),
         _ => Err(Fault::Malformed),
     }
 }
 
-/// `calls bits`: what stands after the calls: how many bits it has and how many of them are pruned, how many nodes, its last chunk and
-/// how many bits that has, its root, what is kept of the pruned chunks, the proofs of these bits, and the digests at all positions.
-fn bitmaps<H: Hasher<Digest = FixedBytes<D>>, const D: usize, const N: usize>(
+/// Returns the answer of a list on what stands after calls.
+fn of_bitmap<H: Hasher<Digest = FixedBytes<D>>, const D: usize, const N: usize>(
     alloc: Global,
     hasher: &Standard<H>,
-    columns: &[&str],
+    list: &str,
+    calls: &str,
+    asked: &str,
 ) -> Result<String, Fault>
 where
     FixedBytes<D>: Digest,
     requires chunk { IsChunkSize N }
     requires small { D ≤ 64 }
 {
-    let (List(calls), List(bits)): (List<String>, List<u64>) = parse(alloc, columns)?;
-    let bitmap = after::<H, D, N>(alloc, hasher, &calls)?;
-    let proofs = bits_proved(alloc, hasher, &bitmap, &bits)?;
-    described(alloc, &bitmap, proofs)
+    let mut bitmap = after::<H, D, N>(alloc, hasher, calls)?;
+    match list {
+        "bitmaps" => bitmaps(alloc, hasher, &bitmap, asked),
+        "bit_proofs" => bit_proofs(alloc, hasher, &bitmap, asked),
+        "bitmaps_read" => read::bitmaps_read(alloc, bitmap, asked),
+        "bitmaps_served" => read::bitmaps_served(alloc, &mut bitmap, asked),
+        "bitmaps_verified" => verified::bitmaps_verified(alloc, hasher, &bitmap, asked),
+        _ => Err(Fault::Malformed),
+    }
 }
 
-/// Returns what stands in a bitmap, with proofs of some bits.
-fn described<D: Digest, const N: usize>(
+/// `calls bits`: what stands after the calls: how many bits it has and how many of them are pruned, how many nodes, its last chunk and
+/// how many bits that has, its root, what is kept of the pruned chunks, the proofs of these bits, and the digests at all positions.
+fn bitmaps<H: Hasher, const N: usize>(
     alloc: Global,
-    bitmap: &MerkleizedBitMap<D, N>,
-    proofs: String,
+    hasher: &Standard<H>,
+    bitmap: &MerkleizedBitMap<H::Digest, N>,
+    asked: &str,
 ) -> Result<String, Fault> {
+    let proofs = bits_proved(alloc, hasher, bitmap, asked)?;
     let lengths = (bitmap.len(), bitmap.pruned_bits(), bitmap.size());
     let (chunk, count) = bitmap.last_chunk();
     let last = (*chunk, count, Hex(bitmap.root()));
     let kept = kept(alloc, bitmap)?;
     let nodes = nodes(alloc, bitmap)?;
-    told(alloc, (lengths, last, (kept, proofs, nodes)))
+    told(alloc, &(lengths, last, (kept, proofs, nodes)))
 }
 
 /// `calls`: what stands after each call that leaves the bitmap with its root: how many bits it has and how many of them are
@@ -105,56 +113,38 @@ fn described<D: Digest, const N: usize>(
 fn bitmaps_stages<H: Hasher<Digest = FixedBytes<D>>, const D: usize, const N: usize>(
     alloc: Global,
     hasher: &Standard<H>,
-    columns: &[&str],
+    calls: &str,
 ) -> Result<String, Fault>
 where
     FixedBytes<D>: Digest,
     requires chunk { IsChunkSize N }
     requires small { D ≤ 64 }
 {
-    let List(calls): List<String> = parse(alloc, columns)?;
     let mut history = History::new(alloc);
     let mut stage = begun::<H, N>(alloc, hasher)?;
-    for call in &calls {
-        stage = called(alloc, hasher, stage, call.as_str())?;
+    for call in calls.split(',') {
+        stage = called(alloc, hasher, stage, call)?;
         history.note(alloc, &stage)?;
     }
     Ok(history.stages.finish()?)
 }
 
 /// `bits bit`: the root of these bits, and the digests of their proof of one of them, or the refusal.
-fn bit_proofs<H: Hasher<Digest = FixedBytes<D>>, const D: usize, const N: usize>(
-    alloc: Global,
-    hasher: &Standard<H>,
-    columns: &[&str],
-) -> Result<String, Fault>
-where
-    FixedBytes<D>: Digest,
-    requires chunk { IsChunkSize N }
-    requires small { D ≤ 64 }
-{
-    let (digits, bit): (String, u64) = parse(alloc, columns)?;
-    let calls = format!(in alloc; "d,p:{digits},m")?;
-    let List(calls): List<String> = parse(alloc, &[calls.as_str()])?;
-    let bitmap = after::<H, D, N>(alloc, hasher, &calls)?;
-    root_and_proof(alloc, hasher, &bitmap, bit)
-}
-
-/// Returns the root of a bitmap, and the digests of its proof of a bit, or the refusal.
-fn root_and_proof<H: Hasher, const N: usize>(
+fn bit_proofs<H: Hasher, const N: usize>(
     alloc: Global,
     hasher: &Standard<H>,
     bitmap: &MerkleizedBitMap<H::Digest, N>,
-    bit: u64,
+    asked: &str,
 ) -> Result<String, Fault> {
+    let bit = number(asked)?;
     if bit < bitmap.pruned_bits() {
         return Err(Fault::Malformed);
     }
     let proof = match bitmap.proof(hasher, bit) {
-        Ok((proof, _)) => Ok(proof),
-        Err(error) => Err(error),
+        Ok((proof, _)) => told(alloc, &Digests(proof.digests))?,
+        Err(error) => merkle_refusal(alloc, &error)?,
     };
-    told(alloc, (Hex(bitmap.root()), digests_of(proof)))
+    told(alloc, &(Hex(bitmap.root()), proof))
 }
 
 /// `leaves inactive digests chunk bit root label`: whether the proof is accepted. The label says how the case was made.
@@ -174,7 +164,7 @@ fn bitmaps_checks<H: Hasher, const N: usize>(
     ) = parse(alloc, columns)?;
     told(
         alloc,
-        MerkleizedBitMap::verify_bit_inclusion(alloc, hasher, &proof, &chunk, bit, &root)?,
+        &MerkleizedBitMap::verify_bit_inclusion(alloc, hasher, &proof, &chunk, bit, &root)?,
     )
 }
 

@@ -1,10 +1,9 @@
 //! The list on proofs over a chunk that is an array and over one that is shared bytes. Chunks have one byte.
 
 use bytes::Bytes;
-use replay_columns::answers::told;
+use replay_columns::answers::{agreed, told};
 use replay_columns::columns::{Fault, Hex, List, bytes, halves, parse};
 use replay_columns::refusals::codec_refusal;
-use replay_columns::shared::agreed;
 use replay_columns::unframed::Unframed;
 use std::alloc::Global;
 use storage_codec::codec::{Buf, Decode, Read, Write};
@@ -29,7 +28,7 @@ pub fn both_chunks<F: Graftable, H: Hasher>(
         (1, "range") => range_shown::<F, H>(alloc, proof, claim, &root)?,
         _ => return Err(Fault::Malformed),
     };
-    told(alloc, yes)
+    told(alloc, &yes)
 }
 
 /// Returns the value that bytes are, which is written as these bytes, or the name of the refusal.

@@ -4,6 +4,7 @@
 use crate::counting::Counting;
 use replay_columns::answers::told;
 use replay_columns::columns::{Digests, Fault, Hex, List, halves, parse};
+use replay_columns::refusals::merkle_refusal;
 use replay_columns::unframed::Unframed;
 use std::alloc::Global;
 use std::cell::Cell;
@@ -29,10 +30,10 @@ pub fn plain_checks<F: Family, H: Hasher>(
     let hasher = Standard::<H>::new(bagging);
     let yes = proof.verify_range_inclusion(alloc, &hasher, &items, start, &root)?;
     let given = match proof.reconstruct_root(alloc, &hasher, &items, start) {
-        Ok(root) => Ok(Hex(root)),
-        Err(error) => Err(error),
+        Ok(root) => told(alloc, &Hex(root))?,
+        Err(error) => merkle_refusal(alloc, &error)?,
     };
-    told(alloc, (yes, given))
+    told(alloc, &(yes, given))
 }
 
 /// `bagging leaves inactive digests location element root label`: whether the proof of one element is accepted, and how many digests of
@@ -55,7 +56,7 @@ pub fn element_checks<F: Family, H: Hasher>(
         folds: Cell::new(0),
     };
     let yes = proof.verify_element_inclusion(alloc, &hasher, &element, location, &root)?;
-    told(alloc, (yes, hasher.nodes.get(), hasher.folds.get()))
+    told(alloc, &(yes, hasher.nodes.get(), hasher.folds.get()))
 }
 
 /// `leaves inactive digests start operations root label`: whether the proof of operations is accepted.
@@ -72,7 +73,7 @@ pub fn plain_operations<F: Family, H: Hasher>(
     ) = parse(alloc, columns)?;
     told(
         alloc,
-        verify_proof::<H, F, _>(alloc, &proof, start, &operations, &root)?,
+        &verify_proof::<H, F, _>(alloc, &proof, start, &operations, &root)?,
     )
 }
 
@@ -96,7 +97,7 @@ pub fn pinned_checks<F: Family, H: Hasher>(
         let hasher = Standard::<H>::new(bagging);
         proof.verify_proof_and_pinned_nodes(alloc, &hasher, &items, start, &pinned, &root)?
     };
-    told(alloc, yes)
+    told(alloc, &yes)
 }
 
 /// `bagging leaves inactive digests claims root label`: whether the proof is accepted. A claim is a location, a colon and an element;
@@ -118,7 +119,7 @@ pub fn multi_checks<F: Family, H: Hasher>(
         let hasher = Standard::<H>::new(bagging);
         elements_shown(alloc, &hasher, &proof, claims.as_str(), &root)?
     };
-    told(alloc, yes)
+    told(alloc, &yes)
 }
 
 /// Returns whether a proof is accepted for claims of operations.

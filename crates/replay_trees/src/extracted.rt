@@ -114,7 +114,7 @@ pub fn recomputed<F: Family, H: Hasher>(alloc: Global, columns: &[&str]) -> Resu
         return Err(Fault::Differs);
     }
     let digests = series(alloc, &digests)?;
-    told(alloc, (Hex(own), digests))
+    told(alloc, &(Hex(own), digests))
 }
 
 /// Returns the refusal of a proof that gives no root.

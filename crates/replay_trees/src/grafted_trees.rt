@@ -2,15 +2,16 @@
 
 ghost use Rattle.std.specs.Prelude.{◌≤◌};
 
+use crate::mems::nodes_text;
 use replay_columns::answers::{Series, told};
-use replay_columns::columns::{Digests, Fault, Hex, List, parse};
+use replay_columns::columns::{Digests, Fault, List, parse};
 use replay_columns::refusals::merkle_refusal;
 use std::alloc::Global;
 use storage_codec::digest::{Digest, Hasher};
 use storage_current::laws::combined::nodes_over_chunks_are_taken;
 use storage_current::qmdb::current::grafting::{GraftedHasher, GraftedTree};
 use storage_merkle::merkle::hasher::Standard;
-use storage_merkle::merkle::{Bagging, Graftable, Position};
+use storage_merkle::merkle::{Bagging, Graftable};
 
 /// More chunks than a case has.
 const MANY: u64 = 1000;
@@ -34,7 +35,7 @@ pub fn grafted_trees<F: Graftable, H: Hasher>(
         return Err(Fault::Malformed);
     }
     match GraftedTree::<F, _>::init(alloc, pruned, &pinned, leaves) {
-        Ok(tree) => pruned_to::<F, H>(alloc, tree, height as u32, &prunings),
+        Ok(mut tree) => pruned_to::<F, H>(alloc, &mut tree, height as u32, &prunings),
         Err(error) => merkle_refusal(alloc, &error),
     }
 }
@@ -42,7 +43,7 @@ pub fn grafted_trees<F: Graftable, H: Hasher>(
 /// Returns what is left of a tree after prunings.
 fn pruned_to<F: Graftable, H: Hasher>(
     alloc: Global,
-    mut tree: GraftedTree<F, H::Digest>,
+    tree: &mut GraftedTree<F, H::Digest>,
     height: u32,
     prunings: &[u64],
 ) -> Result<String, Fault>
@@ -52,15 +53,15 @@ fn pruned_to<F: Graftable, H: Hasher>(
     let mut refusals = Series::new(alloc);
     let mut place: u64 = 0;
     for chunks in prunings {
-        if let Some(refusal) = pruned::<F, H>(alloc, &mut tree, height, *chunks)? {
+        if let Some(refusal) = pruned::<F, H>(alloc, tree, height, *chunks)? {
             refusals.push_at(alloc, place, &refusal)?;
         }
         place = place.saturating_add(1);
     }
-    let nodes = nodes(alloc, &tree)?;
+    let nodes = nodes(alloc, tree)?;
     told(
         alloc,
-        (
+        &(
             refusals.finish()?,
             tree.leaves(),
             tree.pruned_chunks(),
@@ -99,9 +100,5 @@ fn nodes<F: Graftable, D: Digest>(
     if leaves >= MANY {
         return Err(Fault::Malformed);
     }
-    let mut nodes = Series::new(alloc);
-    for place in 0..F::nodes_over(leaves) + 2 {
-        nodes.push_at(alloc, place, &tree.get_node(Position::new(place)).map(Hex))?;
-    }
-    Ok(nodes.finish()?)
+    nodes_text(alloc, tree, F::nodes_over(leaves) + 2)
 }

@@ -5,7 +5,7 @@ use replay_columns::answers::{encoded, owned, told};
 use replay_columns::columns::{Fault, number, parse};
 use replay_columns::refusals::codec_refusal;
 use std::alloc::Global;
-use storage_codec::codec::{Decode, Encode, EncodeSize, Error, FixedBytes, Read};
+use storage_codec::codec::{Decode, Encode, EncodeSize, FixedBytes, Read};
 use storage_codec::digest::{Digest, Hasher};
 use storage_current::qmdb::current::ordered::{ExclusionProof, KeyValueProof};
 use storage_current::qmdb::current::proof::Chunk;
@@ -70,23 +70,23 @@ fn read<T: Read + EncodeSize + OwnCopy + PartialEq>(
         Ok(_) => return Err(Fault::Differs),
         Err(error) => codec_refusal(alloc, error)?,
     };
-    told(alloc, (front, whole))
+    told(alloc, &(front, whole))
 }
 
-/// Returns the bytes of a copy of the proof in front, which is equal, and how many are left; or the refusal.
+/// Returns the bytes of a copy of the proof in front, which is equal, and how many are left; or the refusal, and `-`.
 fn front<T: Read + EncodeSize + OwnCopy + PartialEq>(
     alloc: Global,
     mut input: &[u8],
     cfg: &T::Cfg,
-) -> Result<Result<(String, usize), (Error, Option<usize>)>, Fault> {
+) -> Result<(String, Option<usize>), Fault> {
     match T::read_cfg(alloc, &mut input, cfg) {
         Ok(proof) => {
             let copy = proof.own_copy()?;
             if copy != proof {
                 return Err(Fault::Differs);
             }
-            Ok(Ok((encoded(alloc, &copy)?, input.len())))
+            Ok((encoded(alloc, &copy)?, Some(input.len())))
         }
-        Err(error) => Ok(Err((error, None))),
+        Err(error) => Ok((codec_refusal(alloc, error)?, None)),
     }
 }

@@ -7,7 +7,6 @@ pub mod both_chunks;
 pub mod checks;
 pub mod codecs;
 pub mod counting;
-pub mod errors;
 pub mod extracted;
 pub mod grafted_trees;
 pub mod key_proofs;

@@ -1,15 +1,15 @@
 //! Lists on trees in memory.
 
-use replay_columns::answers::{Series, told};
+use replay_columns::answers::{Series, owned, told};
 use replay_columns::columns::{
-    Digests, Fault, Hex, List, bytes, digest, digests_between, halves, number, parse,
+    Digests, Fault, Hex, List, bytes, digests_between, halves, number, parse, placed,
 };
 use replay_columns::refusals::merkle_refusal;
 use std::alloc::Global;
 use storage_codec::digest::{Digest, Hasher};
 use storage_merkle::merkle::hasher::Standard;
 use storage_merkle::merkle::mem::Mem;
-use storage_merkle::merkle::{Bagging, Family, Location, Position};
+use storage_merkle::merkle::{Bagging, Family, Location, Position, Readable};
 
 /// `bagging boundary digests`: how many nodes the tree has whose leaves before the boundary are forgotten, its root, and what
 /// adding a leaf of no bytes answers; or the refusal.
@@ -18,7 +18,7 @@ pub fn mem_init<F: Family, H: Hasher>(alloc: Global, columns: &[&str]) -> Result
         alloc, columns,
     )?;
     match Mem::init(alloc, boundary, &pinned) {
-        Ok(tree) => begun(alloc, &Standard::<H>::new(bagging), tree),
+        Ok(mut tree) => begun(alloc, &Standard::<H>::new(bagging), &mut tree),
         Err(error) => merkle_refusal(alloc, &error),
     }
 }
@@ -27,17 +27,18 @@ pub fn mem_init<F: Family, H: Hasher>(alloc: Global, columns: &[&str]) -> Result
 fn begun<F: Family, H: Hasher>(
     alloc: Global,
     hasher: &Standard<H>,
-    mut tree: Mem<F, H::Digest>,
+    tree: &mut Mem<F, H::Digest>,
 ) -> Result<String, Fault> {
     let size = tree.size();
     let root = match tree.root(hasher, 0) {
-        Ok(root) => hex::encode(alloc, root.bytes())?,
+        Ok(root) => root,
         Err(error) => return merkle_refusal(alloc, &error),
     };
     let added = match tree.add(hasher, &[]) {
-        Ok(()) => String::from_str(alloc, "ok")?,
+        Ok(()) => owned(alloc, "ok")?,
         Err(error) => merkle_refusal(alloc, &error)?,
     };
+    let root = hex::encode(alloc, root.bytes())?;
     Ok(format!(in alloc; "{size}:{root}:{added}")?)
 }
 
@@ -50,7 +51,7 @@ pub fn mems<F: Family, H: Hasher>(alloc: Global, columns: &[&str]) -> Result<Str
     let mut tree = Mem::<F, _>::new(alloc);
     let refusals = refusals(alloc, &hasher, &mut tree, &calls)?;
     let grown = grown(alloc, &hasher, &tree)?;
-    told(alloc, (refusals, grown))
+    told(alloc, &(refusals, grown))
 }
 
 /// Makes calls: the places of the refused ones and their refusals.
@@ -86,7 +87,7 @@ fn called<F: Family, H: Hasher>(
             tree.add(hasher, &element)
         }
         "u" => {
-            let updates = updates(alloc, rest)?;
+            let updates: Vec<(Location<F>, H::Digest)> = placed(alloc, rest)?;
             tree.update_leaves(hasher, &updates)
         }
         "x" => tree.prune(Location::new(number(rest)?)),
@@ -117,21 +118,6 @@ fn taken<F: Family, D: Digest>(
     }
 }
 
-/// Leaves and their digests, `LOCATION=DIGEST` with slashes between them; `-` is none.
-fn updates<F: Family, D: Digest>(
-    alloc: Global,
-    column: &str,
-) -> Result<Vec<(Location<F>, D)>, Fault> {
-    let mut updates = Vec::new(alloc);
-    if column != "-" {
-        for part in column.split('/') {
-            let (location, written) = halves(part, '=')?;
-            updates.push((Location::new(number(location)?), digest(alloc, written)?))?;
-        }
-    }
-    Ok(updates)
-}
-
 /// Returns how many leaves and nodes a tree has, its roots, and the digests at all positions and at the next two.
 fn grown<F: Family, H: Hasher>(
     alloc: Global,
@@ -139,11 +125,17 @@ fn grown<F: Family, H: Hasher>(
     tree: &Mem<F, H::Digest>,
 ) -> Result<String, Fault> {
     let roots = roots(alloc, hasher, tree)?;
+    let nodes = nodes_text(alloc, tree, tree.size().as_u64().saturating_add(2))?;
+    told(alloc, &(tree.leaves(), tree.size(), roots, nodes))
+}
+
+/// Returns the digests at so many positions.
+pub fn nodes_text<T: Readable>(alloc: Global, tree: &T, count: u64) -> Result<String, Fault> {
     let mut nodes = Series::new(alloc);
-    for place in 0..tree.size().as_u64().saturating_add(2) {
+    for place in 0..count {
         nodes.push_at(alloc, place, &tree.get_node(Position::new(place)).map(Hex))?;
     }
-    told(alloc, (tree.leaves(), tree.size(), roots, nodes.finish()?))
+    Ok(nodes.finish()?)
 }
 
 /// Returns the roots with none of the peaks inactive, with one, and so on up to the refusal.
@@ -157,7 +149,7 @@ fn roots<F: Family, H: Hasher>(
         match tree.root(hasher, inactive as usize) {
             Ok(root) => roots.push_at(alloc, inactive as u64, &Hex(root))?,
             Err(error) => {
-                roots.push_at(alloc, inactive as u64, &error)?;
+                roots.push_at(alloc, inactive as u64, &merkle_refusal(alloc, &error)?)?;
                 break;
             }
         }

@@ -1,11 +1,12 @@
 //! Lists on the encodings of operations.
 
-use crate::spelling::{Show, Spell};
+use crate::spelling::{Show, Spell, spelled};
 use replay_columns::answers::{told, unblanked};
-use replay_columns::columns::{Fault, halves, number, parse};
+use replay_columns::columns::{Fault, halves, lengths, parse};
+use replay_columns::refusals::codec_refusal;
 use std::alloc::Global;
 use storage_codec::codec::{
-    Codec, Decode, Encode, EncodeSize, Error, FixedBytes, FixedSize, RangeCfg, Read, Small, U64,
+    Codec, Decode, Encode, EncodeSize, FixedBytes, FixedSize, Read, Small, U64,
 };
 use storage_merkle::merkle::mmr;
 use storage_ops::qmdb::any::operation::{Ordered, Unordered};
@@ -50,16 +51,6 @@ fn by_type(alloc: Global, kind: &str, job: &Job) -> Result<String, Fault> {
         (_, "u64", _) => by_value::<U64>(alloc, shape, (), value, job),
         _ => by_value::<Vec<u8>>(alloc, shape, (lengths(key)?, ()), value, job),
     }
-}
-
-/// Returns the lengths of a type `vec:LEAST:MOST`.
-fn lengths(kind: &str) -> Result<RangeCfg, Fault> {
-    let rest = kind.strip_prefix("vec:").ok_or(Fault::Malformed)?;
-    let (min, max) = halves(rest, ':')?;
-    Ok(RangeCfg {
-        min: number(min)? as usize,
-        max: number(max)? as usize,
-    })
 }
 
 fn by_value<K: Key + Spell>(
@@ -125,7 +116,7 @@ fn done<O: Codec + EncodeSize + Spell + Show>(
         Job::Write(spelling) => {
             let operation = O::parse(alloc, spelling.as_str())?;
             let (bytes, text) = text_of(alloc, &operation)?;
-            told(alloc, (bytes, size, text))
+            told(alloc, &(bytes, size, text))
         }
     }
 }
@@ -146,20 +137,20 @@ fn text_of<O: Codec + EncodeSize + Show>(
 fn read<O: Read + Spell>(alloc: Global, input: &[u8], cfg: &O::Cfg) -> Result<String, Fault> {
     let front = front::<O>(alloc, input, cfg)?;
     let whole = match O::decode_cfg(alloc, input, cfg) {
-        Ok(operation) => Ok(operation.spell(alloc)?),
-        Err(error) => Err(error),
+        Ok(operation) => spelled(alloc, &operation)?,
+        Err(error) => codec_refusal(alloc, error)?,
     };
-    told(alloc, (front, whole))
+    told(alloc, &(front, whole))
 }
 
-/// Returns the operation in front, and how many bytes are left.
+/// Returns the operation in front, and how many bytes are left; or the refusal, and `-`.
 fn front<O: Read + Spell>(
     alloc: Global,
     mut input: &[u8],
     cfg: &O::Cfg,
-) -> Result<Result<(String, usize), (Error, Option<usize>)>, Fault> {
+) -> Result<(String, Option<usize>), Fault> {
     match O::read_cfg(alloc, &mut input, cfg) {
-        Ok(operation) => Ok(Ok((operation.spell(alloc)?, input.len()))),
-        Err(error) => Ok(Err((error, None))),
+        Ok(operation) => Ok((spelled(alloc, &operation)?, Some(input.len()))),
+        Err(error) => Ok((codec_refusal(alloc, error)?, None)),
     }
 }

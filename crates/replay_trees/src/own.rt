@@ -1,8 +1,8 @@
 //! Lists on what trees in memory give: their own proofs, their nodes, and proofs from nodes.
 
-use crate::stores::{digests_of, peaks};
+use crate::stores::digests_told;
 use replay_columns::answers::told;
-use replay_columns::columns::{Digests, Fault, List, Refusal, or_fault, parse, places};
+use replay_columns::columns::{Digests, Fault, List, Refusal, or_fault, parse, placed, places};
 use replay_columns::refusals::merkle_refusal;
 use std::alloc::Global;
 use storage_codec::digest::{Digest, Hasher};
@@ -106,7 +106,7 @@ pub fn parts<F: Family, H: Hasher>(alloc: Global, columns: &[&str]) -> Result<St
         parse(alloc, columns)?;
     let tree = Grown::<F, H>::new(alloc, bagging, inactive, &elements)?;
     let store = tree.store(alloc, &elements, start, end)?;
-    told(alloc, tree.given(alloc, &store, start, end)?)
+    told(alloc, &tree.given(alloc, &store, start, end)?)
 }
 
 /// `bagging elements positions`: the digests that the tree serves at these positions, or the refusal.
@@ -117,7 +117,7 @@ pub fn served<F: Family, H: Hasher>(alloc: Global, columns: &[&str]) -> Result<S
     match Storage::<F>::get_nodes(&mut mem, alloc, &positions) {
         Ok(digests) => {
             compare_each(&mut mem, &positions, &digests)?;
-            told(alloc, Digests(digests))
+            told(alloc, &Digests(digests))
         }
         Err(error) => merkle_refusal(alloc, &error),
     }
@@ -162,12 +162,12 @@ pub fn built<F: Family, H: Hasher>(alloc: Global, columns: &[&str]) -> Result<St
         usize,
         String,
     ) = parse(alloc, columns)?;
-    let nodes = peaks::<F, H::Digest>(alloc, nodes.as_str())?;
+    let nodes: Vec<(Position<F>, H::Digest)> = placed(alloc, nodes.as_str())?;
     let plan: RangePlan<F> = match ElementPlan::new(alloc, leaves, location) {
         Ok(plan) => plan.into(),
         Err(error) => return merkle_refusal(alloc, &error),
     };
     let hasher = Standard::<H>::new(bagging);
     let proof = plan.build(alloc, &hasher, inactive, |position| at(&nodes, position));
-    told(alloc, digests_of(proof))
+    digests_told(alloc, proof)
 }

@@ -16,7 +16,7 @@ pub fn places<F: Graftable>(alloc: Global, columns: &[&str]) -> Result<String, F
     let aligned = unblanked(alloc, aligned.as_str())?;
     let text = format!(in alloc; "{location}")?;
     let written = encoded(alloc, &location)?;
-    told(alloc, (text, aligned, written, location.encode_size()))
+    told(alloc, &(text, aligned, written, location.encode_size()))
 }
 
 /// `digest`: what the slot of a pending chunk is written as that has this digest, or none for `-`, and how many bytes these are.
@@ -28,7 +28,7 @@ pub fn slots<F: Graftable, H: Hasher>(alloc: Global, columns: &[&str]) -> Result
     };
     let mut written = Vec::new(alloc);
     F::write_pending(&slot, &mut written)?;
-    told(alloc, (written, F::pending_size(&slot)))
+    told(alloc, &(written, F::pending_size(&slot)))
 }
 
 /// `bytes`: the digest in the slot in front, or `-` for none, and how many bytes are left; or the refusal.
@@ -42,5 +42,5 @@ pub fn slots_read<F: Graftable, H: Hasher>(
         Ok(slot) => slot,
         Err(error) => return codec_refusal(alloc, error),
     };
-    told(alloc, (slot.map(Hex), left.len()))
+    told(alloc, &(slot.map(Hex), left.len()))
 }

@@ -11,24 +11,32 @@ use storage_ops::qmdb::operation::{Committable, Floored, Key, Operation as _};
 
 /// A value that is spelled in a list.
 pub trait Spell: Sized {
-    /// Returns its spelling.
-    fn spell(&self, alloc: Global) -> Result<String, Fault>;
+    /// Adds its spelling at the end of a text.
+    fn spell(&self, alloc: Global, out: &mut String) -> Result<(), Fault>;
 
     /// Returns the value of a spelling.
     fn parse(alloc: Global, text: &str) -> Result<Self, Fault>;
 }
 
-/// Bytes in hexadecimal; `-` for none.
-pub fn spell_bytes(alloc: Global, bytes: &[u8]) -> Result<String, Fault> {
+/// Returns the spelling of a value.
+pub fn spelled<T: Spell>(alloc: Global, value: &T) -> Result<String, Fault> {
+    let mut text = String::new(alloc);
+    value.spell(alloc, &mut text)?;
+    Ok(text)
+}
+
+/// Adds bytes in hexadecimal; `-` for none.
+fn spell_bytes(alloc: Global, out: &mut String, bytes: &[u8]) -> Result<(), Fault> {
     if bytes.is_empty() {
-        return Ok(String::from_str(alloc, "-")?);
+        return Ok(out.push('-')?);
     }
-    Ok(hex::encode(alloc, bytes)?)
+    let text = hex::encode(alloc, bytes)?;
+    Ok(out.push_str(text.as_str())?)
 }
 
 impl<const N: usize> Spell for FixedBytes<N> {
-    fn spell(&self, alloc: Global) -> Result<String, Fault> {
-        spell_bytes(alloc, &self.bytes)
+    fn spell(&self, alloc: Global, out: &mut String) -> Result<(), Fault> {
+        spell_bytes(alloc, out, &self.bytes)
     }
 
     fn parse(_alloc: Global, text: &str) -> Result<FixedBytes<N>, Fault> {
@@ -42,8 +50,8 @@ impl<const N: usize> Spell for FixedBytes<N> {
 }
 
 impl Spell for U64 {
-    fn spell(&self, alloc: Global) -> Result<String, Fault> {
-        spell_bytes(alloc, U64::bytes(self))
+    fn spell(&self, alloc: Global, out: &mut String) -> Result<(), Fault> {
+        spell_bytes(alloc, out, U64::bytes(self))
     }
 
     fn parse(_alloc: Global, text: &str) -> Result<U64, Fault> {
@@ -54,8 +62,8 @@ impl Spell for U64 {
 }
 
 impl Spell for u64 {
-    fn spell(&self, alloc: Global) -> Result<String, Fault> {
-        spell_bytes(alloc, &self.to_be_bytes())
+    fn spell(&self, alloc: Global, out: &mut String) -> Result<(), Fault> {
+        spell_bytes(alloc, out, &self.to_be_bytes())
     }
 
     fn parse(_alloc: Global, text: &str) -> Result<u64, Fault> {
@@ -64,8 +72,8 @@ impl Spell for u64 {
 }
 
 impl Spell for Vec<u8> {
-    fn spell(&self, alloc: Global) -> Result<String, Fault> {
-        spell_bytes(alloc, self.as_slice())
+    fn spell(&self, alloc: Global, out: &mut String) -> Result<(), Fault> {
+        spell_bytes(alloc, out, self.as_slice())
     }
 
     fn parse(alloc: Global, text: &str) -> Result<Vec<u8>, Fault> {
@@ -77,11 +85,12 @@ impl<K: Key + Spell, V: ValueEncoding> Spell for update::Ordered<K, V>
 where
     V::Value: Spell,
 {
-    fn spell(&self, alloc: Global) -> Result<String, Fault> {
-        let key = self.key.spell(alloc)?;
-        let value = self.value.spell(alloc)?;
-        let next_key = self.next_key.spell(alloc)?;
-        Ok(format!(in alloc; "{key}:{value}:{next_key}")?)
+    fn spell(&self, alloc: Global, out: &mut String) -> Result<(), Fault> {
+        self.key.spell(alloc, out)?;
+        out.push(':')?;
+        self.value.spell(alloc, out)?;
+        out.push(':')?;
+        self.next_key.spell(alloc, out)
     }
 
     fn parse(alloc: Global, text: &str) -> Result<update::Ordered<K, V>, Fault> {
@@ -99,10 +108,10 @@ impl<K: Key + Spell, V: ValueEncoding> Spell for update::Unordered<K, V>
 where
     V::Value: Spell,
 {
-    fn spell(&self, alloc: Global) -> Result<String, Fault> {
-        let key = self.0.spell(alloc)?;
-        let value = self.1.spell(alloc)?;
-        Ok(format!(in alloc; "{key}:{value}")?)
+    fn spell(&self, alloc: Global, out: &mut String) -> Result<(), Fault> {
+        self.0.spell(alloc, out)?;
+        out.push(':')?;
+        self.1.spell(alloc, out)
     }
 
     fn parse(alloc: Global, text: &str) -> Result<update::Unordered<K, V>, Fault> {
@@ -111,19 +120,16 @@ where
     }
 }
 
-/// Returns a kind of operation, and what it is about.
-fn spell_kind<T: Spell>(alloc: Global, kind: &str, value: &T) -> Result<String, Fault> {
-    let value = value.spell(alloc)?;
-    Ok(format!(in alloc; "{kind}:{value}")?)
-}
-
-/// Returns a commit with its value and its floor.
-fn spell_commit<V: Spell>(alloc: Global, value: Option<&V>, floor: u64) -> Result<String, Fault> {
-    let value = match value {
-        Some(value) => value.spell(alloc)?,
-        None => owned(alloc, "none")?,
-    };
-    Ok(format!(in alloc; "commit:{value}:{floor}")?)
+/// Adds the value of a commit; `none` is none.
+fn spell_committed<V: Spell>(
+    alloc: Global,
+    out: &mut String,
+    value: Option<&V>,
+) -> Result<(), Fault> {
+    match value {
+        Some(value) => value.spell(alloc, out),
+        None => Ok(out.push_str("none")?),
+    }
 }
 
 /// Returns the value of a commit and its floor.
@@ -141,12 +147,20 @@ where
     S::Key: Spell,
     S::Value: Spell,
 {
-    fn spell(&self, alloc: Global) -> Result<String, Fault> {
+    fn spell(&self, alloc: Global, out: &mut String) -> Result<(), Fault> {
         match self {
-            Operation::Delete(key) => spell_kind(alloc, "delete", key),
-            Operation::Update(update) => spell_kind(alloc, "update", update),
+            Operation::Delete(key) => {
+                out.push_str("delete:")?;
+                key.spell(alloc, out)
+            }
+            Operation::Update(update) => {
+                out.push_str("update:")?;
+                update.spell(alloc, out)
+            }
             Operation::CommitFloor(value, floor) => {
-                spell_commit(alloc, value.as_ref(), floor.as_u64())
+                out.push_str("commit:")?;
+                spell_committed(alloc, out, value.as_ref())?;
+                Ok(write!(out, ":{}", floor.as_u64())?)
             }
         }
     }
@@ -201,7 +215,7 @@ where
     fn asked(self, alloc: Global) -> Result<String, Fault> {
         let described = described(alloc, &self)?;
         let given = spell_key(alloc, self.into_key().as_ref())?;
-        told(alloc, (described, given))
+        told(alloc, &(described, given))
     }
 
     fn valued(self, alloc: Global) -> Result<String, Fault> {
@@ -217,9 +231,9 @@ fn value_text<S: Update>(alloc: Global, update: S) -> Result<String, Fault>
 where
     S::Value: Spell,
 {
-    let lent = update.value().spell(alloc)?;
-    let given = update.into_value().spell(alloc)?;
-    told(alloc, (lent, given))
+    let lent = spelled(alloc, update.value())?;
+    let given = spelled(alloc, &update.into_value())?;
+    told(alloc, &(lent, given))
 }
 
 /// Returns what an operation is, its key and its floor; `-` for none.
@@ -238,13 +252,13 @@ where
     .map(u8::from);
     let kinds = format!(in alloc; "{update}{delete}{commit}")?;
     let key = spell_key(alloc, operation.key())?;
-    told(alloc, (kinds, key, operation.has_floor()))
+    told(alloc, &(kinds, key, operation.has_floor()))
 }
 
 /// Returns a key; `-` is none.
 fn spell_key<K: Spell>(alloc: Global, key: Option<&K>) -> Result<String, Fault> {
     match key {
-        Some(key) => key.spell(alloc),
+        Some(key) => spelled(alloc, key),
         None => owned(alloc, "-"),
     }
 }

@@ -1,8 +1,8 @@
 //! The list on what is kept of a proof to give other proofs.
 
-use replay_columns::answers::{Series, told};
+use replay_columns::answers::told;
 use replay_columns::columns::{
-    Digests, Fault, Hex, List, digest, halves, number, parse, parts_between,
+    Digests, Fault, Hex, List, halves, number, parse, parts_between, placed,
 };
 use replay_columns::refusals::merkle_refusal;
 use replay_columns::unframed::Unframed;
@@ -43,12 +43,8 @@ fn told_of<F: Family, H: Hasher>(
     store: &ProofStore<F, H::Digest>,
     call: &str,
 ) -> Result<String, Fault> {
-    let mut suffix = Series::new(alloc);
-    for position in store.suffix_peak_positions(alloc)? {
-        suffix.push(alloc, &position)?;
-    }
-    let answer = digests_of(called(alloc, hasher, store, call)?);
-    told(alloc, (suffix.finish()?, answer))
+    let answer = digests_told(alloc, called(alloc, hasher, store, call)?)?;
+    told(alloc, &(List(store.suffix_peak_positions(alloc)?), answer))
 }
 
 /// Returns what a call gives: `range:START:END` is a proof of a range, and `multi:LOCATION/..:POSITION=DIGEST/..` one
@@ -66,28 +62,17 @@ fn called<F: Family, H: Hasher>(
         return Ok(store.range_proof(alloc, hasher, range));
     }
     let locations: Vec<Location<F>> = parts_between(alloc, first, '/')?;
-    let peaks = peaks(alloc, second)?;
+    let peaks: Vec<(Position<F>, H::Digest)> = placed(alloc, second)?;
     Ok(create_multi_proof(alloc, store, &locations, &peaks))
 }
 
 /// Returns the digests of a proof, or the refusal.
-pub fn digests_of<F, D: Digest>(
+pub fn digests_told<F, D: Digest>(
+    alloc: Global,
     made: Result<Proof<F, D>, Error<F>>,
-) -> Result<Digests<D>, Error<F>> {
+) -> Result<String, Fault> {
     match made {
-        Ok(proof) => Ok(Digests(proof.digests)),
-        Err(error) => Err(error),
+        Ok(proof) => told(alloc, &Digests(proof.digests)),
+        Err(error) => merkle_refusal(alloc, &error),
     }
-}
-
-/// Peaks, `POSITION=DIGEST` with slashes between them; `-` is none.
-pub fn peaks<F, D: Digest>(alloc: Global, column: &str) -> Result<Vec<(Position<F>, D)>, Fault> {
-    let mut peaks = Vec::new(alloc);
-    if column != "-" {
-        for part in column.split('/') {
-            let (position, written) = halves(part, '=')?;
-            peaks.push((Position::new(number(position)?), digest(alloc, written)?))?;
-        }
-    }
-    Ok(peaks)
 }

@@ -6,7 +6,7 @@ ghost use Rattle.storage_bitmap.specs.Chunks.{IsChunkSize};
 
 use replay_columns::answers::{Series, told};
 use replay_columns::columns::{Fault, parse};
-use replay_columns::refusals::database_refusal;
+use replay_columns::refusals::{database_refusal, merkle_refusal};
 use std::alloc::Global;
 use storage_current::qmdb::current::grafting::{
     chunk_aligned_inactive_peaks, exact_inactive, graftable_chunks, grafted_to_ops_pos,
@@ -15,7 +15,7 @@ use storage_current::qmdb::current::grafting::{
 use storage_current::qmdb::current::proof::required_chunks;
 use storage_merkle::merkle::family::{leaves_within, node_at, power};
 use storage_merkle::merkle::{
-    ElementPlan, Error, Family, Graftable, Location, MAX_LEAVES, Position, RangePlan,
+    ElementPlan, Family, Graftable, Location, MAX_LEAVES, Position, RangePlan,
 };
 
 /// Returns the number of nodes over the most leaves.
@@ -33,7 +33,7 @@ pub fn families<F: Graftable>(alloc: Global, columns: &[&str]) -> Result<String,
     }
     let peaks = peaks::<F>(alloc, leaves)?;
     let pins = pins::<F>(alloc, leaves)?;
-    told(alloc, (F::nodes_over(leaves), peaks, pins))
+    told(alloc, &(F::nodes_over(leaves), peaks, pins))
 }
 
 /// Returns the peaks' heights and positions.
@@ -67,7 +67,7 @@ pub fn sizes<F: Graftable>(alloc: Global, columns: &[&str]) -> Result<String, Fa
         return Err(Fault::Malformed);
     }
     let leaves = leaves_within::<F>(nodes);
-    told(alloc, (F::nodes_over(leaves) == nodes).then_some(leaves))
+    told(alloc, &(F::nodes_over(leaves) == nodes).then_some(leaves))
 }
 
 /// `first_leaf height`: the position of this node, at how many leaves it comes, and its children.
@@ -90,12 +90,12 @@ fn node<F: Graftable>(alloc: Global, first: u64, height: u32) -> Result<String, 
     }
     if height == 0 {
         let none: Option<u64> = None;
-        return told(alloc, (position, F::birth(first, height), none, none));
+        return told(alloc, &(position, F::birth(first, height), none, none));
     }
     let (left, right) = F::children(position, height);
     told(
         alloc,
-        (position, F::peak_birth_size(position, height), left, right),
+        &(position, F::peak_birth_size(position, height), left, right),
     )
 }
 
@@ -112,7 +112,7 @@ pub fn around<F: Graftable>(alloc: Global, columns: &[&str]) -> Result<String, F
     let children = F::children(position, height);
     let first = F::leftmost_leaf(position, height);
     let birth = F::peak_birth_size(position, height);
-    told(alloc, (height as u64, children, first, birth))
+    told(alloc, &(height as u64, children, first, birth))
 }
 
 /// `leaves height`: how many chunks are graftable.
@@ -121,7 +121,7 @@ pub fn graftable<F: Graftable>(alloc: Global, columns: &[&str]) -> Result<String
     if height < 1 || height > 62 {
         return Err(Fault::Malformed);
     }
-    told(alloc, graftable_chunks::<F>(leaves, height as u32))
+    told(alloc, &graftable_chunks::<F>(leaves, height as u32))
 }
 
 /// `height position`: the operations position of a grafted one, and what that is mapped back to.
@@ -152,7 +152,7 @@ fn map<F: Graftable>(alloc: Global, position: u64, height: u32) -> Result<String
     }
     let above = grafted_to_ops_pos::<F>(Position::new(position), height);
     let below = ops_to_grafted_pos::<F>(above, height);
-    told(alloc, (above, below))
+    told(alloc, &(above, below))
 }
 
 /// `leaves floor height`: how many leading peaks end at or before the floor, and how many up to the last that ends on a multiple of
@@ -164,23 +164,28 @@ pub fn inactive<F: Graftable>(alloc: Global, columns: &[&str]) -> Result<String,
     }
     let exact = exact_inactive::<F>(leaves, floor);
     let aligned = chunk_aligned_inactive_peaks::<F>(leaves, floor, height as u32);
-    told(alloc, (exact, aligned))
+    told(alloc, &(exact, aligned))
 }
 
 /// `leaves location`: the positions that the plan of this location has, or its refusal.
 pub fn elements<F: Family>(alloc: Global, columns: &[&str]) -> Result<String, Fault> {
     let (leaves, location): (Location<F>, Location<F>) = parse(alloc, columns)?;
-    let plan: Result<RangePlan<F>, Error<F>> = match ElementPlan::new(alloc, leaves, location) {
-        Ok(plan) => Ok(plan.into()),
-        Err(error) => Err(error),
-    };
-    told(alloc, plan)
+    match ElementPlan::new(alloc, leaves, location) {
+        Ok(plan) => {
+            let plan: RangePlan<F> = plan.into();
+            told(alloc, &plan)
+        }
+        Err(error) => merkle_refusal(alloc, &error),
+    }
 }
 
 /// `leaves start end`: the positions that the plan of this range has, or its refusal.
 pub fn plans<F: Family>(alloc: Global, columns: &[&str]) -> Result<String, Fault> {
     let (leaves, start, end): (Location<F>, Location<F>, Location<F>) = parse(alloc, columns)?;
-    told(alloc, RangePlan::new(alloc, leaves, start..end))
+    match RangePlan::new(alloc, leaves, start..end) {
+        Ok(plan) => told(alloc, &plan),
+        Err(error) => merkle_refusal(alloc, &error),
+    }
 }
 
 /// `leaves bits pruned location`: the chunks that are read for a proof, of one operation or, where the location is `-`, of none; or

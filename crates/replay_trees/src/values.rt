@@ -73,11 +73,11 @@ pub fn cuts(alloc: Global, columns: &[&str]) -> Result<String, Fault> {
     let from_slice = cut(alloc, text.as_slice(), count)?;
     let shared = Bytes::copy_from_slice(alloc, &text)?;
     let from_shared = cut(alloc, shared, count)?;
-    told(alloc, (from_slice, from_shared))
+    told(alloc, &(from_slice, from_shared))
 }
 
 fn cut<B: Buf>(alloc: Global, mut buf: B, count: usize) -> Result<String, Fault> {
     let front = buf.cut(alloc, count)?;
     let front = hex::encode(alloc, &front)?;
-    told(alloc, (front, buf.remaining()))
+    told(alloc, &(front, buf.remaining()))
 }

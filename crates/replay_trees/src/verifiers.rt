@@ -36,5 +36,5 @@ pub fn verifiers<F: Graftable, H: digest::Hasher>(
     if copy.node_digest(position, &left, &right) != digest {
         return Err(Fault::Differs);
     }
-    told(alloc, Hex(digest))
+    told(alloc, &Hex(digest))
 }

@@ -23,7 +23,7 @@ pub fn witnesses<F: Graftable, H: Hasher>(
             if copy != read || copy.encode(alloc)? != witness {
                 return Err(Fault::Differs);
             }
-            told(alloc, copy.verify::<H>(&ops_root, &root))
+            told(alloc, &copy.verify::<H>(&ops_root, &root))
         }
         Err(error) => codec_refusal(alloc, error),
     }

@@ -4,5 +4,5 @@ pub mod authenticated;
 mod prunable;
 mod readable;
 
-pub use prunable::Prunable;
+pub use prunable::{Prunable, is_set};
 pub use readable::Readable;

@@ -1,5 +1,5 @@
 -- Digest functions, and the one way in which a check may be deceived.
-use Rattle.std.specs.Prelude.{◌≡◌, ◌≢◌, ℕ, List, length, Contains}
+use Rattle.std.specs.Prelude.{◌≡◌, ◌≢◌, ℕ, List, [], length, Contains, Option, Some, None}
 
 -- a digest function, over lists of bytes
 abbrev pub HashFunction : Type 0
@@ -8,6 +8,11 @@ HashFunction = List ℕ → List ℕ
 -- each answer has d bytes
 abbrev pub IsSized : ℕ → HashFunction → Type 0
 IsSized d h = (x : List ℕ) → length (h x) ≡ d
+
+-- the bytes of a digest, or nothing
+abbrev pub or_nothing : Option (List ℕ) → List ℕ
+or_nothing None = []
+or_nothing (Some x) = x
 
 -- the cross collision: a string of the first list and a different one of the second have one digest
 pub record Cross (h : HashFunction) (xs ys : List (List ℕ)) : Type 0 where

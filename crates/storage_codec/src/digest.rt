@@ -5,7 +5,7 @@ ghost use Rattle.std.specs.Mem.{type_size};
 ghost use Rattle.std.proofs.Common.{lit<};
 ghost use Rattle.std.proofs.lemmas.Slice.Eq.{bytes_eq-Decides};
 ghost use Rattle.storage_codec.specs.Codec.{Gives, front_at, option_at, whole};
-ghost use Rattle.storage_codec.specs.Digests.{HashFunction, IsSized};
+ghost use Rattle.storage_codec.specs.Digests.{HashFunction, IsSized, or_nothing};
 ghost use Rattle.storage_codec.specs.Laws.DigestValues.{one_digest};
 ghost use Rattle.storage_codec.specs.Parts.{AppendsStart, IsEnding, option_text};
 
@@ -106,6 +106,16 @@ pub trait Digest: Copy + Eq {
 
     /// As many digests as a tree has peaks fit in memory.
     ghost few: { 64 * type_size Self.row < 2 ^ 63 };
+}
+
+/// Returns the bytes of `digest`; no bytes for none. Allocates nothing.
+pub fn bytes_or_nothing<D: Digest>(digest: &Option<D>) -> &[u8]
+    ensures { result.now ≡ or_nothing (option_map D.text digest.now) }
+{
+    match digest {
+        None => &[],
+        Some(digest) => digest.bytes(),
+    }
 }
 
 /// A digest function: the digest of several parts is that of the parts joined.

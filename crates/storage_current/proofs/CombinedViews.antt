@@ -1,5 +1,5 @@
 -- Two trees that are read as one are a snapshot's grafted view.
-use Rattle.std.proofs.Common.{◌≡◌, ℕ, zero, suc, ◌+◌, ◌-◌, ◌*◌, ◌/◌, ◌^◌, ◌<◌, ◌≤◌, ◌++◌, List, [], length, Option, Some, option_map, refl, sym, ap, ap₂, ◌∙◌, arith, ◌⊎◌, inl, inr, pow_pos}
+use Rattle.std.proofs.Common.{◌≡◌, ℕ, zero, suc, ◌+◌, ◌-◌, ◌*◌, ◌/◌, ◌^◌, ◌<◌, ◌≤◌, ◌++◌, List, length, Option, Some, option_map, refl, sym, ap, ap₂, ◌∙◌, arith, ◌⊎◌, inl, inr, pow_pos}
 use Rattle.std.proofs.lemmas.Bool.{cases_lt}
 use Rattle.std.proofs.lemmas.Nat.{pow-add}
 use Rattle.std.proofs.Math.Nat.{add-mul}
@@ -135,13 +135,20 @@ module _ (h : HashFunction) (g : Grafting) (pace : ChunksKeepPace g.shape (heigh
       ]
 
   module _ (text : D → List ℕ) where
+    -- at one node
+    pub joined_view_at : AreAnswersOf text g.shape (graftable g (length s.operations)) (grafted_node h g s) chunks
+        → (p a k : ℕ) → p < size g.shape (length s.operations) → IsNode g.shape p a k
+        → (k < height g → option_map text (operations p) ≡ Some (operations_node h g s a k))
+        → option_map text (both g s chunks operations p) ≡ Some (view_node h g s a k)
+    joined_view_at over p a k within node below = elim (joined_at p a k within node) [
+      | inl it ↦ ap (option_map text) it.read ∙ below it.low ∙ ap Some it.same
+      | inr it ↦ ap (option_map text) it.read ∙ over it.position it.first it.over it.within it.node ∙ ap Some it.same
+    ]
+
     pub joined_view : AreAnswersOf text g.shape (graftable g (length s.operations)) (grafted_node h g s) chunks
         → AreAnswersOf text g.shape (length s.operations) (operations_node h g s) operations
         → AreAnswersOf text g.shape (length s.operations) (view_node h g s) (both g s chunks operations)
-    joined_view over below p a k within node = elim (joined_at p a k within node) [
-      | inl it ↦ ap (option_map text) it.read ∙ below p a k within node ∙ ap Some it.same
-      | inr it ↦ ap (option_map text) it.read ∙ over it.position it.first it.over it.within it.node ∙ ap Some it.same
-    ]
+    joined_view over below p a k within node = joined_view_at over p a k within node (λ low. below p a k within node)
 
     pub joined_true : AnswersAreTrue text g.shape (graftable g (length s.operations)) (grafted_node h g s) chunks
         → AnswersAreTrue text g.shape (length s.operations) (operations_node h g s) operations

@@ -23,6 +23,8 @@ mod StoresOfViews
 mod PrunedViews
 mod KeptChunks
 mod Regrafting
+mod Retaining
+mod Forgetting
 mod Exclusions
 mod Splitting
 pub mod Windows
@@ -33,7 +35,6 @@ mod NodeLists
 mod MemViews
 mod Roots
 mod Written
-mod Failing
 pub mod OwnSites
 pub mod OwnWritten
 mod Built

@@ -1,12 +1,10 @@
--- A tree over operations in memory and one over their graftable chunks, none of them pruned: each node of the view can be had.
-use Rattle.std.proofs.Common.{◌≡◌, ℕ, ◌+◌, ◌*◌, ◌/◌, ◌%◌, ◌^◌, ◌<◌, ◌≤◌, ◌++◌, List, [], ◌∷◌, length, map, get_or, Bool, Option, Some, None, option_map, IsSome, Result, Ok, Err, OnErr, OnOk, true, false, refl, sym, ap, ap₂, ◌∙◌, append_assoc, arith, inl, inr, length-append, pow_pos}
+-- A tree over operations in memory and one over their graftable chunks: each node of the view that is retained can be had.
+use Rattle.std.proofs.Common.{◌≡◌, ℕ, ◌+◌, ◌*◌, ◌%◌, ◌^◌, ◌<◌, ◌≤◌, ◌++◌, List, [], ◌∷◌, length, map, get_or, Option, Some, None, option_map, IsSome, Result, Ok, Err, OnErr, OnOk, true, false, refl, sym, ap, subst, ◌∙◌, append_assoc, arith, inl, inr, length-append, pow_pos}
 use Rattle.std.specs.Option.{is_some}
 use Rattle.std.specs.Result.{is_err, is_ok}
 use Rattle.std.proofs.lemmas.Bool.{cases_lt}
 use Rattle.std.proofs.lemmas.List.{length_push, get_or_append_left, get_or-append-add}
 use Rattle.std.proofs.lemmas.Nat.{shl-shr}
-use Rattle.std.proofs.lemmas.Option.{slice_get_past}
-use Rattle.std.specs.List.{slice_get}
 use Rattle.storage_codec.specs.Digests.{HashFunction}
 use Rattle.storage_merkle.specs.Shape.{Shape, Laws, size, Inside}
 use Rattle.storage_merkle.specs.Nodes.{IsNode}
@@ -14,22 +12,24 @@ use Rattle.storage_merkle.specs.Pace.{ChunksKeepPace}
 use Rattle.storage_merkle.specs.Calc.{be8, grafted_digest}
 use Rattle.storage_merkle.specs.Hashing.{leaf_digests, node_over}
 use Rattle.storage_merkle.specs.Laws.Hashing.{leaf_digests-append, length-leaf_digests, node_over-tree}
-use Rattle.storage_merkle.specs.Kept.{Kept, NodesOver, StandsBut, StandsFor, kept_at, list_updated}
+use Rattle.storage_merkle.specs.Kept.{Kept, NodesOver, StandsBut, StandsFor, at_peaks, kept_at, list_updated}
 use Rattle.storage_merkle.specs.Laws.Multiples.{is_multiple}
-use Rattle.storage_merkle.specs.Laws.Shape.{every, grows_at_most}
+use Rattle.storage_merkle.specs.Laws.Shape.{grows_at_most, inside_before}
 use Rattle.storage_merkle.specs.Trees.{ungrafted, listed, tree_node}
-use Rattle.storage_bitmap.specs.Chunks.{Retained, chunk}
-use Rattle.storage_current.specs.Combined.{over_chunks}
-use Rattle.storage_current.specs.CombinedViews.{AreAnswersOf, AreGraftedLeaves, chunk_node, grafted_node}
-use Rattle.storage_current.specs.KeptSnapshots.{AreRootsOf, StandsForSnapshot}
-use Rattle.storage_current.specs.KeptTrees.{AreGraftsFrom, AreKept, HasMoreGrafts, StandsForChunks}
+use Rattle.storage_bitmap.specs.Chunks.{IsRest, Retained, chunk}
+use Rattle.storage_current.specs.Combined.{joined, over_chunks}
+use Rattle.storage_current.specs.CombinedViews.{AreAnswersOf, AreGraftedLeaves, both, chunk_node, grafted_node}
+use Rattle.storage_current.specs.KeptSnapshots.{AreRootsOf, KeptSnapshot, StandsForSnapshot}
+use Rattle.storage_current.specs.KeptTrees.{AreGraftsFrom, AreKept, ArePruned, HasMoreGrafts, StandsForChunks}
 use Rattle.storage_current.specs.Laws.Grafting.{graftable_by_birth}
-use Rattle.storage_current.specs.NodeLists.{AreHad, AreNodes, IsGrown, IsOver, IsTreeOver, KeptTree, plain_over, seen_in, seen_list}
+use Rattle.storage_current.specs.NodeLists.{AreNodes, ArePeaksHad, ArePeaksTold, IsGrown, IsOver, IsRetained, IsTreeOver, KeptTree, kept_from, plain_over, seen_by, seen_in, seen_list, told_by}
 use Rattle.storage_current.specs.Snapshots.{Grafting, IsGrafting, Snapshot, IsSnapshot, Witness, graftable, graftable_at, height, view_node}
-use Rattle.storage_current.proofs.CombinedViews.{cover, first_of_all, joined_view, over_view}
+use Rattle.storage_current.proofs.CombinedViews.{cover, first_of_all, joined_view_at, over_view}
 use Rattle.storage_current.proofs.Joined.{joined_above, joined_below, joined_past}
-use Rattle.storage_current.proofs.NodeLists.{are_nodes, had_text, length-texts}
+use Rattle.storage_current.proofs.NodeLists.{list_told, same_told}
 use Rattle.storage_current.proofs.NodeSteps.{hashed_graft}
+use Rattle.storage_current.proofs.Pinned.{peak_inside}
+use Rattle.storage_current.proofs.Retaining.{kept_before, kept_behind, peak_aligned, peaks_retained}
 
 -- ---- the tree over the operations
 
@@ -45,23 +45,20 @@ some_of f (Some d) x e = refl
 
 module _ {D : Type 0} (text : D → List ℕ) (h : HashFunction) (S : Shape) (L : Laws S) (m : Kept D)
     (keeps : KeepsNodes text S m) (grown : IsGrown text h S m) where
-  from_start : (p : ℕ) → size S m.boundary ≤ p
-  from_start p = let e : size S m.boundary ≡ size S 0 = ap (size S) grown.unpruned in omega arith
-
-  pub kept_some : (p a k : ℕ) → IsNode S p a k → p < size S m.leaves
+  pub kept_some : (p a k : ℕ) → IsNode S p a k → size S m.boundary ≤ p → p < size S m.leaves
       → IsSome (kept_at S m.boundary m.pinned m.nodes p)
-  kept_some p a k node within =
-      some_of text _ _ (keeps (plain_over h S) grown.list grown.stands p a k node (from_start p) (rw (← grown.stands.count) within))
+  kept_some p a k node behind within =
+      some_of text _ _ (keeps (plain_over h S) grown.list grown.stands p a k node behind (rw (← grown.stands.count) within))
 
   pub kept_is : (operations : List (List ℕ)) → IsOver text h S m operations → (p a k : ℕ) → IsNode S p a k
-      → p < size S (length operations) → option_map text (kept_at S m.boundary m.pinned m.nodes p)
+      → size S m.boundary ≤ p → p < size S (length operations) → option_map text (kept_at S m.boundary m.pinned m.nodes p)
       ≡ Some (tree_node h (ungrafted S) (listed operations) a k)
-  kept_is operations over p a k node within =
+  kept_is operations over p a k node behind within =
       let count : length (leaf_digests h (ungrafted S) 0 operations) ≡ length operations =
       length-leaf_digests h (ungrafted S) 0 operations in
       let here : S.position a k < size S (length operations) = omega (arith, node.at) in
       let born : S.birth a k ≤ length operations = (L.born (length operations) a k node.aligned).0 here in
-      keeps (plain_over h S) (leaf_digests h (ungrafted S) 0 operations) over p a k node (from_start p) (rw count within)
+      keeps (plain_over h S) (leaf_digests h (ungrafted S) 0 operations) over p a k node behind (rw count within)
       ∙ ap Some (node_over-tree h (ungrafted S) (listed operations) k a (omega (arith, born, L.late a k)))
 
 -- ---- the tree over chunks, and both as one
@@ -75,91 +72,141 @@ module _ (S : Shape) (L : Laws S) {D : Type 0} (text : D → List ℕ) where
       let e : size S m.boundary ≡ size S 0 = ap (size S) unpruned in
       keeps N list stands p a k node (omega arith) within
 
-  -- what is had is what the list has, and past its end there is nothing
-  pub seen_value : (g : ℕ) (m c : Kept D) (p : ℕ) → AreHad (seen_in S g m c) (size S m.leaves)
-      → option_map text (seen_in S g m c p) ≡ slice_get (seen_list text S g m c) p
-  seen_value g m c p had =
-      let n : ℕ = size S m.leaves in
-      let seen = seen_in S g m c in
-      elim (cases_lt p n) [
-        | inl within ↦ sym (had_text text seen n p had within)
-        | inr past ↦ ap (option_map text) (joined_past S L g n (kept_at S c.boundary c.pinned c.nodes)
-            (kept_at S m.boundary m.pinned m.nodes) p past)
-            ∙ sym (slice_get_past (seen_list text S g m c) p (omega (arith, length-texts text seen n 0)))
-      ]
-
--- each node of the view can be had of trees that are kept
+-- each node of the view that is retained can be had of trees that are kept
 pub kept_had : {D : Type 0} (text : D → List ℕ) (h : HashFunction) (g : Grafting) → Laws g.shape
     → ChunksKeepPace g.shape (height g) → (m c : Kept D) (status : Retained) → AreKept text h g m c status
-    → KeepsNodes text g.shape m → KeepsNodes text g.shape c → AreHad (seen_in g.shape (height g) m c) (size g.shape m.leaves)
-kept_had text h g L pace m c status kept keeps_m keeps_c p within =
+    → KeepsNodes text g.shape m → KeepsNodes text g.shape c → (p a k : ℕ) → IsNode g.shape p a k
+    → p < size g.shape m.leaves → IsRetained g.shape (height g) m.boundary p k
+    → IsSome (seen_in g.shape (height g) m c p)
+kept_had text h g L pace m c status kept keeps_m keeps_c p a k node within retained =
     let S = g.shape in
     let n = m.leaves in
-    let at = every S L n p within in
-    let a = at.0 in
-    let k = at.1 in
     let most : size S n ≤ size S (2 ^ 62) = grows_at_most (size S) L.grows n (2 ^ 62) kept.grown.few in
     let valid : p ≤ size S (2 ^ 62) = omega arith in
     let chunks = kept_at S c.boundary c.pinned c.nodes in
-    let operations = kept_at S m.boundary m.pinned m.nodes in
+    let operations = kept_from S m in
     elim (cases_lt k (height g)) [
-      | inl low ↦ ap is_some (joined_below S L (height g) (size S n) chunks operations p a k within valid at.2 low)
-          ∙ kept_some text h S L m keeps_m kept.grown p a k at.2 within
+      | inl low ↦
+          let behind : size S m.boundary ≤ p = elim retained [ inl high ↦ absurd (omega arith) | inr there ↦ there ] in
+          ap is_some (joined_below S L (height g) (size S n) chunks operations p a k within valid node low
+          ∙ kept_behind S m p behind)
+          ∙ kept_some text h S L m keeps_m kept.grown p a k node behind within
       | inr high ↦
-          let o = cover S L (height g) n c.leaves pace kept.count p a k at.2 within high in
+          let o = cover S L (height g) n c.leaves pace kept.count p a k node within high in
           ap is_some (joined_above S L (height g) (size S n) chunks operations p o.position within valid o.covers)
           ∙ some_of text _ _ (list_kept S L text c keeps_c kept.unpruned (λ list k a. chunk_node h g list a k) kept.list kept.stands
           o.position o.first o.over (rw (← kept.stands.count) o.within) o.node)
     ]
+
+-- also each peak
+pub peaks_had : {D : Type 0} (text : D → List ℕ) (h : HashFunction) (g : Grafting) → Laws g.shape
+    → ChunksKeepPace g.shape (height g) → (m c : Kept D) (status : Retained) → AreKept text h g m c status
+    → KeepsNodes text g.shape m → KeepsNodes text g.shape c → ArePeaksHad g.shape m.leaves (seen_in g.shape (height g) m c)
+peaks_had text h g L pace m c status kept keeps_m keeps_c a k peak =
+    let S = g.shape in
+    let al : a % 2 ^ k ≡ 0 = peak_aligned (S.peaks m.leaves) 0 a k (L.aligned m.leaves) peak in
+    let within : S.position a k < size S m.leaves =
+    inside_before S L m.leaves a k al (peak_inside (S.peaks m.leaves) 0 a k peak) in
+    kept_had text h g L pace m c status kept keeps_m keeps_c (S.position a k) a k (record { aligned = al; at = refl }) within
+    (rw kept.pruned.place (peaks_retained g L m.leaves status.pruned a k kept.pruned.few peak))
 
 -- and what both as one have are the nodes of the view
 pub view_nodes : {D : Type 0} (text : D → List ℕ) (h : HashFunction) (g : Grafting) → ChunksKeepPace g.shape (height g)
     → IsGrafting g → (s : Snapshot) → IsSnapshot s → (m c : Kept D) → KeepsNodes text g.shape m → KeepsNodes text g.shape c
     → IsGrown text h g.shape m → IsOver text h g.shape m s.operations → c.boundary ≡ 0 → (leaves : List (List ℕ))
     → StandsForChunks text h g c leaves → AreGraftedLeaves h g s leaves
-    → AreHad (seen_in g.shape (height g) m c) (size g.shape m.leaves)
-    → AreNodes g.shape (view_node h g s) (seen_list text g.shape (height g) m c)
-view_nodes text h g pace grafting s snapshot m c keeps_m keeps_c grown over unpruned leaves stands grafted had =
+    → AreNodes g.shape (height g) m.boundary (length s.operations) (view_node h g s) (seen_by text g.shape (height g) m c)
+view_nodes text h g pace grafting s snapshot m c keeps_m keeps_c grown over unpruned leaves stands grafted =
     let S = g.shape in
+    let L = grafting.laws in
     let n : m.leaves ≡ length s.operations = over.count ∙ length-leaf_digests h (ungrafted S) 0 s.operations in
     let chunks = kept_at S c.boundary c.pinned c.nodes in
-    let operations = kept_at S m.boundary m.pinned m.nodes in
+    let operations = kept_from S m in
     let over_graftable : AreAnswersOf text S (graftable g (length s.operations)) (grafted_node h g s) chunks = λ p a k within node.
     let same : size S (length leaves) ≡ size S (graftable g (length s.operations)) = ap (size S) grafted.count in
     let here : S.position a k < size S (length leaves) = omega (arith, node.at, same, within) in
-    let born : S.birth a k ≤ length leaves = (grafting.laws.born (length leaves) a k node.aligned).0 here in
-    list_kept S grafting.laws text c keeps_c unpruned (λ list k a. chunk_node h g list a k) leaves stands p a k
+    let born : S.birth a k ≤ length leaves = (L.born (length leaves) a k node.aligned).0 here in
+    list_kept S L text c keeps_c unpruned (λ list k a. chunk_node h g list a k) leaves stands p a k
     (omega (arith, same, within)) node
-    ∙ ap Some (over_view h g s leaves (first_of_all h g s leaves grafted) k a (omega (arith, born, grafting.laws.late a k))) in
-    let answers : AreAnswersOf text S m.leaves (view_node h g s) (seen_in S (height g) m c) =
-    rw n (joined_view h g pace grafting s snapshot chunks operations text over_graftable
-    (λ p a k within node. kept_is text h S grafting.laws m keeps_m grown s.operations over p a k node within)) in
-    are_nodes text (seen_in S (height g) m c) S m.leaves (view_node h g s) had answers
+    ∙ ap Some (over_view h g s leaves (first_of_all h g s leaves grafted) k a (omega (arith, born, L.late a k))) in
+    let seen : (p : ℕ) → seen_in S (height g) m c p ≡ both g s chunks operations p =
+    λ p. ap (λ (i : ℕ). joined S (height g) (size S i) chunks operations p) n in
+    record {
+      are = λ p a k node within retained.
+          ap (option_map text) (seen p)
+          ∙ joined_view_at h g pace grafting s snapshot chunks operations text over_graftable p a k within node (λ low.
+          let behind : size S m.boundary ≤ p = elim retained [ inl high ↦ absurd (omega arith) | inr there ↦ there ] in
+          ap (option_map text) (kept_behind S m p behind)
+          ∙ kept_is text h S L m keeps_m grown s.operations over p a k node behind within);
+      forgotten = λ p a k node within gone.
+          let most : size S (length s.operations) ≤ size S (2 ^ 62) =
+          grows_at_most (size S) L.grows (length s.operations) (2 ^ 62) snapshot.few in
+          let low : k < height g = elim (cases_lt k (height g)) [ inl less ↦ less | inr more ↦ absurd (gone (inl more)) ] in
+          let before : p < size S m.boundary = elim (cases_lt p (size S m.boundary)) [
+            | inl less ↦ less
+            | inr more ↦ absurd (gone (inr more))
+          ] in
+          ap (option_map text) (seen p
+          ∙ joined_below S L (height g) (size S (length s.operations)) chunks operations p a k within (omega arith) node low
+          ∙ kept_before S m p before);
+      past = λ p beyond.
+          ap (option_map text) (seen p ∙ joined_past S L (height g) (size S (length s.operations)) chunks operations p beyond);
+    }
+
+-- the peaks of the view, as both trees have them
+pub peaks_told_of : {D : Type 0} (text : D → List ℕ) (h : HashFunction) (g : Grafting) → Laws g.shape → (s : Snapshot)
+    → (m c : Kept D) (status : Retained) → ArePruned g m status → m.leaves ≡ length s.operations
+    → AreNodes g.shape (height g) m.boundary (length s.operations) (view_node h g s) (seen_by text g.shape (height g) m c)
+    → ArePeaksTold g.shape m.leaves (view_node h g s) (seen_by text g.shape (height g) m c)
+peaks_told_of text h g L s m c status pruned n nodes a k peak =
+    let S = g.shape in
+    let al : a % 2 ^ k ≡ 0 = peak_aligned (S.peaks m.leaves) 0 a k (L.aligned m.leaves) peak in
+    let within : S.position a k < size S m.leaves =
+    inside_before S L m.leaves a k al (peak_inside (S.peaks m.leaves) 0 a k peak) in
+    nodes.are (S.position a k) a k (record { aligned = al; at = refl }) (rw (← n) within)
+    (rw pruned.place (peaks_retained g L m.leaves status.pruned a k pruned.few peak))
+
+-- what is seen of the trees that are kept, and what is kept beside them
+abbrev pub seen_snapshot : {D : Type 0} → (D → List ℕ) → Grafting → Kept D → Kept D → Retained → (floor : ℕ)
+    → (ops_root root : List ℕ) → Witness → KeptSnapshot
+seen_snapshot text g m c status floor ops_root root witness = record {
+  leaves = m.leaves;
+  nodes = seen_list text g.shape (height g) m c;
+  pinned = map text m.pinned;
+  status = status;
+  floor = floor;
+  ops_root = ops_root;
+  root = root;
+  witness = witness;
+}
 
 -- a snapshot that stands, from the trees that are kept of it
 pub kept_stands : {D : Type 0} (text : D → List ℕ) (h : HashFunction) (g : Grafting) → ChunksKeepPace g.shape (height g)
     → IsGrafting g → (s : Snapshot) → IsSnapshot s → (m c : Kept D) (status : Retained) → KeepsNodes text g.shape m
     → KeepsNodes text g.shape c → (kept : AreKept text h g m c status) → IsOver text h g.shape m s.operations
-    → AreGraftedLeaves h g s kept.list → status.bits ≡ s.bits → (ops_root root : List ℕ) (witness : Witness)
-    → (AreNodes g.shape (view_node h g s) (seen_list text g.shape (height g) m c) → AreRootsOf h g s ops_root root witness)
-    → StandsForSnapshot h g (record {
-      nodes = seen_list text g.shape (height g) m c;
-      status = status;
-      ops_root = ops_root;
-      root = root;
-      witness = witness;
-    }) s
-kept_stands text h g pace grafting s snapshot m c status keeps_m keeps_c kept over grafted bits ops_root root witness roots =
+    → AreGraftedLeaves h g s kept.list → IsRest g.bytes status s.bits → (floor : ℕ) (ops_root root : List ℕ)
+    (witness : Witness) → floor ≡ s.floor
+    → (ArePeaksTold g.shape m.leaves (view_node h g s) (seen_by text g.shape (height g) m c)
+    → AreRootsOf h g s ops_root root witness)
+    → StandsForSnapshot h g (seen_snapshot text g m c status floor ops_root root witness) s
+kept_stands text h g pace grafting s snapshot m c status keeps_m keeps_c kept over grafted rest floor ops_root root witness
+    floor_is roots =
     let S = g.shape in
     let n : m.leaves ≡ length s.operations = over.count ∙ length-leaf_digests h (ungrafted S) 0 s.operations in
-    let had = kept_had text h g grafting.laws pace m c status kept keeps_m keeps_c in
     let nodes = view_nodes text h g pace grafting s snapshot m c keeps_m keeps_c kept.grown over kept.unpruned kept.list
-    kept.stands grafted had in
-    let r = roots nodes in
+    kept.stands grafted in
+    let r = roots (peaks_told_of text h g grafting.laws s m c status kept.pruned n nodes) in
     record {
-      count = length-texts text (seen_in S (height g) m c) (size S m.leaves) 0 ∙ ap (size S) n;
-      nodes = nodes;
-      status = ap₂ (λ p b. record { pruned = p; bits = b }) kept.bits.unpruned bits;
+      leaves = n;
+      nodes = subst (λ (b : ℕ). AreNodes S (height g) b (length s.operations) (view_node h g s)
+          (told_by (seen_list text S (height g) m c))) kept.pruned.place
+          (same_told S (height g) m.boundary (length s.operations) (view_node h g s) (seen_by text S (height g) m c)
+          (told_by (seen_list text S (height g) m c)) (list_told text S grafting.laws (height g) m c) nodes);
+      pinned = subst (λ (b : ℕ). map text m.pinned ≡ at_peaks (plain_over h S (leaf_digests h (ungrafted S) 0 s.operations)) 0
+          (S.peaks b)) kept.pruned.place over.holds.peaks;
+      status = rest;
+      pruned = rw (← n) kept.pruned.few;
+      floor = floor_is;
       ops_root = r.ops_root;
       root = r.root;
       witness = r.witness;
@@ -248,11 +295,11 @@ all_grafts h g s grafts count are = record {
 }
 
 pub more_grafts : {D : Type 0} (text : D → List ℕ) (h : HashFunction) (g : Grafting) (operations old new : Kept D)
-    (bits : List Bool) (list : List (List ℕ)) (d : List ℕ) → HasMoreGrafts text h g operations old bits list
+    (status : Retained) (list : List (List ℕ)) (d : List ℕ) → HasMoreGrafts text h g operations old status list
     → ((all : List (List ℕ)) → StandsForChunks text h g old all → StandsForChunks text h g new (all ++ d ∷ []))
-    → ((s : Snapshot) → s.bits ≡ bits → IsOver text h g.shape operations s.operations
-    → d ≡ view_node h g s (old.leaves * 2 ^ height g) (height g)) → HasMoreGrafts text h g operations new bits list
-more_grafts text h g operations old new bits list d has grown graft = record {
+    → ((s : Snapshot) → IsRest g.bytes status s.bits → IsOver text h g.shape operations s.operations
+    → d ≡ view_node h g s (old.leaves * 2 ^ height g) (height g)) → HasMoreGrafts text h g operations new status list
+more_grafts text h g operations old new status list d has grown graft = record {
   more = has.more ++ d ∷ [];
   stands = rw (← append_assoc list has.more (d ∷ [])) (grown (list ++ has.more) has.stands);
   are = λ s same over.

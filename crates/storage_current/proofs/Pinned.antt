@@ -14,6 +14,8 @@ use Rattle.storage_merkle.specs.Nodes.{placed}
 use Rattle.storage_merkle.specs.Laws.Multiples.{pow_two, pow_order, next, multiple_add, multiple_down, power_multiple, is_multiple}
 use Rattle.storage_merkle.specs.Laws.Shape.{inside_between, grows_at_most, grows_below, leaves_of_size}
 use Rattle.storage_merkle.specs.Kept.{at_peaks, paired, pins}
+use Rattle.storage_merkle.specs.Rests.{EachPeak}
+use Rattle.storage_merkle.specs.Trees.{places}
 use Rattle.storage_current.specs.GraftedTrees.{IsCoverable, IsKeptIn, IsPeak, TakesMade, leaf_places, tree_at}
 
 neq-eqb : (a b : ℕ) → a ≢ b → eqb a b ≡ false
@@ -404,28 +406,8 @@ module _ (S : Shape) where
           (L.born m a k al).1 ((L.inside m a k al).0 (peak_inside (S.peaks m) 0 a k i)) in
           made_taken takes m growth k a al below (peak_top m a k from al i)
 
-    -- ---- a walk along the peaks
-
-    pub record Walk (m first left : ℕ) : Type 0 where
-      pub sum : first + left ≡ m
-      pub aligned : AreAligned (S.peaks left) first
-      pub part : (a k : ℕ) → IsPeak (S.peaks left) first a k → IsPeak (S.peaks m) 0 a k
-
-    pub walk_start : (m : ℕ) → Walk m 0 m
-    walk_start m = record { sum = omega arith; aligned = L.aligned m; part = λ a k i. i }
-
-    pub walk_here : (m first left h : ℕ) → Walk m first left → S.peaks left ≡ h ∷ S.peaks (left - 2 ^ h)
-        → IsPeak (S.peaks m) 0 first h
-    walk_here m first left h w e = w.part first h (rw e (inl (refl, refl)))
-
-    pub walk_aligned : (m first left h : ℕ) → Walk m first left → S.peaks left ≡ h ∷ S.peaks (left - 2 ^ h)
-        → first % 2 ^ h ≡ 0
-    unfolding AreAligned
-    walk_aligned m first left h w e = let al = rw e at w.aligned in al.0
-
-    pub walk_next : (m first left h : ℕ) → Walk m first left → S.peaks left ≡ h ∷ S.peaks (left - 2 ^ h) → 2 ^ h ≤ left
-        → Walk m (first + 2 ^ h) (left - 2 ^ h)
-    unfolding AreAligned
-    walk_next m first left h w e le =
-        let al = rw e at w.aligned in
-        record { sum = omega (arith, w.sum); aligned = al.1; part = λ a k i. w.part a k (rw e (inr i)) }
+-- what holds of each node that is one of some peaks holds of each of them
+pub each_of : (P : ℕ → ℕ → Type 0) (a : ℕ) (ks : List ℕ) → ((b j : ℕ) → IsPeak ks a b j → P b j)
+    → EachPeak P (places a ks)
+each_of P a [] f = tt
+each_of P a (k ∷ ks) f = (f a k (inl (refl, refl)), each_of P (a + 2 ^ k) ks (λ b j i. f b j (inr i)))

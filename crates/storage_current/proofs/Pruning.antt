@@ -5,24 +5,23 @@ use Rattle.std.proofs.lemmas.List.{length-drop, length-map, drop-map, drop-drop,
 use Rattle.std.proofs.Math.Seq.{take-append_seam}
 use Rattle.storage_codec.specs.Digests.{HashFunction}
 use Rattle.storage_merkle.specs.Shape.{Shape, Laws}
-use Rattle.storage_merkle.specs.Trees.{Layout}
+use Rattle.storage_merkle.specs.Trees.{Layout, Peak}
 use Rattle.storage_merkle.specs.Hashing.{join_digest, node_over}
-use Rattle.storage_merkle.specs.Laws.Shape.{no_peaks, step}
+use Rattle.storage_merkle.specs.Laws.Shape.{no_peaks}
 use Rattle.storage_merkle.specs.Kept.{NodesOver, at_peaks}
-use Rattle.storage_current.specs.GraftedTrees.{KeptChunks, Keeps, rebuilt, tree_at}
-use Rattle.storage_current.proofs.Pinned.{Walk, peak_covered, tree_at-map, tree_true, walk_aligned, walk_here}
+use Rattle.storage_current.specs.GraftedTrees.{IsPeak, KeptChunks, Keeps, rebuilt, tree_at}
+use Rattle.storage_current.proofs.Pinned.{peak_covered, tree_at-map, tree_true}
 use Rattle.storage_current.proofs.Rebuilt.{covered_seen, covered_some, map_some, rebuilt_true}
 
 -- the digest of a peak can be had
 pub peak_had : {D : Type 0} (text : D → List ℕ) (S : Shape) (L : Laws S)
-    (join : ℕ → ℕ → List ℕ → List ℕ → List ℕ) (t : KeptChunks D) (m first left h : ℕ) (r : Option D)
+    (join : ℕ → ℕ → List ℕ → List ℕ → List ℕ) (t : KeptChunks D) (m first h : ℕ) (r : Option D)
     → length t.pinned ≡ length (S.peaks t.pruned) → t.pruned ≤ m → m ≤ t.pruned + length t.leaves
-    → Walk S L m first left → S.peaks left ≡ h ∷ S.peaks (left - 2 ^ h)
+    → first % 2 ^ h ≡ 0 → IsPeak (S.peaks m) 0 first h
     → option_map text r ≡ rebuilt S join (λ p. option_map text (tree_at S t.pruned t.pinned t.leaves p)) h first
     → is_some r ≡ true
-peak_had text S L join t m first left h r few from to w e is =
-    let cover = peak_covered S L t.pruned t.pinned t.leaves few m first h from to (walk_aligned S L m first left h w e)
-    (walk_here S L m first left h w e) in
+peak_had text S L join t m first h r few from to al peak is =
+    let cover = peak_covered S L t.pruned t.pinned t.leaves few m first h from to al peak in
     sym (map_some text r) ∙ ap is_some is
     ∙ covered_some S join (λ p. option_map text (tree_at S t.pruned t.pinned t.leaves p)) h first
     (covered_seen S text (tree_at S t.pruned t.pinned t.leaves) h first cover)
@@ -43,30 +42,25 @@ peak_true text hash T chunk S L t list first h r d keeps al is some =
     (sym (tree_at-map text S t.pruned t.pinned t.leaves (S.position a k)) ∙ was))
     L h first (text d) al (omega arith) (sym is ∙ ap (option_map text) some)
 
-module _ (S : Shape) (L : Laws S) where
-  pub walk_fits : (m first left h : ℕ) → m ≤ 2 ^ 62 → Walk S L m first left → S.peaks left ≡ h ∷ S.peaks (left - 2 ^ h)
-      → S.position first h < 2 ^ 64
-  walk_fits m first left h few w e = let s = step S L first left h (omega (arith, w.sum)) w.aligned e in s.fits
+-- the digests of some peaks
+abbrev pub digests_of : (ℕ → ℕ → List ℕ) → List Peak → List (List ℕ)
+digests_of node ps = map (λ p. node p.height p.first) ps
 
-  -- one more peak's digest
-  pub walk_push : {A : Type 0} (node : ℕ → ℕ → List ℕ) (f : A → List ℕ) (ds : List A) (first left h : ℕ) (v : A)
-      (T : List (List ℕ)) → map f ds ++ at_peaks node first (S.peaks left) ≡ T
-      → S.peaks left ≡ h ∷ S.peaks (left - 2 ^ h) → f v ≡ node h first
-      → map f (ds ++ v ∷ []) ++ at_peaks node (first + 2 ^ h) (S.peaks (left - 2 ^ h)) ≡ T
-  walk_push node f ds first left h v T e is at =
-      let B = at_peaks node (first + 2 ^ h) (S.peaks (left - 2 ^ h)) in
-      ap (λ xs. xs ++ B) (map-append f ds (v ∷ []))
-      ∙ append_assoc (map f ds) (f v ∷ []) B
-      ∙ ap (λ x. map f ds ++ (x ∷ B)) at
-      ∙ ap (λ hs. map f ds ++ at_peaks node first hs) (sym is)
-      ∙ e
+-- one more peak's digest
+pub walk_push : {A : Type 0} (node : ℕ → ℕ → List ℕ) (f : A → List ℕ) (ds : List A) (p : Peak) (ps qs : List Peak) (v : A)
+    (all : List (List ℕ)) → ps ≡ p ∷ qs → map f ds ++ digests_of node ps ≡ all → f v ≡ node p.height p.first
+    → map f (ds ++ v ∷ []) ++ digests_of node qs ≡ all
+walk_push node f ds p ps qs v all first e at =
+    let later = digests_of node qs in
+    ap (λ xs. xs ++ later) (map-append f ds (v ∷ []))
+    ∙ append_assoc (map f ds) (f v ∷ []) later
+    ∙ ap (λ x. map f ds ++ (x ∷ later)) at
+    ∙ ap (λ rs. map f ds ++ digests_of node rs) (sym first)
+    ∙ e
 
-  pub walk_end : (node : ℕ → ℕ → List ℕ) (xs : List (List ℕ)) (first left : ℕ) (T : List (List ℕ)) → left ≡ 0
-      → xs ++ at_peaks node first (S.peaks left) ≡ T → xs ≡ T
-  walk_end node xs first left T z e =
-      let none : at_peaks node first (S.peaks left) ≡ [] =
-      ap (λ m. at_peaks node first (S.peaks m)) z ∙ ap (at_peaks node first) (no_peaks S L) in
-      sym (append-nil xs) ∙ ap (λ ys. xs ++ ys) (sym none) ∙ e
+pub walk_end : (node : ℕ → ℕ → List ℕ) (xs all : List (List ℕ)) (ps : List Peak) → ps ≡ []
+    → xs ++ digests_of node ps ≡ all → xs ≡ all
+walk_end node xs all ps none e = sym (append-nil xs) ∙ ap (λ qs. xs ++ digests_of node qs) (sym none) ∙ e
 
 -- leaves that are forgotten
 pub rotated : {A : Type 0} (xs : List A) (gone rest : ℕ) → rest + gone ≡ length xs

@@ -1,9 +1,9 @@
 -- The roots of a snapshot, and the chunks under no node of their own, from what is calculated.
-use Rattle.std.proofs.Common.{◌≡◌, ℕ, ◌+◌, ◌-◌, ◌*◌, ◌/◌, ◌%◌, ◌<◌, ◌≤◌, ◌^◌, List, [], length, map, drop, get_or, Bor, if◌then◌else◌, ltb, eqb, Bool, Option, Some, None, refl, sym, ap, ◌∙◌, arith}
+use Rattle.std.proofs.Common.{◌≡◌, ℕ, ◌+◌, ◌-◌, ◌*◌, ◌/◌, ◌%◌, ◌≤◌, ◌^◌, List, [], length, map, drop, get_or, Bor, if◌then◌else◌, ltb, eqb, Bool, Option, Some, None, refl, sym, ap, ◌∙◌, arith}
 use Rattle.std.specs.Option.{option_map, option_copied, IfSome, is_some}
 use Rattle.std.specs.List.{slice_get}
 use Rattle.std.proofs.lemmas.List.{drop-drop}
-use Rattle.std.proofs.lemmas.Option.{slice_get-get_or, slice_get_past, slice_get_read}
+use Rattle.std.proofs.lemmas.Option.{slice_get_past, slice_get_read}
 use Rattle.std.proofs.lemmas.Bool.{ltb-false}
 use borrow.Author.Tests.{ltb-true}
 use Rattle.std.proofs.Math.Nat.{add-mul, zero-mul}
@@ -11,14 +11,12 @@ use Rattle.storage_codec.specs.Digests.{HashFunction}
 use Rattle.storage_merkle.specs.declared.merkle.bagging.Bagging.{Bagging}
 use Rattle.storage_merkle.specs.declared.merkle.bagging.Bagging.TheVariants.{BackwardFold}
 use Rattle.storage_merkle.specs.Shape.{Shape, Laws}
-use Rattle.storage_merkle.specs.Nodes.{IsNode}
 use Rattle.storage_merkle.specs.Inactive.{IsExact, IsAligned}
 use Rattle.storage_merkle.specs.Trees.{Layout, ungrafted, Content, listed, places, tree_node, tree_root}
 use Rattle.storage_merkle.specs.Hashing.{leaf_digests, peak_digests, root_of}
 use Rattle.storage_merkle.specs.Laws.Hashing.{length-leaf_digests, tree_root-leaves, tree_root-peaks}
 use Rattle.storage_bitmap.specs.Chunks.{Retained, IsRest, packed_bytes, chunk}
 use Rattle.storage_current.specs.Laws.Grafting.{exact_is, aligned_is}
-use Rattle.storage_current.specs.NodeLists.{AreNodes}
 use Rattle.storage_current.specs.Snapshots.{Grafting, height, complete as complete_over, graftable as graftable_over, graftable_at, Snapshot, canonical_string, exact_of, aligned_of, ops_root_of, grafted_root_of, pending_of, partial_of, canonical_root}
 
 -- the root from the digests of the peaks: which nodes are grafted is no part of its string
@@ -121,10 +119,3 @@ pub get_copied : {D : Type 0} (nodes : List D) (i : ℕ) (got : Option (Bor D)) 
 get_copied nodes i None there is = sym (slice_get_past nodes i (ltb-false i (length nodes) (sym there)))
 get_copied nodes i (Some x) there is =
     sym (slice_get_read nodes (length nodes) i x.now refl (ltb-true i (length nodes) (sym there)) is)
-
-pub looked_up : (S : Shape) (digest_of : ℕ → ℕ → List ℕ) (digests : List (List ℕ)) (n p : ℕ) (got : Option (List ℕ))
-    → AreNodes S digest_of digests → length digests ≡ n → p < n → got ≡ slice_get digests p → (a k : ℕ) → IsNode S p a k
-    → got ≡ Some (digest_of a k)
-looked_up S digest_of digests n p got all count below e a k node =
-    let within : p < length digests = omega arith in
-    e ∙ slice_get-get_or digests p [] within ∙ ap Some (all.are p a k node within)

@@ -2,8 +2,7 @@
 use Rattle.std.proofs.Common.{◌≡◌, ℕ, zero, suc, ◌+◌, ◌<◌, ◌≤◌, true, false, List, [], ◌∷◌, ◌++◌, Option, is_lt, inr, refl, sym, ap, ◌∙◌, arith}
 use Rattle.storage_ops.specs.Operations.{Update}
 use Rattle.storage_current.specs.Snapshots.{Snapshot, IsSnapshot, IsActive}
-use Rattle.storage_current.specs.Keys.{Keyed, update_text, commit_text, before, Updates, HasKey, IsWellFormed}
-use Rattle.storage_current.proofs.Keys.{IsKeyed}
+use Rattle.storage_current.specs.Keys.{IsKeyed, Keyed, update_text, commit_text, before, Updates, HasKey, IsWellFormed}
 
 module _ {K V : Type 0} (e : Keyed K V) (is : IsKeyed e) where
   module _ (value : Option V) where

@@ -1,7 +1,9 @@
 -- The keys of a snapshot whose operations are ordered updates, deletions and commits.
-use Rattle.std.specs.Prelude.{◌≡◌, ℕ, ◌+◌, ◌-◌, ◌<◌, ◌≤◌, ◌⊎◌, Bool, true, false, not, ◌&&◌, ◌||◌, if◌then◌else◌, List, ◌++◌, length, Option, option_map}
+use Rattle.std.specs.Prelude.{◌≡◌, ℕ, ◌+◌, ◌-◌, ◌<◌, ◌≤◌, ◌^◌, ◌⊎◌, Bool, true, false, not, ◌&&◌, ◌||◌, if◌then◌else◌, List, ◌++◌, length, Option, option_map}
+use Rattle.std.specs.Cmp.{IsTotalOrder}
 use Rattle.std.specs.Ordering.{is_lt}
 use Rattle.std.specs.declared.cmp.Ordering.{Ordering}
+use Rattle.std.specs.declared.cmp.Ordering.TheVariants.{Equal}
 use Rattle.storage_ops.specs.Operations.{OperationView, Update, CommitFloor}
 use Rattle.storage_current.specs.Snapshots.{Snapshot, IsSnapshot, IsActive}
 
@@ -26,6 +28,17 @@ module _ {K V : Type 0} (e : Keyed K V) where
 
   abbrev pub before : K → K → Bool
   before a b = is_lt (e.cmp a b)
+
+  -- what the bytes of an operation settle, and that exactly those keys compare alike which are written alike
+  pub record IsKeyed : Type 0 where
+    pub one : (a b : K) (v w : V) (m n : K) → update_text a v m ≡ update_text b w n
+        → (e.key a ≡ e.key b) × (e.value v ≡ e.value w) × (e.key m ≡ e.key n)
+    pub apart : (a : K) (v : V) (m : K) (o : Option V) (floor : ℕ) → floor < 2 ^ 64
+        → update_text a v m ≡ commit_text o floor → ⊥
+    pub floors : (o p : Option V) (m n : ℕ) → m < 2 ^ 64 → n < 2 ^ 64 → commit_text o m ≡ commit_text p n → m ≡ n
+    pub total : IsTotalOrder e.cmp
+    pub exact : (a b : K) → e.cmp a b ≡ Equal → e.key a ≡ e.key b
+    pub alike : (a b : K) → e.key a ≡ e.key b → e.cmp a b ≡ Equal
 
   -- from start on and before end, around past the greatest key where start is not before end
   abbrev pub in_span : K → K → K → Bool

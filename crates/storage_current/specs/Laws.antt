@@ -2,3 +2,4 @@ pub mod KeyWire
 pub mod Grafting
 pub mod CurrentWire
 pub mod WitnessWire
+pub mod Retained

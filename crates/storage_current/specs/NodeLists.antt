@@ -1,5 +1,5 @@
--- Digests of nodes, listed by position, and trees over operations that have such a list.
-use Rattle.std.specs.Prelude.{◌≡◌, ℕ, zero, suc, ◌+◌, ◌<◌, ◌≤◌, List, [], ◌∷◌, length, get_or, Option, Some, None, IsSome}
+-- Digests of nodes by position, and trees over operations.
+use Rattle.std.specs.Prelude.{◌≡◌, ℕ, zero, suc, ◌+◌, ◌<◌, ◌≤◌, ◌⊎◌, List, [], ◌∷◌, length, Option, Some, None, IsSome, option_map}
 use Rattle.storage_codec.specs.Digests.{HashFunction}
 use Rattle.storage_merkle.specs.Hashing.{leaf_digests, node_over}
 use Rattle.storage_merkle.specs.Kept.{Kept, NodesOver, HoldsDigests, StandsFor, kept_at}
@@ -7,10 +7,17 @@ use Rattle.storage_merkle.specs.Nodes.{IsNode}
 use Rattle.storage_merkle.specs.Shape.{Shape, size, max_leaves}
 use Rattle.storage_merkle.specs.Trees.{ungrafted}
 use Rattle.storage_current.specs.Combined.{joined}
+use Rattle.storage_current.specs.GraftedTrees.{IsPeak}
 
--- the digest at each position of the list is that of the node there, by its first leaf and height
-pub record AreNodes (S : Shape) (digest_of : ℕ → ℕ → List ℕ) (digests : List (List ℕ)) : Type 0 where
-  pub are : (p a k : ℕ) → IsNode S p a k → p < length digests → get_or digests p [] ≡ digest_of a k
+-- the node of height k at the position p is as high as those of chunks, or stands behind the leaves that are forgotten
+abbrev pub IsRetained : Shape → (g boundary p k : ℕ) → Type 0
+IsRetained S g boundary p k = (g ≤ k) ⊎ (size S boundary ≤ p)
+
+-- Of a tree over n leaves the digest of each node that is retained is told, by its first leaf and height, and nothing of any other.
+pub record AreNodes (S : Shape) (g boundary n : ℕ) (digest_of : ℕ → ℕ → List ℕ) (told : ℕ → Option (List ℕ)) : Type 0 where
+  pub are : (p a k : ℕ) → IsNode S p a k → p < size S n → IsRetained S g boundary p k → told p ≡ Some (digest_of a k)
+  pub forgotten : (p a k : ℕ) → IsNode S p a k → p < size S n → (IsRetained S g boundary p k → ⊥) → told p ≡ None
+  pub past : (p : ℕ) → size S n ≤ p → told p ≡ None
 
 -- ---- trees over operations
 
@@ -18,11 +25,14 @@ pub record AreNodes (S : Shape) (digest_of : ℕ → ℕ → List ℕ) (digests 
 abbrev pub plain_over : HashFunction → Shape → NodesOver
 plain_over h S = node_over h (ungrafted S) (λ a. [])
 
--- nothing of the tree in memory is forgotten, and it is over some leaves
-pub record IsGrown {D : Type 0} (bytes_of : D → List ℕ) (h : HashFunction) (S : Shape) (m : Kept D) : Type 0 where
-  pub few : m.leaves ≤ max_leaves
+-- nothing of the tree in memory is forgotten
+pub record IsUnpruned {D : Type 0} (m : Kept D) : Type 0 where
   pub unpruned : m.boundary ≡ 0
   pub unpinned : m.pinned ≡ []
+
+-- it is over some leaves
+pub record IsGrown {D : Type 0} (bytes_of : D → List ℕ) (h : HashFunction) (S : Shape) (m : Kept D) : Type 0 where
+  pub few : m.leaves ≤ max_leaves
   pub list : List (List ℕ)
   pub stands : StandsFor bytes_of S (plain_over h S) m list
 
@@ -42,25 +52,35 @@ pub record IsTreeOver (h : HashFunction) (S : Shape) (tree : KeptTree) (operatio
 
 -- ---- what a tree over operations and one over their chunks have as one, by position
 
+-- what is told of so many positions from p on, and what such a list tells of a position
+abbrev pub told_from : (ℕ → Option (List ℕ)) → ℕ → ℕ → List (Option (List ℕ))
+told_from told p zero = []
+told_from told p (suc n) = told p ∷ told_from told (p + 1) n
+
+abbrev pub told_by : List (Option (List ℕ)) → ℕ → Option (List ℕ)
+told_by [] p = None
+told_by (x ∷ xs) zero = x
+told_by (x ∷ xs) (suc p) = told_by xs p
+
+-- what a tree in memory has from its boundary on
+abbrev pub kept_from : {D : Type 0} → Shape → Kept D → ℕ → Option D
+kept_from S m = kept_at S m.boundary [] m.nodes
+
 -- the digest at a position, where chunks are over nodes of the height g
 abbrev pub seen_in : {D : Type 0} → Shape → ℕ → Kept D → Kept D → ℕ → Option D
-seen_in S g m c = joined S g (size S m.leaves) (kept_at S c.boundary c.pinned c.nodes)
-    (kept_at S m.boundary m.pinned m.nodes)
+seen_in S g m c = joined S g (size S m.leaves) (kept_at S c.boundary c.pinned c.nodes) (kept_from S m)
 
--- each position of so many has a digest
-abbrev pub AreHad : {D : Type 0} → (ℕ → Option D) → ℕ → Type 0
-AreHad answers n = (p : ℕ) → p < n → IsSome (answers p)
+-- what both as one have, by the bytes of the digests, and a list of all that
+abbrev pub seen_by : {D : Type 0} → (D → List ℕ) → Shape → ℕ → Kept D → Kept D → ℕ → Option (List ℕ)
+seen_by bytes_of S g m c p = option_map bytes_of (seen_in S g m c p)
 
--- a digest by its bytes: no bytes for none
-abbrev pub bytes_or_none : {D : Type 0} → (D → List ℕ) → Option D → List ℕ
-bytes_or_none bytes_of None = []
-bytes_or_none bytes_of (Some digest) = bytes_of digest
+abbrev pub seen_list : {D : Type 0} → (D → List ℕ) → Shape → ℕ → Kept D → Kept D → List (Option (List ℕ))
+seen_list bytes_of S g m c = told_from (seen_by bytes_of S g m c) 0 (size S m.leaves)
 
--- the digests at so many positions from p on
-abbrev pub bytes_from : {D : Type 0} → (D → List ℕ) → (ℕ → Option D) → ℕ → ℕ → List (List ℕ)
-bytes_from bytes_of answers p zero = []
-bytes_from bytes_of answers p (suc n) = bytes_or_none bytes_of (answers p) ∷ bytes_from bytes_of answers (p + 1) n
+-- each peak over n leaves has a digest
+abbrev pub ArePeaksHad : {D : Type 0} → Shape → ℕ → (ℕ → Option D) → Type 0
+ArePeaksHad S n answers = (a k : ℕ) → IsPeak (S.peaks n) 0 a k → IsSome (answers (S.position a k))
 
--- all that both as one have
-abbrev pub seen_list : {D : Type 0} → (D → List ℕ) → Shape → ℕ → Kept D → Kept D → List (List ℕ)
-seen_list bytes_of S g m c = bytes_from bytes_of (seen_in S g m c) 0 (size S m.leaves)
+-- it is the node's
+abbrev pub ArePeaksTold : Shape → ℕ → (ℕ → ℕ → List ℕ) → (ℕ → Option (List ℕ)) → Type 0
+ArePeaksTold S n digest_of told = (a k : ℕ) → IsPeak (S.peaks n) 0 a k → told (S.position a k) ≡ Some (digest_of a k)

@@ -1,6 +1,6 @@
 -- Snapshots: operations, a bit for each that says whether it is active, and an inactivity floor; their roots and their proofs.
 use Rattle.std.specs.Prelude.{◌≡◌, ℕ, zero, suc, ◌+◌, ◌-◌, ◌*◌, ◌/◌, ◌%◌, ◌<◌, ◌≤◌, ◌^◌, List, [], ◌∷◌, ◌++◌, length, take, get_or, Bool, true, false, if◌then◌else◌, ◌&&◌, leb, ltb, eqb, Option, Some, None, option_map, option_to_list}
-use Rattle.storage_codec.specs.Digests.{HashFunction}
+use Rattle.storage_codec.specs.Digests.{HashFunction, or_nothing}
 use Rattle.storage_merkle.specs.declared.merkle.bagging.Bagging.TheVariants.{BackwardFold}
 use Rattle.storage_merkle.specs.Shape.{Shape, Laws, leaves_under, max_leaves}
 use Rattle.storage_merkle.specs.Nodes.{IsNode}
@@ -71,8 +71,7 @@ pub record IsSnapshot (s : Snapshot) : Type 0 where
 
 -- what a canonical root is the digest of
 abbrev pub slot : Option (List ℕ) → List ℕ
-slot None = []
-slot (Some digest) = digest
+slot = or_nothing
 
 abbrev pub counted_slot : ℕ → Option (List ℕ) → List ℕ
 counted_slot next_bit None = []

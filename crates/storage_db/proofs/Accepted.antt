@@ -4,11 +4,10 @@ use Rattle.storage_codec.specs.Digests.{HashFunction}
 use Rattle.storage_ops.specs.Operations as operation
 use Rattle.storage_current.specs.CurrentProofs.{IsActiveCurrent}
 use Rattle.storage_current.specs.CurrentSoundness.{OwnOperationProofsAreAccepted}
-use Rattle.storage_current.specs.KeyProofs.{Exclusion, KeyValue, Commit, Allows, IsExcluded, proof_in, shown_text}
-use Rattle.storage_current.specs.Keys.{Keyed, update_text, commit_text, before, in_span}
+use Rattle.storage_current.specs.KeyProofs.{Exclusion, KeyValue, Commit, Allows, proof_in, shown_text}
+use Rattle.storage_current.specs.Keys.{Keyed, update_text, commit_text, before, in_span, IsKeyed}
 use Rattle.storage_current.specs.Snapshots.{Grafting, IsGrafting, Snapshot, IsSnapshot, IsActive, OperationProof, canonical_root, own_operation_proof}
 use Rattle.storage_db.specs.declared.db.active.Active.{Active}
-use Rattle.storage_db.specs.Keyed.{IsKeyed}
 use Rattle.storage_db.specs.Rings.{next_key, previous}
 use Rattle.storage_db.specs.Databases.{Committed, Database, active_at, least_location}
 use Rattle.storage_db.specs.Shown.{IsValueProof, IsAbsenceProof, absence_by}

@@ -2,10 +2,9 @@
 use Rattle.std.proofs.Common.{◌≡◌, ℕ, List, Option, Some, None, option_map, inl, inr, refl, ap, ◌∙◌}
 use Rattle.std.specs.Prelude.{MatchOption}
 use Rattle.storage_codec.specs.Digests.{HashFunction}
-use Rattle.storage_current.specs.Keys.{Keyed, IsValue, IsAbsent}
+use Rattle.storage_current.specs.Keys.{Keyed, IsValue, IsAbsent, IsKeyed}
 use Rattle.storage_current.specs.Snapshots.{Grafting, Snapshot}
 use Rattle.storage_db.specs.Databases.{Committed, Command, empty, run, no_maps, maps_after}
-use Rattle.storage_db.specs.Keyed.{IsKeyed}
 use Rattle.storage_db.specs.Promises.{IsSnapshotOf, AreTrueOf}
 use Rattle.storage_db.proofs.Cases.{by_option}
 use Rattle.storage_db.proofs.Said.{AreSaid}

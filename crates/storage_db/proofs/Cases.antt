@@ -1,6 +1,6 @@
 -- Tests, options and lists, taken apart with what was found.
 use Rattle.std.proofs.Common.{◌≡◌, Bool, true, false, cond, not, ◌&&◌, List, [], ◌∷◌, ◌++◌, Option, Some, None, is_some, IsSome, unwrap_or, Ordering, Less, Equal, Greater, is_eq, is_lt, is_le, is_gt, refl, sym, ap, ◌∙◌, true≢false, append-nil}
-use Rattle.std.specs.Prelude.{MatchOption, Result, Ok, Err, IfOk, IfErr, OnOk, is_err}
+use Rattle.std.specs.Prelude.{MatchOption, Result, Ok, Err, IfOk, IfErr, OnOk, OnErr, is_err}
 use Rattle.std.specs.Result.{IsErrAnd}
 use Rattle.storage_db.specs.Rings.{last_of}
 
@@ -109,6 +109,10 @@ if_err P Q (Err y) f h = f y h
 pub on_ok : {T E : Type 0} (P : Type 0) (r : Result T E) → is_err r ≡ false → OnOk r P → P
 on_ok P (Ok x) passed h = h
 on_ok P (Err y) passed h = absurd (cc)
+
+pub on_refused : {T E : Type 0} (P : Type 0) (r : Result T E) → is_err r ≡ true → OnErr r P → P
+on_refused P (Ok x) refused h = absurd (cc)
+on_refused P (Err y) refused h = h
 
 pub none_if : {A : Type 0} (o : Option A) → is_some o ≡ false → o ≡ None
 none_if None fails = refl

@@ -12,7 +12,7 @@ use Rattle.std.specs.Result.{IsErrAnd}
 use Rattle.std.proofs.lemmas.Bool.{le-ltb}
 use Rattle.std.proofs.lemmas.List.{map-append, length-append, length-map}
 use Rattle.storage_ops.specs.Operations as operation
-use Rattle.storage_current.specs.Keys.{Keyed, update_text}
+use Rattle.storage_current.specs.Keys.{Keyed, update_text, IsKeyed}
 use Rattle.storage_db.specs.declared.db.active.Active.{Active}
 use Rattle.storage_db.specs.declared.db.error.Error.{Error}
 use Rattle.storage_db.specs.declared.db.error.Error.TheVariants.{Full, Memory}
@@ -22,7 +22,6 @@ use Rattle.storage_db.specs.Databases.{Committed, Database, without, active_at, 
 use Rattle.storage_db.specs.Parts.{texts, database_of, moved, moved_to}
 use Rattle.storage_db.specs.Logs.{IsTooMany}
 use Rattle.storage_db.proofs.Cases.{by_bool, clash, cond_yes, cond_no, equal_of, err_and}
-use Rattle.storage_db.specs.Keyed.{IsKeyed}
 use Rattle.storage_db.proofs.Entries.{Above, Sorted, less_greater, some_past, above_found, lookup_alike, lookup-insert, lookup-remove}
 use Rattle.storage_db.proofs.Nexts.{IsPrevious, previous_some}
 

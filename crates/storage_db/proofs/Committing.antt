@@ -6,13 +6,12 @@ use Rattle.std.specs.Cmp.{IsTotalOrder}
 use Rattle.std.specs.Map.{lookup}
 use Rattle.std.specs.declared.cmp.Ordering.{Ordering}
 use Rattle.storage_ops.specs.Operations as operation
-use Rattle.storage_current.specs.Keys.{Keyed, update_text, commit_text, Adjoin, HasKey, IsWellFormed}
+use Rattle.storage_current.specs.Keys.{Keyed, update_text, commit_text, Adjoin, HasKey, IsWellFormed, IsKeyed}
 use Rattle.storage_current.specs.Snapshots.{Snapshot, IsSnapshot, IsActive}
 use Rattle.storage_db.specs.declared.db.active.Active.{Active}
 use Rattle.storage_db.specs.Databases.{Committed, Database, without_commit, least_location, active_at, value_at}
 use Rattle.storage_db.specs.Promises.{IsSnapshotOf}
 use Rattle.storage_db.proofs.Cases.{by_bool, by_option, somes, some_not_none}
-use Rattle.storage_db.specs.Keyed.{IsKeyed}
 use Rattle.storage_db.proofs.Entries.{found, past, lookup_alike}
 use Rattle.storage_db.proofs.Neighbours.{fewer}
 use Rattle.storage_db.proofs.Nexts.{Has}
@@ -49,7 +48,7 @@ pub commit_cleared : {K W : Type 0} (o : Option (Committed K W)) (bits : List Bo
 commit_cleared None bits = none_cleared bits
 commit_cleared (Some c) bits = one_cleared bits (length c.snapshot.operations - 1)
 
-commit_clash : {K W : Type 0} (o : Option (Committed K W)) (i : ℕ) → IsCommitAt o i → IsNot (commit_place o) i → ⊥
+pub commit_clash : {K W : Type 0} (o : Option (Committed K W)) (i : ℕ) → IsCommitAt o i → IsNot (commit_place o) i → ⊥
 commit_clash None i at not = at
 commit_clash (Some c) i at not = not at
 

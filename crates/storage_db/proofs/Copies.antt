@@ -5,9 +5,8 @@ use Rattle.std.specs.Cmp.{alike_right}
 use Rattle.std.specs.List.{AllZip}
 use Rattle.std.specs.declared.ops.Bound.TheVariants.{Excluded, Unbounded}
 use Rattle.std.specs.BTreeMap.Range.{range_contains, entries_between}
-use Rattle.storage_current.specs.Keys.{Keyed}
+use Rattle.storage_current.specs.Keys.{Keyed, IsKeyed}
 use Rattle.storage_db.specs.declared.db.active.Active.{Active}
-use Rattle.storage_db.specs.Keyed.{IsKeyed}
 use Rattle.storage_db.specs.Rings.{last_of, around, next_key, previous}
 use Rattle.storage_db.specs.Databases.{active_at}
 use Rattle.storage_db.specs.Kept.{IsCopy}
@@ -34,7 +33,7 @@ module _ {K W Y : Type 0} (e : Keyed K W) (seen : W → Y) (is : IsKeyed e) wher
   abbrev pub seen_of : Active W → List ℕ × ℕ
   seen_of a = (e.value a.value, a.location)
 
-  turn : (c d : K × Active W) (k l : K) → IsCopy e seen c d → e.key l ≡ e.key k → e.cmp l d.0 ≡ e.cmp k c.0
+  pub turn : (c d : K × Active W) (k l : K) → IsCopy e seen c d → e.key l ≡ e.key k → e.cmp l d.0 ≡ e.cmp k c.0
   turn c d k l copy same =
       is.total.congr l k d.0 (is.alike l k same) ∙ alike_right is.total d.0 c.0 k (is.alike d.0 c.0 copy.key)
 
@@ -62,7 +61,7 @@ module _ {K W Y : Type 0} (e : Keyed K W) (seen : W → Y) (is : IsKeyed e) wher
       let pair : List ℕ → ℕ → List ℕ × ℕ = λ v l. (v, l) in
       ap (λ (v : List ℕ). pair v d.1.location) copy.value ∙ ap (λ (l : ℕ). pair (e.value c.1.value) l) copy.location)
 
-  filter_copy : (p q : K → Bool) → ((c d : K × Active W) → IsCopy e seen c d → q d.0 ≡ p c.0) → (es fs : List (K × Active W))
+  pub filter_copy : (p q : K → Bool) → ((c d : K × Active W) → IsCopy e seen c d → q d.0 ≡ p c.0) → (es fs : List (K × Active W))
       → AllZip (IsCopy e seen) es fs
       → AllZip (IsCopy e seen) (filter (λ (c : K × Active W). p c.0) es) (filter (λ (d : K × Active W). q d.0) fs)
   filter_copy p q alike [] [] h = tt
@@ -79,7 +78,7 @@ module _ {K W Y : Type 0} (e : Keyed K W) (seen : W → Y) (is : IsKeyed e) wher
       (λ fails. subst (λ (x : Bool). P x (q d.0)) (sym fails)
       (subst (λ (y : Bool). P false y) (sym (alike c d h.0 ∙ fails)) later))
 
-  around_copy : (es fs : List (K × Active W)) → AllZip (IsCopy e seen) es fs → (k l : K) → e.key l ≡ e.key k
+  pub around_copy : (es fs : List (K × Active W)) → AllZip (IsCopy e seen) es fs → (k l : K) → e.key l ≡ e.key k
       → AllZip (IsCopy e seen) (around e.cmp es k) (around e.cmp fs l)
   around_copy es fs h k l same =
       zip_append (IsCopy e seen) (entries_between e.cmp (Excluded k) Unbounded es) (entries_between e.cmp Unbounded (Excluded k) es)
@@ -115,7 +114,7 @@ module _ {K W Y : Type 0} (e : Keyed K W) (seen : W → Y) (is : IsKeyed e) wher
   either (Some x) None c d h copy = absurd h
   either (Some x) (Some y) c d h copy = h
 
-  last_copy : (es fs : List (K × Active W)) → AllZip (IsCopy e seen) es fs → AreCopied (last_of es) (last_of fs)
+  pub last_copy : (es fs : List (K × Active W)) → AllZip (IsCopy e seen) es fs → AreCopied (last_of es) (last_of fs)
   last_copy [] [] h = refl
   last_copy [] (d ∷ fs) h = absurd h
   last_copy (c ∷ es) [] h = absurd h

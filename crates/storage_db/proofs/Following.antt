@@ -1,8 +1,7 @@
 -- The key that an active update names is the one after its key.
 use Rattle.std.proofs.Common.{◌≡◌, ◌⊎◌, List, is_eq, inl, inr, sym, ap, ◌∙◌}
-use Rattle.storage_current.specs.Keys.{Keyed, Adjoin}
+use Rattle.storage_current.specs.Keys.{Keyed, Adjoin, IsKeyed}
 use Rattle.storage_db.specs.declared.db.active.Active.{Active}
-use Rattle.storage_db.specs.Keyed.{IsKeyed}
 use Rattle.storage_db.specs.Rings.{next_key}
 use Rattle.storage_db.proofs.Cases.{by_bool, clash, equal_of}
 use Rattle.storage_db.proofs.Entries.{Sorted}

@@ -1,8 +1,9 @@
 -- Databases in memory, once a command has been done or refused.
-use Rattle.std.proofs.Common.{◌≡◌, ℕ, ◌+◌, ◌-◌, ◌≤◌, ◌^◌, Bool, true, false, List, [], ◌∷◌, ◌++◌, length, slice_set, Option, Some, None, option_map, nat_lt, refl, sym, ap, ◌∙◌, subst}
+use Rattle.std.proofs.Common.{◌≡◌, ℕ, ◌+◌, ◌-◌, ◌≤◌, ◌^◌, Bool, true, false, List, [], ◌∷◌, ◌++◌, length, map, slice_set, Option, Some, None, option_map, nat_lt, refl, sym, ap, ◌∙◌, subst}
 use Rattle.std.specs.Global.{Vec}
 use Rattle.std.specs.List.{AllZip}
 use Rattle.std.specs.Prelude.{MatchOption, IsSomeAnd, Result, Ok, Err, OnOk, OnErr, IfErr}
+use Rattle.std.proofs.Math.Seq.{take-length}
 use Rattle.std.proofs.lemmas.Bool.{le-ltb}
 use Rattle.std.proofs.lemmas.List.{length-append, length-map}
 use Rattle.storage_codec.specs.Digests.{HashFunction}
@@ -14,9 +15,10 @@ use Rattle.storage_db.specs.declared.db.error.Error.{Error}
 use Rattle.storage_db.specs.declared.db.log.Log.{Log}
 use Rattle.storage_db.specs.Databases.{Committed, Database, without_commit, least_location, commit}
 use Rattle.storage_db.specs.Logs.{IsTooMany, cleared_at}
-use Rattle.storage_db.specs.Parts.{texts, database_of, kept_of}
+use Rattle.storage_db.specs.Parts.{GoesOn, texts, database_of, kept_of}
 use Rattle.storage_db.specs.Kept.{KeptDatabase, KeptCommit, IsCopy, Keeps, KeepsCommit}
 use Rattle.storage_db.proofs.Changing.{same_parts, texts_more, count_of_texts}
+use Rattle.storage_db.proofs.Going.{first_more, texts_on}
 
 module _ {K W : Type 0} where
   -- a log and active keys that are as they were
@@ -41,14 +43,23 @@ module _ {K W Y : Type 0} (e : Keyed K W) (seen : W → Y) (h : HashFunction) (g
   module _ (step : Database K W → Database K W) (log after : Log) (m n : List (K × Active W)) (last : Option (KeptCommit K W))
       (d : Database K W) (keeps : Keeps e seen h g (kept_of log m last) d) where
     pub done_of : ((l : Option (Committed K W)) → database_of after n l ≡ step (database_of log m l))
-        → length after.operations.items ≤ 2 ^ 62
+        → length after.operations.items ≤ 2 ^ 62 → GoesOn log after
         → (nat_lt (2 ^ 62) (length (step d).operations) ≡ false) × Keeps e seen h g (kept_of after n last) (step d)
-    done_of steps few =
+    done_of steps few on =
         let whole : database_of after n d.last ≡ step d = steps d.last ∙ ap step (same_database_of log m last d keeps) in
         let count : length after.operations.items ≡ length (step d).operations
         = sym (length-map _ _) ∙ ap (λ (x : Database K W). length x.operations) whole in
         let now : Keeps e seen h g (kept_of after n last) (database_of after n d.last)
-        = record { operations = refl; bits = refl; entries = refl; last = keeps.last } in (
+        = record {
+          operations = refl;
+          bits = refl;
+          entries = refl;
+          last = keeps.last;
+          prefix = first_more d.operations (texts after) _
+              (texts_on log after on
+              ∙ ap (λ (l : List (List ℕ)). l ++ map (λ (v : Vec ℕ). v.items) on.more) keeps.operations)
+              d.last keeps.prefix;
+        } in (
           le-ltb _ _ (subst (λ (x : ℕ). x ≤ 2 ^ 62) count few),
           subst (λ (x : Database K W). Keeps e seen h g (kept_of after n last) x) whole now,
         )
@@ -70,9 +81,9 @@ module _ {K W Y : Type 0} (e : Keyed K W) (seen : W → Y) (h : HashFunction) (g
     keeps_inside d keeps = subst (λ (k : KeptDatabase K W). Keeps e seen h g k d) (sym is) keeps
 
     pub done_from : ((l : Option (Committed K W)) → database_of after n l ≡ step (database_of log m l))
-        → length after.operations.items ≤ 2 ^ 62 → (d : Database K W) → Keeps e seen h g old d
+        → length after.operations.items ≤ 2 ^ 62 → GoesOn log after → (d : Database K W) → Keeps e seen h g old d
         → (nat_lt (2 ^ 62) (length (step d).operations) ≡ false) × Keeps e seen h g (kept_of after n last) (step d)
-    done_from steps few d keeps = done_of step log after m n last d (keeps_inside d keeps) steps few
+    done_from steps few on d keeps = done_of step log after m n last d (keeps_inside d keeps) steps few on
 
     pub refused_from : {F : Type 0} (error : Error F)
         → ((l : Option (Committed K W)) → IsTooMany (length log.operations.items) (length (step (database_of log m l)).operations)
@@ -87,11 +98,11 @@ module _ {K W Y : Type 0} (e : Keyed K W) (seen : W → Y) (h : HashFunction) (g
 
     pub done_ok : {T E : Type 0} (r : Result T E)
         → OnOk r ((l : Option (Committed K W)) → database_of after n l ≡ step (database_of log m l))
-        → length after.operations.items ≤ 2 ^ 62
+        → length after.operations.items ≤ 2 ^ 62 → GoesOn log after
         → OnOk r ((d : Database K W) → Keeps e seen h g old d
         → (nat_lt (2 ^ 62) (length (step d).operations) ≡ false) × Keeps e seen h g (kept_of after n last) (step d))
-    done_ok (Ok x) steps few = done_from steps few
-    done_ok (Err y) steps few = tt
+    done_ok (Ok x) steps few on = done_from steps few on
+    done_ok (Err y) steps few on = tt
 
     pub refused_err : {T F : Type 0} (r : Result T (Error F))
         → IfErr r (λ error. (l : Option (Committed K W))
@@ -175,6 +186,7 @@ module _ {K W Y : Type 0} (e : Keyed K W) (seen : W → Y) (h : HashFunction) (g
             whole = subst IsSnapshot one whole;
             snapshot = subst (λ (x : Snapshot). StandsForSnapshot h g c.snapshot x) one stands;
           };
+          prefix = sym (take-length (commit e d0 metadata).operations);
         } in
         let P : Database K W → Type 0 = λ x. (nat_lt (2 ^ 62) (length (commit e x metadata).operations) ≡ false)
         × Keeps e seen h g (kept_of after m (Some c)) (commit e x metadata) in

@@ -4,12 +4,11 @@ use Rattle.std.specs.Prelude.{MatchOption}
 use Rattle.std.proofs.lemmas.List.{length-append}
 use Rattle.storage_codec.specs.Digests.{HashFunction}
 use Rattle.storage_current.specs.CurrentSoundness.{OwnOperationProofsAreAccepted}
-use Rattle.storage_current.specs.Keys.{Keyed, commit_text}
+use Rattle.storage_current.specs.Keys.{Keyed, commit_text, IsKeyed}
 use Rattle.storage_current.specs.Snapshots.{Grafting, IsGrafting}
 use Rattle.storage_db.specs.Databases.{Committed, Database, empty, Command, Put, Delete, Commit, least_location, value_at, delete, commit, done, is_full, run, Maps, no_maps, changed, maps_after}
 use Rattle.storage_db.specs.Promises.{IsSnapshotOf, AreAccepted}
 use Rattle.storage_db.proofs.Cases.{by_bool, clash, some_not_none}
-use Rattle.storage_db.specs.Keyed.{IsKeyed}
 use Rattle.storage_db.proofs.Placing.{Placed}
 use Rattle.storage_db.proofs.Committing.{Ring, is_snapshot_of, commit_placed, commit_ring}
 use Rattle.storage_db.proofs.Said.{AreSaid, put_said}
@@ -61,7 +60,7 @@ module _ {K W : Type 0} (e : Keyed K W) (is : IsKeyed e) (said : AreSaid e) wher
   one_more d metadata few = subst (λ (n : ℕ). n ≤ 2 ^ 62)
       (length-append d.operations (commit_text e metadata (least_location d.entries (length d.operations)) ∷ [])) few
 
-  done_kept : (d : Database K W) → Kept d → (command : Command K W) → length (done e d command).operations ≤ 2 ^ 62
+  pub done_kept : (d : Database K W) → Kept d → (command : Command K W) → length (done e d command).operations ≤ 2 ^ 62
       → Kept (done e d command)
   done_kept d kept (Put k v) few = subst Kept (sym (said.put_is d k v)) (record {
     placed = put_placed e is d kept.placed kept.ring k v;

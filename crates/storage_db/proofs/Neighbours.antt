@@ -1,9 +1,8 @@
 -- Keys that stand next to each other, once a key comes in between or goes away.
 use Rattle.std.proofs.Common.{◌≡◌, ◌⊎◌, true, false, is_eq, is_lt, inl, inr, sym, ap, ◌∙◌}
 use Rattle.std.specs.Cmp.{alike_right, tied_itself}
-use Rattle.storage_current.specs.Keys.{Keyed, before, Adjoin}
+use Rattle.storage_current.specs.Keys.{Keyed, before, Adjoin, IsKeyed}
 use Rattle.storage_db.proofs.Cases.{by_bool, clash, not_true, equal_of, less_of, greater_of}
-use Rattle.storage_db.specs.Keyed.{IsKeyed}
 use Rattle.storage_db.proofs.Entries.{greater_less}
 
 module _ {K W : Type 0} (e : Keyed K W) (is : IsKeyed e) where

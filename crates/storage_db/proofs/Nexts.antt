@@ -4,12 +4,11 @@ use Rattle.std.specs.Cmp.{alike_right}
 use Rattle.std.specs.Ordering.{ordering_reverse}
 use Rattle.std.specs.declared.ops.Bound.TheVariants.{Excluded, Unbounded}
 use Rattle.std.specs.BTreeMap.Range.{range_contains, entries_between}
-use Rattle.storage_current.specs.Keys.{Keyed, before, Adjoin}
+use Rattle.storage_current.specs.Keys.{Keyed, before, Adjoin, IsKeyed}
 use Rattle.storage_db.specs.declared.db.active.Active.{Active}
 use Rattle.storage_db.specs.Rings.{last_of, next_key, previous}
 use Rattle.storage_db.specs.Databases.{active_at}
 use Rattle.storage_db.proofs.Cases.{by_bool, by_option, by_list, clash, not_true, and_true, not_le, some_not_none, last_none, last_left, last_right, somes}
-use Rattle.storage_db.specs.Keyed.{IsKeyed}
 use Rattle.storage_db.proofs.Entries.{Sorted, lookup_alike}
 use Rattle.storage_db.proofs.Filters.{none_passes, first_passes, last_passes}
 use Rattle.storage_db.proofs.Neighbours.{neither, before_left, before_right, not_itself}

@@ -2,12 +2,11 @@
 use Rattle.std.proofs.Common.{◌≡◌, ◌⊎◌, ℕ, ◌-◌, ◌<◌, ◌^◌, Bool, true, false, cond, List, ◌++◌, length, Option, Some, None, is_some, option_map, is_eq, inl, inr, refl, sym, ap, ◌∙◌, subst}
 use Rattle.std.specs.Prelude.{MatchOption}
 use Rattle.storage_ops.specs.Operations as operation
-use Rattle.storage_current.specs.Keys.{Keyed, update_text, commit_text}
+use Rattle.storage_current.specs.Keys.{Keyed, update_text, commit_text, IsKeyed}
 use Rattle.storage_current.specs.Snapshots.{Snapshot, IsActive}
 use Rattle.storage_db.specs.declared.db.active.Active.{Active}
 use Rattle.storage_db.specs.Databases.{Committed, Database, without, active_at, updated, removed}
 use Rattle.storage_db.proofs.Cases.{by_bool, by_option, clash, cond_yes, cond_no, equal_of, somes, some_not_none, match_map}
-use Rattle.storage_db.specs.Keyed.{IsKeyed}
 use Rattle.storage_db.proofs.Entries.{Sorted, lookup_alike, lookup-insert, sorted-insert, lookup-remove, sorted-remove}
 use Rattle.storage_db.proofs.Nexts.{Has}
 use Rattle.storage_db.proofs.Appends.{IsNot, IsCleared, none_cleared, one_cleared, IsAppended, appended}

@@ -3,12 +3,11 @@ use Rattle.std.proofs.Common.{◌≡◌, ℕ, List, Option, Some, None, option_m
 use Rattle.std.specs.Prelude.{MatchOption, IsSomeAnd, option_and_then}
 use Rattle.std.specs.List.{AllZip}
 use Rattle.storage_codec.specs.Digests.{HashFunction}
-use Rattle.storage_current.specs.Keys.{Keyed}
+use Rattle.storage_current.specs.Keys.{Keyed, IsKeyed}
 use Rattle.storage_current.specs.KeptSnapshots.{KeptSnapshot, StandsForSnapshot}
 use Rattle.storage_current.specs.Snapshots.{Grafting, Snapshot, canonical_root}
 use Rattle.storage_db.specs.declared.db.active.Active.{Active}
 use Rattle.storage_db.specs.Databases.{Committed, Database, active_at, value_at}
-use Rattle.storage_db.specs.Keyed.{IsKeyed}
 use Rattle.storage_db.specs.Kept.{KeptDatabase, KeptCommit, IsCopy, Keeps, KeepsCommit}
 use Rattle.storage_db.proofs.Cases.{some_not_none}
 use Rattle.storage_db.proofs.Copies.{lookup_by}

@@ -1,6 +1,6 @@
 -- What a put and a commit do, as the definitions say it. The lemmas on lists of commands stand on this, and the laws hand it to them: so a
 -- definition that says something else is refused at the laws.
-use Rattle.std.proofs.Common.{◌≡◌, cond, ◌-◌, ◌++◌, ◌∷◌, [], true, length, Option, Some, is_some}
+use Rattle.std.proofs.Common.{◌≡◌, cond, ◌++◌, ◌∷◌, [], true, length, Option, Some, is_some}
 use Rattle.storage_current.specs.Keys.{Keyed, commit_text}
 use Rattle.storage_db.specs.Rings.{next_key, previous}
 use Rattle.storage_db.specs.Databases.{Database, active_at, updated, relinked, put, commit, least_location, without_commit}

@@ -5,10 +5,9 @@ use Rattle.std.specs.List.{AllZip}
 use Rattle.storage_codec.specs.Digests.{HashFunction}
 use Rattle.storage_current.specs.HeldKeys.{exclusion_seen}
 use Rattle.storage_current.specs.KeyProofs.{Exclusion, KeyValue, Commit}
-use Rattle.storage_current.specs.Keys.{Keyed}
+use Rattle.storage_current.specs.Keys.{Keyed, IsKeyed}
 use Rattle.storage_current.specs.Snapshots.{Grafting, OperationProof, own_operation_proof}
 use Rattle.storage_db.specs.declared.db.active.Active.{Active}
-use Rattle.storage_db.specs.Keyed.{IsKeyed}
 use Rattle.storage_db.specs.Rings.{next_key, previous}
 use Rattle.storage_db.specs.Databases.{Committed, Database, active_at}
 use Rattle.storage_db.specs.Kept.{KeptDatabase, KeptCommit, IsCopy, Keeps, KeepsCommit}
@@ -145,7 +144,7 @@ module _ {K W Y : Type 0} (e : Keyed K W) (seen : W → Y) (h : HashFunction) (g
 
   -- what holds of each commit that is kept as this one holds of the last one, and there is one
   module _ (c : KeptCommit K W) (there : inside.last ≡ Some c) where
-    last_commit : (commit : Committed K W) × (d.last ≡ Some commit) × KeepsCommit e seen h g c commit
+    pub last_commit : (commit : Committed K W) × (d.last ≡ Some commit) × KeepsCommit e seen h g c commit
     last_commit =
         let P : Option (Committed K W) → Type 0 = λ o. AreLast o (Some c) in
         let at : P d.last = subst (AreLast d.last) there are_last in

@@ -1,11 +1,10 @@
 -- What a put and a delete keep, and what they do to the map.
 use Rattle.std.proofs.Common.{◌≡◌, ◌⊎◌, Bool, true, false, cond, List, length, Option, Some, None, is_some, option_map, is_eq, inl, inr, refl, sym, ap, ◌∙◌, subst}
-use Rattle.storage_current.specs.Keys.{Keyed, Adjoin}
+use Rattle.storage_current.specs.Keys.{Keyed, Adjoin, IsKeyed}
 use Rattle.storage_db.specs.declared.db.active.Active.{Active}
 use Rattle.storage_db.specs.Rings.{next_key, previous}
 use Rattle.storage_db.specs.Databases.{Database, active_at, value_at, updated, relinked, removed, delete}
 use Rattle.storage_db.proofs.Cases.{by_bool, by_option, clash, cond_yes, cond_no, equal_of}
-use Rattle.storage_db.specs.Keyed.{IsKeyed}
 use Rattle.storage_db.proofs.Entries.{lookup_alike, lookup-insert, lookup-remove}
 use Rattle.storage_db.proofs.Neighbours.{fewer, adjoin_alike, first_half, second_half, others_stay, alone, joined, one_before}
 use Rattle.storage_db.proofs.Nexts.{Has, has_alike, Other, next_is, IsPrevious, previous_some, previous_none}
@@ -156,7 +155,7 @@ module _ {K W : Type 0} (e : Keyed K W) (is : IsKeyed e) where
         ]
 
       -- what holds of the database after a put holds in each case
-      by_put : (P : Database K W → Type 0) → (Has e is d.entries k → P after)
+      pub by_put : (P : Database K W → Type 0) → (Has e is d.entries k → P after)
           → ((Has e is d.entries k → ⊥) → ((x : K) → Other e is d.entries k x → ⊥) → P after)
           → ((Has e is d.entries k → ⊥) → (p : K × Active W) → IsPrevious e is d.entries placed.sorted k p
           → P (updated e after p.0 p.1.value k)) → P (put_said e d k v)
@@ -252,7 +251,7 @@ module _ {K W : Type 0} (e : Keyed K W) (is : IsKeyed e) where
             )
       ]
 
-    by_delete : (P : Database K W → Type 0) → ((Has e is d.entries k → ⊥) → P d)
+    pub by_delete : (P : Database K W → Type 0) → ((Has e is d.entries k → ⊥) → P d)
         → (Has e is d.entries k → ((x : K) → Other e is d.entries k x → ⊥) → P less)
         → (Has e is d.entries k → (p : K × Active W) → IsPrevious e is d.entries placed.sorted k p
         → P (updated e less p.0 p.1.value n)) → P (delete e d k)

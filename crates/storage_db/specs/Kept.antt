@@ -1,5 +1,5 @@
 -- Databases in memory, and how they keep what commands gave.
-use Rattle.std.specs.Prelude.{◌≡◌, ℕ, Bool, false, List, length, Option, None, MatchOption, IsSomeAnd, if◌then◌else◌}
+use Rattle.std.specs.Prelude.{◌≡◌, ℕ, Bool, false, List, length, take, Option, None, MatchOption, IsSomeAnd, if◌then◌else◌}
 use Rattle.std.specs.List.{AllZip}
 use Rattle.storage_codec.specs.Digests.{HashFunction}
 use Rattle.storage_current.specs.Keys.{Keyed}
@@ -26,6 +26,10 @@ pub record KeptDatabase (K W : Type 0) : Type 0 where
   pub entries : List (K × Active W)
   pub last : Option (KeptCommit K W)
 
+-- the operations of a commit are the first of these
+abbrev pub AreFirst : {K W : Type 0} → List (List ℕ) → Committed K W → Type 0
+AreFirst operations commit = commit.snapshot.operations ≡ take (length commit.snapshot.operations) operations
+
 module _ {K W Y : Type 0} (e : Keyed K W) (seen : W → Y) where
   -- the second is written as the first and at the same location, and what is seen of its value is the same
   pub record IsCopy (entry copy : K × Active W) : Type 0 where
@@ -50,6 +54,7 @@ module _ {K W Y : Type 0} (e : Keyed K W) (seen : W → Y) where
       pub bits : kept.bits ≡ d.bits
       pub entries : kept.entries ≡ d.entries
       pub last : MatchOption d.last (kept.last ≡ None) (λ commit. IsSomeAnd kept.last (λ c. KeepsCommit c commit))
+      pub prefix : MatchOption d.last (Unit {0}) (AreFirst d.operations)
 
     -- Some list of commands, given to the empty database, leaves it.
     abbrev pub IsMade : KeptDatabase K W → Type 0

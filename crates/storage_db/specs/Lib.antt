@@ -1,8 +1,11 @@
 pub mod Logs
-pub mod Keyed
 pub mod Rings
 pub mod Databases
 pub mod Kept
+pub mod Floors
 pub mod Parts
 pub mod Shown
+pub mod Ranges
+pub mod Opening
+pub mod Replays
 pub mod Promises

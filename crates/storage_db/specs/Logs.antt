@@ -1,6 +1,7 @@
 -- Operations and their bits in two vectors.
-use Rattle.std.specs.Prelude.{◌≡◌, ℕ, ◌+◌, ◌<◌, ◌≤◌, Bool, false, List, slice_set, Option, Some, None, nat_lt, if◌then◌else◌}
+use Rattle.std.specs.Prelude.{◌≡◌, ℕ, ◌+◌, ◌<◌, ◌≤◌, Bool, false, List, slice_set, take, Option, Some, None, nat_lt, if◌then◌else◌}
 use Rattle.storage_merkle.specs.Shape.{max_leaves}
+use Rattle.storage_current.specs.Extended.{cleared}
 use Rattle.storage_db.specs.declared.db.error.Error.{Error}
 use Rattle.storage_db.specs.declared.db.error.Error.TheVariants.{Full, Memory}
 
@@ -18,6 +19,10 @@ IsWithin (Some location) count = location < count
 abbrev pub cleared_at : Option ℕ → List Bool → List Bool
 cleared_at None bits = bits
 cleared_at (Some location) bits = slice_set bits location false
+
+-- the first so many bits are those of a commit, with the ones at these locations cleared since
+abbrev pub AreCommitted : ℕ → List ℕ → List Bool → List Bool → Type 0
+AreCommitted committed since bits base = take committed bits ≡ cleared since base
 
 -- why so many operations can't become so many: these would pass 2^62; else want of memory
 abbrev pub IsTooMany : {F : Type 0} → ℕ → ℕ → Error F → Type 0

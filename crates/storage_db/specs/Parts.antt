@@ -1,14 +1,42 @@
 -- The parts of a database in memory, and how an active update moves.
-use Rattle.std.specs.Prelude.{ℕ, Bool, List, map, Option, Some, None}
+use Rattle.std.specs.Prelude.{◌≡◌, ℕ, ◌-◌, ◌<◌, Bool, List, ◌++◌, length, map, take, Option, Some, None, option_map, MatchOption}
+use Rattle.std.specs.Global.{Vec}
+use Rattle.std.specs.List.{AllZip}
 use Rattle.std.specs.Map.{lookup, set_value}
+use Rattle.storage_codec.specs.Digests.{HashFunction}
+use Rattle.storage_current.specs.Keys.{Keyed}
+use Rattle.storage_current.specs.KeptSnapshots.{StandsForSnapshot}
+use Rattle.storage_current.specs.Snapshots.{Grafting, Snapshot, IsSnapshot}
 use Rattle.storage_db.specs.declared.db.active.Active.{Active}
 use Rattle.storage_db.specs.declared.db.log.Log.{Log}
 use Rattle.storage_db.specs.Databases.{Committed, Database}
-use Rattle.storage_db.specs.Kept.{KeptCommit, KeptDatabase}
+use Rattle.storage_db.specs.Kept.{IsCopy, KeptCommit, KeptDatabase}
+use Rattle.storage_db.specs.Logs.{AreCommitted, cleared_at}
 
 -- what the operations of a log are written as
 abbrev pub texts : Log → List (List ℕ)
 texts log = map (λ v. v.items) log.operations.items
+
+-- the bits of the last commit's operations are these, with those cleared that a log tells
+abbrev pub AreLast : Log → List Bool → Type 0
+AreLast log base = AreCommitted log.committed log.cleared.items log.bits.items base
+
+-- A log goes on from an old one: its operations stand behind the old one's, the last commit is the same, and it tells which of its bits
+-- have been cleared, if the old one does.
+pub record GoesOn (old new : Log) : Type 0 where
+  pub more : List (Vec ℕ)
+  pub operations : new.operations.items ≡ old.operations.items ++ more
+  pub committed : new.committed ≡ old.committed
+  pub cleared : (base : List Bool) → AreLast old base → AreLast new base
+
+-- a log has as many operations of a commit as that has, itself among them, and tells which of its bits have been cleared since
+pub record IsSinceCommit {K W : Type 0} (log : Log) (commit : KeptCommit K W) : Type 0 where
+  pub some : 0 < commit.count
+  pub committed : log.committed ≡ commit.count
+  pub cleared : AreLast log commit.snapshot.status.bits
+
+abbrev pub IsSince : {K W : Type 0} → Log → Option (KeptCommit K W) → Type 0
+IsSince log last = MatchOption last (Unit {0}) (IsSinceCommit log)
 
 -- the database of a log and active keys, with this last commit
 abbrev pub database_of : {K W : Type 0} → Log → List (K × Active W) → Option (Committed K W) → Database K W
@@ -36,3 +64,31 @@ moved_to (Some active) test entries location =
 
 abbrev pub moved : {K W : Type 0} → (K → Bool) → List (K × Active W) → ℕ → List (K × Active W)
 moved test entries location = moved_to (lookup test entries) test entries location
+
+-- ---- a commit that has been made
+
+-- where a commit stands
+abbrev pub place_of : {K W : Type 0} → Option (KeptCommit K W) → Option ℕ
+place_of {K} {W} before = option_map (λ (commit : KeptCommit K W). commit.count - 1) before
+
+-- a commit that is kept stands for a well-formed snapshot
+abbrev pub IsKeptOf : {K W : Type 0} → HashFunction → Grafting → KeptCommit K W → Snapshot → Type 0
+IsKeptOf h g commit s = IsSnapshot s × StandsForSnapshot h g commit.snapshot s
+
+module _ {K W Y : Type 0} (e : Keyed K W) (seen : W → Y) (h : HashFunction) (g : Grafting) where
+  -- A commit that is kept is that of the last operation of a log, with this value and floor, and of the commit before it the bit is
+  -- cleared: it stands for the snapshot of the operations, if the commit before it did for that of its own.
+  pub record IsCommitOf (log : Log) (entries : List (K × Active W)) (before : Option (KeptCommit K W)) (metadata : Option W)
+      (floor : ℕ) (commit : KeptCommit K W) : Type 0 where
+    pub metadata_is : commit.metadata ≡ metadata
+    pub floor_is : commit.floor ≡ floor
+    pub count : commit.count ≡ length log.operations.items
+    pub copies : AllZip (IsCopy e seen) entries commit.entries
+    pub status : commit.snapshot.status.bits ≡ cleared_at (place_of before) log.bits.items
+    pub snapshot : let s : Snapshot = record {
+      operations = texts log;
+      bits = cleared_at (place_of before) log.bits.items;
+      floor = floor;
+    } in
+        MatchOption before (IsKeptOf h g commit s) (λ b. (t : Snapshot) → IsSnapshot t → StandsForSnapshot h g b.snapshot t
+        → t.operations ≡ take log.committed (texts log) → IsKeptOf h g commit s)

@@ -1,13 +1,22 @@
 -- What the proofs of a database show: the value of a key at the last commit, or that it has none.
-use Rattle.std.specs.Prelude.{◌≡◌, ℕ, ◌-◌, List, length, Option, Some, None, option_map}
+use Rattle.std.specs.Prelude.{◌≡◌, ℕ, ◌+◌, ◌-◌, List, length, Option, Some, None, option_map}
 use Rattle.storage_codec.specs.Digests.{HashFunction}
 use Rattle.storage_current.specs.HeldKeys.{exclusion_seen}
 use Rattle.storage_current.specs.KeyProofs.{Exclusion, KeyValue, Commit}
 use Rattle.storage_current.specs.Keys.{Keyed}
-use Rattle.storage_current.specs.Snapshots.{Grafting, OperationProof, own_operation_proof}
+use Rattle.storage_current.specs.Served.{end_of}
+use Rattle.storage_current.specs.Snapshots.{Grafting, Holds, OperationProof, RangeProof, Snapshot, own_operation_proof, own_range_proof}
 use Rattle.storage_db.specs.declared.db.active.Active.{Active}
 use Rattle.storage_db.specs.Databases.{Committed, active_at}
 use Rattle.storage_db.specs.Rings.{next_key, previous}
+
+-- A page of at most so many operations of a snapshot from one on: they and the chunks of bits that they touch, and the snapshot's own
+-- proof of them.
+pub record IsPage (h : HashFunction) (g : Grafting) (s : Snapshot) (start most : ℕ) (proof : RangeProof)
+    (operations chunks : List (List ℕ)) : Type 0 where
+  pub own : proof ≡ own_range_proof h g s start (end_of start most (length s.operations))
+  pub count : start + length operations ≡ end_of start most (length s.operations)
+  pub holds : Holds g s start operations chunks
 
 module _ {K W : Type 0} (e : Keyed K W) (h : HashFunction) (g : Grafting) where
   -- the key's value and the key after it, as they are written, and the snapshot's own proof of the key's active update

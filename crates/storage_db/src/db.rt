@@ -8,8 +8,11 @@ mod error;
 mod log;
 mod nodes;
 mod ordered;
+mod ranges;
+mod replay;
 mod strings;
 
 pub use encoding::{KeyedEncoding, OrderedCodec};
 pub use error::Error;
-pub use ordered::Ordered;
+pub use ordered::{OpenError, Ordered};
+pub use ranges::Range;

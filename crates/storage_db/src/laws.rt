@@ -1,7 +1,6 @@
 //! What holds of a database after each list of commands, as laws over the definitions alone.
 
 ghost use Rattle.storage_current.specs.Keys.{Keyed, keyed_by};
-ghost use Rattle.storage_db.specs.Keyed.{IsKeyed};
 ghost use Rattle.storage_current.specs.Snapshots.{grafting_of};
 ghost use Rattle.storage_bitmap.specs.Chunks.{IsChunkSize};
 ghost use Rattle.storage_db.specs.Kept.{IsMade};
@@ -9,6 +8,7 @@ ghost use Rattle.storage_db.specs.Promises.{EachCallIsKept, EachListIsKept, Each
 
 use crate::db::{Ordered as Database, OrderedCodec};
 use storage_codec::digest::Hasher;
+use storage_current::laws::keys::operations_settle_keys;
 use storage_current::laws::own_operation_proofs_are_accepted;
 use storage_merkle::merkle::{Family, Graftable};
 use storage_ops::qmdb::any::operation::OperationCodec;
@@ -80,10 +80,4 @@ pub fn each_call_is_kept<
 >()
     ensures { let e = keyed_by K.text V.Value.text V.operation_text K.cmp in
         EachCallIsKept e V.Value.view H.hash_of (grafting_of F.shape N) }
-{}
-
-/// The bytes of operations settle their keys, values and floors, and exactly those keys compare alike which are written
-/// alike.
-pub(crate) fn operations_settle_keys<F: Family, K: Key, V: OperationCodec<F, Ordered<K, V>>>()
-    ensures { let e = keyed_by K.text V.Value.text V.operation_text K.cmp in IsKeyed e }
 {}

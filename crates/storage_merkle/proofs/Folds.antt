@@ -1,11 +1,11 @@
 -- Folds of digests.
 use Rattle.std.proofs.Common.{◌≡◌, ℕ, List, [], ◌∷◌, ◌++◌, map, take, drop, Option, Some, None, refl, ap, sym, ◌∙◌}
-use Rattle.storage_codec.specs.Digests.{HashFunction}
+use Rattle.storage_codec.specs.Digests.{HashFunction, or_nothing}
 use Rattle.storage_merkle.specs.Hashing.{folded_forward, folded_backward, bagged, bagged_peaks}
 use Rattle.std.proofs.lemmas.List.{take-map, drop-map}
 use Rattle.storage_merkle.specs.declared.merkle.bagging.Bagging.{Bagging}
 use Rattle.storage_merkle.specs.declared.merkle.bagging.Bagging.TheVariants.{ForwardFold, BackwardFold}
-use Rattle.storage_merkle.specs.Hashers.{or_nothing, prepended, folded_onto, forward_of}
+use Rattle.storage_merkle.specs.Hashers.{prepended, folded_onto, forward_of}
 
 -- the last of some items is folded first
 pub onto_last : (h : HashFunction) (xs : List (List ℕ)) (x : List ℕ) (onto : Option (List ℕ))

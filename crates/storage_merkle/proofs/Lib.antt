@@ -16,6 +16,7 @@ pub mod MemProofs
 pub mod Rewriting
 pub mod Alike
 pub mod SiblingOrder
+pub mod Peaks
 pub mod Walks
 pub mod Walked
 pub mod Plan

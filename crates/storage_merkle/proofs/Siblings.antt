@@ -1,12 +1,13 @@
 -- The siblings of a range, in the peaks that share a leaf with it.
-use Rattle.std.proofs.Common.{◌≡◌, ◌≢◌, ℕ, zero, suc, ◌+◌, ◌-◌, ◌<◌, ◌≤◌, ◌^◌, List, [], ◌∷◌, ◌++◌, map, Bool, true, false, if◌then◌else◌, ◌||◌, inl, inr, refl, sym, ap, ap₂, ◌∙◌, arith, subst, append-nil, Result, Ok, Err, OnOk, leb, le-leb, leb-true, leb-false, eqb, pow_pos, append_assoc}
+use Rattle.std.proofs.Common.{◌≡◌, ◌≢◌, ℕ, zero, suc, ◌+◌, ◌-◌, ◌<◌, ◌≤◌, ◌^◌, List, [], ◌∷◌, ◌++◌, map, Bool, true, false, if◌then◌else◌, ◌||◌, ◌⊎◌, inl, inr, refl, sym, ap, ap₂, ◌∙◌, arith, subst, append-nil, Result, Ok, Err, OnOk, leb, le-leb, leb-true, leb-false, eqb, pow_pos, append_assoc}
 use Rattle.std.specs.List.Sorted.{IsPermutation, IsNonDecreasing}
 use Rattle.std.proofs.lemmas.Bool.{lt-leb, cases_lt}
 use Rattle.std.proofs.lemmas.List.{map-append}
 use Rattle.storage_merkle.specs.Laws.Multiples.{pow_two}
 use Rattle.storage_merkle.specs.Calc.{Site, node, Calc, pair, graft, be8}
-use Rattle.storage_merkle.specs.Trees.{Layout, places, peaks_of, node_calc, join_calc}
+use Rattle.storage_merkle.specs.Trees.{Layout, Peak, places, peaks_of, node_calc, join_calc}
 use Rattle.storage_merkle.specs.RangeProofs.{apart, not_leading, up_to, sites_of, sites_in, position_of, place_in, by_position}
+use Rattle.storage_merkle.specs.Plans.{planned_sites}
 use Rattle.storage_merkle.specs.Siblings.{sibling_sites}
 use Rattle.storage_merkle.specs.Extracted.{overlapped}
 use Rattle.storage_merkle.proofs.Distinct.{one_if}
@@ -178,54 +179,53 @@ not_both b t f = cc
 pub not_below : (b : Bool) (m n : ℕ) → b ≡ true → b ≡ leb m n → n < m → ⊥
 not_below b m n t e l = let below : m ≤ n = leb-true m n (sym e ∙ t) in omega arith
 
--- the positions of the sites in the peaks over r leaves from the leaf s on that share a leaf with the range
-abbrev pub overlapped_positions : Layout → ℕ → ℕ → ℕ → ℕ → List ℕ
-overlapped_positions T low high s r =
-    positions T (sites_in T (apart low high) (overlapped low high (places s (T.shape.peaks r))))
+-- the peaks into which a list of positions goes: all, or those that share a leaf with the range
+abbrev pub entered : Bool → ℕ → ℕ → List Peak → List Peak
+entered all low high [] = []
+entered all low high (p ∷ ps) = if all then p ∷ entered all low high ps
+    else (if apart low high p.first p.height then entered all low high ps else p ∷ entered all low high ps)
 
--- past the first of them, which has height h
-module _ (T : Layout) (low high s r h m n : ℕ) (peaks : T.shape.peaks r ≡ h ∷ T.shape.peaks (r - 2 ^ h))
-    (em : m ≡ 2 ^ h) (en : n ≡ 2 ^ h) where
-  moved : overlapped_positions T low high (s + m) (r - n) ≡ overlapped_positions T low high (s + 2 ^ h) (r - 2 ^ h)
-  moved = ap₂ (λ x y. overlapped_positions T low high (s + x) (r - y)) em en
+entered-all : (low high : ℕ) (ps : List Peak) → entered true low high ps ≡ ps
+entered-all low high [] = refl
+entered-all low high (p ∷ ps) = ap (λ qs. p ∷ qs) (entered-all low high ps)
 
-  opened : overlapped_positions T low high s r
-      ≡ positions T (sites_in T (apart low high) (overlapped low high (places s (h ∷ T.shape.peaks (r - 2 ^ h)))))
-  opened = ap (λ ks. positions T (sites_in T (apart low high) (overlapped low high (places s ks)))) peaks
+entered-overlapped : (low high : ℕ) (ps : List Peak) → entered false low high ps ≡ overlapped low high ps
+entered-overlapped low high [] = refl
+entered-overlapped low high (p ∷ ps) = rw (entered-overlapped low high ps) refl
 
-  pub walk_skips : (old new all : List ℕ) → true ≡ apart low high s h → new ≡ old
-      → old ++ overlapped_positions T low high s r ≡ all → new ++ overlapped_positions T low high (s + m) (r - n) ≡ all
-  walk_skips old new all e f g =
-      let skipped : overlapped_positions T low high s r ≡ overlapped_positions T low high (s + 2 ^ h) (r - 2 ^ h) =
-      opened ∙ rw (sym e) refl in
-      ap₂ (λ xs ys. xs ++ ys) f (moved ∙ sym skipped) ∙ g
+-- the positions of the sites in them
+abbrev pub entered_positions : Layout → Bool → ℕ → ℕ → List Peak → List ℕ
+entered_positions T all low high ps = positions T (sites_in T (apart low high) (entered all low high ps))
 
-  pub walk_takes : (old new all : List ℕ) → false ≡ apart low high s h
-      → new ≡ old ++ positions T (apart_under T low high h s) → old ++ overlapped_positions T low high s r ≡ all
-      → new ++ overlapped_positions T low high (s + m) (r - n) ≡ all
-  walk_takes old new all e f g =
-      let here = positions T (apart_under T low high h s) in
-      let later = overlapped_positions T low high (s + 2 ^ h) (r - 2 ^ h) in
-      let taken : overlapped_positions T low high s r ≡ here ++ later =
-      opened ∙ rw (sym e) (map-append (position_of T) (apart_under T low high h s)
-      (sites_in T (apart low high) (overlapped low high (places (s + 2 ^ h) (T.shape.peaks (r - 2 ^ h)))))) in
-      ap₂ (λ xs ys. xs ++ ys) f moved ∙ append_assoc old here later ∙ ap (λ xs. old ++ xs) (sym taken) ∙ g
-
--- past the last of them
-pub walk_ends : (T : Layout) (low high s r : ℕ) (old all : List ℕ) → T.shape.peaks 0 ≡ [] → r ≤ 0
-    → old ++ overlapped_positions T low high s r ≡ all → old ≡ all
-walk_ends T low high s r old all none l g =
-    let z : r ≡ 0 = omega arith in
-    let nothing : overlapped_positions T low high s r ≡ [] = ap (λ j.
-    positions T (sites_in T (apart low high) (overlapped low high (places s j)))) (ap T.shape.peaks z ∙ none) in
-    sym (append-nil old) ∙ ap (λ xs. old ++ xs) (sym nothing) ∙ g
+pub entered_grows : (T : Layout) (all : Bool) (low high : ℕ) (p : Peak) (ps qs : List Peak) (old new found : List ℕ)
+    → (all ≡ true) ⊎ (apart low high p.first p.height ≡ false) → ps ≡ p ∷ qs
+    → new ≡ old ++ positions T (apart_under T low high p.height p.first)
+    → old ++ entered_positions T all low high ps ≡ found → new ++ entered_positions T all low high qs ≡ found
+entered_grows T all low high p ps qs old new found enters e grown f =
+    let later = sites_in T (apart low high) (entered all low high qs) in
+    let here = apart_under T low high p.height p.first in
+    let some : entered all low high ps ≡ p ∷ entered all low high qs = ap (entered all low high) e ∙ first all enters in
+    ap (λ xs. xs ++ positions T later) grown ∙ append_assoc old (positions T here) (positions T later)
+    ∙ ap (λ xs. old ++ xs) (sym (map-append (position_of T) here later)
+    ∙ ap (λ rs. positions T (sites_in T (apart low high) rs)) (sym some)) ∙ f
+  where
+    first : (b : Bool) → (b ≡ true) ⊎ (apart low high p.first p.height ≡ false)
+        → entered b low high (p ∷ qs) ≡ p ∷ entered b low high qs
+    first true i = refl
+    first false (inl t) = absurd (cc)
+    first false (inr o) = rw o refl
 
 -- the positions, sorted
-pub siblings_sorted : (T : Layout) (n low high : ℕ) (found sorted : List ℕ)
-    → found ≡ overlapped_positions T low high 0 n → IsPermutation found sorted → IsNonDecreasing sorted
-    → sorted ≡ positions T (sibling_sites T n low high)
-siblings_sorted T n low high found sorted e p up =
-    let all = sites_in T (apart low high) (overlapped low high (peaks_of T n)) in
-    positions_sorted T all sorted (subst (λ xs. IsPermutation xs sorted) e p) up
-    ∙ ap (λ ps. positions T (by_position T (sites_in T (apart low high) ps)))
-    (overlapped-is low high 0 (T.shape.peaks n))
+pub entered_sorted : (T : Layout) (all : Bool) (n low high : ℕ) (found sorted : List ℕ)
+    → found ≡ entered_positions T all low high (peaks_of T n) → IsPermutation found sorted → IsNonDecreasing sorted
+    → sorted ≡ positions T (if all then planned_sites T n low high else sibling_sites T n low high)
+entered_sorted T all n low high found sorted e p up =
+    let peaks = peaks_of T n in
+    let sites : List Peak → List ℕ = λ ps. positions T (by_position T (sites_in T (apart low high) ps)) in
+    positions_sorted T (sites_in T (apart low high) (entered all low high peaks)) sorted
+    (subst (λ xs. IsPermutation xs sorted) e p) up
+    ∙ elim all as (λ b. sites (entered b low high peaks)
+    ≡ positions T (if b then planned_sites T n low high else sibling_sites T n low high)) [
+      | true ↦ ap sites (entered-all low high peaks)
+      | false ↦ ap sites (entered-overlapped low high peaks ∙ overlapped-is low high 0 (T.shape.peaks n))
+    ]

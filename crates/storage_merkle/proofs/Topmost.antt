@@ -1,13 +1,13 @@
--- The peaks of a tree are kept.
-use Rattle.std.proofs.Common.{◌≡◌, ℕ, suc, ◌+◌, ◌-◌, ◌*◌, ◌/◌, ◌%◌, ◌^◌, ◌<◌, ◌≤◌, List, [], ◌∷◌, ◌++◌, length, map, refl, sym, ap, ◌∙◌, inl, inr, ⊎_elim, arith, take, set, append_assoc, append-nil}
+-- The peaks of a tree are kept, and what is kept of them is had one after another.
+use Rattle.std.proofs.Common.{◌≡◌, ℕ, suc, ◌+◌, ◌-◌, ◌*◌, ◌/◌, ◌%◌, ◌^◌, ◌<◌, ◌≤◌, List, [], ◌∷◌, ◌++◌, length, map, refl, sym, ap, ◌∙◌, inl, inr, ⊎_elim, arith, take, set, append_assoc}
 use Rattle.std.proofs.lemmas.Bool.{cases_lt}
 use Rattle.std.proofs.lemmas.Nat.{pow_pos, div-add-mod'}
 use Rattle.std.proofs.Math.Nat.{mod-lt}
 use Rattle.std.proofs.lemmas.List.{take_more_set, map-append}
 use Rattle.storage_merkle.specs.Shape.{Shape, Laws, size, Inside, AreAligned}
-use Rattle.storage_merkle.specs.Laws.Shape.{inside_between, step, no_peaks}
+use Rattle.storage_merkle.specs.Laws.Shape.{inside_between}
 use Rattle.storage_merkle.specs.Laws.Multiples.{pow_two, next, multiple_add, multiple_down, power_multiple, is_multiple}
-use Rattle.storage_merkle.specs.Kept.{at_peaks}
+use Rattle.storage_merkle.specs.Trees.{Peak}
 use Rattle.storage_merkle.proofs.MemNodes.{IsPeak, IsKept, inside_peak}
 
 pub peak_inside : (hs : List ℕ) (s a k : ℕ) → IsPeak hs s a k → Inside hs s a k
@@ -74,52 +74,26 @@ module _ (S : Shape) (L : Laws S) where
       (λ q x. peak_topmost (S.peaks m) 0 a k q.first i q.low q.high ((L.inside m q.first (suc k) q.aligned).1
       (let y : S.birth q.first (suc k) ≤ b = (L.inside b q.first (suc k) q.aligned).0 x in omega arith)))
 
-  -- a walk along the peaks
-  pub record Walk (m first left : ℕ) : Type 0 where
-    pub sum : first + left ≡ m
-    pub aligned : AreAligned (S.peaks left) first
-    pub part : (a k : ℕ) → IsPeak (S.peaks left) first a k → IsPeak (S.peaks m) 0 a k
-
-  pub walk_start : (m : ℕ) → Walk m 0 m
-  walk_start m = record { sum = omega arith; aligned = L.aligned m; part = λ a k i. i }
-
-  pub walk_here : (m first left h : ℕ) → Walk m first left → S.peaks left ≡ h ∷ S.peaks (left - 2 ^ h)
-      → IsPeak (S.peaks m) 0 first h
-  walk_here m first left h w e = w.part first h (rw e (inl (refl, refl)))
-
-  pub walk_next : (m first left h : ℕ) → Walk m first left → S.peaks left ≡ h ∷ S.peaks (left - 2 ^ h) → 2 ^ h ≤ left
-      → Walk m (first + 2 ^ h) (left - 2 ^ h)
+  -- the first peak is kept too
+  pub first_kept : (b m p h : ℕ) → b ≤ m → size S m ≤ p → S.peaks m ≡ h ∷ S.peaks (m - 2 ^ h)
+      → IsKept S L b p 0 h
   unfolding AreAligned
-  walk_next m first left h w e le =
-      let al = rw e at w.aligned in
-      record { sum = omega (arith, w.sum); aligned = al.1; part = λ a k i. w.part a k (rw e (inr i)) }
+  first_kept b m p h le reach e =
+      let al = rw e at (L.aligned m) in
+      peak_kept b m p 0 h le reach al.0 (rw e (inl (refl, refl)))
 
-  pub walk_kept : (b m p first left h : ℕ) → b ≤ m → size S m ≤ p → Walk m first left
-      → S.peaks left ≡ h ∷ S.peaks (left - 2 ^ h) → IsKept S L b p first h
-  unfolding AreAligned
-  walk_kept b m p first left h le reach w e = let al = rw e at w.aligned in
-      peak_kept b m p first h le reach al.0 (walk_here m first left h w e)
+-- the digests of some peaks
+abbrev pub digests_of : (ℕ → ℕ → List ℕ) → List Peak → List (List ℕ)
+digests_of node ps = map (λ p. node p.height p.first) ps
 
-  pub walk_fits : (m first left h : ℕ) → m ≤ 2 ^ 62 → Walk m first left → S.peaks left ≡ h ∷ S.peaks (left - 2 ^ h)
-      → S.position first h < 2 ^ 64
-  walk_fits m first left h few w e = let s = step S L first left h (omega (arith, w.sum)) w.aligned e in s.fits
-
-  pub walk_end : (node : ℕ → ℕ → List ℕ) (xs : List (List ℕ)) (first left : ℕ) (T : List (List ℕ)) → left ≡ 0
-      → xs ++ at_peaks node first (S.peaks left) ≡ T → xs ≡ T
-  walk_end node xs first left T z e =
-      let none : at_peaks node first (S.peaks left) ≡ [] =
-      ap (λ m. at_peaks node first (S.peaks m)) z ∙ ap (at_peaks node first) (no_peaks S L) in
-      sym (append-nil xs) ∙ ap (λ ys. xs ++ ys) (sym none) ∙ e
-
-  pub walk_more : {A : Type 0} (node : ℕ → ℕ → List ℕ) (f : A → List ℕ) (ds : List A) (count first left h : ℕ) (v : A)
-      (T : List (List ℕ)) → map f (take count ds) ++ at_peaks node first (S.peaks left) ≡ T
-      → S.peaks left ≡ h ∷ S.peaks (left - 2 ^ h) → count < length ds → f v ≡ node h first
-      → map f (take (count + 1) (set ds count v)) ++ at_peaks node (first + 2 ^ h) (S.peaks (left - 2 ^ h)) ≡ T
-  walk_more node f ds count first left h v T e is l at =
-      let B = at_peaks node (first + 2 ^ h) (S.peaks (left - 2 ^ h)) in
-      ap (λ xs. map f xs ++ B) (take_more_set ds count v l)
-      ∙ ap (λ xs. xs ++ B) (map-append f (take count ds) (v ∷ []))
-      ∙ append_assoc (map f (take count ds)) (f v ∷ []) B
-      ∙ ap (λ x. map f (take count ds) ++ (x ∷ B)) at
-      ∙ ap (λ hs. map f (take count ds) ++ at_peaks node first hs) (sym is)
-      ∙ e
+pub walk_more : {A : Type 0} (node : ℕ → ℕ → List ℕ) (f : A → List ℕ) (ds : List A) (count : ℕ) (p : Peak) (ps qs : List Peak)
+    (v : A) (all : List (List ℕ)) → ps ≡ p ∷ qs → map f (take count ds) ++ digests_of node ps ≡ all → count < length ds
+    → f v ≡ node p.height p.first → map f (take (count + 1) (set ds count v)) ++ digests_of node qs ≡ all
+walk_more node f ds count p ps qs v all first e l at =
+    let later = digests_of node qs in
+    ap (λ xs. map f xs ++ later) (take_more_set ds count v l)
+    ∙ ap (λ xs. xs ++ later) (map-append f (take count ds) (v ∷ []))
+    ∙ append_assoc (map f (take count ds)) (f v ∷ []) later
+    ∙ ap (λ x. map f (take count ds) ++ (x ∷ later)) at
+    ∙ ap (λ rs. map f (take count ds) ++ digests_of node rs) (sym first)
+    ∙ e

@@ -22,11 +22,6 @@ abbrev pub TakesOver : (ℕ → Type 0) → Shape → ℕ → List ℕ → Type 
 TakesOver takes S n leaves = (p a k leaf : ℕ) → IsInner S p a k → p < size S n → Contains leaves leaf → a ≤ leaf
     → leaf < a + 2 ^ k → takes p
 
--- the bytes of what a bag is folded into, or nothing
-abbrev pub or_nothing : Option (List ℕ) → List ℕ
-or_nothing None = []
-or_nothing (Some x) = x
-
 -- items folded from the left, or none
 abbrev pub forward_of : HashFunction → List (List ℕ) → Option (List ℕ)
 forward_of h [] = None

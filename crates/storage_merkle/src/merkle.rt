@@ -24,7 +24,7 @@ pub use error::Error;
 pub use family::{Family, Graftable};
 pub use location::Location;
 pub use mem::Mem;
-pub use peaks::{NodesToPin, Peaks};
+pub use peaks::{NodesToPin, PeakNodes, Peaks, count_pins};
 pub use plan::{ElementPlan, RangePlan};
 pub use position::Position;
 pub use proof::{LentProof, Proof};

@@ -1,4 +1,3 @@
-pub mod Failing
 pub mod ReadingCommits
 pub mod Starts
 pub mod Padded

@@ -4,7 +4,7 @@ use Rattle.storage_codec.specs.declared.codec.error.Error.{Error}
 use Rattle.storage_codec.specs.Codec.{Answer, MayFail, mapped}
 use Rattle.storage_ops.specs.Fixed.{padded}
 use Rattle.storage_codec.specs.Padding.{zeros_at}
-use Rattle.storage_ops.proofs.Failing.{fails_mapped}
+use Rattle.storage_codec.specs.Laws.Failing.{fails_mapped}
 
 module _ {V W : Type 0} (f : V → W) (n : ℕ) (payload : Answer V) (x : V) (mid : List ℕ) where
   pub padded_read : (rest : List ℕ) → payload ≡ Ok (x, mid) → zeros_at n mid ≡ Ok (tt, rest)

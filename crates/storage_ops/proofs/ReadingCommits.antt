@@ -4,7 +4,7 @@ use Rattle.storage_codec.specs.declared.codec.error.Error.{Error}
 use Rattle.storage_codec.specs.Codec.{Answer, MayFail, bool_at}
 use Rattle.storage_ops.specs.Fixed.{presence_at}
 use Rattle.storage_codec.specs.Padding.{zeros_at}
-use Rattle.storage_ops.proofs.Failing.{fails_mapped}
+use Rattle.storage_codec.specs.Laws.Failing.{fails_mapped}
 
 -- a value behind its presence byte, or zeros in its place
 module _ {V : Type 0} (parse : List ℕ → Answer V) (size : ℕ) (bytes mid : List ℕ) (there : Bool) where

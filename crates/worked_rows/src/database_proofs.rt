@@ -54,37 +54,62 @@ fn shows_absence(alloc: Global, proof: &[u8], number: u8, root: &Digest) -> Resu
     check_absence::<Family, Sha256, Key, Value>(alloc, proof, 1, &((), ()), &key(number), root)
 }
 
+/// Returns the canonical root, and the value of the key of `number` with the bytes of its proof.
+fn value_proved(
+    alloc: Global,
+    database: &Database,
+    number: u8,
+) -> Result<(Option<Digest>, u64, Vec<u8>), Fail> {
+    let (value, proof) = database.prove_value(&key(number))?;
+    Ok((database.root(), value, proof.encode(alloc)?))
+}
+
+/// Returns the canonical root, and the bytes of the proof that the key of `number` has no value.
+fn absence_proved(
+    alloc: Global,
+    database: &Database,
+    number: u8,
+) -> Result<(Option<Digest>, Vec<u8>), Fail> {
+    let proof = database.prove_absence(&key(number))?;
+    Ok((database.root(), proof.encode(alloc)?))
+}
+
 #[test]
 fn database_value_in_bytes(rt: HostRuntime) -> Result<(), Fail> {
     let alloc = rt.alloc();
-    let database = two_keys(alloc)?;
-    let Some(root) = database.root() else {
+    let (root, value, bytes) = value_proved(alloc, &two_keys(alloc)?, 5)?;
+    let Some(root) = root else {
         panic!(rt; "no root");
     };
-    let (value, proof) = database.prove_value(&key(5))?;
-    let bytes = proof.encode(alloc)?;
     assert_eq!(rt; value, 7);
     assert_eq!(rt; bytes.len(), 170);
     assert!(rt; shows_value(alloc, &bytes, 5, 7, &root)?);
     assert!(rt; !shows_value(alloc, &bytes, 5, 8, &root)?);
     assert!(rt; !shows_value(alloc, &bytes, 9, 7, &root)?);
-    assert!(rt; proved_values_are_accepted(alloc, &database, key(9), &())?);
     Ok(())
 }
 
 #[test]
 fn database_absence_in_bytes(rt: HostRuntime) -> Result<(), Fail> {
     let alloc = rt.alloc();
-    let database = two_keys(alloc)?;
-    let Some(root) = database.root() else {
+    let (root, bytes) = absence_proved(alloc, &two_keys(alloc)?, 7)?;
+    let Some(root) = root else {
         panic!(rt; "no root");
     };
-    let bytes = database.prove_absence(&key(7))?.encode(alloc)?;
     assert_eq!(rt; bytes.len(), 183);
     assert!(rt; shows_absence(alloc, &bytes, 7, &root)?);
     assert!(rt; shows_absence(alloc, &bytes, 6, &root)?);
     assert!(rt; !shows_absence(alloc, &bytes, 9, &root)?);
     assert!(rt; !shows_absence(alloc, &bytes, 4, &root)?);
-    assert!(rt; proved_absences_are_accepted(alloc, &database, &key(1), &((), ()))?);
+    Ok(())
+}
+
+#[test]
+fn own_proofs_are_accepted(rt: HostRuntime) -> Result<(), Fail> {
+    let alloc = rt.alloc();
+    let database = two_keys(alloc)?;
+    let value = proved_values_are_accepted(alloc, &database, key(9), &())?;
+    let absence = proved_absences_are_accepted(alloc, &database, &key(1), &((), ()))?;
+    assert!(rt; value && absence);
     Ok(())
 }

@@ -3,8 +3,8 @@
 use commonware_storage::digest::Hasher;
 use commonware_storage::merkle::{Graftable, Location};
 use replay_columns::answers::{told, unblanked};
-use replay_columns::columns::{Fault, Hex, List, halves, parse};
-use replay_columns::shared::Given;
+use replay_columns::columns::{Fault, Hex, bytes, halves, number, parse};
+use replay_snapshots::shared::Given;
 use stateproof_cli::run;
 use std::alloc::Global;
 
@@ -12,15 +12,16 @@ use std::alloc::Global;
 #[derive(Drop)]
 struct Outcome {
     status: u8,
-    output: String,
-    errors: String,
+    output: Vec<u8>,
+    errors: Vec<u8>,
 }
 
 /// Returns a run over the words of a command line and an input. Want of memory is no outcome.
-fn outcome_of(alloc: Global, words: &[String], input: &[u8]) -> Result<Outcome, Fault> {
+fn outcome_of(alloc: Global, words: &[&str], input: &[u8]) -> Result<Outcome, Fault> {
+    let words = owned_words(alloc, words)?;
     let mut output = Vec::new(alloc);
     let mut errors = Vec::new(alloc);
-    let status = run(alloc, words, input, &mut output, &mut errors);
+    let status = run(alloc, &words, input, &mut output, &mut errors);
     // a vector refuses what is written to it for memory alone, and then the line is cut short
     let wants = !errors.ends_with(b"\n") || errors.as_slice() == b"stateproof: memory\n".as_slice();
     if status == 2 && wants {
@@ -28,8 +29,8 @@ fn outcome_of(alloc: Global, words: &[String], input: &[u8]) -> Result<Outcome, 
     }
     Ok(Outcome {
         status,
-        output: String::from_utf8(output).map_err(|_| Fault::Malformed)?,
-        errors: String::from_utf8(errors).map_err(|_| Fault::Malformed)?,
+        output,
+        errors,
     })
 }
 
@@ -44,39 +45,51 @@ fn owned_words(alloc: Global, line: &[&str]) -> Result<Vec<String>, Fault> {
 
 /// Returns what the program writes for the words of a command line and an input.
 fn output_of(alloc: Global, line: &[&str], input: &str) -> Result<String, Fault> {
-    let words = owned_words(alloc, line)?;
-    let outcome = outcome_of(alloc, &words, input.as_bytes())?;
+    let outcome = outcome_of(alloc, line, input.as_bytes())?;
     if outcome.status == 2 {
         return Err(Fault::Malformed);
     }
-    unended(alloc, outcome.output.as_str())
+    unended(alloc, &outcome.output)
 }
 
 /// `words input`: the status of a run over words with commas between them, `none` for none, and what it writes to its output and as
 /// its error, each `-` for nothing.
 pub fn runs(alloc: Global, columns: &[&str]) -> Result<String, Fault> {
-    let (List(words), input): (List<String>, Vec<u8>) = parse(alloc, columns)?;
+    let [line, input] = columns else {
+        return Err(Fault::Malformed);
+    };
+    let words = words_of(alloc, *line)?;
+    let input = bytes(alloc, *input)?;
     let outcome = outcome_of(alloc, &words, &input)?;
-    let output = column(alloc, outcome.output.as_str())?;
-    let errors = column(alloc, outcome.errors.as_str())?;
-    told(alloc, (outcome.status as usize, output, errors))
+    let output = column(alloc, &outcome.output)?;
+    let errors = column(alloc, &outcome.errors)?;
+    told(alloc, &(outcome.status as usize, output, errors))
+}
+
+/// Returns the words between commas; `none` is none.
+fn words_of(alloc: Global, line: &str) -> Result<Vec<&str>, Fault> {
+    if line == "none" {
+        return Ok(Vec::new(alloc));
+    }
+    Ok(line.split(',').collect(alloc)?)
 }
 
 /// `family chunk script`: the status of a run of `db` over the bytes of the script, and what it writes to its output and as its
 /// error, in hexadecimal.
 pub fn db(alloc: Global, columns: &[&str]) -> Result<String, Fault> {
-    let (family, chunk, script): (String, String, Vec<u8>) = parse(alloc, columns)?;
-    let words = owned_words(alloc, &["db", family.as_str(), chunk.as_str()])?;
-    let outcome = outcome_of(alloc, &words, &script)?;
-    let output = outcome.output.into_bytes();
+    let [family, chunk, script] = columns else {
+        return Err(Fault::Malformed);
+    };
+    let script = bytes(alloc, *script)?;
+    let outcome = outcome_of(alloc, &["db", *family, *chunk], &script)?;
     told(
         alloc,
-        (outcome.status as usize, output, outcome.errors.into_bytes()),
+        &(outcome.status as usize, outcome.output, outcome.errors),
     )
 }
 
 /// Returns the lines of a text as a column; none for no text.
-fn column(alloc: Global, text: &str) -> Result<Option<String>, Fault> {
+fn column(alloc: Global, text: &[u8]) -> Result<Option<String>, Fault> {
     if text.is_empty() {
         return Ok(None);
     }
@@ -85,7 +98,10 @@ fn column(alloc: Global, text: &str) -> Result<Option<String>, Fault> {
 }
 
 /// Returns the lines of a text with a blank in place of the feed between two of them.
-fn unended(alloc: Global, text: &str) -> Result<String, Fault> {
+fn unended(alloc: Global, text: &[u8]) -> Result<String, Fault> {
+    let Ok(text) = str::from_utf8(text) else {
+        return Err(Fault::Malformed);
+    };
     let mut answer = String::new(alloc);
     for line in text.split_terminator('\n') {
         if !answer.is_empty() {
@@ -99,34 +115,22 @@ fn unended(alloc: Global, text: &str) -> Result<String, Fault> {
 /// `family chunk floor location operations`: the root as `root` writes it, root and proof as `prove` writes them, and what
 /// `check` answers for them. An operation is its bit, a colon and its bytes.
 pub fn program(alloc: Global, columns: &[&str]) -> Result<String, Fault> {
-    let (family, chunk, floor, location, operations): (String, String, String, String, String) =
-        parse(alloc, columns)?;
-    let input = lines(alloc, operations.as_str())?;
-    let line = ["root", family.as_str(), chunk.as_str(), floor.as_str()];
-    let root = output_of(alloc, &line, input.as_str())?;
-    let line = [
-        "prove",
-        family.as_str(),
-        chunk.as_str(),
-        floor.as_str(),
-        location.as_str(),
-    ];
+    let [family, chunk, floor, location, operations] = columns else {
+        return Err(Fault::Malformed);
+    };
+    let input = lines(alloc, *operations)?;
+    let root = output_of(alloc, &["root", *family, *chunk, *floor], input.as_str())?;
+    let line = ["prove", *family, *chunk, *floor, *location];
     let made = output_of(alloc, &line, input.as_str())?;
-    let claim = claim(alloc, operations.as_str(), location.as_str(), made.as_str())?;
-    let line = [
-        "check",
-        family.as_str(),
-        chunk.as_str(),
-        root.as_str(),
-        location.as_str(),
-    ];
+    let claim = claim(alloc, *operations, *location, made.as_str())?;
+    let line = ["check", *family, *chunk, root.as_str(), *location];
     let answer = output_of(alloc, &line, claim.as_str())?;
-    told(alloc, (root, made, answer))
+    told(alloc, &(root, made, answer))
 }
 
 /// Returns the lines to check: the operation at a location, and the proof behind the root that `prove` wrote.
 fn claim(alloc: Global, operations: &str, location: &str, made: &str) -> Result<String, Fault> {
-    let location: usize = parse(alloc, &[location])?;
+    let location = number(location)? as usize;
     let operation = operations.split(',').nth(location).ok_or(Fault::Malformed)?;
     let (_, claimed) = halves(operation, ':')?;
     let proof = made.split_once(' ').map_or("", |(_, proof)| proof);
@@ -163,6 +167,6 @@ pub fn program_checks<F: Graftable, H: Hasher>(
     };
     told(
         alloc,
-        given.shows_operation::<F, H>(alloc, loc, &operation)?,
+        &given.shows_operation::<F, H>(alloc, loc, &operation)?,
     )
 }

@@ -4,7 +4,9 @@ ghost use Rattle.std.specs.Prelude.{◌≤◌};
 ghost use Rattle.storage_bitmap.specs.Chunks.{IsChunkSize};
 
 use replay_columns::answers::Series;
-use replay_columns::columns::{Fault, Hex, Refusal, digests_between, halves, number, or_fault};
+use replay_columns::columns::{
+    Fault, Hex, List, Refusal, digests_between, halves, number, or_fault, parse,
+};
 use std::alloc::Global;
 use storage_bitmap::bitmap::authenticated::{
     BitMap, MerkleizedBitMap, PrunedState, UnmerkleizedBitMap,
@@ -21,11 +23,11 @@ pub enum Stage<D: Digest, const N: usize> {
     Unmerkleized(UnmerkleizedBitMap<D, N>),
 }
 
-/// Returns the bitmap after calls, which begins without bits.
+/// Returns the bitmap after calls with commas between them, which begins without bits.
 pub fn after<H: Hasher<Digest = FixedBytes<D>>, const D: usize, const N: usize>(
     alloc: Global,
     hasher: &Standard<H>,
-    calls: &[String],
+    calls: &str,
 ) -> Result<MerkleizedBitMap<FixedBytes<D>, N>, Fault>
 where
     FixedBytes<D>: Digest,
@@ -33,8 +35,8 @@ where
     requires small { D ≤ 64 }
 {
     let mut stage = begun(alloc, hasher)?;
-    for call in calls {
-        stage = called(alloc, hasher, stage, call.as_str())?;
+    for call in calls.split(',') {
+        stage = called(alloc, hasher, stage, call)?;
     }
     match stage {
         Stage::Merkleized(bitmap) => Ok(bitmap),
@@ -257,10 +259,11 @@ pub fn bits_proved<H: Hasher, const N: usize>(
     alloc: Global,
     hasher: &Standard<H>,
     bitmap: &MerkleizedBitMap<H::Digest, N>,
-    bits: &[u64],
+    bits: &str,
 ) -> Result<String, Fault> {
+    let List(bits): List<u64> = parse(alloc, &[bits])?;
     let mut series = Series::new(alloc);
-    for bit in bits {
+    for bit in &bits {
         let proof = bit_proved(alloc, hasher, bitmap, *bit)?;
         series.push_at(alloc, *bit, &proof)?;
     }

@@ -1,37 +1,31 @@
 //! The list on proofs of a bitmap that are said to be other ones.
 
-ghost use Rattle.std.specs.Prelude.{◌≤◌};
 ghost use Rattle.storage_bitmap.specs.Chunks.{IsChunkSize};
 
-use crate::bitmaps::histories::after;
 use replay_columns::answers::Series;
 use replay_columns::columns::{Fault, List, or_fault, parse, parts_between};
 use std::alloc::Global;
 use storage_bitmap::bitmap::authenticated::MerkleizedBitMap;
-use storage_codec::codec::FixedBytes;
-use storage_codec::digest::{Digest, Hasher};
+use storage_codec::digest::Hasher;
 use storage_merkle::merkle::Location;
 use storage_merkle::merkle::hasher::Standard;
 
 /// `calls claims`: of each claim on the bitmap after the calls the numbers of leaves with which it is accepted. A claim
 /// `BIT:CLAIMED:INACTIVE:FIRST:LAST` is the proof of one bit, said to be one of another bit with that number of inactive peaks and,
 /// in turn, each number of leaves from the first to the last.
-pub fn bitmaps_verified<H: Hasher<Digest = FixedBytes<D>>, const D: usize, const N: usize>(
+pub fn bitmaps_verified<H: Hasher, const N: usize>(
     alloc: Global,
     hasher: &Standard<H>,
-    columns: &[&str],
+    bitmap: &MerkleizedBitMap<H::Digest, N>,
+    claims: &str,
 ) -> Result<String, Fault>
-where
-    FixedBytes<D>: Digest,
-    requires chunk { IsChunkSize N }
-    requires small { D ≤ 64 }
+    requires { IsChunkSize N }
 {
-    let (List(calls), List(claims)): (List<String>, List<String>) = parse(alloc, columns)?;
-    let bitmap = after::<H, D, N>(alloc, hasher, &calls)?;
+    let List(claims): List<String> = parse(alloc, &[claims])?;
     let mut answers = Series::new(alloc);
     for claim in &claims {
         let numbers: Vec<u64> = parts_between(alloc, claim.as_str(), ':')?;
-        answers.push(alloc, &accepted(alloc, hasher, &bitmap, &numbers)?)?;
+        answers.push(alloc, &accepted(alloc, hasher, bitmap, &numbers)?)?;
     }
     Ok(answers.finish()?)
 }

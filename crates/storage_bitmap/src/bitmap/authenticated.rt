@@ -15,8 +15,7 @@ mod rehashed;
 mod state;
 mod unmerkleized;
 
-use crate::bitmap::prunable::read;
-use crate::bitmap::{Prunable, Readable};
+use crate::bitmap::{Prunable, Readable, is_set};
 pub use merkleized::PrunedState;
 pub use state::{Merkleized, State, Unmerkleized};
 use std::alloc::Global;
@@ -147,7 +146,7 @@ impl<D: Digest, const N: usize, M: State<D>> BitMap<D, N, M> {
         ensures meaning { (bits : List Bool) → chunk.now ≡ chunk_of N bits (bit / (8 * N))
             → result ≡ slice_index_or bits bit false }
     {
-        read(chunk, bit % (8 * N as u64))
+        is_set(chunk, bit % (8 * N as u64))
     }
 }
 

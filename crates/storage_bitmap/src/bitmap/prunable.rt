@@ -103,7 +103,7 @@ impl<const N: usize> Prunable<N> {
         ensures { result ≡ slice_index_or self.now.bits (bit - self.now.pruned * (8 * N)) false }
     {
         let place = bit - pruned_bits::<N>(self.pruned);
-        read(&self.bytes, place)
+        is_set(&self.bytes, place)
     }
 
     /// Chunk number `index`, which is not pruned and has a bit. What is past the bits is 0.
@@ -191,8 +191,9 @@ fn push_zero_bytes(bytes: &mut Vec<u8>, more: usize) -> Result<(), NoMemory>
     Ok(())
 }
 
-/// Bit number `place` of `bytes`: of byte `place / 8`, under the mask `1 << (place mod 8)`.
-pub(crate) fn read(bytes: &[u8], place: u64) -> bool
+/// Returns whether bit number `place` of `bytes` is set: of byte `place / 8`, which must be there, under the mask
+/// `1 << (place mod 8)`. It allocates nothing.
+pub fn is_set(bytes: &[u8], place: u64) -> bool
     requires { place / 8 < length bytes.now }
     ensures { result ≡ bit_in bytes.now place }
 {

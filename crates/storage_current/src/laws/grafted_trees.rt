@@ -2,7 +2,7 @@
 
 ghost use Rattle.std.specs.Prelude.{◌≡◌, ℕ, ◌+◌, ◌^◌, ◌<◌, ◌≤◌, ◌↔◌, [], List, length, get_or, None, Option, Some, IsSome, option_map};
 ghost use Rattle.storage_merkle.specs.Kept.{NodesOver, StandsFor, kept_at};
-ghost use Rattle.storage_merkle.specs.Nodes.{IsNode};
+ghost use Rattle.storage_merkle.specs.Nodes.{CoversSame, IsNode};
 ghost use Rattle.storage_merkle.specs.Shape.{Inside, size};
 ghost use Rattle.storage_current.specs.CombinedViews.{AnswersAreTrue, AreFirstGraftedLeaves, EachIsCoverable, chunk_node, grafted_node};
 ghost use Rattle.storage_current.specs.GraftedTrees.{IsCoverable, IsHashedOver, IsKeptIn, IsPeak, Keeps, regrafted, tree_at};
@@ -11,8 +11,18 @@ ghost use Rattle.storage_current.specs.Snapshots.{Snapshot, graftable, grafting_
 use crate::qmdb::current::grafting::GraftedTree;
 use storage_codec::digest::{Digest, Hasher};
 use storage_merkle::laws::kept::trees_keep_the_nodes_of_their_list;
-use storage_merkle::merkle::Graftable;
 use storage_merkle::merkle::mem::Mem;
+use storage_merkle::merkle::{Family, Graftable};
+
+/// A node over chunks and one over operations that cover the same leaves settle each other's position: so
+/// [`ops_to_grafted_pos`](crate::qmdb::current::grafting::ops_to_grafted_pos) and
+/// [`grafted_to_ops_pos`](crate::qmdb::current::grafting::grafted_to_ops_pos) undo each other.
+pub fn grafted_positions_are_unique<F: Family>()
+    ensures down { (height position p q : ℕ) → CoversSame F.shape height p position
+        → CoversSame F.shape height q position → p ≡ q }
+    ensures up { (height grafted p q : ℕ) → CoversSame F.shape height grafted p
+        → CoversSame F.shape height grafted q → p ≡ q }
+{}
 
 /// A node over chunks can be had just where it is coverable by the nodes that are kept. A node that is kept is answered as it is kept,
 /// and from true nodes only true ones are hashed. This holds of whatever is [`Readable`](storage_merkle::merkle::Readable).

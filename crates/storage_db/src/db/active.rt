@@ -2,7 +2,6 @@
 
 ghost use Rattle.std.specs.Prelude.{◌≡◌, option_map, slice_get};
 ghost use Rattle.std.specs.BTreeMap.{IsOrdered};
-ghost use Rattle.storage_db.specs.Databases.{least_location};
 ghost use Rattle.storage_db.specs.Rings.{around, previous};
 
 use std::collections::BTreeMap;
@@ -54,14 +53,4 @@ pub(crate) fn previous<'a, K: Ord, W>(
             .range((Bound::Excluded(key), Bound::Unbounded))
             .next_back(),
     }
-}
-
-/// Returns the least location of an active update; `end` if no key is active.
-pub(crate) fn least_location<K: Ord, W>(active: &BTreeMap<K, Active<W>>, end: u64) -> u64
-    ensures { result ≡ least_location active.now.entries end }
-{
-    active
-        .values()
-        .map(|entry| entry.location)
-        .fold(end, |least, location| least.min(location))
 }

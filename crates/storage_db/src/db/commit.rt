@@ -1,33 +1,36 @@
 //! What a database keeps of its last commit.
 
-ghost use Rattle.std.specs.Prelude.{◌≡◌, ◌+◌, ◌-◌, ◌<◌, ◌∷◌, ◌++◌, [], true, length, Some, None, option_map, IfOk, IfErr, MatchOption, vec_len};
-ghost use Rattle.std.specs.List.{AllZip};
-ghost use Rattle.storage_merkle.specs.Shape.{max_leaves};
-ghost use Rattle.storage_bitmap.specs.Chunks.{IsChunkSize};
-ghost use Rattle.storage_current.specs.Held.{operation_proof_of};
+ghost use Rattle.std.specs.Prelude.{◌≡◌, ◌+◌, ◌-◌, ◌/◌, ◌^◌, ◌<◌, Some, None, option_map, IfOk, IfErr, OnOk, OnErr, MatchOption, vec_len};
+ghost use Rattle.std.specs.BTreeMap.Range.{IsLeBy, IsLtBy, entries_between};
+ghost use Rattle.storage_bitmap.specs.Chunks.{IsChunkSize, chunks_from};
+ghost use Rattle.storage_current.specs.Held.{operation_proof_of, range_proof_of};
 ghost use Rattle.storage_current.specs.HeldKeys.{exclusion_of, exclusion_seen};
 ghost use Rattle.storage_current.specs.Keys.{keyed_by};
 ghost use Rattle.storage_current.specs.KeptSnapshots.{StandsForSnapshot};
-ghost use Rattle.storage_current.specs.Snapshots.{IsSnapshot, Snapshot as SnapshotOf, grafting_of, own_operation_proof};
+ghost use Rattle.storage_current.specs.Snapshots.{IsSnapshot, Snapshot as SnapshotOf, first_chunk, grafting_of, height, own_operation_proof, own_range_proof};
 ghost use Rattle.storage_db.specs.Databases.{Committed, active_at, value_at};
 ghost use Rattle.storage_db.specs.Kept.{IsCopy, KeepsCommit};
-ghost use Rattle.storage_db.specs.Logs.{cleared_at};
-ghost use Rattle.storage_db.specs.Parts.{texts};
+ghost use Rattle.storage_db.specs.Parts.{IsCommitOf, IsSinceCommit};
+ghost use Rattle.storage_db.specs.Ranges.{pairs_of};
 ghost use Rattle.storage_db.specs.Shown.{IsAbsenceProof, IsValueProof, absence_by};
 
 use crate::db::Error;
 use crate::db::active::{Active, previous};
 use crate::db::log::Log;
-use crate::db::nodes::own_proof;
+use crate::db::nodes::{chunks_touched, own_proof, own_range};
+use crate::db::ranges::{Range, entries_of};
 use crate::db::strings::{next_or_own, value_copy};
-use crate::laws::operations_settle_keys;
 use std::alloc::Global;
 use std::collections::BTreeMap;
 use std::marker::Model;
+use std::ops::RangeBounds;
+use storage_bitmap::bitmap::Prunable;
 use storage_codec::NoMemory;
 use storage_codec::digest::Hasher;
+use storage_current::laws::keys::operations_settle_keys;
 use storage_current::qmdb::current::Snapshot;
 use storage_current::qmdb::current::ordered::constant::{ExclusionProof, KeyValueProof};
+use storage_current::qmdb::current::proof::RangeProof;
 use storage_current::qmdb::current::proof::constant::OperationProof;
 use storage_merkle::merkle::{Graftable, Location};
 use storage_ops::qmdb::any::operation::OperationCodec;
@@ -48,7 +51,7 @@ pub(crate) struct Commit<F: Graftable, H: Hasher, K: Key, V: ValueEncoding, cons
 
 impl<F: Graftable, H: Hasher, K: Key, V: ValueEncoding, const N: usize> Model
     for Commit<F, H, K, V, N> {
-    ghost use Rattle.std.specs.Prelude.{◌<◌};
+    ghost use Rattle.std.specs.Prelude.{◌≡◌, ◌<◌};
     ghost use Rattle.storage_db.specs.Kept.{KeptCommit};
 
     ghost Value = { KeptCommit K V.Value };
@@ -61,7 +64,7 @@ impl<F: Graftable, H: Hasher, K: Key, V: ValueEncoding, const N: usize> Model
       snapshot = c.snapshot;
     } };
 
-    ghost invariant = { λ c. 0 < c.length };
+    ghost invariant = { λ c. (0 < c.length) × (c.snapshot.status.pruned ≡ 0) };
 }
 
 impl<F: Graftable, H: Hasher, K: Key, V: OperationCodec<F, Update<K, V>>, const N: usize> Commit<
@@ -71,45 +74,85 @@ impl<F: Graftable, H: Hasher, K: Key, V: OperationCodec<F, Update<K, V>>, const 
     V,
     N,
 > {
-    /// Returns the commit that is written as `bytes`, after the operations of `log`, with the value `metadata` and the
-    /// floor `floor`; `before` is where the commit before it stands.
-    pub(crate) fn after(
+    /// Returns the first commit, which is the last operation of `log`, with the value `metadata` and the floor `floor`.
+    pub(crate) fn first(
         alloc: Global,
         log: &Log,
         active: &BTreeMap<K, Active<V::Value>>,
-        before: Option<u64>,
         metadata: Option<V::Value>,
         floor: Location<F>,
-        bytes: &[u8],
     ) -> Result<Self, NoMemory>
         requires size { IsChunkSize N }
-        requires few { vec_len log.now.operations < max_leaves }
-        ensures metadata { IfOk result (λ c. c.metadata ≡ metadata) }
-        ensures floor { IfOk result (λ c. c.floor ≡ floor) }
-        ensures count { IfOk result (λ c. c.count ≡ length log.now.operations.items + 1) }
-        ensures entries { let e = keyed_by K.text V.Value.text V.operation_text K.cmp in
-            IfOk result (λ c. AllZip (IsCopy e V.Value.view) active.now.entries c.entries) }
-        ensures snapshot { let s : SnapshotOf = record {
-          operations = texts log.now ++ bytes.now ∷ [];
-          bits = cleared_at before log.now.bits.items ++ true ∷ [];
-          floor = floor;
-        } in
-            IfOk result (λ c. IsSnapshot s
-            × StandsForSnapshot H.hash_of (grafting_of F.shape N) c.snapshot s) }
+        requires some { 0 < vec_len log.now.operations }
+        ensures { let e = keyed_by K.text V.Value.text V.operation_text K.cmp in
+            IfOk result (IsCommitOf e V.Value.view H.hash_of (grafting_of F.shape N) log.now
+            active.now.entries None metadata floor) }
     {
-        let tree = log.tree_with::<F, H>(alloc, bytes)?;
-        let status = log.status_with::<N>(alloc, before)?;
-        let Ok(snapshot) = Snapshot::of_tree(alloc, tree, status, floor) else {
+        let mut status = Prunable::new(alloc);
+        status.append(&log.bits)?;
+        let Ok(snapshot) = Snapshot::new(alloc, &log.operations, status, floor) else {
             return Err(NoMemory);
         };
         let active = active.clone()?;
         Ok(Commit {
-            length: log.len() + 1,
+            length: log.len(),
             metadata,
             floor,
             active,
             snapshot,
         })
+    }
+
+    /// Becomes the commit that is the last operation of `log`, with the value `metadata` and the floor `floor`. Of the
+    /// snapshot only what the operations since the last commit change is hashed.
+    pub(crate) fn extend(
+        &mut self,
+        alloc: Global,
+        log: &Log,
+        active: &BTreeMap<K, Active<V::Value>>,
+        metadata: Option<V::Value>,
+        floor: Location<F>,
+    ) -> Result<(), NoMemory>
+        requires { 0 < vec_len log.now.operations }
+        ensures ok { let e = keyed_by K.text V.Value.text V.operation_text K.cmp in
+            IsSinceCommit log.now self.old → OnOk result (IsCommitOf e V.Value.view H.hash_of
+            (grafting_of F.shape N) log.now active.now.entries (Some self.old) metadata floor
+            self.new) }
+        ensures err { OnErr result (self.new ≡ self.old) }
+    {
+        let active = active.clone()?;
+        let clear = log.all_cleared::<F>(alloc, self.location())?;
+        let operations = log.new_operations();
+        let bits = log.new_bits();
+        // the last that may be refused
+        if self
+            .snapshot
+            .extend(alloc, operations, bits, &clear, floor)
+            .is_err()
+        {
+            return Err(NoMemory);
+        }
+        self.length = log.len();
+        self.metadata = metadata;
+        self.floor = floor;
+        self.active = active;
+        Ok(())
+    }
+
+    /// Returns how many operations there are up to the commit, itself among them.
+    pub(crate) fn len(&self) -> u64
+        ensures { result ≡ self.now.count }
+    {
+        self.length
+    }
+
+    /// Returns the keys of `range` that were active, with their values.
+    pub(crate) fn range<R: RangeBounds<K> + Drop>(&self, range: R) -> Range<'_, K, V::Value>
+        requires { R.is_forward range (IsLeBy K.cmp) (IsLtBy K.cmp) }
+        ensures { R.has_bounds range → result ≡ pairs_of (entries_between K.cmp
+            (R.start_bound range) (R.end_bound range) self.now.entries) }
+    {
+        entries_of(&self.active, range)
     }
 
     /// Returns the location of the commit itself.
@@ -167,6 +210,30 @@ impl<F: Graftable, H: Hasher, K: Key, V: OperationCodec<F, Update<K, V>>, const 
         let leaves = Location::new(self.length);
         let location = Location::new(location);
         own_proof(alloc, &self.snapshot, leaves, self.floor, location)
+    }
+
+    /// Returns the proof of the operations from `start` to before `end`, and the chunks of bits that they touch.
+    pub(crate) fn range_proof(
+        &self,
+        alloc: Global,
+        start: u64,
+        end: u64,
+    ) -> Result<(RangeProof<F, H::Digest>, Vec<[u8; N]>), NoMemory>
+        requires { IsChunkSize N }
+        ensures { let e = keyed_by K.text V.Value.text V.operation_text K.cmp in
+            let g = grafting_of F.shape N in
+            IfOk result (λ r. (commit : Committed K V.Value)
+            → KeepsCommit e V.Value.view H.hash_of g self.now commit
+            → (range_proof_of H.Digest.text r.0
+            ≡ own_range_proof H.hash_of g commit.snapshot start end)
+            × (r.1.items ≡ chunks_from N commit.snapshot.bits
+            ((end - 1) / 2 ^ height g - first_chunk g start + 1) (first_chunk g start))) }
+    {
+        let leaves = Location::new(self.length);
+        let range = Location::new(start)..Location::new(end);
+        let proof = own_range(alloc, &self.snapshot, leaves, self.floor, range)?;
+        let chunks = chunks_touched(alloc, self.snapshot.status(), start, end)?;
+        Ok((proof, chunks))
     }
 
     /// Returns the value of `key`, and the proof of it.

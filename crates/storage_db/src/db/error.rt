@@ -23,6 +23,9 @@ pub enum Error<F> {
     /// There would be more operations than a tree may have, 2^62; how many there are.
     #[error("no room after {0} operations")]
     Full(Location<F>),
+    /// The location is not of an operation of the last commit.
+    #[error("no operation of the last commit at {0}")]
+    RangeOutOfBounds(Location<F>),
     /// Out of memory.
     #[error("out of memory")]
     Memory,

@@ -1,28 +1,36 @@
 //! The ordered database.
 
-ghost use Rattle.std.specs.Prelude.{◌≡◌, ◌-◌, Option, None, Some, true, length, option_map, option_and_then, is_some, IfOk, IfErr, IsSomeAnd, MatchOption, OnOk, OnErr};
+ghost use Rattle.std.specs.Prelude.{◌≡◌, ◌≤◌, Option, None, Some, true, length, map, nat_lt, if◌then◌else◌, option_map, option_and_then, is_some, IfOk, IfErr, IsSomeAnd, MatchOption, OnOk, OnErr};
+ghost use Rattle.std.specs.BTreeMap.Range.{IsLeBy, IsLtBy, entries_between};
 ghost use Rattle.storage_bitmap.specs.Chunks.{IsChunkSize};
-ghost use Rattle.storage_current.specs.Held.{operation_proof_of};
+ghost use Rattle.storage_current.specs.Held.{operation_proof_of, range_proof_of};
 ghost use Rattle.storage_current.specs.HeldKeys.{exclusion_of};
 ghost use Rattle.storage_current.specs.Keys.{keyed_by};
 ghost use Rattle.storage_current.specs.KeptSnapshots.{StandsForSnapshot};
 ghost use Rattle.storage_current.specs.Snapshots.{canonical_root, grafting_of};
 ghost use Rattle.storage_db.specs.Databases.{Committed, Database, Put, Delete, Commit as Committing, active_at, empty, value_at};
 ghost use Rattle.storage_db.specs.Kept.{IsDone, IsCommandRefused, IsMade, Keeps};
-ghost use Rattle.storage_db.specs.Shown.{IsAbsenceProof, IsValueProof};
+ghost use Rattle.storage_db.specs.Ranges.{pairs_of, seen_pairs};
+ghost use Rattle.storage_db.specs.Shown.{IsAbsenceProof, IsPage, IsValueProof};
+
+mod opening;
 
 use crate::db::active::Active;
 use crate::db::changes::{put_active, put_commit, put_new, remove};
 use crate::db::commit::Commit;
 use crate::db::log::Log;
+use crate::db::ranges::{Range, entries_of};
 use crate::db::{Error, KeyedEncoding, OrderedCodec};
-use crate::laws::operations_settle_keys;
+pub use opening::OpenError;
 use std::alloc::Global;
 use std::collections::BTreeMap;
 use std::marker::Model;
+use std::ops::RangeBounds;
 use storage_codec::digest::Hasher;
+use storage_current::laws::keys::operations_settle_keys;
 use storage_current::qmdb::current::Snapshot;
 use storage_current::qmdb::current::ordered::constant::{ExclusionProof, KeyValueProof};
+use storage_current::qmdb::current::proof::RangeProof;
 use storage_merkle::merkle::{Graftable, Location};
 use storage_ops::qmdb::operation::Key;
 
@@ -45,13 +53,13 @@ impl<F: Graftable, H: Hasher, K: Key, V: KeyedEncoding<K>, const N: usize> Model
     ghost use Rattle.storage_current.specs.Keys.{keyed_by};
     ghost use Rattle.storage_current.specs.Snapshots.{grafting_of};
     ghost use Rattle.storage_db.specs.Kept.{IsMade, KeptDatabase};
-    ghost use Rattle.storage_db.specs.Parts.{kept_of};
+    ghost use Rattle.storage_db.specs.Parts.{IsSince, kept_of};
 
     ghost Value = { KeptDatabase K V.Value };
 
     ghost view = { λ s. kept_of s.log s.active.entries s.last };
 
-    ghost invariant = { λ s. IsChunkSize N × IsMade
+    ghost invariant = { λ s. IsChunkSize N × IsSince s.log s.last × IsMade
         (keyed_by K.text V.Value.text V.keyed_text K.cmp) V.Value.view H.hash_of
         (grafting_of F.shape N) (kept_of s.log s.active.entries s.last) };
 }
@@ -140,10 +148,14 @@ impl<F: Graftable, H: Hasher, K: Key, V: OrderedCodec<F, K>, const N: usize> Ord
         ensures why { let e = keyed_by K.text V.Value.text V.operation_text K.cmp in IfErr result
             (IsCommandRefused e V.Value.view H.hash_of (grafting_of F.shape N) self.old (Committing metadata)) }
     {
-        let before = self.last_location();
-        let commit = put_commit(self.alloc, &mut self.log, &self.active, before, metadata)?;
-        self.last = Some(commit);
-        Ok(())
+        operations_settle_keys::<F, K, V>();
+        put_commit(
+            self.alloc,
+            &mut self.log,
+            &self.active,
+            &mut self.last,
+            metadata,
+        )
     }
 
     /// Returns the value that `key` has now; none if it has none. Allocates nothing.
@@ -156,6 +168,19 @@ impl<F: Graftable, H: Hasher, K: Key, V: OrderedCodec<F, K>, const N: usize> Ord
             Some(entry) => Some(&entry.value),
             None => None,
         }
+    }
+
+    /// Returns the keys of `range` that have a value now, with their values, in the order of the keys. Allocates
+    /// nothing.
+    pub fn range<R: RangeBounds<K> + Drop>(&self, range: R) -> Range<'_, K, V::Value>
+        requires { R.is_forward range (IsLeBy K.cmp) (IsLtBy K.cmp) }
+        ensures { let e = keyed_by K.text V.Value.text V.operation_text K.cmp in
+            (d : Database K V.Value)
+            → Keeps e V.Value.view H.hash_of (grafting_of F.shape N) self.now d
+            → R.has_bounds range → result ≡ pairs_of (entries_between K.cmp (R.start_bound range)
+            (R.end_bound range) d.entries) }
+    {
+        entries_of(&self.active, range)
     }
 
     /// Returns how many keys have a value now. Allocates nothing.
@@ -184,6 +209,33 @@ impl<F: Graftable, H: Hasher, K: Key, V: OrderedCodec<F, K>, const N: usize> Ord
         operations_settle_keys::<F, K, V>();
         match &self.last {
             Some(last) => last.get(key),
+            None => None,
+        }
+    }
+
+    /// Returns the keys of `range` that had a value at the last commit, with their values, in the order of the keys;
+    /// none before the first commit. Allocates nothing.
+    pub fn range_committed<R: RangeBounds<K> + Drop>(
+        &self,
+        range: R,
+    ) -> Option<Range<'_, K, V::Value>>
+        requires { R.is_forward range (IsLeBy K.cmp) (IsLtBy K.cmp) }
+        ensures value { let e = keyed_by K.text V.Value.text V.operation_text K.cmp in
+            (d : Database K V.Value)
+            → Keeps e V.Value.view H.hash_of (grafting_of F.shape N) self.now d
+            → MatchOption d.last (result ≡ None) (λ commit. IsSomeAnd result (λ shown.
+            R.has_bounds range → seen_pairs K.text V.Value.view shown ≡ seen_pairs K.text V.Value.view
+            (pairs_of (entries_between K.cmp (R.start_bound range) (R.end_bound range) commit.entries)))) }
+        ensures text { let e = keyed_by K.text V.Value.text V.operation_text K.cmp in
+            (d : Database K V.Value)
+            → Keeps e V.Value.view H.hash_of (grafting_of F.shape N) self.now d
+            → MatchOption d.last (result ≡ None) (λ commit. IsSomeAnd result (λ shown.
+            R.has_bounds range → seen_pairs K.text V.Value.text shown ≡ seen_pairs K.text V.Value.text
+            (pairs_of (entries_between K.cmp (R.start_bound range) (R.end_bound range) commit.entries)))) }
+    {
+        operations_settle_keys::<F, K, V>();
+        match &self.last {
+            Some(last) => Some(last.range(range)),
             None => None,
         }
     }
@@ -301,6 +353,45 @@ impl<F: Graftable, H: Hasher, K: Key, V: OrderedCodec<F, K>, const N: usize> Ord
         }
     }
 
+    /// Returns a page of the log of the last commit: at most `max_ops` operations from `start` on, as they are written,
+    /// with the chunks of bits that they touch, and the proof of both against the last commit's root. The operations
+    /// are lent.
+    ///
+    /// # Errors
+    ///
+    /// The first of: `NotCommitted` before the first commit; `RangeOutOfBounds(start)` if `start` is not of an
+    /// operation of the last commit; `Memory`.
+    pub fn range_proof(
+        &self,
+        start: Location<F>,
+        max_ops: u64,
+    ) -> Result<(RangeProof<F, H::Digest>, &[Vec<u8>], Vec<[u8; N]>), Error<F>>
+        requires { 1 ≤ max_ops }
+        ensures own { let e = keyed_by K.text V.Value.text V.operation_text K.cmp in
+            let g = grafting_of F.shape N in
+            IfOk result (λ r. (d : Database K V.Value) → Keeps e V.Value.view H.hash_of g self.now d
+            → IsSomeAnd d.last (λ commit. IsPage H.hash_of g commit.snapshot start max_ops
+            (range_proof_of H.Digest.text r.0) (map (λ v. v.items) r.1.now) r.2.items)) }
+        ensures why { let e = keyed_by K.text V.Value.text V.operation_text K.cmp in
+            IfErr result (λ error. (d : Database K V.Value)
+            → Keeps e V.Value.view H.hash_of (grafting_of F.shape N) self.now d
+            → MatchOption d.last (error ≡ Error.NotCommitted) (λ commit. error
+            ≡ (if nat_lt start (length commit.snapshot.operations) then Error.Memory
+            else Error.RangeOutOfBounds start))) }
+    {
+        let Some(last) = &self.last else {
+            return Err(Error::NotCommitted);
+        };
+        let first = start.as_u64();
+        if first >= last.len() {
+            return Err(Error::RangeOutOfBounds(start));
+        }
+        let end = first.saturating_add(max_ops).min(last.len());
+        let operations = &self.log.operations[first as usize..end as usize];
+        let (proof, chunks) = last.range_proof(self.alloc, first, end)?;
+        Ok((proof, operations, chunks))
+    }
+
     /// Some list of commands leaves what the database keeps.
     pub(crate) fn is_made(&self)
         ensures size { IsChunkSize N }
@@ -308,15 +399,5 @@ impl<F: Graftable, H: Hasher, K: Key, V: OrderedCodec<F, K>, const N: usize> Ord
             IsMade e V.Value.view H.hash_of (grafting_of F.shape N) self.now }
     {
         let _ = &self.log;
-    }
-
-    /// Where the last commit stands; none before the first commit.
-    fn last_location(&self) -> Option<u64>
-        ensures { result ≡ option_map (λ commit. commit.count - 1) self.now.last }
-    {
-        match &self.last {
-            Some(last) => Some(last.location()),
-            None => None,
-        }
     }
 }

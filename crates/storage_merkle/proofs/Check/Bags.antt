@@ -1,14 +1,14 @@
 -- What a check folds its peaks into is what the calculation of the check bags.
 use Rattle.std.proofs.Common.{◌≡◌, ℕ, zero, suc, List, [], ◌∷◌, ◌++◌, map, take, drop, true, false, if◌then◌else◌, refl, sym, ap, ap₂, ◌∙◌, arith, subst, leb, Option, Some, None}
 use Rattle.std.proofs.lemmas.List.{map-append}
-use Rattle.storage_codec.specs.Digests.{HashFunction}
+use Rattle.storage_codec.specs.Digests.{HashFunction, or_nothing}
 use Rattle.storage_merkle.specs.Calc.{front, back, Values, eval, given}
 use Rattle.storage_merkle.specs.Trees.{Layout, Peak, peaks_of, part, folded, unfolded, eval_bag}
 use Rattle.storage_merkle.specs.declared.merkle.bagging.Bagging.{Bagging}
 use Rattle.storage_merkle.specs.RangeProofs.{apart, leading, not_leading, up_to, trailing, one_for, check_bag}
 use Rattle.storage_merkle.specs.Hashing.{folded_forward, bagged}
 use Rattle.storage_merkle.specs.Laws.Hashing.{eval-bag}
-use Rattle.storage_merkle.specs.Hashers.{or_nothing, forward_of, appended, prepended, folded_onto}
+use Rattle.storage_merkle.specs.Hashers.{forward_of, appended, prepended, folded_onto}
 use Rattle.storage_merkle.specs.Rests.{peaks_from, IsPast, AreFolded, AreAfterLeading}
 use Rattle.storage_merkle.specs.CheckParts.{right_of, both_folds, bag_onto, folded_before}
 use Rattle.storage_merkle.proofs.Folds.{bagged_rest, prepended_none}

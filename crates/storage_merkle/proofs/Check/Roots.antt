@@ -3,13 +3,12 @@ use Rattle.std.proofs.Common.{◌≡◌, ℕ, zero, suc, ◌+◌, ◌-◌, ◌<�
 use Rattle.std.specs.Int.{from_bool}
 use Rattle.std.proofs.lemmas.Bool.{lt-ltb}
 use Rattle.std.proofs.lemmas.List.{length-map, length-append, map-append, take-map, drop-map}
-use Rattle.storage_codec.specs.Digests.{HashFunction}
+use Rattle.storage_codec.specs.Digests.{HashFunction, or_nothing}
 use Rattle.storage_merkle.specs.Shape.{Shape}
 use Rattle.storage_merkle.specs.Calc.{Site, front, back, node, given, Values, eval}
 use Rattle.storage_merkle.specs.declared.merkle.bagging.Bagging.{Bagging}
 use Rattle.storage_merkle.specs.Trees.{Layout, Content, Peak, peaks_of, part, node_calc, join_calc, ungrafted, folded, unfolded, root_head}
 use Rattle.storage_merkle.specs.RangeProofs.{Proof, apart, leading, not_leading, up_to, trailing, one_for, sites_of, sites_in, position_of, place_in, by_position, sites, check_values, CountsFit, recomputed_root}
-use Rattle.storage_merkle.specs.Hashers.{or_nothing}
 use Rattle.storage_merkle.specs.Rests.{peaks_from, AreFolded, AreAfterLeading}
 use Rattle.storage_merkle.specs.Siblings.{sibling_sites}
 use Rattle.storage_merkle.specs.CheckParts.{front_before, top_sites, folded_before, bag_onto}

@@ -129,11 +129,11 @@ module _ (S : Shape) (L : Laws S) (h : HashFunction) (T : Layout) (same : T.shap
         count = count_is;
       }
 
-      pub root_is : (x : List ℕ) (peaks : List (List ℕ)) → peaks ≡ values_in items h T values.digest chunk S cs 0 n
+      pub root_is : (x : List ℕ) (peaks : List (List ℕ)) → peaks ≡ values_in items h T values.digest chunk cs (peaks_from S 0 n)
           → x ≡ root_of h T b n i peaks → x ≡ h (multi_string h T b proof claims chunk)
       root_is x peaks e f =
-          let here : peaks ≡ values_in items h T values.digest chunk T.shape cs 0 n =
-          e ∙ ap (λ U. values_in items h T values.digest chunk U cs 0 n) (sym same) in
+          let here : peaks ≡ values_in items h T values.digest chunk cs (peaks_from T.shape 0 n) =
+          e ∙ ap (λ U. values_in items h T values.digest chunk cs (peaks_from U 0 n)) (sym same) in
           f ∙ ap (root_of h T b n i) here ∙ sym (ap (λ y. h (root_head T b n i ++ y))
           (eval-peaks h values b i (part T (untouched (locations claims))) (peaks_of T n)))
 

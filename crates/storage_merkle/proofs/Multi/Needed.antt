@@ -3,10 +3,11 @@ use Rattle.std.proofs.Common.{◌≡◌, ◌≢◌, ℕ, zero, suc, ◌+◌, ◌
 use Rattle.std.specs.List.Sorted.{IsPermutation, IsNonDecreasing}
 use Rattle.std.proofs.lemmas.List.{map-append}
 use Rattle.storage_merkle.specs.Laws.Multiples.{pow_two}
-use Rattle.storage_merkle.specs.Trees.{Layout, places, peaks_of, node_calc}
+use Rattle.storage_merkle.specs.Trees.{Layout, Peak, places, peaks_of, node_calc}
 use Rattle.storage_merkle.specs.RangeProofs.{sites_of, sites_in, position_of}
 use Rattle.storage_merkle.specs.Multi.{untouched, Ascend, needed_sites}
 use Rattle.storage_merkle.proofs.Siblings.{positions, sites-cut, sites-leaf, sites-halves, positions_sorted}
+use Rattle.storage_merkle.proofs.Peaks.{Walk}
 use Rattle.storage_merkle.proofs.Multi.Claims.{untouched_none, untouched_some, touched_left, touched_right, same_calc}
 
 pub not_empty : {X : Type 0} (xs : List X) → false ≡ (length xs == 0) → xs ≢ []
@@ -45,8 +46,8 @@ module _ (T : Layout) where
     abbrev pub under : List X → ℕ → ℕ → List ℕ
     under items k a = positions T (sites_of (node_calc T (untouched (map place items)) k a))
 
-    abbrev pub in_peaks : List X → ℕ → ℕ → List ℕ
-    in_peaks items s r = positions T (sites_in T (untouched (map place items)) (places s (T.shape.peaks r)))
+    abbrev pub in_peaks : List X → List Peak → List ℕ
+    in_peaks items ps = positions T (sites_in T (untouched (map place items)) ps)
 
     pub adds_whole : (items : List X) (k a p : ℕ) (old new : List ℕ) → true ≡ (length items == 0)
         → p ≡ T.shape.position a k → new ≡ old ++ p ∷ [] → new ≡ old ++ under items k a
@@ -94,37 +95,32 @@ module _ (T : Layout) where
         f' ∙ ap (λ zs. zs ++ under ys k b) e' ∙ append_assoc old (under xs k a) (under ys k b)
         ∙ ap (λ zs. old ++ zs) (sym both)
 
-    pub adds_no_peaks : (items : List X) (s r : ℕ) (old : List ℕ) → T.shape.peaks 0 ≡ [] → r ≡ 0
-        → old ≡ old ++ in_peaks items s r
-    adds_no_peaks items s r old none z =
-        let nothing : in_peaks items s r ≡ [] =
-        ap (λ j. positions T (sites_in T (untouched (map place items)) (places s j))) (ap T.shape.peaks z ∙ none) in
-        sym (append-nil old) ∙ ap (λ zs. old ++ zs) (sym nothing)
-
-    pub adds_peak : (items xs ys : List X) (s r h n p q : ℕ) (old mid new : List ℕ)
-        → T.shape.peaks r ≡ h ∷ T.shape.peaks (r - 2 ^ h) → items ≡ xs ++ ys
-        → Ascend s (s + p) (map place xs) × Ascend (s + p) n (map place ys) → p ≡ 2 ^ h → q ≡ 2 ^ h
-        → mid ≡ old ++ under xs h s → new ≡ mid ++ in_peaks ys (s + p) (r - q) → new ≡ old ++ in_peaks items s r
-    adds_peak items xs ys s r h n p q old mid new peaks whole parts ep eq e f =
+    -- past the first of some peaks
+    pub adds_peak : (items xs ys : List X) (p : Peak) (ps qs : List Peak) (n m : ℕ) (rest : Walk n qs) (old mid all : List ℕ)
+        → ps ≡ p ∷ qs → items ≡ xs ++ ys → m ≡ 2 ^ p.height → rest.first ≡ p.first + 2 ^ p.height
+        → Ascend p.first (p.first + m) (map place xs) × Ascend (p.first + m) n (map place ys)
+        → mid ≡ old ++ under xs p.height p.first → old ++ in_peaks items ps ≡ all → mid ++ in_peaks ys qs ≡ all
+    adds_peak items xs ys p ps qs n m rest old mid all e whole em next parts f g =
         let ls = map place items in
+        let s = p.first in
+        let h = p.height in
         let b : ℕ = s + 2 ^ h in
-        let ks = T.shape.peaks (r - 2 ^ h) in
         let split : ls ≡ map place xs ++ map place ys = ap (map place) whole ∙ map-append place xs ys in
         let parts' : Ascend s b (map place xs) × Ascend b n (map place ys) =
-        subst (λ z. Ascend s (s + z) (map place xs) × Ascend (s + z) n (map place ys)) ep parts in
+        subst (λ z. Ascend s (s + z) (map place xs) × Ascend (s + z) n (map place ys)) em parts in
         let l : sites_of (node_calc T (untouched ls) h s) ≡ sites_of (node_calc T (untouched (map place xs)) h s) =
         ap sites_of (ap (λ zs. node_calc T (untouched zs) h s) split
         ∙ left_calc (map place xs) (map place ys) s b n parts' h s (omega arith)) in
-        let r' : sites_in T (untouched ls) (places b ks) ≡ sites_in T (untouched (map place ys)) (places b ks) =
-        ap (λ zs. sites_in T (untouched zs) (places b ks)) split
-        ∙ right_in (map place xs) (map place ys) s b n parts' b ks (omega arith) in
-        let both : in_peaks items s r ≡ under xs h s ++ in_peaks ys b (r - 2 ^ h) =
-        ap (λ js. positions T (sites_in T (untouched ls) (places s js))) peaks
-        ∙ ap (positions T) (ap₂ (λ ss ts. ss ++ ts) l r') ∙ map-append (position_of T) (sites_of
-        (node_calc T (untouched (map place xs)) h s)) (sites_in T (untouched (map place ys)) (places b ks)) in
-        let f' : new ≡ mid ++ in_peaks ys b (r - 2 ^ h) = f ∙ ap₂ (λ y z. mid ++ in_peaks ys (s + y) (r - z)) ep eq in
-        f' ∙ ap (λ zs. zs ++ in_peaks ys b (r - 2 ^ h)) e ∙ append_assoc old (under xs h s) (in_peaks ys b (r - 2 ^ h))
-        ∙ ap (λ zs. old ++ zs) (sym both)
+        let r : sites_in T (untouched ls) qs ≡ sites_in T (untouched (map place ys)) qs =
+        ap (λ zs. sites_in T (untouched zs) qs) split
+        ∙ ap (sites_in T (untouched (map place xs ++ map place ys))) rest.are
+        ∙ right_in (map place xs) (map place ys) s b n parts' rest.first rest.heights (omega arith)
+        ∙ ap (sites_in T (untouched (map place ys))) (sym rest.are) in
+        let both : in_peaks items ps ≡ under xs h s ++ in_peaks ys qs =
+        ap (in_peaks items) e ∙ ap (positions T) (ap₂ (λ ss ts. ss ++ ts) l r) ∙ map-append (position_of T)
+        (sites_of (node_calc T (untouched (map place xs)) h s)) (sites_in T (untouched (map place ys)) qs) in
+        ap (λ zs. zs ++ in_peaks ys qs) f ∙ append_assoc old (under xs h s) (in_peaks ys qs)
+        ∙ ap (λ zs. old ++ zs) (sym both) ∙ g
 
   -- sorted
   pub needed_sorted : (ls : List ℕ) (n : ℕ) (found ps : List ℕ)
@@ -147,13 +143,3 @@ halves_ascend place items xs ys a (suc k) n ne half up parts =
     let q : Ascend a (a + 2 ^ k) (map place xs) × Ascend (a + 2 ^ k) (a + 2 ^ suc k) (map place ys) =
     subst (λ z. Ascend a (a + z) (map place xs) × Ascend (a + z) (a + 2 ^ suc k) (map place ys)) n_is p in
     rw less (q.0, subst (λ z. Ascend (a + 2 ^ k) z (map place ys)) whole q.1)
-
--- the items of a peak of m leaves, and those past it
-pub peaks_ascend : {X : Type 0} (place : X → ℕ) (items xs ys : List X) (s r m : ℕ) → m ≤ r
-    → Ascend s (s + r) (map place items) → ((first end : ℕ) → Ascend first end (map place items) → s + m ≤ end
-    → Ascend first (s + m) (map place xs) × Ascend (s + m) end (map place ys))
-    → Ascend (s + m) (s + m + (r - m)) (map place ys)
-peaks_ascend place items xs ys s r m le up parts =
-    let p = parts s (s + r) up (omega arith) in
-    let same : s + r ≡ s + m + (r - m) = omega arith in
-    subst (λ z. Ascend (s + m) z (map place ys)) same p.1

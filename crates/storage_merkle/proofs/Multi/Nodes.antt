@@ -1,20 +1,20 @@
 -- The nodes of a check of a multi proof: their digests from the claimed elements and the digests that are given.
-use Rattle.std.proofs.Common.{◌≡◌, ◌≢◌, ℕ, zero, suc, ◌+◌, ◌-◌, ◌≤◌, ◌^◌, List, [], ◌∷◌, ◌++◌, length, map, get_or, Contains, true, false, ◌==◌, refl, sym, ap, ap₂, ◌∙◌, arith, subst, eq-eqb, append-nil, append_assoc}
+use Rattle.std.proofs.Common.{◌≡◌, ◌≢◌, ℕ, zero, suc, ◌+◌, ◌-◌, ◌≤◌, ◌^◌, List, [], ◌∷◌, ◌++◌, length, map, get_or, Contains, true, false, ◌==◌, refl, sym, ap, ap₂, ◌∙◌, arith, subst, eq-eqb, append_assoc}
 use Rattle.std.proofs.lemmas.List.{map-append}
 use Rattle.storage_codec.specs.Digests.{HashFunction}
 use Rattle.storage_merkle.specs.Laws.Multiples.{pow_two}
 use Rattle.storage_merkle.specs.Shape.{Shape}
 use Rattle.storage_merkle.specs.Calc.{Site, node, be8, eval}
-use Rattle.storage_merkle.specs.Trees.{Layout, places, node_calc, part, ungrafted}
+use Rattle.storage_merkle.specs.Trees.{Layout, Peak, places, node_calc, part, ungrafted}
 use Rattle.storage_merkle.specs.RangeProofs.{sites_of, sites_in}
 use Rattle.storage_merkle.specs.Hashing.{join_digest}
 use Rattle.storage_merkle.specs.Laws.Hashing.{eval-join}
 use Rattle.storage_merkle.specs.CheckParts.{Present}
-use Rattle.storage_merkle.specs.Rests.{peaks_from}
 use Rattle.storage_merkle.specs.Multi.{Claim, locations, claims_of, untouched, Ascend, element_at}
 use Rattle.storage_merkle.specs.MultiParts.{claimed_values}
 use Rattle.storage_merkle.proofs.Siblings.{sites-cut, sites-halves}
 use Rattle.storage_merkle.proofs.Check.Nodes.{present_append}
+use Rattle.storage_merkle.proofs.Peaks.{Walk}
 use Rattle.storage_merkle.proofs.Multi.Claims.{calc_left, calc_right, eval_left, eval_right, untouched_none, untouched_some, locations-claims}
 use Rattle.storage_merkle.proofs.Multi.Needed.{not_empty, is_empty}
 
@@ -102,22 +102,19 @@ module _ {E : Type 0} (items : E → List ℕ) where
       (subst (λ z. Ascend z (a + 2 ^ suc k) (at_of ys)) em' p.right) in
       rw less (l, r)
 
-  -- those in a peak, and those past it
-  pub peak_rises : (cs xs ys : List (E × ℕ)) (s r m q : ℕ) → q ≤ r → m ≡ s + q → cs ≡ xs ++ ys → IsSplit cs xs ys m
-      → Ascend s (s + r) (at_of cs) → Ascend s (s + q) (at_of xs) × Ascend (s + q) (s + q + (r - q)) (at_of ys)
-  peak_rises cs xs ys s r m q le em whole split up =
-      let p = parted cs xs ys s m (s + r) whole split up (omega arith) in
-      let end : s + r ≡ s + q + (r - q) = omega arith in (
-        subst (λ z. Ascend s z (at_of xs)) em p.left,
-        subst (λ z. Ascend (s + q) z (at_of ys)) end (subst (λ z. Ascend z (s + r) (at_of ys)) em p.right),
-      )
+  -- those in a peak of q leaves, and those past it
+  pub peak_rises : (cs xs ys : List (E × ℕ)) (s m n q : ℕ) → m ≡ s + q → s + q ≤ n → cs ≡ xs ++ ys → IsSplit cs xs ys m
+      → Ascend s n (at_of cs) → Ascend s (s + q) (at_of xs) × Ascend (s + q) n (at_of ys)
+  peak_rises cs xs ys s m n q em le whole split up =
+      let p = parted cs xs ys s m n whole split up (omega arith) in
+      (subst (λ z. Ascend s z (at_of xs)) em p.left, subst (λ z. Ascend z n (at_of ys)) em p.right)
 
   module _ (S : Shape) (ps : List ℕ) where
     abbrev There : List (E × ℕ) → ℕ → ℕ → Type 0
     There cs k a = Present S ps (sites_of (node_calc (ungrafted S) (untouched (at_of cs)) k a))
 
-    abbrev ThereIn : List (E × ℕ) → ℕ → ℕ → Type 0
-    ThereIn cs s r = Present S ps (sites_in (ungrafted S) (untouched (at_of cs)) (peaks_from S s r))
+    abbrev pub ThereIn : List (E × ℕ) → List Peak → Type 0
+    ThereIn cs qs = Present S ps (sites_in (ungrafted S) (untouched (at_of cs)) qs)
 
     pub given_itself : (cs : List (E × ℕ)) (k a p : ℕ) → true ≡ (length cs == 0) → p ≡ S.position a k → There cs k a
         → Contains ps p
@@ -144,23 +141,19 @@ module _ {E : Type 0} (items : E → List ℕ) where
         subst (λ c. Present S ps (sites_of c)) (calc_of_right U p k (a + 2 ^ k) (omega arith)) both.1 in
         rw less (l, r)
 
-    pub given_peak : (cs xs ys : List (E × ℕ)) (s r j m q : ℕ) → S.peaks r ≡ j ∷ S.peaks (r - 2 ^ j) → 2 ^ j ≤ r
-        → q ≡ 2 ^ j → m ≡ s + 2 ^ j → cs ≡ xs ++ ys → IsSplit cs xs ys m → Ascend s (s + r) (at_of cs) → ThereIn cs s r
-        → There xs j s × ThereIn ys m (r - q)
-    given_peak cs xs ys s r j m q peaks le eq em whole split up there =
-        let p = parted cs xs ys s m (s + r) whole split up (omega arith) in
+    pub given_peak : (cs xs ys : List (E × ℕ)) (p : Peak) (qs rs : List Peak) (m n : ℕ) (rest : Walk n rs) → qs ≡ p ∷ rs
+        → rest.first ≡ p.first + 2 ^ p.height → m ≡ p.first + 2 ^ p.height → p.first + 2 ^ p.height ≤ n → cs ≡ xs ++ ys
+        → IsSplit cs xs ys m → Ascend p.first n (at_of cs) → ThereIn cs qs
+        → There xs p.height p.first × ThereIn ys rs
+    given_peak cs xs ys p qs rs m n rest first next em le whole split up there =
         let U = ungrafted S in
-        let ks = S.peaks (r - 2 ^ j) in
-        let opened : Present S ps (sites_of (node_calc U (untouched (at_of cs)) j s)
-        ++ sites_in U (untouched (at_of cs)) (places (s + 2 ^ j) ks)) =
-        subst (λ js. Present S ps (sites_in U (untouched (at_of cs)) (places s js))) peaks there in
-        let both = present_append S ps _ _ opened in
-        let l : There xs j s = subst (λ c. Present S ps (sites_of c)) (calc_of_left U p j s (omega arith)) both.0 in
-        let r' : Present S ps (sites_in U (untouched (at_of ys)) (places (s + 2 ^ j) ks)) =
-        subst (Present S ps) (sites_of_right U p (s + 2 ^ j) ks (omega arith)) both.1 in (
-          l,
-          subst (λ z. Present S ps (sites_in U (untouched (at_of ys)) (places z (S.peaks (r - q))))) (sym em) (subst
-              (λ z. Present S ps (sites_in U (untouched (at_of ys)) (places (s + 2 ^ j) (S.peaks (r - z))))) (sym eq) r'),
+        let q = parted cs xs ys p.first m n whole split up (omega arith) in
+        let both = present_append S ps _ _ (subst (ThereIn cs) first there) in
+        let later : sites_in U (untouched (at_of cs)) rs ≡ sites_in U (untouched (at_of ys)) rs =
+        ap (sites_in U (untouched (at_of cs))) rest.are ∙ sites_of_right U q rest.first rest.heights (omega arith)
+        ∙ ap (sites_in U (untouched (at_of ys))) (sym rest.are) in (
+          subst (λ c. Present S ps (sites_of c)) (calc_of_left U q p.height p.first (omega arith)) both.0,
+          subst (Present S ps) later both.1,
         )
 
   module _ (h : HashFunction) (T : Layout) (digest : Site → List ℕ) (chunk : ℕ → List ℕ) where
@@ -210,31 +203,23 @@ module _ {E : Type 0} (items : E → List ℕ) where
         ∙ sym (value_of_right T p h digest chunk k (a + 2 ^ k) (omega arith)) in
         g ∙ ap₂ (join_digest h T chunk a (suc k)) e' f' ∙ sym (eval-inner cs k a (some_there cs a (suc k) some up))
 
-    abbrev pub values_in : Shape → List (E × ℕ) → ℕ → ℕ → List (List ℕ)
-    values_in S cs s r = map (λ p.
-        eval h (claimed_values digest (claims_of items cs) chunk) (part T (untouched (at_of cs)) p)) (peaks_from S s r)
+    abbrev pub values_in : List (E × ℕ) → List Peak → List (List ℕ)
+    values_in cs qs =
+        map (λ p. eval h (claimed_values digest (claims_of items cs) chunk) (part T (untouched (at_of cs)) p)) qs
 
-    pub peaks_none : (S : Shape) (cs : List (E × ℕ)) (s r : ℕ) (old : List (List ℕ)) → S.peaks 0 ≡ [] → r ≡ 0
-        → old ≡ old ++ values_in S cs s r
-    peaks_none S cs s r old none z =
-        let nothing : values_in S cs s r ≡ [] =
-        ap (λ js. map (λ p. value_of cs p.height p.first) (places s js)) (ap S.peaks z ∙ none) in
-        sym (append-nil old) ∙ ap (λ ds. old ++ ds) (sym nothing)
-
-    pub peaks_more : (S : Shape) {D : Type 0} (text : D → List ℕ) (cs xs ys : List (E × ℕ)) (s r j m q : ℕ) (d : D)
-        (old mid new : List D) → S.peaks r ≡ j ∷ S.peaks (r - 2 ^ j) → 2 ^ j ≤ r → q ≡ 2 ^ j → m ≡ s + 2 ^ j → cs
-        ≡ xs ++ ys → IsSplit cs xs ys m → Ascend s (s + r) (at_of cs) → mid ≡ old ++ d ∷ [] → text d ≡ value_of xs j s
-        → map text new ≡ map text mid ++ values_in S ys m (r - q) → map text new ≡ map text old ++ values_in S cs s r
-    peaks_more S text cs xs ys s r j m q d old mid new peaks le eq em whole split up pushed e f =
-        let p = parted cs xs ys s m (s + r) whole split up (omega arith) in
-        let ks = S.peaks (r - 2 ^ j) in
-        let here : text d ≡ value_of cs j s = e ∙ sym (value_of_left T p h digest chunk j s (omega arith)) in
-        let later : values_in S ys m (r - q) ≡ map (λ p. value_of cs p.height p.first) (places (s + 2 ^ j) ks) =
-        ap₂ (λ y z. values_in S ys y (r - z)) em eq
-        ∙ sym (values_of_right T p h digest chunk (s + 2 ^ j) ks (omega arith)) in
-        let all : values_in S cs s r ≡ value_of cs j s ∷ map (λ p. value_of cs p.height p.first)
-        (places (s + 2 ^ j) ks) = ap (λ js. map (λ p. value_of cs p.height p.first) (places s js)) peaks in
-        f ∙ ap₂ (λ us vs. us ++ vs) (ap (map text) pushed ∙ map-append text old (d ∷ [])) later
-        ∙ append_assoc (map text old) (text d ∷ []) (map (λ p. value_of cs p.height p.first) (places (s + 2 ^ j) ks))
-        ∙ ap (λ z. map text old ++ z ∷ map (λ p. value_of cs p.height p.first) (places (s + 2 ^ j) ks)) here
-        ∙ ap (λ vs. map text old ++ vs) (sym all)
+    pub peaks_more : {D : Type 0} (text : D → List ℕ) (cs xs ys : List (E × ℕ)) (p : Peak) (qs rs : List Peak) (m n : ℕ)
+        (rest : Walk n rs) (d : D) (old mid : List D) (all : List (List ℕ)) → qs ≡ p ∷ rs
+        → rest.first ≡ p.first + 2 ^ p.height → m ≡ p.first + 2 ^ p.height → p.first + 2 ^ p.height ≤ n → cs ≡ xs ++ ys
+        → IsSplit cs xs ys m → Ascend p.first n (at_of cs) → mid ≡ old ++ d ∷ [] → text d ≡ value_of xs p.height p.first
+        → map text old ++ values_in cs qs ≡ all → map text mid ++ values_in ys rs ≡ all
+    peaks_more text cs xs ys p qs rs m n rest d old mid all first next em le whole split up pushed e f =
+        let q = parted cs xs ys p.first m n whole split up (omega arith) in
+        let here : text d ≡ value_of cs p.height p.first =
+        e ∙ sym (value_of_left T q h digest chunk p.height p.first (omega arith)) in
+        let later : values_in ys rs ≡ values_in cs rs = ap (values_in ys) rest.are
+        ∙ sym (values_of_right T q h digest chunk rest.first rest.heights (omega arith))
+        ∙ ap (values_in cs) (sym rest.are) in
+        ap₂ (λ us vs. us ++ vs) (ap (map text) pushed ∙ map-append text old (d ∷ [])) later
+        ∙ append_assoc (map text old) (text d ∷ []) (values_in cs rs)
+        ∙ ap (λ z. map text old ++ z ∷ values_in cs rs) here
+        ∙ ap (λ os. map text old ++ values_in cs os) (sym first) ∙ f

@@ -1,7 +1,6 @@
 -- The positions that are planned for a range.
-use Rattle.std.proofs.Common.{◌≡◌, ◌≢◌, ℕ, zero, suc, ◌+◌, ◌-◌, ◌%◌, ◌<◌, ◌≤◌, ◌^◌, List, [], ◌∷◌, ◌++◌, length, get_or, Bool, true, false, if◌then◌else◌, refl, sym, ap, ap₂, ◌∙◌, arith, subst, eqb, eqb-true, eq-eqb, pow_pos, append_assoc, append-nil}
-use Rattle.std.specs.List.Sorted.{IsPermutation, IsNonDecreasing, IsStrictlyIncreasing}
-use Rattle.std.proofs.lemmas.List.{map-append}
+use Rattle.std.proofs.Common.{◌≡◌, ◌≢◌, ℕ, zero, suc, ◌+◌, ◌%◌, ◌<◌, ◌≤◌, ◌^◌, List, [], ◌∷◌, ◌++◌, length, get_or, Bool, true, false, if◌then◌else◌, refl, sym, ap, ap₂, ◌∙◌, arith, subst, eqb, eqb-true, eq-eqb, pow_pos}
+use Rattle.std.specs.List.Sorted.{IsPermutation, IsStrictlyIncreasing}
 use Rattle.std.proofs.lemmas.List.Sorted.{IsPermutation-map}
 use Rattle.storage_merkle.specs.Shape.{Shape, Laws, AreAligned}
 use Rattle.storage_merkle.specs.Laws.Multiples.{multiple_down, multiple_add, power_multiple}
@@ -12,39 +11,7 @@ use Rattle.storage_merkle.specs.Plans.{planned}
 use Rattle.storage_merkle.proofs.Distinct.{times, one_if, same_itself, each_given_once}
 use Rattle.storage_merkle.proofs.SiblingOrder.{sorted}
 use Rattle.storage_merkle.proofs.AscendingNumbers.{Rising, count, count-permutation}
-use Rattle.storage_merkle.proofs.Siblings.{positions, apart_under, sites-join, sort_rises, positions_sorted}
-
--- the positions in the peaks over r leaves from the leaf s on
-abbrev pub planned_from : Layout → ℕ → ℕ → ℕ → ℕ → List ℕ
-planned_from T low high s r = positions T (sites_in T (apart low high) (places s (T.shape.peaks r)))
-
--- a peak of height h comes first
-pub plans_peak : (T : Layout) (low high s r h m n : ℕ) → T.shape.peaks r ≡ h ∷ T.shape.peaks (r - 2 ^ h) → m ≡ 2 ^ h
-    → n ≡ 2 ^ h → (old new all : List ℕ) → new ≡ old ++ positions T (apart_under T low high h s)
-    → old ++ planned_from T low high s r ≡ all → new ++ planned_from T low high (s + m) (r - n) ≡ all
-plans_peak T low high s r h m n peaks em en old new all f g =
-    let here = positions T (apart_under T low high h s) in
-    let later = planned_from T low high (s + 2 ^ h) (r - 2 ^ h) in
-    let moved : planned_from T low high (s + m) (r - n) ≡ later =
-    ap₂ (λ x y. planned_from T low high (s + x) (r - y)) em en in
-    let split : planned_from T low high s r ≡ here ++ later =
-    ap (λ ks. positions T (sites_in T (apart low high) (places s ks))) peaks ∙ map-append (position_of T)
-    (apart_under T low high h s) (sites_in T (apart low high) (places (s + 2 ^ h) (T.shape.peaks (r - 2 ^ h)))) in
-    ap₂ (λ xs ys. xs ++ ys) f moved ∙ append_assoc old here later ∙ ap (λ xs. old ++ xs) (sym split) ∙ g
-
-pub plans_none : (T : Layout) (low high s r : ℕ) (old all : List ℕ) → T.shape.peaks 0 ≡ [] → r ≤ 0
-    → old ++ planned_from T low high s r ≡ all → old ≡ all
-plans_none T low high s r old all none l g =
-    let z : r ≡ 0 = omega arith in
-    let nothing : planned_from T low high s r ≡ [] =
-    ap (λ j. positions T (sites_in T (apart low high) (places s j))) (ap T.shape.peaks z ∙ none) in
-    sym (append-nil old) ∙ ap (λ xs. old ++ xs) (sym nothing) ∙ g
-
-pub planned_sorted : (S : Shape) (n low high : ℕ) (found ps : List ℕ) → found ≡ planned_from (ungrafted S) low high 0 n
-    → IsPermutation found ps → IsNonDecreasing ps → ps ≡ planned S n low high
-planned_sorted S n low high found ps e p up =
-    positions_sorted (ungrafted S) (sites_in (ungrafted S) (apart low high) (peaks_of (ungrafted S) n)) ps
-    (subst (λ xs. IsPermutation xs ps) e p) up
+use Rattle.storage_merkle.proofs.Siblings.{positions, sites-join, sort_rises}
 
 -- ---- each position once
 

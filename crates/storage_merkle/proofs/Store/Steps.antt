@@ -1,5 +1,5 @@
 -- The steps of a multi proof from a store.
-use Rattle.std.proofs.Common.{◌≡◌, ◌≢◌, ℕ, zero, suc, ◌+◌, ◌-◌, ◌<◌, ◌≤◌, ◌^◌, List, [], ◌∷◌, ◌++◌, length, map, get_or, drop, Bool, true, false, if◌then◌else◌, inl, inr, refl, sym, ap, ap₂, ◌∙◌, arith, subst, leb, ltb, eqb, le-leb, eq-eqb, ne_eqb, eqb-true, leb-false, append-nil, append_assoc, Option, Some, None, not, ◌==◌}
+use Rattle.std.proofs.Common.{◌≡◌, ◌≢◌, ℕ, zero, suc, ◌+◌, ◌-◌, ◌<◌, ◌≤◌, List, [], ◌∷◌, ◌++◌, length, map, get_or, drop, Bool, true, false, if◌then◌else◌, inl, inr, refl, sym, ap, ap₂, ◌∙◌, arith, subst, leb, ltb, eqb, le-leb, eq-eqb, ne_eqb, eqb-true, leb-false, append-nil, append_assoc, Option, Some, None, not, ◌==◌}
 use Rattle.std.specs.List.Sorted.{IsPermutation, IsNonDecreasing, IsNonDecreasingBy, IsPartitionPoint}
 use Rattle.std.proofs.lemmas.Bool.{le-ltb, lt-ltb, lt-leb, ltb-true, ltb-false, cases_lt}
 use Rattle.std.proofs.lemmas.List.{drop_more, drop_all, map-append, length-map, get_or-map, get_or_default}
@@ -15,6 +15,7 @@ use Rattle.storage_merkle.specs.Rests.{peaks_from}
 use Rattle.storage_merkle.specs.Multi.{Ascend, needed_sites}
 use Rattle.storage_merkle.specs.Extracted.{by_bytes}
 use Rattle.storage_merkle.specs.Stores.{Store, entry_at, or_else, first_of, location_refusal, found_at, unless_there, needed_refusal, multi_refusal, needed_positions, suffix_positions, is_among}
+use Rattle.storage_merkle.proofs.Peaks.{Walk}
 use Rattle.storage_merkle.proofs.Siblings.{positions_sorted}
 
 -- ---- locations
@@ -105,64 +106,45 @@ module _ {D : Type 0} (text : D → List ℕ) (p : ℕ) where
 -- ---- peaks past a range
 
 module _ (S : Shape) (past : ℕ) where
-  abbrev pub past_positions : ℕ → ℕ → ℕ → List ℕ
-  past_positions f s r = map (λ p. S.position p.first p.height) (trailing past (drop f (peaks_from S s r)))
+  -- the positions of those of some peaks past the range, but of the first f none
+  abbrev pub past_positions : ℕ → List Peak → List ℕ
+  past_positions f ps = map (λ p. S.position p.first p.height) (trailing past (drop f ps))
 
   trailing_all : (s : ℕ) (ks : List ℕ) → past ≤ s → trailing past (places s ks) ≡ places s ks
   trailing_all s [] l = refl
   trailing_all s (k ∷ ks) l = rw (le-leb past s l) refl
 
-  no_drop : (f : ℕ) → drop f [] ≡ (let none : List Peak = [] in none)
-  no_drop zero = refl
-  no_drop (suc f) = refl
+  pub past_none : (f : ℕ) → past_positions f [] ≡ []
+  past_none zero = refl
+  past_none (suc f) = refl
 
-  pub past_none : (f s r : ℕ) (old : List ℕ) → S.peaks 0 ≡ [] → r ≡ 0 → old ≡ old ++ past_positions f s r
-  past_none f s r old none z =
-      let nothing : peaks_from S s r ≡ [] = ap (λ ks. places s ks) (ap S.peaks z ∙ none) in
-      sym (append-nil old) ∙ ap (λ ps. old ++ map (λ p. S.position p.first p.height) (trailing past ps))
-      (sym (ap (drop f) nothing ∙ no_drop f))
+  -- past the first of them
+  module _ (p : Peak) (ps qs : List Peak) (first : ps ≡ p ∷ qs) (old all : List ℕ) where
+    pub past_folded : (f g : ℕ) → 0 < f → g ≡ f - 1 → old ++ past_positions f ps ≡ all → old ++ past_positions g qs ≡ all
+    past_folded zero g some less e = absurd (omega arith)
+    past_folded (suc f) g some less e =
+        let same : g ≡ f = omega arith in
+        ap (λ k. old ++ past_positions k qs) same ∙ ap (λ rs. old ++ past_positions (suc f) rs) (sym first) ∙ e
 
-  module _ (f g s r h n : ℕ) (old new : List ℕ) (peaks : S.peaks r ≡ h ∷ S.peaks (r - 2 ^ h)) (length_is : n ≡ 2 ^ h)
-      (less : g ≡ f - 1) where
-    abbrev later : ℕ → List ℕ
-    later k = map (λ p. S.position p.first p.height) (trailing past (drop k (places (s + 2 ^ h) (S.peaks (r - 2 ^ h)))))
+    pub past_not_yet : (f : ℕ) → f ≤ 0 → p.first < past → old ++ past_positions f ps ≡ all
+        → old ++ past_positions f qs ≡ all
+    past_not_yet zero none l e =
+        let same : past_positions 0 (p ∷ qs) ≡ past_positions 0 qs = rw (lt-leb past p.first l) refl in
+        ap (λ vs. old ++ vs) (sym same) ∙ ap (λ rs. old ++ past_positions 0 rs) (sym first) ∙ e
+    past_not_yet (suc f) none l e = absurd (omega arith)
 
-    opened_past : past_positions f s r
-        ≡ map (λ p. S.position p.first p.height) (trailing past (drop f (places s (h ∷ S.peaks (r - 2 ^ h)))))
-    opened_past = ap (λ ks. map (λ p. S.position p.first p.height) (trailing past (drop f (places s ks)))) peaks
-
-    moved : past_positions g (s + n) (r - n) ≡ later (f - 1)
-    moved = ap (λ z. past_positions g (s + z) (r - z)) length_is ∙ ap later less
-
-    pub past_pushed : (mid : List ℕ) → f ≡ 0 → past ≤ s → mid ≡ old ++ S.position s h ∷ []
-        → new ≡ mid ++ past_positions g (s + n) (r - n) → new ≡ old ++ past_positions f s r
-    past_pushed mid z l e d =
-        let zero_left : f - 1 ≡ 0 = omega arith in
-        let rest : later (f - 1) ≡ map (λ p. S.position p.first p.height) (places (s + 2 ^ h) (S.peaks (r - 2 ^ h))) =
-        ap later zero_left ∙ ap (map (λ p. S.position p.first p.height))
-        (trailing_all (s + 2 ^ h) (S.peaks (r - 2 ^ h)) (omega arith)) in
-        let all : past_positions f s r
-        ≡ S.position s h ∷ map (λ p. S.position p.first p.height) (places (s + 2 ^ h) (S.peaks (r - 2 ^ h))) =
-        opened_past ∙ ap (λ k.
-        map (λ p. S.position p.first p.height) (trailing past (drop k (places s (h ∷ S.peaks (r - 2 ^ h)))))) z
-        ∙ ap (map (λ p. S.position p.first p.height)) (trailing_all s (h ∷ S.peaks (r - 2 ^ h)) l) in
-        d ∙ ap₂ (λ us vs. us ++ vs) e (moved ∙ rest) ∙ append_assoc old (S.position s h ∷ []) _
-        ∙ ap (λ vs. old ++ vs) (sym all)
-
-    pub past_not_yet : f ≡ 0 → s < past → new ≡ old ++ past_positions g (s + n) (r - n)
-        → new ≡ old ++ past_positions f s r
-    past_not_yet z l d =
-        let zero_left : f - 1 ≡ 0 = omega arith in
-        let all : past_positions f s r ≡ later 0 = opened_past ∙ ap (λ k. map (λ p. S.position p.first p.height)
-        (trailing past (drop k (places s (h ∷ S.peaks (r - 2 ^ h)))))) z ∙ rw (lt-leb past s l) refl in
-        d ∙ ap (λ vs. old ++ vs) (moved ∙ ap later zero_left ∙ sym all)
-
-    pub past_folded : f ≢ 0 → new ≡ old ++ past_positions g (s + n) (r - n) → new ≡ old ++ past_positions f s r
-    past_folded ne d =
-        let one_more : f ≡ suc (f - 1) = omega arith in
-        let all : past_positions f s r ≡ later (f - 1) = opened_past ∙ ap (λ k. map (λ p. S.position p.first p.height)
-        (trailing past (drop k (places s (h ∷ S.peaks (r - 2 ^ h)))))) one_more in
-        d ∙ ap (λ vs. old ++ vs) (moved ∙ sym all)
+    pub past_pushed : (n f : ℕ) (new : List ℕ) (rest : Walk n qs) → f ≤ 0 → past ≤ p.first → p.first ≤ rest.first
+        → new ≡ old ++ S.position p.first p.height ∷ [] → old ++ past_positions f ps ≡ all
+        → new ++ past_positions f qs ≡ all
+    past_pushed n zero new rest none l after d e =
+        let others : trailing past qs ≡ qs = ap (trailing past) rest.are
+        ∙ trailing_all rest.first rest.heights (omega arith) ∙ sym rest.are in
+        let same : past_positions 0 (p ∷ qs) ≡ S.position p.first p.height ∷ past_positions 0 qs =
+        rw (le-leb past p.first l) (ap (λ rs. S.position p.first p.height ∷ map (λ q. S.position q.first q.height) rs)
+        (sym others)) in
+        ap (λ vs. vs ++ past_positions 0 qs) d ∙ append_assoc old (S.position p.first p.height ∷ []) _
+        ∙ ap (λ vs. old ++ vs) (sym same) ∙ ap (λ rs. old ++ past_positions 0 rs) (sym first) ∙ e
+    past_pushed n (suc f) new rest none l after d e = absurd (omega arith)
 
 -- ---- needed positions
 
@@ -270,10 +252,11 @@ suffix_forward S store b found e f none = none ∙ ap (λ c. map (λ p. S.positi
 
 pub suffix_backward : (S : Shape) (store : Store) (b : Bagging) (past inactive leaves : ℕ) (old new found : List ℕ)
     → b ≡ store.bagging → b ≡ BackwardFold → past ≡ store.past → inactive ≡ store.inactive → leaves ≡ store.leaves
-    → old ≡ [] → new ≡ old ++ past_positions S past inactive 0 leaves → found ≡ new → found ≡ suffix_found S store
+    → old ≡ [] → new ≡ old ++ past_positions S past inactive (peaks_from S 0 leaves) → found ≡ new → found ≡ suffix_found S store
 suffix_backward S store b past inactive leaves old new found e f ep ei en none added same =
-    same ∙ added ∙ ap (λ xs. xs ++ past_positions S past inactive 0 leaves) none
-    ∙ ap₂ (λ z i. past_positions S z i 0 leaves) ep ei ∙ ap (past_positions S store.past store.inactive 0) en
+    same ∙ added ∙ ap (λ xs. xs ++ past_positions S past inactive (peaks_from S 0 leaves)) none
+    ∙ ap₂ (λ z i. past_positions S z i (peaks_from S 0 leaves)) ep ei
+    ∙ ap (λ n. past_positions S store.past store.inactive (peaks_from S 0 n)) en
     ∙ ap (λ c. map (λ p. S.position p.first p.height)
     (trailing store.past (unfolded c store.inactive (peaks_of (ungrafted S) store.leaves)))) (sym f ∙ e)
 

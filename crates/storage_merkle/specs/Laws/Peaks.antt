@@ -1,11 +1,16 @@
 -- What holds of each peak, and of the peaks over fewer leaves among those over more.
-use Rattle.std.proofs.Common.{◌≡◌, ℕ, ◌+◌, ◌%◌, ◌^◌, ◌<◌, ◌≤◌, List, [], ◌∷◌, refl, ap, inl, inr, ⊎_elim, arith}
+use Rattle.std.proofs.Common.{◌≡◌, ℕ, suc, ◌+◌, ◌%◌, ◌^◌, ◌<◌, ◌≤◌, List, [], ◌∷◌, length, refl, ap, inl, inr, ⊎_elim, arith}
 use Rattle.std.proofs.lemmas.Bool.{cases_lt}
 use Rattle.std.proofs.lemmas.Nat.{pow_pos}
 use Rattle.storage_merkle.specs.Shape.{Shape, Laws, size, leaves_under, Inside, AreAligned}
 use Rattle.storage_merkle.specs.Peaks.{HasPeak}
+use Rattle.storage_merkle.specs.Trees.{places}
 use Rattle.storage_merkle.specs.Laws.Multiples.{pow_order}
 use Rattle.storage_merkle.specs.Laws.Shape.{inside_before, inside_valid, inside_between}
+
+pub length_places : (a : ℕ) (ks : List ℕ) → length (places a ks) ≡ length ks
+length_places a [] = refl
+length_places a (k ∷ ks) = ap suc (length_places (a + 2 ^ k) ks)
 
 -- a peak is inside the peaks
 pub peak_inside : (hs : List ℕ) (s a k : ℕ) → HasPeak hs s a k → Inside hs s a k

@@ -12,18 +12,18 @@
 
 ghost use Rattle.std.specs.Prelude.{◌≡◌, ℕ, ◌%◌, ◌^◌, ◌<◌, ◌≤◌, ◌++◌, List, [], flat_map, length, map, false, refl, All, Option, option_map};
 ghost use Rattle.std.specs.List.{AllZip};
-ghost use Rattle.storage_codec.specs.Digests.{HashFunction, IsSized};
+ghost use Rattle.storage_codec.specs.Digests.{HashFunction, IsSized, or_nothing};
 ghost use Rattle.storage_merkle.specs.Shape.{size};
 ghost use Rattle.storage_merkle.specs.Nodes.{IsNode};
 ghost use Rattle.storage_merkle.specs.Calc.{be8};
 ghost use Rattle.storage_merkle.specs.Trees.{Layout, ungrafted, root_head};
 ghost use Rattle.storage_merkle.specs.Hashing.{join_digest, bagged, bagged_peaks, root_of};
-ghost use Rattle.storage_merkle.specs.Hashers.{or_nothing, appended, prepended, folded_onto, forward_of};
+ghost use Rattle.storage_merkle.specs.Hashers.{appended, prepended, folded_onto, forward_of};
 ghost use Rattle.storage_merkle.specs.declared.merkle.bagging.Bagging.{Bagging};
 
 use crate::merkle::{Bagging, Family, Location, Position};
 use std::marker::PhantomData;
-use storage_codec::digest::{self, Digest};
+use storage_codec::digest::{self, Digest, bytes_or_nothing};
 
 /// Digests of the leaves, nodes and roots of a tree of the family `F`.
 pub trait Hasher<F: Family> {
@@ -278,7 +278,7 @@ pub(crate) fn bagged_root<F: Family, H: Hasher<F>>(
     let head = [F::byte(), hasher.root_bagging().byte()];
     let leaves = leaves.to_be_bytes();
     let inactive = (inactive as u64).to_be_bytes();
-    hash_parts(hasher, &head, &leaves, &inactive, bag_bytes(&bag))
+    hash_parts(hasher, &head, &leaves, &inactive, bytes_or_nothing(&bag))
 }
 
 /// Returns the digest of the string of a root: of `head`, `leaves`, `inactive` and `bag`, joined.
@@ -293,16 +293,6 @@ fn hash_parts<F: Family, H: Hasher<F>>(
         ≡ H.hash_of (head.now ++ (leaves.now ++ (inactive.now ++ bag.now))) }
 {
     hasher.hash(&[head, leaves, inactive, bag])
-}
-
-/// Returns the bytes of the digest `bag`; no bytes for none.
-fn bag_bytes<D: Digest>(bag: &Option<D>) -> &[u8]
-    ensures { result.now ≡ or_nothing (option_map D.text bag.now) }
-{
-    match bag {
-        None => &[],
-        Some(digest) => digest.bytes(),
-    }
 }
 
 /// The ordinary hasher: a node is hashed with its own position, and no chunk is grafted.

@@ -12,9 +12,9 @@ mod nodes;
 mod proofs;
 
 use crate::merkle::hasher::Hasher;
-use crate::merkle::{Error, Family, Location, MAX_LEAVES, Position};
+use crate::merkle::{Error, Family, Location, MAX_LEAVES, Position, count_pins};
 use nodes::{grow, look_up, peaks_over, write_leaves};
-use std::alloc::{AllocError, Global};
+use std::alloc::Global;
 use std::marker::{Model, PhantomData};
 use storage_codec::digest::Digest;
 
@@ -91,11 +91,11 @@ impl<F: Family, D: Digest> Mem<F, D> {
         if !boundary.is_valid() {
             return Err(Error::LocationOverflow(boundary));
         }
-        let count = match needed(boundary, pinned.len()) {
+        let count = match count_pins(boundary, pinned.len()) {
             Ok(count) => count,
             Err(missing) => return Err(Error::MissingNode(missing)),
         };
-        let Ok(pinned) = copied(alloc, &pinned[..count]) else {
+        let Ok(pinned) = Vec::from_slice(alloc, &pinned[..count]) else {
             return Err(Error::Memory);
         };
         Ok(Mem {
@@ -365,7 +365,7 @@ impl<F: Family, D: Digest> Mem<F, D> {
             return Ok(());
         }
         let (digests, count) = peaks_over::<F, D>(self.boundary, &self.pinned, &self.nodes, to);
-        let Ok(pinned) = copied(*self.pinned.allocator(), &digests[..count]) else {
+        let Ok(pinned) = Vec::from_slice(*self.pinned.allocator(), &digests[..count]) else {
             return Err(Error::Memory);
         };
         let gone = (F::nodes_over(to) - F::nodes_over(self.boundary)) as usize;
@@ -403,31 +403,4 @@ fn first_away<F: Family, D: Digest>(
         }
     }
     None
-}
-
-/// Returns how many peaks there are over the leaves below `boundary`; or, if they are more than `given`, the position
-/// of peak number `given`, counted from 0.
-fn needed<F: Family>(boundary: Location<F>, given: usize) -> Result<usize, Position<F>>
-    requires { boundary ≤ max_leaves }
-    ensures count { IfOk result (λ n. (n ≡ length (F.shape.peaks boundary)) × (n ≤ given)) }
-    ensures missing { IfErr result (λ p. (given < length (F.shape.peaks boundary))
-        × (p ≡ slice_index (pins F.shape boundary) given)) }
-{
-    let mut count = 0;
-    for position in F::nodes_to_pin(boundary) {
-        if count == given {
-            return Err(position);
-        }
-        count += 1;
-    }
-    Ok(count)
-}
-
-/// Returns a copy of `digests`.
-fn copied<D: Digest>(alloc: Global, digests: &[D]) -> Result<Vec<D>, AllocError>
-    ensures { IfOk result (λ v. v.items ≡ digests.now) }
-{
-    let mut copy = Vec::new(alloc);
-    copy.extend_from_slice(digests)?;
-    Ok(copy)
 }

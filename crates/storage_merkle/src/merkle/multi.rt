@@ -3,7 +3,7 @@
 //! A multi proof has the digests of the greatest nodes that hold none of the claimed locations, ascending by position. The
 //! check goes down from each peak, to leaves that are claimed and nodes that are given, and folds the peaks.
 
-ghost use Rattle.std.specs.Prelude.{◌≡◌, ℕ, ◌+◌, ◌-◌, ◌%◌, ◌^◌, ◌<◌, ◌≤◌, ◌++◌, List, length, map, option_map, IfOk, OnOk, Contains};
+ghost use Rattle.std.specs.Prelude.{◌≡◌, ℕ, ◌+◌, ◌-◌, ◌%◌, ◌^◌, ◌<◌, ◌≤◌, ◌++◌, List, length, map, option_map, IfOk, Contains};
 ghost use Rattle.storage_merkle.specs.Calc.{Site, node, eval};
 ghost use Rattle.storage_merkle.specs.CheckParts.{Present, Serves};
 ghost use Rattle.storage_merkle.specs.Hashers.{TakesTree};
@@ -11,7 +11,7 @@ ghost use Rattle.storage_merkle.specs.Held.{proof_of};
 ghost use Rattle.storage_merkle.specs.Multi.{Ascend, claims_of, locations, untouched};
 ghost use Rattle.storage_merkle.specs.MultiParts.{AreGiven, IsMultiRecomputed, claimed_values};
 ghost use Rattle.storage_merkle.specs.Nodes.{IsNode};
-ghost use Rattle.storage_merkle.specs.Plans.{ArePeaks, InTree};
+ghost use Rattle.storage_merkle.specs.Plans.{InTree};
 ghost use Rattle.storage_merkle.specs.RangeProofs.{sites_in, sites_of};
 ghost use Rattle.storage_merkle.specs.Rests.{peaks_from};
 ghost use Rattle.storage_merkle.specs.Trees.{node_calc, part, ungrafted};
@@ -22,7 +22,7 @@ use crate::merkle::family::power;
 use crate::merkle::hasher::Hasher;
 use crate::merkle::multi::needed::{ascend, split};
 use crate::merkle::plan::{node_position, peak_count};
-use crate::merkle::{Family, Location, MAX_LEAVES, Position, Proof};
+use crate::merkle::{Family, Location, MAX_LEAVES, PeakNodes, Position, Proof};
 pub(crate) use needed::{Located, needed};
 use std::alloc::{AllocError, Global};
 use std::convert::AsSlice;
@@ -58,8 +58,7 @@ pub(crate) fn recompute<F: Family, H: Hasher<F>, E: AsSlice<u8>>(
         positions: &positions,
         digests: &proof.digests,
     };
-    let mut peaks = Vec::new(alloc);
-    given.add_peaks(hasher, 0, leaves, claims, &mut peaks)?;
+    let peaks = given.peaks(alloc, hasher, claims)?;
     Ok(Some(hasher.root(proof.leaves, proof.inactive_peaks, &peaks)))
 }
 
@@ -75,40 +74,36 @@ struct Given<'a, F, D> {
 }
 
 impl<F: Family, D: Digest> Given<'_, F, D> {
-    /// Adds to `peaks` the digests of the peaks over the `left` leaves from the leaf `first` on, from the elements of
-    /// `claims`, which all are of these leaves.
-    fn add_peaks<H: Hasher<F, Digest = D>, E: AsSlice<u8>>(
+    /// Returns the digests of the peaks, from the elements of `claims` and the given digests.
+    fn peaks<H: Hasher<F, Digest = D>, E: AsSlice<u8>>(
         &self,
+        alloc: Global,
         hasher: &H,
-        first: u64,
-        left: u64,
         claims: &[(E, Location<F>)],
-        peaks: &mut Vec<D>,
-    ) -> Result<(), AllocError>
+    ) -> Result<Vec<D>, AllocError>
         requires given { AreGiven self.now.leaves self.now.positions.now self.now.digests.now }
-        requires peaks { ArePeaks F.shape self.now.leaves first left }
         requires takes { TakesTree (H.takes hasher.now) F.shape self.now.leaves }
-        requires rising { Ascend first (first + left) (locations (claims_of E.items claims.now)) }
+        requires rising { Ascend 0 self.now.leaves (locations (claims_of E.items claims.now)) }
         requires present { Present F.shape self.now.positions.now
             (sites_in (ungrafted F.shape) (untouched (locations (claims_of E.items claims.now)))
-            (peaks_from F.shape first left)) }
-        ensures all { OnOk result
-            (length peaks.new.items ≡ length peaks.old.items + length (F.shape.peaks left)) }
-        ensures exact { OnOk result ((digest : Site → List ℕ)
+            (peaks_from F.shape 0 self.now.leaves)) }
+        ensures all { IfOk result (λ peaks.
+            length peaks.items ≡ length (F.shape.peaks self.now.leaves)) }
+        ensures exact { IfOk result (λ peaks. (digest : Site → List ℕ)
             → Serves F.shape digest self.now.positions.now (map D.text self.now.digests.now)
-            → map D.text peaks.new.items ≡ map D.text peaks.old.items ++ map (λ p. eval H.hash_of
+            → map D.text peaks.items ≡ map (λ p. eval H.hash_of
             (claimed_values digest (claims_of E.items claims.now) (H.chunk hasher.now))
             (part (H.layout hasher.now) (untouched (locations (claims_of E.items claims.now))) p))
-            (peaks_from F.shape first left)) }
+            (peaks_from F.shape 0 self.now.leaves)) }
     {
-        if left == 0 {
-            return Ok(());
+        let mut peaks = Vec::new(alloc);
+        let mut rest = claims;
+        for (first, height) in PeakNodes::<F>::over(self.leaves) {
+            let (here, later) = split(rest, first + power(height));
+            peaks.push(self.node(hasher, first, height, here))?;
+            rest = later;
         }
-        let height = F::first_peak(left);
-        let next = first + power(height);
-        let (here, later) = split(claims, next);
-        peaks.push(self.node(hasher, first, height, here))?;
-        self.add_peaks(hasher, next, left - power(height), later, peaks)
+        Ok(peaks)
     }
 
     /// Returns the digest of the node of height `height` over the leaf `first`, from the elements of `claims`, which

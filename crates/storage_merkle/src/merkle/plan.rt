@@ -4,12 +4,12 @@
 //! position, which in an MMB is not from left to right. A plan knows no digest, so it serves trees in memory, stores that
 //! may fail and grafted views alike.
 
-ghost use Rattle.std.specs.Prelude.{◌≡◌, ℕ, ◌+◌, ◌-◌, ◌*◌, ◌%◌, ◌^◌, ◌<◌, ◌≤◌, ◌++◌, ◌⊎◌, List, length, map, Some, None, Err, IfOk, IfErr, OnOk, MatchOption, MatchResult};
+ghost use Rattle.std.specs.Prelude.{◌≡◌, ℕ, ◌+◌, ◌-◌, ◌*◌, ◌%◌, ◌^◌, ◌<◌, ◌≤◌, ◌++◌, ◌⊎◌, List, length, map, Some, None, Err, IfOk, IfErr, OnOk, MatchOption, MatchResult, if◌then◌else◌};
 ghost use Rattle.std.specs.List.{All, AllZip};
 ghost use Rattle.std.specs.List.Sorted.{IsStrictlyIncreasing};
 ghost use Rattle.storage_merkle.specs.Held.{proof_of};
 ghost use Rattle.storage_merkle.specs.Shape.{max_leaves};
-ghost use Rattle.storage_merkle.specs.Plans.{ArePlanned, IsFirstAbsent, IsGathered, IsOwnOfEach, PlanOf, planned, refusal};
+ghost use Rattle.storage_merkle.specs.Plans.{ArePlanned, IsFirstAbsent, IsGathered, IsOwnOfEach, PlanOf, planned, planned_sites, refusal};
 ghost use Rattle.storage_merkle.specs.PlanParts.{AreOf, site_digest};
 ghost use Rattle.storage_merkle.specs.RangeProofs.{apart, position_of, sites, sites_of};
 ghost use Rattle.storage_merkle.specs.Rests.{peaks_from};
@@ -22,7 +22,7 @@ use crate::merkle::family::power;
 use crate::merkle::hasher::Hasher;
 use crate::merkle::plan::digests::{Nodes, push_some};
 use crate::merkle::walk::Rest;
-use crate::merkle::{Error, Family, Location, MAX_LEAVES, Position, Proof};
+use crate::merkle::{Error, Family, Location, MAX_LEAVES, PeakNodes, Position, Proof};
 use std::alloc::{AllocError, Global};
 use std::marker::Model;
 use std::ops::Range;
@@ -83,7 +83,13 @@ impl<F: Family> RangePlan<F> {
             return Err(error);
         }
         let siblings = siblings::<F>(alloc, leaves.as_u64(), start.as_u64(), end.as_u64())?;
-        let positions = planned::<F>(alloc, leaves.as_u64(), start.as_u64(), end.as_u64())?;
+        let positions = positions_apart::<F>(
+            alloc,
+            leaves.as_u64(),
+            start.as_u64(),
+            end.as_u64(),
+            true,
+        )?;
         Ok(RangePlan {
             leaves,
             start,
@@ -337,40 +343,28 @@ pub(crate) fn siblings<F: Family>(
     ensures { IfOk result (λ v. v.items ≡ map (position_of (ungrafted F.shape))
         (sibling_sites (ungrafted F.shape) leaves start end)) }
 {
-    let mut positions = Vec::new(alloc);
-    let mut first = 0;
-    let mut left = leaves;
-    while left > 0 {
-        let height = F::first_peak(left);
-        if !is_apart(start, end, first, height) {
-            add_apart(start, end, first, height, &mut positions)?;
-        }
-        first += power(height);
-        left -= power(height);
-    }
-    positions.sort_unstable();
-    Ok(positions)
+    positions_apart(alloc, leaves, start, end, false)
 }
 
 /// Returns the positions, ascending, of the greatest nodes of the tree over `leaves` leaves with no leaf from `start`
-/// to before `end`.
-fn planned<F: Family>(
+/// to before `end`: all of them, or if `whole_peaks` is false the siblings alone.
+fn positions_apart<F: Family>(
     alloc: Global,
     leaves: u64,
     start: u64,
     end: u64,
+    whole_peaks: bool,
 ) -> Result<Vec<Position<F>>, AllocError>
     requires { leaves ≤ max_leaves }
-    ensures { IfOk result (λ v. v.items ≡ planned F.shape leaves start end) }
+    ensures { IfOk result (λ v. v.items ≡ map (position_of (ungrafted F.shape)) (if whole_peaks
+        then planned_sites (ungrafted F.shape) leaves start end
+        else sibling_sites (ungrafted F.shape) leaves start end)) }
 {
     let mut positions = Vec::new(alloc);
-    let mut first = 0;
-    let mut left = leaves;
-    while left > 0 {
-        let height = F::first_peak(left);
-        add_apart(start, end, first, height, &mut positions)?;
-        first += power(height);
-        left -= power(height);
+    for (first, height) in PeakNodes::<F>::over(leaves) {
+        if whole_peaks || !is_apart(start, end, first, height) {
+            add_apart(start, end, first, height, &mut positions)?;
+        }
     }
     positions.sort_unstable();
     Ok(positions)

@@ -9,16 +9,15 @@ ghost use Rattle.storage_merkle.specs.Extracted.{by_bytes};
 ghost use Rattle.storage_merkle.specs.Held.{proof_of};
 ghost use Rattle.storage_merkle.specs.RangeProofs.{trailing};
 ghost use Rattle.storage_merkle.specs.Rests.{peaks_from};
-ghost use Rattle.storage_merkle.specs.Shape.{AreAligned, max_leaves};
+ghost use Rattle.storage_merkle.specs.Shape.{max_leaves};
 ghost use Rattle.storage_merkle.specs.Stores.{entry_at, found_at, is_among, location_refusal, multi_refusal, needed_refusal, or_else, store_multi_proof, suffix_positions};
 
 mod construct;
 mod range;
 
-use crate::merkle::family::power;
 use crate::merkle::multi::needed;
 use crate::merkle::plan::node_position;
-use crate::merkle::{Bagging, Error, Family, Location, Position, Proof};
+use crate::merkle::{Bagging, Error, Family, Location, PeakNodes, Position, Proof};
 use std::alloc::{AllocError, Global};
 use std::marker::Model;
 use storage_codec::NoMemory;
@@ -110,7 +109,6 @@ impl<F: Family, D: Digest> ProofStore<F, D> {
             Bagging::ForwardFold => {}
             Bagging::BackwardFold => add_past(
                 self.past.as_u64(),
-                0,
                 self.leaves.as_u64(),
                 self.inactive_peaks as u64,
                 &mut positions,
@@ -227,34 +225,26 @@ fn check_locations<F: Family>(locations: &[Location<F>], leaves: u64) -> Result<
     Ok(())
 }
 
-/// Adds to `positions` those of the peaks over the `left` leaves from the leaf `first` on that begin at the leaf `past` or
-/// after it, but of the first `folded` peaks none.
+/// Adds to `positions` those of the peaks of the tree over `leaves` leaves that begin at the leaf `past` or after it, but
+/// of the first `folded` peaks none.
 fn add_past<F: Family>(
     past: u64,
-    first: u64,
-    left: u64,
+    leaves: u64,
     folded: u64,
     positions: &mut Vec<Position<F>>,
 ) -> Result<(), AllocError>
-    requires few { first + left ≤ max_leaves }
-    requires aligned { AreAligned (F.shape.peaks left) first }
+    requires { leaves ≤ max_leaves }
     ensures { OnOk result
         (positions.new.items ≡ positions.old.items ++ map (λ p. F.shape.position p.first p.height)
-        (trailing past (drop folded (peaks_from F.shape first left)))) }
+        (trailing past (drop folded (peaks_from F.shape 0 leaves)))) }
 {
-    if left == 0 {
-        return Ok(());
+    let mut folded = folded;
+    for (first, height) in PeakNodes::<F>::over(leaves) {
+        if folded > 0 {
+            folded -= 1;
+        } else if past <= first {
+            positions.push(node_position(first, height))?;
+        }
     }
-    let height = F::first_peak(left);
-    if folded == 0 && past <= first {
-        positions.push(node_position(first, height))?;
-    }
-    let length = power(height);
-    add_past(
-        past,
-        first + length,
-        left - length,
-        folded.saturating_sub(1),
-        positions,
-    )
+    Ok(())
 }

@@ -14,7 +14,7 @@ returns-in-Err-clause-handed g c = λ kept s snapshot handed active.
     let G : Grafting = record { shape = g.F.Family.shape; bytes = g.row.N } in
     refused_for_memory g.H.Digest.Digest.text _ g.H.Hasher.hash_of G g.met.F.Family.laws
     c.greatest_nodes_are_planned.ensures c.args.plan kept s snapshot handed.stands handed.count handed.nodes_are
-    c.in-Err.error (g.R.Readable.retained c.args.status.now) handed.status_is c.in-Err.ensures.why
+    handed.from c.in-Err.error (g.R.Readable.retained c.args.status.now) handed.status_is c.in-Err.ensures.why
 
 pub returns-clause-asked : goal.returns-clause-asked
 returns-clause-asked g c = λ s parts.

@@ -2,9 +2,8 @@
 
 ghost use Rattle.std.specs.Prelude.{◌≡◌, ℕ, ◌-◌, ◌*◌, ◌^◌, ◌<◌, ◌≤◌, List, OnOk, IsOk};
 ghost use Rattle.storage_merkle.specs.Kept.{HasRoomFor};
-ghost use Rattle.storage_bitmap.specs.Chunks.{IsChunkSize, bit_count};
-ghost use Rattle.storage_current.specs.KeptSnapshots.{HasEachBit};
-ghost use Rattle.storage_current.specs.KeptTrees.{HasMoreGrafts, StandsForChunks};
+ghost use Rattle.storage_bitmap.specs.Chunks.{IsChunkSize, IsRest, bit_count};
+ghost use Rattle.storage_current.specs.KeptTrees.{ArePruned, HasMoreGrafts, StandsForChunks};
 ghost use Rattle.storage_current.specs.NodeLists.{IsGrown, IsOver};
 ghost use Rattle.storage_current.specs.Snapshots.{Snapshot as SnapshotOf, graftable, grafting_of, height, view_node};
 
@@ -19,7 +18,7 @@ use storage_merkle::merkle::{Graftable, Position};
 use storage_ops::qmdb;
 
 /// Returns the digest of the node of the graftable chunk number `index` of `status` with the chunk grafted, from the
-/// node that `operations` keeps.
+/// node that `operations` keeps. The chunk is not pruned.
 pub(crate) fn graft_at<F: Graftable, H: Hasher, const N: usize>(
     operations: &Mem<F, H::Digest>,
     status: &Prunable<N>,
@@ -27,9 +26,10 @@ pub(crate) fn graft_at<F: Graftable, H: Hasher, const N: usize>(
 ) -> H::Digest
     requires chunks { IsChunkSize N }
     requires grown { IsGrown H.Digest.text H.hash_of F.shape operations.now }
-    requires bits { HasEachBit N operations.now.leaves status.now }
+    requires bits { ArePruned (grafting_of F.shape N) operations.now status.now }
+    requires kept { status.now.pruned ≤ index }
     requires within { index < graftable (grafting_of F.shape N) operations.now.leaves }
-    ensures { let g = grafting_of F.shape N in (s : SnapshotOf) → s.bits ≡ status.now.bits
+    ensures { let g = grafting_of F.shape N in (s : SnapshotOf) → IsRest N status.now s.bits
         → IsOver H.Digest.text H.hash_of F.shape operations.now s.operations
         → H.Digest.text result ≡ view_node H.hash_of g s (index * 2 ^ height g) (height g) }
 {
@@ -40,8 +40,9 @@ pub(crate) fn graft_at<F: Graftable, H: Hasher, const N: usize>(
     graft::<H>(&status.get_chunk(index as usize), inner)
 }
 
-/// Appends to `chunks`, a tree over graftable chunks of `status`, those that it lacks, with the nodes over them: all that
-/// are graftable over `operations`. Where there is room for them it is not refused memory.
+/// Appends to `chunks`, a tree over graftable chunks of `status`, those that it lacks, with the nodes over them: all
+/// that are graftable over `operations`. None of these is pruned. Where there is room for them it is not refused
+/// memory.
 pub(crate) fn append_grafts<F: Graftable, H: Hasher, const N: usize>(
     operations: &Mem<F, H::Digest>,
     status: &Prunable<N>,
@@ -49,7 +50,8 @@ pub(crate) fn append_grafts<F: Graftable, H: Hasher, const N: usize>(
 ) -> Result<(), NoMemory>
     requires chunks { IsChunkSize N }
     requires grown { IsGrown H.Digest.text H.hash_of F.shape operations.now }
-    requires bits { HasEachBit N operations.now.leaves status.now }
+    requires bits { ArePruned (grafting_of F.shape N) operations.now status.now }
+    requires kept { status.now.pruned ≤ chunks.old.leaves }
     requires within { chunks.old.leaves ≤ graftable (grafting_of F.shape N) operations.now.leaves }
     ensures count { OnOk result
         (chunks.new.leaves ≡ graftable (grafting_of F.shape N) operations.now.leaves) }
@@ -58,7 +60,7 @@ pub(crate) fn append_grafts<F: Graftable, H: Hasher, const N: usize>(
     ensures grafted { let g = grafting_of F.shape N in
         OnOk result ((list : List (List ℕ))
         → StandsForChunks H.Digest.text H.hash_of g chunks.old list
-        → HasMoreGrafts H.Digest.text H.hash_of g operations.now chunks.new status.now.bits list) }
+        → HasMoreGrafts H.Digest.text H.hash_of g operations.now chunks.new status.now list) }
     ensures succeeds { HasRoomFor F.shape (graftable (grafting_of F.shape N) operations.now.leaves
         - chunks.old.leaves) chunks.old
         → IsOk result }

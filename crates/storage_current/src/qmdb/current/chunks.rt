@@ -15,7 +15,7 @@ ghost use Rattle.storage_bitmap.specs.Chunks.{IsChunkSize, bit_count, chunk};
 ghost use Rattle.storage_current.specs.Snapshots.{graftable_at};
 
 use crate::qmdb::current::grafting;
-use storage_bitmap::bitmap::Readable;
+use storage_bitmap::bitmap::{Prunable, Readable};
 use storage_codec::digest::Hasher;
 use storage_merkle::merkle::Family;
 
@@ -102,4 +102,13 @@ pub(crate) fn chunk_digest<H: Hasher, const N: usize>(chunk: Option<[u8; N]>) ->
         None => None,
         Some(chunk) => Some(H::hash(&[&chunk])),
     }
+}
+
+/// Returns how many bits of `status` are pruned. Allocates nothing.
+pub(crate) fn pruned_bits<const N: usize>(status: &Prunable<N>) -> u64
+    requires size { IsChunkSize N }
+    requires few { bit_count N status.now ≤ max_leaves }
+    ensures { result ≡ status.now.pruned * (8 * N) }
+{
+    status.pruned_chunks() as u64 * (8 * N as u64)
 }

@@ -23,7 +23,7 @@ mod verifier;
 pub use hasher::GraftedHasher;
 pub use positions::{
     chunk_aligned_inactive_peaks, exact_inactive, graftable_chunks, grafted_to_ops_pos,
-    ops_to_grafted_pos, up_and_down,
+    ops_to_grafted_pos,
 };
 pub use storage::Storage;
 use storage_codec::digest::{Digest, Hasher};

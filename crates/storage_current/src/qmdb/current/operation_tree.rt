@@ -4,7 +4,7 @@ ghost use Rattle.std.specs.Prelude.{◌≡◌, ℕ, ◌+◌, ◌<◌, ◌∷◌,
 ghost use Rattle.storage_merkle.specs.declared.merkle.error.Error.TheVariants.{LocationOverflow};
 ghost use Rattle.storage_merkle.specs.Shape.{max_leaves};
 ghost use Rattle.storage_ops.specs.declared.qmdb.error.Error.TheVariants.{Merkle, Memory};
-ghost use Rattle.storage_current.specs.NodeLists.{IsGrown, IsTreeOver};
+ghost use Rattle.storage_current.specs.NodeLists.{IsGrown, IsTreeOver, IsUnpruned};
 
 use std::alloc::Global;
 use std::marker::Model;
@@ -21,7 +21,7 @@ pub struct OperationTree<F: Graftable, H: Hasher> {
 
 impl<F: Graftable, H: Hasher> Model for OperationTree<F, H> {
     ghost use Rattle.std.specs.Prelude.{map};
-    ghost use Rattle.storage_current.specs.NodeLists.{IsGrown, KeptTree};
+    ghost use Rattle.storage_current.specs.NodeLists.{IsGrown, IsUnpruned, KeptTree};
 
     ghost Value = { KeptTree };
 
@@ -30,7 +30,10 @@ impl<F: Graftable, H: Hasher> Model for OperationTree<F, H> {
       nodes = map H.Digest.text t.operations.nodes;
     } };
 
-    ghost invariant = { λ t. IsGrown H.Digest.text H.hash_of F.shape t.operations };
+    ghost invariant = { λ t. record {
+      grown : IsGrown H.Digest.text H.hash_of F.shape t.operations;
+      all : IsUnpruned t.operations;
+    } };
 }
 
 impl<F: Graftable, H: Hasher> OperationTree<F, H> {
@@ -78,6 +81,7 @@ impl<F: Graftable, H: Hasher> OperationTree<F, H> {
         ensures leaves { result.leaves ≡ self.leaves }
         ensures nodes { map H.Digest.text result.nodes ≡ self.nodes }
         ensures grown { IsGrown H.Digest.text H.hash_of F.shape result }
+        ensures all { IsUnpruned result }
     {
         self.operations
     }

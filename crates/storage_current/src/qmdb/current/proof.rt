@@ -42,7 +42,7 @@ use storage_codec::codec::Write;
 use storage_codec::digest::{Digest, Hasher};
 use storage_merkle::merkle::{self, Graftable, Location, Position, Proof, RangePlan};
 use storage_ops::qmdb::{self, Error};
-pub use with_ops::RangeProofSpec;
+pub use with_ops::{RangeProofSpec, touched_chunks};
 pub use witness::OpsRootWitness;
 
 /// A proof that operations stand at a range of locations, and of their activity bits.

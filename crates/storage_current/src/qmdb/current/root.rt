@@ -7,9 +7,9 @@
 //! A bracket stands only if there is such a chunk. Their lengths differ, so that no part can be taken for another one.
 
 ghost use Rattle.std.specs.Prelude.{◌≡◌, ◌++◌, ◌∷◌, List, [], Option, option_map};
-ghost use Rattle.storage_current.specs.Snapshots.{canonical_string, slot};
+ghost use Rattle.storage_current.specs.Snapshots.{canonical_string};
 
-use storage_codec::digest::{Digest, Hasher};
+use storage_codec::digest::{Digest, Hasher, bytes_or_nothing};
 
 /// Returns the canonical root: the digest of the digests `ops_root`, `grafted_root`, `pending` if there is one, and if
 /// there is a `partial`, of `next_bit`, how many bits the partial chunk has, in eight bytes, highest first, and that
@@ -26,7 +26,7 @@ pub(crate) fn canonical_root<H: Hasher>(
         ≡ H.hash_of (canonical_string (H.Digest.text ops_root.now) (H.Digest.text grafted_root.now)
         (option_map H.Digest.text pending.now) next_bit (option_map H.Digest.text partial.now)) }
 {
-    let pending = slot_bytes(pending);
+    let pending = bytes_or_nothing(pending);
     match partial {
         None => hash_parts::<H>(ops_root.bytes(), grafted_root.bytes(), pending, &[], &[]),
         Some(partial) => {
@@ -55,14 +55,4 @@ fn hash_parts<H: Hasher>(
         (ops_root.now ++ (grafted_root.now ++ (pending.now ++ (count.now ++ partial.now)))) }
 {
     H::hash(&[ops_root, grafted_root, pending, count, partial])
-}
-
-/// Returns the bytes of `digest`; no bytes for none.
-fn slot_bytes<D: Digest>(digest: &Option<D>) -> &[u8]
-    ensures { result.now ≡ slot (option_map D.text digest.now) }
-{
-    match digest {
-        None => &[],
-        Some(digest) => digest.bytes(),
-    }
 }

@@ -1,13 +1,14 @@
 //! The roots of a snapshot, from the trees over its operations and its graftable chunks.
 
 ghost use Rattle.std.specs.Prelude.{◌≡◌, ℕ, ◌≤◌};
+ghost use Rattle.storage_bitmap.specs.Chunks.{IsRest};
 ghost use Rattle.storage_current.specs.KeptSnapshots.{AreRootsOf};
 ghost use Rattle.storage_current.specs.KeptTrees.{AreKept};
-ghost use Rattle.storage_current.specs.NodeLists.{AreNodes, IsOver, seen_list};
+ghost use Rattle.storage_current.specs.NodeLists.{ArePeaksTold, IsOver, seen_by};
 ghost use Rattle.storage_current.specs.Snapshots.{Snapshot as SnapshotOf, grafting_of, height, view_node};
 ghost use Rattle.storage_current.specs.WitnessWire.{witness_of};
 
-use crate::qmdb::current::chunks::{ChunkCounts, chunk_digest};
+use crate::qmdb::current::chunks::{ChunkCounts, chunk_digest, pruned_bits};
 use crate::qmdb::current::grafting::{self, chunk_aligned_inactive_peaks, exact_inactive};
 use crate::qmdb::current::proof::OpsRootWitness;
 use crate::qmdb::current::root::canonical_root;
@@ -40,11 +41,11 @@ impl<F: Graftable, D: Digest> Roots<F, D> {
         requires kept { AreKept D.text H.hash_of (grafting_of F.shape N) operations.now chunks.now
             status.now }
         requires floor { floor ≤ operations.now.leaves }
-        ensures { let g = grafting_of F.shape N in (s : SnapshotOf) → s.bits ≡ status.now.bits
+        ensures { let g = grafting_of F.shape N in (s : SnapshotOf) → IsRest N status.now s.bits
             → s.floor ≡ floor
             → IsOver D.text H.hash_of F.shape operations.now s.operations
-            → AreNodes F.shape (view_node H.hash_of g s)
-            (seen_list D.text F.shape (height g) operations.now chunks.now)
+            → ArePeaksTold F.shape operations.now.leaves (view_node H.hash_of g s)
+            (seen_by D.text F.shape (height g) operations.now chunks.now)
             → AreRootsOf H.hash_of g s (D.text result.ops_root) (D.text result.canonical)
             (witness_of D.text result.witness) }
     {
@@ -55,7 +56,13 @@ impl<F: Graftable, D: Digest> Roots<F, D> {
         let exact = exact_inactive::<F>(leaves, floor.as_u64());
         let ops_root = operations.root(&qmdb::hasher::<H>(), exact).unwrap();
         let aligned = chunk_aligned_inactive_peaks::<F>(leaves, floor.as_u64(), height);
-        let grafted_root = view_root::<F, H>(operations, chunks, height, aligned);
+        let grafted_root = view_root::<F, H>(
+            operations,
+            chunks,
+            height,
+            pruned_bits(status),
+            aligned,
+        );
         let counts = ChunkCounts::over::<F>(leaves, height);
         let pending = chunk_digest::<H, N>(counts.pending::<Prunable<N>, N>(status));
         let partial = chunk_digest::<H, N>(counts.partial::<Prunable<N>, N>(status));

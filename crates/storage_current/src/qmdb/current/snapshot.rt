@@ -1,17 +1,19 @@
 //! Snapshots in memory, with their roots and the nodes of their grafted view.
 
-ghost use Rattle.std.specs.Prelude.{◌≡◌, ℕ, ◌<◌, ◌≤◌, List, length, map, option_map, None, IfOk, IfErr, MatchOption};
-ghost use Rattle.std.specs.List.{slice_get};
+ghost use Rattle.std.specs.Prelude.{◌≡◌, ℕ, ◌<◌, ◌≤◌, List, length, map, option_map, None, Some, IfOk, IfErr, MatchOption};
+ghost use Rattle.storage_merkle.specs.Nodes.{IsNode};
 ghost use Rattle.storage_merkle.specs.Shape.{size, max_leaves};
 ghost use Rattle.storage_bitmap.specs.Chunks.{IsChunkSize, bit_count};
-ghost use Rattle.storage_current.specs.KeptSnapshots.{HasEachBit, IsSnapshotRefused, StandsForSnapshot};
-ghost use Rattle.storage_current.specs.NodeLists.{IsGrown, IsOver, IsTreeOver};
-ghost use Rattle.storage_current.specs.Snapshots.{IsServed, IsSnapshot, Snapshot as SnapshotOf, canonical_root, ops_root_of, own_witness, grafting_of};
+ghost use Rattle.storage_current.specs.KeptSnapshots.{HasEachBit, IsSnapshotRefused, StandsForSnapshot, pruned_operations};
+ghost use Rattle.storage_current.specs.NodeLists.{IsGrown, IsOver, IsRetained, IsTreeOver, IsUnpruned, told_by};
+ghost use Rattle.storage_current.specs.Snapshots.{IsSnapshot, Snapshot as SnapshotOf, canonical_root, ops_root_of, own_witness, grafting_of, height, view_node};
 ghost use Rattle.storage_current.specs.WitnessWire.{witness_of};
 
 mod extend;
+mod prune;
 
 use crate::qmdb::current::chunk_tree::append_grafts;
+use crate::qmdb::current::chunks::pruned_bits;
 use crate::qmdb::current::grafting;
 use crate::qmdb::current::operation_tree::OperationTree;
 use crate::qmdb::current::proof::OpsRootWitness;
@@ -36,12 +38,14 @@ pub struct Snapshot<F: Graftable, H: Hasher, const N: usize> {
     operations: Mem<F, H::Digest>,
     chunks: Mem<F, H::Digest>,
     status: Prunable<N>,
+    floor: Location<F>,
     ops_root: H::Digest,
     root: H::Digest,
     witness: OpsRootWitness<F, H::Digest>,
 }
 
 impl<F: Graftable, H: Hasher, const N: usize> Model for Snapshot<F, H, N> {
+    ghost use Rattle.std.specs.Prelude.{map};
     ghost use Rattle.storage_current.specs.KeptSnapshots.{KeptSnapshot};
     ghost use Rattle.storage_current.specs.KeptTrees.{AreKept};
     ghost use Rattle.storage_current.specs.NodeLists.{seen_list};
@@ -51,9 +55,12 @@ impl<F: Graftable, H: Hasher, const N: usize> Model for Snapshot<F, H, N> {
     ghost Value = { KeptSnapshot };
 
     ghost view = { λ s. record {
+      leaves = s.operations.leaves;
       nodes = seen_list H.Digest.text F.shape (height (grafting_of F.shape N)) s.operations
           s.chunks;
+      pinned = map H.Digest.text s.operations.pinned;
       status = s.status;
+      floor = s.floor;
       ops_root = H.Digest.text s.ops_root;
       root = H.Digest.text s.root;
       witness = witness_of H.Digest.text s.witness;
@@ -80,6 +87,7 @@ impl<F: Graftable, H: Hasher, const N: usize> Snapshot<F, H, N> {
     ) -> Result<Self, Error<F>>
         ensures size { IfOk result (λ _. IsChunkSize N) }
         ensures status { IfOk result (λ kept. kept.status ≡ bits.entry) }
+        ensures unpruned { IfOk result (λ kept. kept.status.pruned ≡ 0) }
         ensures stands { let g = grafting_of F.shape N in
             let s : SnapshotOf = record {
               operations = map E.items operations.now;
@@ -117,6 +125,7 @@ impl<F: Graftable, H: Hasher, const N: usize> Snapshot<F, H, N> {
     ) -> Result<Self, Error<F>>
         ensures size { IfOk result (λ _. IsChunkSize N) }
         ensures status { IfOk result (λ kept. kept.status ≡ bits.entry) }
+        ensures unpruned { IfOk result (λ kept. kept.status.pruned ≡ 0) }
         ensures stands { let g = grafting_of F.shape N in
             IfOk result (λ kept. (operations : List (List ℕ)) → IsTreeOver H.hash_of F.shape tree
             operations → let s : SnapshotOf = record {
@@ -146,9 +155,11 @@ impl<F: Graftable, H: Hasher, const N: usize> Snapshot<F, H, N> {
     ) -> Result<Self, NoMemory>
         requires chunks { IsChunkSize N }
         requires grown { IsGrown H.Digest.text H.hash_of F.shape operations }
+        requires all { IsUnpruned operations }
         requires bits { HasEachBit N operations.leaves bits }
         requires floor { floor ≤ operations.leaves }
         ensures status { IfOk result (λ kept. kept.status ≡ bits.entry) }
+        ensures unpruned { IfOk result (λ kept. kept.status.pruned ≡ 0) }
         ensures stands { let g = grafting_of F.shape N in
             IfOk result (λ kept. (list : List (List ℕ))
             → IsOver H.Digest.text H.hash_of F.shape operations list
@@ -168,6 +179,7 @@ impl<F: Graftable, H: Hasher, const N: usize> Snapshot<F, H, N> {
             operations,
             chunks,
             status: bits,
+            floor,
             ops_root: roots.ops_root,
             root: roots.canonical,
             witness: roots.witness,
@@ -204,14 +216,21 @@ impl<F: Graftable, H: Hasher, const N: usize> Snapshot<F, H, N> {
         self.witness.copied()
     }
 
-    /// Returns the digest that the grafted view has at `position`; none past its nodes. Allocates nothing.
+    /// Returns the digest that the grafted view has at `position`; none past its nodes, nor of a node that is
+    /// forgotten: one below the height of chunks that stands before the first operation that is not pruned. Allocates
+    /// nothing.
     pub fn get_node(&self, position: Position<F>) -> Option<H::Digest>
-        ensures value { option_map H.Digest.text result ≡ slice_get self.now.nodes position }
-        ensures there { (s : SnapshotOf) → StandsForSnapshot H.hash_of
-            (grafting_of F.shape N) self.now s
-            → position < size F.shape (length s.operations)
-            → IsServed H.hash_of (grafting_of F.shape N) s
-            (λ _. option_map H.Digest.text result) position }
+        ensures value { option_map H.Digest.text result ≡ told_by self.now.nodes position }
+        ensures there { let g = grafting_of F.shape N in (s : SnapshotOf)
+            → StandsForSnapshot H.hash_of g self.now s → position < size F.shape (length s.operations)
+            → (first own : ℕ) → IsNode F.shape position first own
+            → IsRetained F.shape (height g) (pruned_operations g self.now.status) position own
+            → option_map H.Digest.text result ≡ Some (view_node H.hash_of g s first own) }
+        ensures forgotten { let g = grafting_of F.shape N in (s : SnapshotOf)
+            → StandsForSnapshot H.hash_of g self.now s → position < size F.shape (length s.operations)
+            → (first own : ℕ) → IsNode F.shape position first own
+            → (IsRetained F.shape (height g) (pruned_operations g self.now.status) position own → ⊥)
+            → result ≡ None }
         ensures past { (s : SnapshotOf) → StandsForSnapshot H.hash_of
             (grafting_of F.shape N) self.now s
             → size F.shape (length s.operations) ≤ position
@@ -221,10 +240,17 @@ impl<F: Graftable, H: Hasher, const N: usize> Snapshot<F, H, N> {
         let chunks = &self.chunks;
         trees_keep_the_nodes_of_their_list(operations);
         trees_keep_the_nodes_of_their_list(chunks);
-        view_digest::<F, H>(operations, chunks, grafting::height::<N>(), position)
+        let pruned = pruned_bits(&self.status);
+        view_digest::<F, H>(
+            operations,
+            chunks,
+            grafting::height::<N>(),
+            pruned,
+            position,
+        )
     }
 
-    /// Returns the activity bits. Allocates nothing.
+    /// Returns the activity bits, but those of pruned operations. Allocates nothing.
     pub fn status(&self) -> &Prunable<N>
         ensures { result.now ≡ self.now.status }
     {

@@ -14,7 +14,7 @@ ghost use Rattle.storage_merkle.specs.Shape.{size, max_leaves};
 
 use crate::merkle::family::power;
 use crate::merkle::hasher::Hasher;
-use crate::merkle::{Family, Location, Position};
+use crate::merkle::{Family, Location, PeakNodes, Position};
 use std::alloc::AllocError;
 use storage_codec::digest::Digest;
 
@@ -311,19 +311,14 @@ pub(crate) fn peaks_over<F: Family, D: Digest>(
 {
     let highest = F::position(0, F::first_peak(leaves));
     let mut digests = [look_up::<F, D>(boundary, pinned, nodes, highest).unwrap(); 64];
-    let mut first = 0;
-    let mut left = leaves;
     let mut count = 0;
-    while left > 0 {
-        let height = F::first_peak(left);
+    for (first, height) in PeakNodes::<F>::over(leaves) {
         digests[count] = look_up::<F, D>(
             boundary,
             pinned,
             nodes,
             F::position(first, height),
         ).unwrap();
-        first += power(height);
-        left -= power(height);
         count += 1;
     }
     (digests, count)

@@ -2,14 +2,13 @@
 
 ghost use Rattle.std.specs.Prelude.{◌≡◌, ℕ, ◌+◌, ◌-◌, ◌%◌, ◌^◌, ◌<◌, ◌≤◌, ◌↔◌, ◌++◌, map, IsTrue, IfOk, OnOk};
 ghost use Rattle.storage_merkle.specs.Multi.{Ascend, needed_sites, untouched};
-ghost use Rattle.storage_merkle.specs.RangeProofs.{position_of, sites_in, sites_of};
-ghost use Rattle.storage_merkle.specs.Rests.{peaks_from};
-ghost use Rattle.storage_merkle.specs.Shape.{AreAligned, max_leaves};
+ghost use Rattle.storage_merkle.specs.RangeProofs.{position_of, sites_of};
+ghost use Rattle.storage_merkle.specs.Shape.{max_leaves};
 ghost use Rattle.storage_merkle.specs.Trees.{node_calc, ungrafted};
 
 use crate::merkle::family::power;
 use crate::merkle::plan::node_position;
-use crate::merkle::{Family, Location, Position};
+use crate::merkle::{Family, Location, PeakNodes, Position};
 use std::alloc::{AllocError, Global};
 
 /// What stands at a leaf: a location, or an element with one.
@@ -77,34 +76,14 @@ pub(crate) fn needed<F: Family, L: Located>(
         (needed_sites (ungrafted F.shape) (map L.place items.now) leaves)) }
 {
     let mut positions = Vec::new(alloc);
-    add_in_peaks(0, leaves, items, &mut positions)?;
+    let mut rest = items;
+    for (first, height) in PeakNodes::<F>::over(leaves) {
+        let (here, later) = split(rest, first + power(height));
+        add_under(first, height, here, &mut positions)?;
+        rest = later;
+    }
     positions.sort_unstable();
     Ok(positions)
-}
-
-/// Adds to `positions` those of the greatest nodes that hold no location of `items`, in the peaks over the `left`
-/// leaves from the leaf `first` on.
-fn add_in_peaks<F: Family, L: Located>(
-    first: u64,
-    left: u64,
-    items: &[L],
-    positions: &mut Vec<Position<F>>,
-) -> Result<(), AllocError>
-    requires few { first + left ≤ max_leaves }
-    requires aligned { AreAligned (F.shape.peaks left) first }
-    requires rising { Ascend first (first + left) (map L.place items.now) }
-    ensures { OnOk result (positions.new.items
-        ≡ positions.old.items ++ map (position_of (ungrafted F.shape)) (sites_in (ungrafted F.shape)
-        (untouched (map L.place items.now)) (peaks_from F.shape first left))) }
-{
-    if left == 0 {
-        return Ok(());
-    }
-    let height = F::first_peak(left);
-    let next = first + power(height);
-    let (here, later) = split(items, next);
-    add_under(first, height, here, positions)?;
-    add_in_peaks(next, left - power(height), later, positions)
 }
 
 /// Adds to `positions` those of the greatest nodes that hold no location of `items`, at or under the node of height

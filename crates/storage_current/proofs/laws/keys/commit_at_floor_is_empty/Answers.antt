@@ -1,11 +1,5 @@
-use Rattle.std.proofs.Common.{◌++◌, refl}
-use Rattle.storage_current.proofs.Keys.{keyed_of, none_at_floor}
+use Rattle.storage_current.proofs.Keys.{none_at_floor}
 use Rattle.storage_current.proofs.laws.keys.commit_at_floor_is_empty.Goals as goal
 
 pub returns : goal.returns
-returns g c = none_at_floor _ (keyed_of g.K.Write.text g.V.Value.Write.text g.V.OperationCodec.operation_text
-    g.K.Ord.cmp g.K.Read.view g.V.Value.Read.view
-    (λ u. g.K.Write.text u.key ++ g.V.Value.Write.text u.value ++ g.K.Write.text u.next_key)
-    (λ k v n. record { key = k; value = v; next_key = n }) (λ k v n. refl)
-    g.met.V.OperationCodec.operation_parts g.met.K.Key.prefix_free g.met.V.ValueEncoding.prefix_free g.met.K.Ord.total
-    g.K.PartialEq.eq g.met.K.Ord.matches_eq g.met.K.Key.same)
+returns g c = none_at_floor _ c.operations_settle_keys.ensures

@@ -1,12 +1,5 @@
-use Rattle.std.proofs.Common.{◌++◌, refl}
-use Rattle.storage_current.proofs.Keys.{keyed_of}
 use Rattle.storage_current.proofs.WellFormed.{one_commit}
 use Rattle.storage_current.proofs.laws.keys.one_commit_is_well_formed.Goals as goal
 
 pub returns : goal.returns
-returns g c = one_commit _ (keyed_of g.K.Write.text g.V.Value.Write.text g.V.OperationCodec.operation_text g.K.Ord.cmp
-    g.K.Read.view g.V.Value.Read.view
-    (λ u. g.K.Write.text u.key ++ g.V.Value.Write.text u.value ++ g.K.Write.text u.next_key)
-    (λ k v n. record { key = k; value = v; next_key = n }) (λ k v n. refl)
-    g.met.V.OperationCodec.operation_parts g.met.K.Key.prefix_free g.met.V.ValueEncoding.prefix_free g.met.K.Ord.total
-    g.K.PartialEq.eq g.met.K.Ord.matches_eq g.met.K.Key.same)
+returns g c = one_commit _ c.operations_settle_keys.ensures

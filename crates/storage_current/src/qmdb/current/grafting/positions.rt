@@ -51,16 +51,6 @@ pub fn grafted_to_ops_pos<F: Family>(position: Position<F>, height: u32) -> Posi
     Position::new(F::position(first * power(height), own + height))
 }
 
-/// `position` itself: [`ops_to_grafted_pos`] undoes [`grafted_to_ops_pos`].
-pub fn up_and_down<F: Family>(position: Position<F>, height: u32) -> Position<F>
-    requires low { 1 ≤ height }
-    requires valid { position ≤ size F.shape max_leaves }
-    requires fits { (p : ℕ) → CoversSame F.shape height position p → p ≤ size F.shape max_leaves }
-    ensures { result ≡ position }
-{
-    ops_to_grafted_pos::<F>(grafted_to_ops_pos::<F>(position, height), height)
-}
-
 /// Returns how many of the leading peaks of the tree over `leaves` leaves end at or before the leaf `floor`.
 pub fn exact_inactive<F: Family>(leaves: u64, floor: u64) -> usize
     requires { leaves ≤ max_leaves }

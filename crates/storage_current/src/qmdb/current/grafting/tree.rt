@@ -11,14 +11,15 @@ ghost use Rattle.storage_merkle.specs.Hashing.{node_over};
 ghost use Rattle.storage_merkle.specs.Kept.{NodesOver, at_peaks, paired, pins};
 ghost use Rattle.storage_current.specs.GraftedTrees.{IsWholeGrafted, Keeps, tree_at};
 
-use crate::qmdb::current::grafting::power;
 use crate::qmdb::current::grafting::rebuild::node_of;
 use std::alloc::{AllocError, Global};
 use std::marker::{Model, PhantomData};
 use storage_codec::digest::Digest;
 use storage_merkle::merkle::family::leaves_within;
 use storage_merkle::merkle::hasher::Hasher;
-use storage_merkle::merkle::{Error, Graftable, Location, MAX_LEAVES, Position, Readable};
+use storage_merkle::merkle::{
+    Error, Graftable, Location, MAX_LEAVES, PeakNodes, Position, Readable, count_pins,
+};
 
 /// A tree over chunks, of which the first `pruned` are pruned: the digests of the peaks over the pruned chunks, its pins, and
 /// those of the other chunks, its leaves. It keeps no other node.
@@ -103,11 +104,11 @@ impl<F: Graftable, D: Digest> GraftedTree<F, D> {
         if !chunks.is_valid() {
             return Err(Error::LocationOverflow(chunks));
         }
-        let count = match needed::<F>(Location::new(pruned_chunks), pinned.len()) {
+        let count = match count_pins::<F>(Location::new(pruned_chunks), pinned.len()) {
             Ok(count) => count,
             Err(missing) => return Err(Error::MissingNode(missing)),
         };
-        let Ok(pinned) = copied(alloc, &pinned[..count]) else {
+        let Ok(pinned) = Vec::from_slice(alloc, &pinned[..count]) else {
             return Err(Error::Memory);
         };
         Ok(GraftedTree {
@@ -276,40 +277,8 @@ fn peaks_over<F: Graftable, D: Digest, H: Hasher<F, Digest = D>>(
         → map D.text v.items ≡ at_peaks (N list) 0 (F.shape.peaks chunks)) }
 {
     let mut peaks = Vec::new(alloc);
-    let mut first = 0;
-    let mut left = chunks;
-    while left > 0 {
-        let height = F::first_peak(left);
+    for (first, height) in PeakNodes::<F>::over(chunks) {
         peaks.push(node_of(tree, hasher, first, height).unwrap())?;
-        first += power(height);
-        left -= power(height);
     }
     Ok(peaks)
-}
-
-/// Returns how many peaks there are over the leaves below `boundary`; or, if they are more than `given`, the position
-/// of peak number `given`, counted from 0.
-fn needed<F: Graftable>(boundary: Location<F>, given: usize) -> Result<usize, Position<F>>
-    requires { boundary ≤ max_leaves }
-    ensures count { IfOk result (λ n. (n ≡ length (F.shape.peaks boundary)) × (n ≤ given)) }
-    ensures missing { IfErr result (λ p. (given < length (F.shape.peaks boundary))
-        × (p ≡ slice_index (pins F.shape boundary) given)) }
-{
-    let mut count = 0;
-    for position in F::nodes_to_pin(boundary) {
-        if count == given {
-            return Err(position);
-        }
-        count += 1;
-    }
-    Ok(count)
-}
-
-/// Returns a copy of `digests`.
-fn copied<D: Digest>(alloc: Global, digests: &[D]) -> Result<Vec<D>, AllocError>
-    ensures { IfOk result (λ v. v.items ≡ digests.now) }
-{
-    let mut copy = Vec::new(alloc);
-    copy.extend_from_slice(digests)?;
-    Ok(copy)
 }

@@ -3,7 +3,7 @@
 //! The proof is a range proof of one location, with its chunk. The check looks at the operation's bit in that chunk first,
 //! and at the chunk's place in the canonical string after.
 
-ghost use Rattle.std.specs.Prelude.{◌≡◌, ◌↔◌, ◌⊎◌, OnOk, IfOk, IfErr, IfSome, MatchOption, IsTrue, Ok, true, false, ℕ, ◌+◌, ◌-◌, ◌*◌, ◌/◌, ◌%◌, ◌^◌, ◌<◌, ◌≤◌, length};
+ghost use Rattle.std.specs.Prelude.{◌≡◌, ◌↔◌, ◌⊎◌, OnOk, IfOk, IfErr, IfSome, MatchOption, IsTrue, Ok, true, false, ℕ, ◌+◌, ◌-◌, ◌*◌, ◌%◌, ◌^◌, ◌<◌, ◌≤◌, length};
 ghost use Rattle.std.specs.List.{All};
 ghost use Rattle.storage_merkle.specs.Plans.{planned};
 ghost use Rattle.storage_bitmap.specs.Chunks.{IsChunkSize};
@@ -22,7 +22,7 @@ use crate::qmdb::current::grafting;
 use crate::qmdb::current::proof::window::Window;
 use crate::qmdb::current::proof::{Chunk, RangeProof};
 use std::alloc::Global;
-use storage_bitmap::bitmap::Readable;
+use storage_bitmap::bitmap::{Readable, is_set};
 use storage_codec::NoMemory;
 use storage_codec::codec::Write;
 use storage_codec::digest::{Digest, Hasher};
@@ -210,12 +210,4 @@ impl<F: Graftable, D: Digest, C: Chunk + Clone> Proof<F, D, C> {
             range_proof: self.range_proof.clone()?,
         })
     }
-}
-
-/// Returns whether bit `place` of `bytes` is set: in byte `place / 8`, under the mask `1 << (place mod 8)`.
-fn is_set(bytes: &[u8], place: u64) -> bool
-    requires { place / 8 < length bytes.now }
-    ensures { result ≡ bit_in bytes.now place }
-{
-    bytes[(place / 8) as usize] >> (place % 8) & 1 == 1
 }

@@ -147,8 +147,13 @@ fn range_end<F: Graftable, R: Readable<N>, const N: usize>(
     Ok(Location::new(first.saturating_add(max_ops).min(len)))
 }
 
-/// Returns the chunks of the bits `status` that the operations from `start` to before `end` touch.
-fn touched_chunks<R: Readable<N>, const N: usize>(
+/// Returns the chunks of the bits `status` that the operations from `start` to before `end` touch, as a client of their
+/// range proof wants them. None of these chunks may be pruned.
+///
+/// # Errors
+///
+/// `AllocError` if memory is wanting.
+pub fn touched_chunks<R: Readable<N>, const N: usize>(
     alloc: Global,
     status: &R,
     start: u64,

@@ -1,8 +1,11 @@
 use Rattle.storage_current.specs.Keys.{Keyed, keyed_by}
+use Rattle.storage_db.specs.declared.db.log.Log.{Log}
 use Rattle.storage_db.specs.Databases.{put}
+use Rattle.storage_db.specs.Parts.{GoesOn}
 use Rattle.storage_db.proofs.Changing.{no_room, no_memory, update_count, same_database}
+use Rattle.storage_db.proofs.Going.{goes_same, goes_trans}
 use Rattle.storage_db.proofs.Keeping.{on_err}
-use Rattle.std.proofs.Common.{arith}
+use Rattle.std.proofs.Common.{sym, subst, arith}
 use Rattle.std.proofs.lemmas.Grind.{common_steps}
 use Rattle.storage_db.proofs.db.changes.put_active.Goals as goal
 
@@ -52,3 +55,30 @@ returns-in_err-next_key-clause-err g c = on_err c.from_residual-in_err-next_key.
 pub returns-in_err-bytes-clause-err : goal.returns-in_err-bytes-clause-err
 returns-in_err-bytes-clause-err g c = on_err c.from_residual-in_err-bytes.result
     (same_database c.args.log.now c.make_room.new.self c.in_ok-make_room.ensures.operations c.in_ok-make_room.ensures.bits c.args.active.now.entries)
+
+pub returns-in_err-make_room-clause-on : goal.returns-in_err-make_room-clause-on
+returns-in_err-make_room-clause-on g c =
+    goes_same c.args.log.now c.make_room.new.self c.in_err-make_room.ensures.operations c.in_err-make_room.ensures.bits
+    c.in_err-make_room.ensures.committed c.in_err-make_room.ensures.cleared
+
+pub returns-in_err-next_key-clause-on : goal.returns-in_err-next_key-clause-on
+returns-in_err-next_key-clause-on g c =
+    goes_same c.args.log.now c.make_room.new.self c.in_ok-make_room.ensures.operations c.in_ok-make_room.ensures.bits
+    c.in_ok-make_room.ensures.committed c.in_ok-make_room.ensures.cleared
+
+pub returns-in_err-bytes-clause-on : goal.returns-in_err-bytes-clause-on
+returns-in_err-bytes-clause-on g c =
+    goes_same c.args.log.now c.make_room.new.self c.in_ok-make_room.ensures.operations c.in_ok-make_room.ensures.bits
+    c.in_ok-make_room.ensures.committed c.in_ok-make_room.ensures.cleared
+
+pub returns-in_err-set-clause-on : goal.returns-in_err-set-clause-on
+returns-in_err-set-clause-on g c =
+    subst (λ (l : Log). GoesOn c.args.log.now l) (sym c.in_err-set.ensures.err)
+    (goes_same c.args.log.now c.make_room.new.self c.in_ok-make_room.ensures.operations c.in_ok-make_room.ensures.bits
+    c.in_ok-make_room.ensures.committed c.in_ok-make_room.ensures.cleared)
+
+pub returns-clause-on : goal.returns-clause-on
+returns-clause-on g c =
+    goes_trans c.args.log.now c.make_room.new.self c.set.new.log (goes_same c.args.log.now c.make_room.new.self c.in_ok-make_room.ensures.operations c.in_ok-make_room.ensures.bits
+    c.in_ok-make_room.ensures.committed c.in_ok-make_room.ensures.cleared)
+    c.in_ok-set.ensures.on

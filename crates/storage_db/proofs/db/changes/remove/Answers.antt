@@ -1,10 +1,10 @@
 use Rattle.std.proofs.Common.{◌≡◌, Some, sym, ap, ◌∙◌, arith}
-use Rattle.storage_current.specs.Keys.{Keyed, keyed_by}
+use Rattle.storage_current.specs.Keys.{Keyed, keyed_by, IsKeyed}
 use Rattle.storage_db.specs.Rings.{next_key, previous}
 use Rattle.storage_db.specs.Databases.{Database, active_at, updated, removed, delete}
 use Rattle.storage_db.specs.Parts.{database_of}
-use Rattle.storage_db.specs.Keyed.{IsKeyed}
 use Rattle.storage_db.proofs.Changing.{sorted_of, no_room, no_memory, delete_count, same_database, removed_parts, renewed_parts, stays_removed, delete_is}
+use Rattle.storage_db.proofs.Going.{goes_same, goes_trans}
 use Rattle.storage_db.proofs.Keeping.{on_err}
 use Rattle.std.proofs.lemmas.Grind.{common_steps}
 use Rattle.storage_db.proofs.db.changes.remove.Goals as goal
@@ -80,6 +80,9 @@ returns-in-None-clause-ok g c = grind (arith, common_steps)
 pub renew-requires-clause-room : goal.renew-requires-clause-room
 renew-requires-clause-room g c = grind (arith, common_steps)
 
+pub renew-requires-clause-clear_room : goal.renew-requires-clause-clear_room
+renew-requires-clause-clear_room g c = grind (arith, common_steps)
+
 pub renew-requires-clause-few : goal.renew-requires-clause-few
 renew-requires-clause-few g c = grind (arith, common_steps)
 
@@ -98,3 +101,36 @@ returns-in_err-bytes-clause-err g c = on_err c.from_residual-in_err-bytes.result
 pub returns-in_err-predecessor_update-clause-err : goal.returns-in_err-predecessor_update-clause-err
 returns-in_err-predecessor_update-clause-err g c = on_err c.from_residual-in_err-predecessor_update.result
     (same_database c.args.log.now c.make_room.new.self c.in_ok-make_room.ensures.operations c.in_ok-make_room.ensures.bits c.args.active.now.entries)
+
+pub returns-in_err-make_room-clause-on : goal.returns-in_err-make_room-clause-on
+returns-in_err-make_room-clause-on g c =
+    goes_same c.args.log.now c.make_room.new.self c.in_err-make_room.ensures.operations c.in_err-make_room.ensures.bits
+    c.in_err-make_room.ensures.committed c.in_err-make_room.ensures.cleared
+
+pub returns-in_err-next_key-clause-on : goal.returns-in_err-next_key-clause-on
+returns-in_err-next_key-clause-on g c =
+    goes_same c.args.log.now c.make_room.new.self c.in_ok-make_room.ensures.operations c.in_ok-make_room.ensures.bits
+    c.in_ok-make_room.ensures.committed c.in_ok-make_room.ensures.cleared
+
+pub returns-in_err-bytes-clause-on : goal.returns-in_err-bytes-clause-on
+returns-in_err-bytes-clause-on g c =
+    goes_same c.args.log.now c.make_room.new.self c.in_ok-make_room.ensures.operations c.in_ok-make_room.ensures.bits
+    c.in_ok-make_room.ensures.committed c.in_ok-make_room.ensures.cleared
+
+pub returns-in_err-predecessor_update-clause-on : goal.returns-in_err-predecessor_update-clause-on
+returns-in_err-predecessor_update-clause-on g c =
+    goes_same c.args.log.now c.make_room.new.self c.in_ok-make_room.ensures.operations c.in_ok-make_room.ensures.bits
+    c.in_ok-make_room.ensures.committed c.in_ok-make_room.ensures.cleared
+
+pub returns-in-None-clause-on : goal.returns-in-None-clause-on
+returns-in-None-clause-on g c =
+    goes_trans c.args.log.now c.make_room.new.self c.remove_active.new.log (goes_same c.args.log.now c.make_room.new.self c.in_ok-make_room.ensures.operations c.in_ok-make_room.ensures.bits
+    c.in_ok-make_room.ensures.committed c.in_ok-make_room.ensures.cleared)
+    c.remove_active.ensures.on
+
+pub returns-clause-on : goal.returns-clause-on
+returns-clause-on g c =
+    goes_trans c.args.log.now c.remove_active-in-Some.new.log c.renew.new.log
+    (goes_trans c.args.log.now c.make_room.new.self c.remove_active-in-Some.new.log (goes_same c.args.log.now c.make_room.new.self c.in_ok-make_room.ensures.operations c.in_ok-make_room.ensures.bits
+    c.in_ok-make_room.ensures.committed c.in_ok-make_room.ensures.cleared)
+    c.remove_active-in-Some.ensures.on) c.renew.ensures.on

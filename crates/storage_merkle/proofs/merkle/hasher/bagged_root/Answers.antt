@@ -9,7 +9,7 @@ returns g c =
     c.hash_parts.ensures ∙ rw (
       c.to_be_bytes-leaves.ensures,
       c.to_be_bytes-inactive.ensures,
-      c.bag_bytes.ensures,
+      c.bytes_or_nothing.ensures,
       c.byte.ensures,
       c.byte-2.ensures,
       c.root_bagging.ensures,

@@ -1,6 +1,7 @@
-use Rattle.std.proofs.Common.{arith, true, ◌≡◌, ◌<◌, ◌≤◌, ◌^◌, ◌+◌, ◌++◌, length, map, sym, ap, ◌∙◌, subst}
+use Rattle.std.proofs.Common.{arith, true, ◌≡◌, ◌<◌, ◌≤◌, ◌^◌, length, map, sym, ap, ◌∙◌, subst}
 use Rattle.storage_merkle.specs.CheckParts.{Serves}
 use Rattle.storage_merkle.specs.Multi.{Ascend, claims_of, locations, needed_sites, multi_values}
+use Rattle.storage_merkle.specs.Rests.{peaks_from}
 use Rattle.storage_merkle.specs.Trees.{ungrafted}
 use Rattle.storage_merkle.proofs.Siblings.{positions, not_both}
 use Rattle.storage_merkle.proofs.Multi.Checks.{too_many_leaves, not_ascending, other_count, served, fit, root_is, rising_claims, needed_present, needed_rise}
@@ -42,8 +43,8 @@ returns-then-len g c =
     c.in_ok-positions.positions.items found
     (λ e. c.if-len.true (omega (arith, c.len.ensures, c.len-2.ensures)))
 
-pub add_peaks-requires-clause-given : goal.add_peaks-requires-clause-given
-add_peaks-requires-clause-given g c =
+pub peaks-requires-clause-given : goal.peaks-requires-clause-given
+peaks-requires-clause-given g c =
     let ls = map (λ c. c.1) c.args.claims.now in
     record {
       few = c.if-leaves-gt-MAX_LEAVES.false;
@@ -53,12 +54,12 @@ add_peaks-requires-clause-given g c =
           omega (arith, c.deref.ensures.len, c.deref-2.ensures.len, c.len.ensures, c.len-2.ensures);
     }
 
-pub add_peaks-requires-clause-rising : goal.add_peaks-requires-clause-rising
-add_peaks-requires-clause-rising g c = rising_claims g.E.AsSlice.items c.args.claims.now c.as_u64-leaves.result
-    (0 + c.as_u64-leaves.result) (omega arith) (c.ascend.ensures.0 c.if-not-ascend.false)
+pub peaks-requires-clause-rising : goal.peaks-requires-clause-rising
+peaks-requires-clause-rising g c = rising_claims g.E.AsSlice.items c.args.claims.now c.as_u64-leaves.result
+    c.as_u64-leaves.result (omega arith) (c.ascend.ensures.0 c.if-not-ascend.false)
 
-pub add_peaks-requires-clause-present : goal.add_peaks-requires-clause-present
-add_peaks-requires-clause-present g c =
+pub peaks-requires-clause-present : goal.peaks-requires-clause-present
+peaks-requires-clause-present g c =
     let S = g.F.Family.shape in
     let cs = c.args.claims.now in
     let found = c.deref.ensures.value ∙ c.in_ok-positions.ensures ∙ ap (λ ls. positions (ungrafted S)
@@ -90,12 +91,9 @@ returns g c =
     c.in_ok-positions.positions.items found as_many in
     let serves' : Serves S values.digest c.deref.result.now (map text c.deref-2.result.now) =
     rw (c.deref.ensures.value, c.deref-2.ensures.value) serves in
-    let peaks = ap (map text) c.deref-3.ensures.value ∙ c.in_ok-add_peaks.ensures.exact values.digest serves'
-    ∙ ap (λ ds. map text ds
-    ++ values_in g.E.AsSlice.items g.H.Hasher.hash_of (g.H.Hasher.layout c.args.hasher.now) values.digest
-    (g.H.Hasher.chunk c.args.hasher.now) S c.args.claims.now 0 c.as_u64-leaves.result) c.new-peaks.ensures.items
-    ∙ ap (values_in g.E.AsSlice.items g.H.Hasher.hash_of (g.H.Hasher.layout c.args.hasher.now) values.digest
-    (g.H.Hasher.chunk c.args.hasher.now) S c.args.claims.now 0) c.as_u64-leaves.ensures in
+    let peaks = ap (map text) c.deref-3.ensures.value ∙ c.in_ok-peaks.ensures.exact values.digest serves'
+    ∙ ap (λ n. values_in g.E.AsSlice.items g.H.Hasher.hash_of (g.H.Hasher.layout c.args.hasher.now) values.digest
+    (g.H.Hasher.chunk c.args.hasher.now) c.args.claims.now (peaks_from S 0 n)) c.as_u64-leaves.ensures in
     let few : c.args.proof.now.leaves ≤ 2 ^ 62 = (let few_leaves = c.if-leaves-gt-MAX_LEAVES.false in
     omega (arith, c.as_u64-leaves.ensures)) in
     let up = subst (λ n. Ascend 0 n ls) c.as_u64-leaves.ensures (c.ascend.ensures.0 c.if-not-ascend.false) in

@@ -5,5 +5,5 @@ use Rattle.storage_bitmap.proofs.bitmap.authenticated.BitMap.get_bit_from_chunk.
 
 pub returns-clause-meaning : goal.returns-clause-meaning
 returns-clause-meaning g c bits e =
-    c.read.ensures ∙ (ap (λ (x : List ℕ). bit_in x (c.args.bit % (8 * g.row.N))) e
+    c.is_set.ensures ∙ (ap (λ (x : List ℕ). bit_in x (c.args.bit % (8 * g.row.N))) e
     ∙ bit_in-chunk g.row.N c.args.bit bits (chunk_positive g.row.N c.requires))

@@ -1,4 +1,4 @@
-use Rattle.std.proofs.Common.{◌≡◌, ◌≤◌, ◌<◌, ◌+◌, ◌-◌, ◌*◌, ◌/◌, ◌^◌, ℕ, List, [], append-nil, arith, ap, sym, refl, ◌∙◌, rules}
+use Rattle.std.proofs.Common.{◌≡◌, ◌≤◌, ◌<◌, ◌+◌, ◌-◌, ◌^◌, ℕ, [], append-nil, arith, ap, sym, refl, ◌∙◌, rules}
 use Rattle.std.proofs.lemmas.Nat.{shr_le}
 use Rattle.storage_merkle.specs.Kept.{HasRoomFor}
 use Rattle.storage_merkle.specs.Shape.{size}
@@ -23,6 +23,8 @@ graft_at-digest-requires g c =
     let total : count ≡ graftable G m.leaves =
     rw level (graftable_is S L r c.as_u64.result count c.graftable_chunks-count.ensures ∙ ap (graftable_at S r) leaves) in
     let within : c.loop-index.index < graftable G m.leaves = omega (arith, total, c.loop-index-test.true) in
+    let from : c.args.status.now.pruned ≤ c.loop-index.index =
+    omega (arith, c.requires.kept, c.loop-index.invariant.first) in
     search rules
 
 pub add_leaf-requires : goal.add_leaf-requires
@@ -48,6 +50,7 @@ add_leaf-requires g c some p a k inner low high =
 pub loop-index-init : goal.loop-index-init
 loop-index-init g c = record {
   count = sym (c.as_u64-index.ensures ∙ c.leaves-2.ensures);
+  first = omega (arith, c.as_u64-index.ensures, c.leaves-2.ensures);
   boundary = refl;
   pinned = refl;
   room = omega arith;
@@ -71,11 +74,12 @@ loop-index-preserved g c =
     let grown = succeeded c.add_leaf.result _ is_ok c.add_leaf.ensures.grown in
     record {
       count = place.0 ∙ ap (λ (n : ℕ). n + 1) before.count;
+      first = omega (arith, before.first);
       boundary = place.1 ∙ before.boundary;
       pinned = place.2 ∙ before.pinned;
       room = omega (arith, before.room, c.add_leaf.ensures.room);
       grafts = λ list stands. more_grafts text h G c.args.operations.now c.loop-index.chunks c.add_leaf.new.self
-          c.args.status.now.bits list (text c.graft_at-digest.result) (before.grafts list stands)
+          c.args.status.now list (text c.graft_at-digest.result) (before.grafts list stands)
           (chunk_more text h G c.height-height.result c.loop-index.chunks c.add_leaf.new.self
           (text c.graft_at-digest.result) level (rw c.new-hasher.ensures.height at grown))
           (λ s same over. rw before.count (c.graft_at-digest.ensures s same over));

@@ -10,9 +10,10 @@ invariant-loop-index g l =
     let G : Grafting = record { shape = g.F.Family.shape; bytes = g.row.N } in
     record {
       count : l.chunks.leaves ≡ l.index;
+      first : l.fn.chunks.leaves ≤ l.index;
       boundary : l.chunks.boundary ≡ l.fn.chunks.boundary;
       pinned : l.chunks.pinned ≡ l.fn.chunks.pinned;
       room : l.fn.chunks.room ≤ l.chunks.room;
       grafts : (list : List (List ℕ)) → StandsForChunks text h G l.fn.chunks list
-          → HasMoreGrafts text h G l.operations l.chunks l.status.bits list;
+          → HasMoreGrafts text h G l.operations l.chunks l.status list;
     }

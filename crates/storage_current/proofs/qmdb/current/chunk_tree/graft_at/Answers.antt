@@ -1,11 +1,14 @@
-use Rattle.std.proofs.Common.{◌≡◌, ◌<◌, ◌≤◌, ◌-◌, ◌*◌, ◌^◌, ℕ, length, arith, ◌∙◌, refl, pow_pos}
+use Rattle.std.proofs.Common.{◌≡◌, ◌<◌, ◌≤◌, ◌*◌, ◌^◌, ℕ, length, arith, ◌∙◌, refl, pow_pos}
 use Rattle.storage_merkle.specs.Laws.Hashing.{length-leaf_digests}
 use Rattle.storage_merkle.specs.Kept.{kept_at}
 use Rattle.storage_merkle.specs.Trees.{ungrafted, listed, tree_node}
 use Rattle.storage_bitmap.specs.Chunks.{bit_count}
 use Rattle.storage_current.specs.Laws.Grafting.{height_of_power}
-use Rattle.storage_current.specs.Snapshots.{Grafting, graftable, height, view_node}
+use Rattle.storage_current.specs.Laws.Retained.{behind}
+use Rattle.storage_current.specs.Snapshots.{Grafting, graftable}
 use Rattle.storage_current.proofs.MemViews.{chunk_grafted, chunk_site, kept_is, kept_some, told_bytes}
+use Rattle.storage_current.proofs.Retaining.{pruned_behind}
+use Rattle.storage_current.proofs.Roots.{kept_chunk}
 use Rattle.storage_current.proofs.qmdb.current.chunk_tree.graft_at.Goals as goal
 
 pub overflow_mul-index : goal.overflow_mul-index
@@ -48,10 +51,11 @@ unwrap-inner-requires g c =
     (graftable G c.args.operations.now.leaves) r level refl c.requires.within in
     let m = c.args.operations.now in
     let a : ℕ = c.args.index * 2 ^ r in
+    let start : m.boundary ≤ a = pruned_behind G m c.args.status.now c.args.index r level c.requires.bits c.requires.kept in
     rw (c.get_node.ensures, c.new-position.ensures, c.position.ensures, c.power.ensures)
     (kept_some g.H.Digest.Digest.text g.H.Hasher.hash_of S g.met.F.Family.laws m
     c.trees_keep_the_nodes_of_their_list.ensures c.requires.grown (S.position a r) a r
-    (record { aligned = s.aligned; at = refl }) s.before)
+    (record { aligned = s.aligned; at = refl }) (behind S g.met.F.Family.laws m.boundary a r s.aligned start) s.before)
 
 pub get_chunk-requires : goal.get_chunk-requires
 get_chunk-requires g c =
@@ -61,7 +65,7 @@ get_chunk-requires g c =
     let level = height_of_power S g.row.N _ c.height-height.ensures.power in
     let s = chunk_site G g.met.F.Family.laws c.args.operations.now.leaves c.args.index
     (graftable G c.args.operations.now.leaves) r level refl c.requires.within in
-    let from : c.args.status.now.pruned ≤ c.args.index = omega (arith, c.requires.bits.unpruned) in
+    let from : c.args.status.now.pruned ≤ c.args.index = c.requires.kept in
     let fits : c.args.index * (8 * g.row.N) < c.args.operations.now.leaves =
     rw c.height-height.ensures.power (omega (arith, s.ends, pow_pos r)) in
     let within : c.args.index * (8 * g.row.N) < bit_count g.row.N c.args.status.now =
@@ -69,7 +73,7 @@ get_chunk-requires g c =
     (omega arith, (omega (arith, c.requires.chunks.1), (from, within)))
 
 pub returns : goal.returns
-returns g c s bits over =
+returns g c s rest over =
     let S = g.F.Family.shape in
     let L = g.met.F.Family.laws in
     let h = g.H.Hasher.hash_of in
@@ -81,13 +85,15 @@ returns g c s bits over =
     let level = height_of_power S g.row.N _ c.height-height.ensures.power in
     let at = chunk_site G L m.leaves i (graftable G m.leaves) r level refl c.requires.within in
     let p : ℕ = S.position (i * 2 ^ r) r in
+    let start : m.boundary ≤ i * 2 ^ r = pruned_behind G m c.args.status.now i r level c.requires.bits c.requires.kept in
     let read = rw (c.new-position.ensures, c.position.ensures, c.power.ensures) at c.get_node.ensures in
     let n : m.leaves ≡ length s.operations = over.count ∙ length-leaf_digests h (ungrafted S) 0 s.operations in
     let below : i < graftable G (length s.operations) = rw (← n) c.requires.within in
     let inner = told_bytes text c.get_node.result (kept_at S m.boundary m.pinned m.nodes p) c.unwrap-inner.result
     (tree_node h (ungrafted S) (listed s.operations) (i * 2 ^ r) r) read c.unwrap-inner.ensures
     (kept_is text h S L m c.trees_keep_the_nodes_of_their_list.ensures c.requires.grown s.operations over p
-    (i * 2 ^ r) r (record { aligned = at.aligned; at = refl }) (rw (← n) at.before)) in
-    chunk_grafted h G L s i (i - c.args.status.now.pruned) r c.get_chunk.result (text c.graft.result)
+    (i * 2 ^ r) r (record { aligned = at.aligned; at = refl }) (behind S L m.boundary (i * 2 ^ r) r at.aligned start)
+    (rw (← n) at.before)) in
+    chunk_grafted h G L s i i r c.get_chunk.result (text c.graft.result)
     (text c.unwrap-inner.result) level (omega (arith, c.height-height.ensures.low)) below c.graft.ensures
-    (rw bits c.get_chunk.ensures) (omega (arith, c.requires.bits.unpruned)) inner
+    (c.get_chunk.ensures ∙ kept_chunk g.row.N c.args.status.now s.bits rest i c.requires.kept) refl inner

@@ -1,7 +1,7 @@
 //! Exclusion proofs as bytes: a tag, then the operation proof and the update, or the operation proof and the value.
 
 ghost use Rattle.std.specs.Prelude.{◌≡◌, ℕ, ◌+◌, [], ◌∷◌, ◌++◌, length, OnOk, OnErr};
-ghost use Rattle.storage_codec.specs.Codec.{Gives, byte_at, whole};
+ghost use Rattle.storage_codec.specs.Codec.{Gives, whole};
 ghost use Rattle.storage_codec.specs.Parts.{AppendsStart, IsEnding, size_of};
 ghost use Rattle.storage_ops.specs.Updates.{ordered_at};
 ghost use Rattle.storage_ops.specs.Laws.Updates.{ordered_again, ordered_back};
@@ -18,6 +18,7 @@ use crate::qmdb::current::proof::operation::Proof;
 use bytes::Bytes;
 use std::alloc::Global;
 use storage_codec::NoMemory;
+use storage_codec::codec::util::byte;
 use storage_codec::codec::{Buf, Canonical, Codec, EncodeSize, Error, Read, Write};
 use storage_codec::digest::Digest;
 use storage_merkle::merkle::Graftable;
@@ -96,16 +97,6 @@ fn size_of_tagged<A: EncodeSize, B: EncodeSize>(first: &A, second: &B) -> Option
     both.checked_add(1)
 }
 
-/// Reads the tag, one byte, from the front of `buf`. Refuses `EndOfBuffer` if there is none.
-fn read_tag<B: Buf>(buf: &mut B) -> Result<u8, Error>
-    ensures gives { Gives (λ tag. tag) result (B.unread buf.new) (byte_at (B.unread buf.old)) }
-    ensures ends { IsEnding (B.unread buf.old) (B.unread buf.new) }
-{
-    let mut tag = [0u8; 1];
-    buf.read_into(&mut tag)?;
-    Ok(tag[0])
-}
-
 /// Reads from the front of `buf` a value of `A`, whose reader is told `first`, and then an update, whose reader is told
 /// `update`.
 #[tactic(auto, using(storage_codec::specs::Laws::Parts::ends_then))]
@@ -164,7 +155,7 @@ impl<F: Graftable, K: Key, V: UpdateCodec<K>, D: Digest, const N: usize> Read
             <V::Value as Read>::Cfg,
         ),
     ) -> Result<Self, Error> {
-        match read_tag(buf)? {
+        match byte(buf)? {
             KEY_VALUE_CONTEXT => {
                 match read_before_update::<Proof<F, D, [u8; N]>, K, V, B>(
                     alloc, buf, &cfg.0, &cfg.1,
@@ -204,7 +195,7 @@ impl<F: Graftable, K: Key, V: UpdateCodec<K>, D: Digest> ExclusionProof<F, K, V,
             (V.Value.parse value.now) (B.unread buf.old)) }
         ensures ends { IsEnding (B.unread buf.old) (B.unread buf.new) }
     {
-        match read_tag(buf)? {
+        match byte(buf)? {
             KEY_VALUE_CONTEXT => {
                 match read_before_update::<Proof<F, D, Bytes>, K, V, B>(alloc, buf, proof, update) {
                     Ok((proof, update)) => Ok(ExclusionProof::KeyValue(proof, update)),

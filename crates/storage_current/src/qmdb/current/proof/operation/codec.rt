@@ -1,7 +1,10 @@
 //! Operation proofs as bytes: the location, the chunk with no length before it, the range proof.
 
-ghost use Rattle.std.specs.Prelude.{◌≡◌, ℕ, ◌+◌};
-ghost use Rattle.storage_current.specs.Held.{range_proof_of};
+ghost use Rattle.std.specs.Prelude.{◌≡◌, ◌≢◌, ℕ, ◌+◌, Err};
+ghost use Rattle.storage_codec.specs.Codec.{Gives};
+ghost use Rattle.storage_codec.specs.Parts.{IsEnding};
+ghost use Rattle.storage_bitmap.specs.Chunks.{IsChunkSize};
+ghost use Rattle.storage_current.specs.Held.{operation_proof_of, range_proof_of};
 ghost use Rattle.storage_current.specs.Snapshots.{OperationProof};
 ghost use Rattle.storage_current.specs.CurrentWire.{operation_text, operation_at, sized_operation_at, IsAdmittedArray, IsAdmittedSized};
 ghost use Rattle.storage_current.specs.Laws.CurrentWire.{operation_again, operation_back, sized_again, sized_back, held_digests};
@@ -89,8 +92,15 @@ impl<F: Graftable, D: Digest> Read for Proof<F, D, Bytes> {
 
     ghost parse = { λ cfg. sized_operation_at F.has_pending D.size cfg.0 cfg.1 };
 
+    /// Refuses a size that chunks can't have without taking memory.
     #[tactic(auto, using(storage_codec::specs::Laws::Parts::ends_then))]
-    fn read_cfg<B: Buf>(alloc: Global, buf: &mut B, cfg: &(usize, usize)) -> Result<Self, Error> {
+    fn read_cfg<B: Buf>(alloc: Global, buf: &mut B, cfg: &(usize, usize)) -> Result<Self, Error>
+        ensures gives { Gives (λ p. operation_proof_of D.text (λ c. c) p) result
+            (B.unread buf.new) (sized_operation_at F.has_pending D.size cfg.now.0 cfg.now.1
+            (B.unread buf.old)) }
+        ensures ends { IsEnding (B.unread buf.old) (B.unread buf.new) }
+        ensures no_memory { ¬ IsChunkSize cfg.now.0 → result ≢ Err Error.Memory }
+    {
         let (chunk_size, most) = *cfg;
         if grafting::chunk_height(chunk_size).is_none() {
             return Err(Error::Invalid("current proof", "invalid bitmap chunk size"));

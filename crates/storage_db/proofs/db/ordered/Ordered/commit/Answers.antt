@@ -1,75 +1,64 @@
-use Rattle.std.proofs.Common.{◌-◌, ℕ, Option, Some, option_map, sym, ap, ◌∙◌, subst}
+use Rattle.std.proofs.Common.{◌≡◌, refl, subst}
+use Rattle.std.specs.Prelude.{OnOk, OnErr}
 use Rattle.storage_current.specs.Keys.{Keyed, keyed_by}
 use Rattle.storage_current.specs.Snapshots.{grafting_of}
 use Rattle.storage_db.specs.Databases.{Commit, commit}
-use Rattle.storage_db.specs.Kept.{KeptDatabase, KeptCommit, Keeps}
-use Rattle.storage_db.proofs.Cases.{err_and}
+use Rattle.storage_db.specs.Kept.{KeptDatabase, IsDone}
 use Rattle.storage_db.specs.Parts.{kept_of}
-use Rattle.storage_db.proofs.Made.{made_more, made_over, made_still}
-use Rattle.storage_db.proofs.Keeping.{kept_from, refused_from, on_err}
+use Rattle.storage_db.proofs.Floors.{made_marked}
+use Rattle.storage_db.proofs.Keeping.{refused_err}
+use Rattle.storage_db.proofs.Made.{made_as, made_either, made_over}
 use Rattle.storage_db.proofs.db.ordered.Ordered.commit.Goals as goal
 
 pub returns-clause-ok : goal.returns-clause-ok
-returns-clause-ok g c = λ d keeps.
+returns-clause-ok g c =
     let e : Keyed g.row.K.Denot g.row.V-Value.Denot
     = keyed_by g.K.Write.text g.V.Value.Write.text g.V.OperationCodec.operation_text g.K.Ord.cmp in
-    let P : KeptDatabase g.row.K.Denot g.row.V-Value.Denot → Type 0
-    = λ k. Keeps e g.V.Value.Read.view g.H.Hasher.hash_of (grafting_of g.F.Family.shape g.row.N) k d in
-    let location : KeptDatabase g.row.K.Denot g.row.V-Value.Denot → Option ℕ
-    = λ k. option_map (λ (x : KeptCommit g.row.K.Denot g.row.V-Value.Denot). x.count - 1) k.last in
-    c.in_ok-commit.ensures.ok c.self.inside.last (c.last_location-before.ensures ∙ ap location (sym c.self.view_is)) d
-    (subst P (sym c.self.view_is) keeps)
+    let made = made_as g.K.Write.text g.V.Value.Write.text g.K.Ord.cmp g.V.Value.Read.view g.H.Hasher.hash_of
+    (grafting_of g.F.Family.shape g.row.N) g.V.OperationCodec.operation_text g.V.KeyedEncoding.keyed_text
+    g.met.V.OrderedCodec.agrees (kept_of c.self.inside.log c.self.inside.active.entries c.self.inside.last) c.self.invariant.2 in
+    let marked = made_marked e c.operations_settle_keys.ensures
+    (record { put_is = λ d key value. refl; commit_is = λ d metadata. refl }) g.V.Value.Read.view g.H.Hasher.hash_of
+    (grafting_of g.F.Family.shape g.row.N) (kept_of c.self.inside.log c.self.inside.active.entries c.self.inside.last) made in
+    subst (λ (k : KeptDatabase g.row.K.Denot g.row.V-Value.Denot). OnOk c.put_commit.result (IsDone e g.V.Value.Read.view
+    g.H.Hasher.hash_of (grafting_of g.F.Family.shape g.row.N) k
+    (kept_of c.put_commit.new.log c.self.inside.active.entries c.put_commit.new.last) (Commit c.args.metadata)))
+    c.self.view_is (c.put_commit.ensures.ok c.self.invariant.1 marked)
 
-pub returns-in_err-commit-clause-err : goal.returns-in_err-commit-clause-err
-returns-in_err-commit-clause-err g c =
-    let e : Keyed g.row.K.Denot g.row.V-Value.Denot
-    = keyed_by g.K.Write.text g.V.Value.Write.text g.V.OperationCodec.operation_text g.K.Ord.cmp in
-    on_err c.from_residual.result
-    (kept_from e g.V.Value.Read.view g.H.Hasher.hash_of (grafting_of g.F.Family.shape g.row.N) (λ x. commit e x c.args.metadata)
-    c.self.inside.log c.put_commit.new.log c.self.inside.active.entries c.self.inside.active.entries c.self.inside.last
-    c.args.self.now c.self.view_is c.in_err-commit.ensures.err)
+pub returns-clause-err : goal.returns-clause-err
+returns-clause-err g c =
+    subst (λ (k : KeptDatabase g.row.K.Denot g.row.V-Value.Denot). OnErr c.put_commit.result
+    (kept_of c.put_commit.new.log c.self.inside.active.entries c.put_commit.new.last ≡ k))
+    c.self.view_is c.put_commit.ensures.err
 
-pub returns-in_err-commit-clause-why : goal.returns-in_err-commit-clause-why
-returns-in_err-commit-clause-why g c =
+pub returns-clause-why : goal.returns-clause-why
+returns-clause-why g c =
     let e : Keyed g.row.K.Denot g.row.V-Value.Denot
     = keyed_by g.K.Write.text g.V.Value.Write.text g.V.OperationCodec.operation_text g.K.Ord.cmp in
-    let why = c.in_err-commit.ensures.why in
-    err_and _ _ c.from_residual.result (λ error same. refused_from e g.V.Value.Read.view g.H.Hasher.hash_of
-    (grafting_of g.F.Family.shape g.row.N) (λ x. commit e x c.args.metadata) c.self.inside.log c.put_commit.new.log
-    c.self.inside.active.entries c.self.inside.active.entries c.self.inside.last c.args.self.now c.self.view_is error
-    (λ last. same ∙ why last)) c.from_residual.ensures.1
+    refused_err e g.V.Value.Read.view g.H.Hasher.hash_of (grafting_of g.F.Family.shape g.row.N)
+    (λ x. commit e x c.args.metadata) c.self.inside.log c.put_commit.new.log c.self.inside.active.entries
+    c.self.inside.active.entries c.self.inside.last c.args.self.now c.self.view_is c.put_commit.result c.put_commit.ensures.why
 
 pub invariant_of-self : goal.invariant_of-self
 invariant_of-self g c =
     let e : Keyed g.row.K.Denot g.row.V-Value.Denot
-    = keyed_by g.K.Write.text g.V.Value.Write.text g.V.OperationCodec.operation_text g.K.Ord.cmp in (
-      c.self.invariant.0,
-      made_over g.K.Write.text g.V.Value.Write.text g.K.Ord.cmp g.V.Value.Read.view g.H.Hasher.hash_of
-          (grafting_of g.F.Family.shape g.row.N) g.V.OperationCodec.operation_text g.V.KeyedEncoding.keyed_text
-          g.met.V.OrderedCodec.agrees
-          (kept_of c.self.inside.log c.self.inside.active.entries c.self.inside.last)
-          (kept_of c.put_commit.new.log c.self.inside.active.entries c.self.inside.last)
-          (made_still e g.V.Value.Read.view g.H.Hasher.hash_of (grafting_of g.F.Family.shape g.row.N) c.self.inside.log
-          c.put_commit.new.log c.self.inside.active.entries c.self.inside.active.entries c.self.inside.last c.in_err-commit.ensures.err)
-          c.self.invariant.1,
-    )
-
-pub invariant_of-self-2 : goal.invariant_of-self-2
-invariant_of-self-2 g c =
-    let e : Keyed g.row.K.Denot g.row.V-Value.Denot
     = keyed_by g.K.Write.text g.V.Value.Write.text g.V.OperationCodec.operation_text g.K.Ord.cmp in
-    let location : KeptDatabase g.row.K.Denot g.row.V-Value.Denot → Option ℕ
-    = λ k. option_map (λ (x : KeptCommit g.row.K.Denot g.row.V-Value.Denot). x.count - 1) k.last in
+    let made = made_as g.K.Write.text g.V.Value.Write.text g.K.Ord.cmp g.V.Value.Read.view g.H.Hasher.hash_of
+    (grafting_of g.F.Family.shape g.row.N) g.V.OperationCodec.operation_text g.V.KeyedEncoding.keyed_text
+    g.met.V.OrderedCodec.agrees (kept_of c.self.inside.log c.self.inside.active.entries c.self.inside.last) c.self.invariant.2 in
+    let marked = made_marked e c.operations_settle_keys.ensures
+    (record { put_is = λ d key value. refl; commit_is = λ d metadata. refl }) g.V.Value.Read.view g.H.Hasher.hash_of
+    (grafting_of g.F.Family.shape g.row.N) (kept_of c.self.inside.log c.self.inside.active.entries c.self.inside.last) made in
     let old : KeptDatabase g.row.K.Denot g.row.V-Value.Denot
     = kept_of c.self.inside.log c.self.inside.active.entries c.self.inside.last in
     let new : KeptDatabase g.row.K.Denot g.row.V-Value.Denot
-    = kept_of c.put_commit.new.log c.self.inside.active.entries (Some c.in_ok-commit.commit) in (
+    = kept_of c.put_commit.new.log c.self.inside.active.entries c.put_commit.new.last in (
       c.self.invariant.0,
+      c.put_commit.ensures.since c.self.invariant.1,
       made_over g.K.Write.text g.V.Value.Write.text g.K.Ord.cmp g.V.Value.Read.view g.H.Hasher.hash_of
           (grafting_of g.F.Family.shape g.row.N) g.V.OperationCodec.operation_text g.V.KeyedEncoding.keyed_text
           g.met.V.OrderedCodec.agrees old new
-          (made_more e g.V.Value.Read.view g.H.Hasher.hash_of (grafting_of g.F.Family.shape g.row.N) old new
-          (Commit c.args.metadata)
-          (c.in_ok-commit.ensures.ok c.self.inside.last (c.last_location-before.ensures ∙ ap location (sym c.self.view_is))))
-          c.self.invariant.1,
+          (made_either e g.V.Value.Read.view g.H.Hasher.hash_of (grafting_of g.F.Family.shape g.row.N) old new
+          (Commit c.args.metadata) c.put_commit.result (c.put_commit.ensures.ok c.self.invariant.1 marked) c.put_commit.ensures.err)
+          c.self.invariant.2,
     )

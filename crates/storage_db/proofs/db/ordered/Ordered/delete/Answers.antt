@@ -5,6 +5,7 @@ use Rattle.storage_db.specs.Databases.{Delete, delete}
 use Rattle.storage_db.proofs.Cases.{err_and}
 use Rattle.storage_db.specs.Parts.{kept_of}
 use Rattle.storage_db.proofs.Keeping.{done_from, refused_from, kept_from, on_err}
+use Rattle.storage_db.proofs.Going.{since_on}
 use Rattle.storage_db.proofs.Made.{made_by, made_over}
 use Rattle.storage_db.proofs.Told.{nothing_deleted, still_held}
 use Rattle.storage_db.proofs.db.ordered.Ordered.delete.Goals as goal
@@ -23,7 +24,7 @@ returns-clause-ok g c =
     = keyed_by g.K.Write.text g.V.Value.Write.text g.V.OperationCodec.operation_text g.K.Ord.cmp in
     done_from e g.V.Value.Read.view g.H.Hasher.hash_of (grafting_of g.F.Family.shape g.row.N) (λ x. delete e x c.args.key.now)
     c.self.inside.log c.remove.new.log c.self.inside.active.entries c.remove.new.active.entries c.self.inside.last
-    c.args.self.now c.self.view_is c.in_ok-remove.ensures.ok c.remove.ensures.few
+    c.args.self.now c.self.view_is c.in_ok-remove.ensures.ok c.remove.ensures.few c.remove.ensures.on
 
 pub returns-in_err-remove-clause-err : goal.returns-in_err-remove-clause-err
 returns-in_err-remove-clause-err g c =
@@ -59,6 +60,7 @@ invariant_of-self g c =
     let e : Keyed g.row.K.Denot g.row.V-Value.Denot
     = keyed_by g.K.Write.text g.V.Value.Write.text g.V.OperationCodec.operation_text g.K.Ord.cmp in (
       c.self.invariant.0,
+      since_on c.self.inside.log c.remove.new.log c.self.inside.last c.remove.ensures.on c.self.invariant.1,
       made_over g.K.Write.text g.V.Value.Write.text g.K.Ord.cmp g.V.Value.Read.view g.H.Hasher.hash_of
           (grafting_of g.F.Family.shape g.row.N) g.V.OperationCodec.operation_text g.V.KeyedEncoding.keyed_text
           g.met.V.OrderedCodec.agrees
@@ -66,8 +68,9 @@ invariant_of-self g c =
           (kept_of c.remove.new.log c.remove.new.active.entries c.self.inside.last)
           (made_by e g.V.Value.Read.view g.H.Hasher.hash_of (grafting_of g.F.Family.shape g.row.N)
           (Delete c.args.key.now) c.self.inside.log c.remove.new.log c.self.inside.active.entries c.remove.new.active.entries
-          c.self.inside.last c.remove.result c.remove.ensures.ok c.remove.ensures.few c.remove.ensures.err)
-          c.self.invariant.1,
+          c.self.inside.last c.remove.result c.remove.ensures.ok c.remove.ensures.few c.remove.ensures.on
+          c.remove.ensures.err)
+          c.self.invariant.2,
     )
 
 pub invariant_of-self-2 : goal.invariant_of-self-2
@@ -75,6 +78,7 @@ invariant_of-self-2 g c =
     let e : Keyed g.row.K.Denot g.row.V-Value.Denot
     = keyed_by g.K.Write.text g.V.Value.Write.text g.V.OperationCodec.operation_text g.K.Ord.cmp in (
       c.self.invariant.0,
+      since_on c.self.inside.log c.remove.new.log c.self.inside.last c.remove.ensures.on c.self.invariant.1,
       made_over g.K.Write.text g.V.Value.Write.text g.K.Ord.cmp g.V.Value.Read.view g.H.Hasher.hash_of
           (grafting_of g.F.Family.shape g.row.N) g.V.OperationCodec.operation_text g.V.KeyedEncoding.keyed_text
           g.met.V.OrderedCodec.agrees
@@ -82,6 +86,7 @@ invariant_of-self-2 g c =
           (kept_of c.remove.new.log c.remove.new.active.entries c.self.inside.last)
           (made_by e g.V.Value.Read.view g.H.Hasher.hash_of (grafting_of g.F.Family.shape g.row.N)
           (Delete c.args.key.now) c.self.inside.log c.remove.new.log c.self.inside.active.entries c.remove.new.active.entries
-          c.self.inside.last c.remove.result c.remove.ensures.ok c.remove.ensures.few c.remove.ensures.err)
-          c.self.invariant.1,
+          c.self.inside.last c.remove.result c.remove.ensures.ok c.remove.ensures.few c.remove.ensures.on
+          c.remove.ensures.err)
+          c.self.invariant.2,
     )

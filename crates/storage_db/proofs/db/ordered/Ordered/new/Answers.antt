@@ -8,4 +8,4 @@ pub returns-clause-made : goal.returns-clause-made
 returns-clause-made g c = ([], search rules)
 
 pub invariant_of-result : goal.invariant_of-result
-invariant_of-result g c = (c.requires, ([], search rules))
+invariant_of-result g c = (c.requires, tt, ([], search rules))

@@ -3,6 +3,7 @@ use Rattle.storage_current.specs.Snapshots.{grafting_of}
 use Rattle.storage_db.specs.Databases.{Put, put}
 use Rattle.storage_db.specs.Parts.{kept_of}
 use Rattle.storage_db.proofs.Keeping.{done_ok, refused_err, kept_err}
+use Rattle.storage_db.proofs.Going.{since_on}
 use Rattle.storage_db.proofs.Made.{made_by, made_over}
 use Rattle.std.proofs.Common.{sym}
 use Rattle.storage_db.proofs.db.ordered.Ordered.put.Goals as goal
@@ -11,7 +12,7 @@ pub returns-then-contains_key-clause-ok : goal.returns-then-contains_key-clause-
 returns-then-contains_key-clause-ok g c = done_ok (keyed_by g.K.Write.text g.V.Value.Write.text g.V.OperationCodec.operation_text g.K.Ord.cmp) g.V.Value.Read.view
     g.H.Hasher.hash_of (grafting_of g.F.Family.shape g.row.N) (λ x. put (keyed_by g.K.Write.text g.V.Value.Write.text g.V.OperationCodec.operation_text g.K.Ord.cmp) x c.args.key c.args.value)
     c.self.inside.log c.put_active.new.log c.self.inside.active.entries c.put_active.new.active.entries c.self.inside.last
-    c.args.self.now c.self.view_is c.put_active.result c.put_active.ensures.ok c.put_active.ensures.few
+    c.args.self.now c.self.view_is c.put_active.result c.put_active.ensures.ok c.put_active.ensures.few c.put_active.ensures.on
 
 pub returns-then-contains_key-clause-err : goal.returns-then-contains_key-clause-err
 returns-then-contains_key-clause-err g c = kept_err (keyed_by g.K.Write.text g.V.Value.Write.text g.V.OperationCodec.operation_text g.K.Ord.cmp) g.V.Value.Read.view
@@ -29,7 +30,7 @@ pub returns-else-contains_key-clause-ok : goal.returns-else-contains_key-clause-
 returns-else-contains_key-clause-ok g c = done_ok (keyed_by g.K.Write.text g.V.Value.Write.text g.V.OperationCodec.operation_text g.K.Ord.cmp) g.V.Value.Read.view
     g.H.Hasher.hash_of (grafting_of g.F.Family.shape g.row.N) (λ x. put (keyed_by g.K.Write.text g.V.Value.Write.text g.V.OperationCodec.operation_text g.K.Ord.cmp) x c.args.key c.args.value)
     c.self.inside.log c.put_new.new.log c.self.inside.active.entries c.put_new.new.active.entries c.self.inside.last
-    c.args.self.now c.self.view_is c.put_new.result c.put_new.ensures.ok c.put_new.ensures.few
+    c.args.self.now c.self.view_is c.put_new.result c.put_new.ensures.ok c.put_new.ensures.few c.put_new.ensures.on
 
 pub returns-else-contains_key-clause-err : goal.returns-else-contains_key-clause-err
 returns-else-contains_key-clause-err g c = kept_err (keyed_by g.K.Write.text g.V.Value.Write.text g.V.OperationCodec.operation_text g.K.Ord.cmp) g.V.Value.Read.view
@@ -51,6 +52,7 @@ invariant_of-self g c =
     let e : Keyed g.row.K.Denot g.row.V-Value.Denot
     = keyed_by g.K.Write.text g.V.Value.Write.text g.V.OperationCodec.operation_text g.K.Ord.cmp in (
       c.self.invariant.0,
+      since_on c.self.inside.log c.put_active.new.log c.self.inside.last c.put_active.ensures.on c.self.invariant.1,
       made_over g.K.Write.text g.V.Value.Write.text g.K.Ord.cmp g.V.Value.Read.view g.H.Hasher.hash_of
           (grafting_of g.F.Family.shape g.row.N) g.V.OperationCodec.operation_text g.V.KeyedEncoding.keyed_text
           g.met.V.OrderedCodec.agrees
@@ -58,8 +60,9 @@ invariant_of-self g c =
           (kept_of c.put_active.new.log c.put_active.new.active.entries c.self.inside.last)
           (made_by e g.V.Value.Read.view g.H.Hasher.hash_of (grafting_of g.F.Family.shape g.row.N)
           (Put c.args.key c.args.value) c.self.inside.log c.put_active.new.log c.self.inside.active.entries c.put_active.new.active.entries
-          c.self.inside.last c.put_active.result c.put_active.ensures.ok c.put_active.ensures.few c.put_active.ensures.err)
-          c.self.invariant.1,
+          c.self.inside.last c.put_active.result c.put_active.ensures.ok c.put_active.ensures.few c.put_active.ensures.on
+          c.put_active.ensures.err)
+          c.self.invariant.2,
     )
 
 pub invariant_of-self-else-contains_key : goal.invariant_of-self-else-contains_key
@@ -67,6 +70,7 @@ invariant_of-self-else-contains_key g c =
     let e : Keyed g.row.K.Denot g.row.V-Value.Denot
     = keyed_by g.K.Write.text g.V.Value.Write.text g.V.OperationCodec.operation_text g.K.Ord.cmp in (
       c.self.invariant.0,
+      since_on c.self.inside.log c.put_new.new.log c.self.inside.last c.put_new.ensures.on c.self.invariant.1,
       made_over g.K.Write.text g.V.Value.Write.text g.K.Ord.cmp g.V.Value.Read.view g.H.Hasher.hash_of
           (grafting_of g.F.Family.shape g.row.N) g.V.OperationCodec.operation_text g.V.KeyedEncoding.keyed_text
           g.met.V.OrderedCodec.agrees
@@ -74,6 +78,7 @@ invariant_of-self-else-contains_key g c =
           (kept_of c.put_new.new.log c.put_new.new.active.entries c.self.inside.last)
           (made_by e g.V.Value.Read.view g.H.Hasher.hash_of (grafting_of g.F.Family.shape g.row.N)
           (Put c.args.key c.args.value) c.self.inside.log c.put_new.new.log c.self.inside.active.entries c.put_new.new.active.entries
-          c.self.inside.last c.put_new.result c.put_new.ensures.ok c.put_new.ensures.few c.put_new.ensures.err)
-          c.self.invariant.1,
+          c.self.inside.last c.put_new.result c.put_new.ensures.ok c.put_new.ensures.few c.put_new.ensures.on
+          c.put_new.ensures.err)
+          c.self.invariant.2,
     )

@@ -50,7 +50,7 @@ invariant_of-self g c =
     grows_at_most (size g.F.Family.shape) g.met.F.Family.laws.grows _ _ (omega arith) in
     let few = c.peaks_over-digests.ensures.count in
     let len : length c.in-Ok.pinned.items ≡ c.peaks_over-digests.result.1 =
-    ap length c.in-Ok.ensures ∙ length-take-le c.peaks_over-digests.result.1 c.peaks_over-digests.result.0
+    ap length c.in-Ok.ensures.items ∙ length-take-le c.peaks_over-digests.result.1 c.peaks_over-digests.result.0
     (omega (arith, c.peaks_over-digests.ensures.within, c.peaks_over-digests.ensures.room)) in
     record {
       few = c.self.invariant.few;
@@ -103,8 +103,8 @@ returns-clause-stands g c N list s =
       count = s'.count;
       holds = holds_pruned S L node [] c.self.inside.boundary c.as_u64-to.result c.self.inside.leaves _ _ _ _
           (omega arith) c.if-to-self.false s'.holds
-          (ap (map f) c.in-Ok.ensures ∙ peaks) (ap (map f) nodes ∙ sym (drop-map f gone c.self.inside.nodes.items));
+          (ap (map f) c.in-Ok.ensures.items ∙ peaks) (ap (map f) nodes ∙ sym (drop-map f gone c.self.inside.nodes.items));
     }
 
-pub shared_whole_as_front-copied : goal.shared_whole_as_front-copied
-shared_whole_as_front-copied g c = (c.peaks_over-digests.ensures.within, g.met.D.Digest.few)
+pub shared_whole_as_front-from_slice : goal.shared_whole_as_front-from_slice
+shared_whole_as_front-from_slice g c = (c.peaks_over-digests.ensures.within, g.met.D.Digest.few)

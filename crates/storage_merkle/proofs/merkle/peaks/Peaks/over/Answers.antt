@@ -1,5 +1,8 @@
-use Rattle.std.proofs.Common.{arith}
+use Rattle.std.proofs.Common.{ap, map, ◌∙◌}
+use Rattle.storage_merkle.proofs.Peaks.{places_placed}
 use Rattle.storage_merkle.proofs.merkle.peaks.Peaks.over.Goals as goal
 
-pub invariant_of-result : goal.invariant_of-result
-invariant_of-result g c = (omega arith, g.met.F.Family.laws.aligned c.args.leaves)
+pub returns : goal.returns
+returns g c =
+    let S = g.F.Family.shape in
+    ap (map (λ p. (S.position p.first p.height, p.height))) c.over.ensures ∙ places_placed S 0 (S.peaks c.args.leaves)

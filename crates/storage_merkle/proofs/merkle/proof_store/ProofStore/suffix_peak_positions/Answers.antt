@@ -24,6 +24,3 @@ returns g c =
     ])
     c.sort_unstable.ensures.permutation
     (IsNonDecreasingBy-from_sort (λ (x : ℕ). x) c.sort_unstable.new.self.items c.sort_unstable.ensures.sorted)
-
-pub add_past-requires-clause-aligned : goal.add_past-requires-clause-aligned
-add_past-requires-clause-aligned g c = g.met.F.Family.laws.aligned _

@@ -1,4 +1,4 @@
-use Rattle.storage_ops.proofs.Failing.{fails_then, hands_on, may_fail}
+use Rattle.storage_codec.specs.Laws.Failing.{fails_then, hands_on, may_fail}
 use Rattle.storage_ops.proofs.ReadingCommits.{value_read, value_fails, none_read, none_fails}
 use Rattle.std.proofs.Common.{arith}
 use Rattle.storage_codec.specs.Laws.Parts.{ends_same, ends_then}

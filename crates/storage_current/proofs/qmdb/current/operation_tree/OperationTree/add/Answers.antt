@@ -6,7 +6,7 @@ use Rattle.storage_current.proofs.qmdb.current.operation_tree.OperationTree.add.
 
 pub returns-then-as_u64-ge-MAX_LEAVES-clause-why : goal.returns-then-as_u64-ge-MAX_LEAVES-clause-why
 returns-then-as_u64-ge-MAX_LEAVES-clause-why g c =
-    let few = c.self.invariant.few in
+    let few = c.self.invariant.grown.few in
     let leaves : c.leaves-leaves.result ≡ c.args.self.now.leaves =
     c.leaves-leaves.ensures ∙ ap (λ t. t.leaves) c.self.view_is in
     let most : c.leaves-leaves.result ≤ 2 ^ 62 = omega (arith, c.leaves-leaves.ensures, few) in
@@ -20,11 +20,12 @@ invariant_of-self-2 g c =
     let place = succeeded c.add.result _ is_ok c.add.ensures.place in
     let fits = succeeded c.add.result _ is_ok c.add.ensures.fits in
     record {
-      few = omega (arith, place.0, fits);
-      unpruned = place.1 ∙ before.unpruned;
-      unpinned = place.2 ∙ before.unpinned;
-      list = _;
-      stands = succeeded c.add.result _ is_ok c.add.ensures.grown before.list [] before.stands;
+      grown = record {
+        few = omega (arith, place.0, fits);
+        list = _;
+        stands = succeeded c.add.result _ is_ok c.add.ensures.grown before.grown.list [] before.grown.stands;
+      };
+      all = record { unpruned = place.1 ∙ before.all.unpruned; unpinned = place.2 ∙ before.all.unpinned };
     }
 
 pub returns-clause-grown : goal.returns-clause-grown
@@ -36,9 +37,9 @@ returns-clause-grown g c operations over =
     let m = c.self.inside.operations in
     let is_ok = sym (c.if-is_err.ensures.value) in
     let place = succeeded c.add.result _ is_ok c.add.ensures.place in
-    let over' = over_tree text h S m c.args.self.now operations before.unpruned before.unpinned
+    let over' = over_tree text h S m c.args.self.now operations before.all.unpruned before.all.unpinned
     (ap (λ t. t.leaves) c.self.view_is) (ap (λ t. t.nodes) c.self.view_is) over in
-    tree_over text h S c.add.new.self _ (operations ++ c.args.operation.now ∷ []) (place.1 ∙ before.unpruned)
-    (place.2 ∙ before.unpinned) refl refl
+    tree_over text h S c.add.new.self _ (operations ++ c.args.operation.now ∷ []) (place.1 ∙ before.all.unpruned)
+    (place.2 ∙ before.all.unpinned) refl refl
     (over_more text h S g.met.F.Family.laws m c.add.new.self operations c.args.operation.now
     (succeeded c.add.result _ is_ok c.add.ensures.grown) over')

@@ -6,7 +6,7 @@ pub returns-in-Ok-clause-stands : goal.returns-in-Ok-clause-stands
 returns-in-Ok-clause-stands g c operations over =
     let t = c.into_operations-operations.ensures in
     c.in-Ok.ensures.stands operations (over_tree g.H.Digest.Digest.text g.H.Hasher.hash_of g.F.Family.shape
-    c.into_operations-operations.result c.args.tree operations t.grown.unpruned t.grown.unpinned t.leaves t.nodes over)
+    c.into_operations-operations.result c.args.tree operations t.all.unpruned t.all.unpinned t.leaves t.nodes over)
 
 pub returns-in-Some-clause-why : goal.returns-in-Some-clause-why
 returns-in-Some-clause-why g c =

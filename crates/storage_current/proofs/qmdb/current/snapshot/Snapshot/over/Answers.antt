@@ -1,11 +1,14 @@
-use Rattle.std.proofs.Common.{◌≡◌, ◌+◌, ◌*◌, ℕ, List, [], length, map, ap, sym, refl, ◌∙◌, arith, rules}
+use Rattle.std.proofs.Common.{◌≡◌, ◌≤◌, ◌*◌, [], length, ap, sym, refl, ◌∙◌, arith, rules}
 use Rattle.std.proofs.Math.Nat.{zero-mul}
 use Rattle.storage_merkle.specs.Laws.Hashing.{length-leaf_digests}
 use Rattle.storage_merkle.specs.Trees.{ungrafted}
+use Rattle.storage_bitmap.specs.Chunks.{IsRest}
 use Rattle.storage_current.specs.CombinedViews.{AreGraftedLeaves, chunk_node}
 use Rattle.storage_current.specs.KeptTrees.{AreKept, HasMoreGrafts}
 use Rattle.storage_current.specs.Snapshots.{Grafting, IsGrafting, Snapshot, IsSnapshot, graftable, height}
 use Rattle.storage_current.proofs.MemViews.{all_grafts, kept_stands}
+use Rattle.storage_current.proofs.Retaining.{all_unpruned}
+use Rattle.storage_current.proofs.Roots.{unpruned_rest}
 use Rattle.storage_current.proofs.qmdb.current.snapshot.Snapshot.over.Goals as goal
 
 pub invariant_of-result : goal.invariant_of-result
@@ -17,12 +20,12 @@ invariant_of-result g c =
     let m = c.args.operations in
     let k = c.append_grafts.new.chunks in
     let place = c.in_ok-append_grafts.ensures.place in
-    let has : HasMoreGrafts text h G m k c.args.bits.bits [] =
+    let has : HasMoreGrafts text h G m k c.args.bits [] =
     c.in_ok-append_grafts.ensures.grafted [] (c.new-chunks.ensures.stands (λ list j a. chunk_node h G list a j)) in
     let kept : AreKept text h G m k c.args.bits = record {
       sized = c.requires.chunks;
       grown = c.requires.grown;
-      bits = c.requires.bits;
+      pruned = all_unpruned G m c.args.bits c.requires.bits c.requires.all.unpruned;
       unpruned = place.0 ∙ ap (λ t. t.boundary) c.new-chunks.ensures.kept;
       unpinned = place.1 ∙ ap (λ t. t.pinned) c.new-chunks.ensures.kept;
       count = c.in_ok-append_grafts.ensures.count;
@@ -40,12 +43,12 @@ over-roots-requires g c =
     let m = c.args.operations in
     let k = c.append_grafts.new.chunks in
     let place = c.in_ok-append_grafts.ensures.place in
-    let has : HasMoreGrafts text h G m k c.args.bits.bits [] =
+    let has : HasMoreGrafts text h G m k c.args.bits [] =
     c.in_ok-append_grafts.ensures.grafted [] (c.new-chunks.ensures.stands (λ list j a. chunk_node h G list a j)) in
     let kept : AreKept text h G m k c.args.bits = record {
       sized = c.requires.chunks;
       grown = c.requires.grown;
-      bits = c.requires.bits;
+      pruned = all_unpruned G m c.args.bits c.requires.bits c.requires.all.unpruned;
       unpruned = place.0 ∙ ap (λ t. t.boundary) c.new-chunks.ensures.kept;
       unpinned = place.1 ∙ ap (λ t. t.pinned) c.new-chunks.ensures.kept;
       count = c.in_ok-append_grafts.ensures.count;
@@ -63,12 +66,12 @@ returns-clause-stands g c elements over =
     let m = c.args.operations in
     let k = c.append_grafts.new.chunks in
     let place = c.in_ok-append_grafts.ensures.place in
-    let has : HasMoreGrafts text h G m k c.args.bits.bits [] =
+    let has : HasMoreGrafts text h G m k c.args.bits [] =
     c.in_ok-append_grafts.ensures.grafted [] (c.new-chunks.ensures.stands (λ list j a. chunk_node h G list a j)) in
     let kept : AreKept text h G m k c.args.bits = record {
       sized = c.requires.chunks;
       grown = c.requires.grown;
-      bits = c.requires.bits;
+      pruned = all_unpruned G m c.args.bits c.requires.bits c.requires.all.unpruned;
       unpruned = place.0 ∙ ap (λ t. t.boundary) c.new-chunks.ensures.kept;
       unpinned = place.1 ∙ ap (λ t. t.pinned) c.new-chunks.ensures.kept;
       count = c.in_ok-append_grafts.ensures.count;
@@ -77,6 +80,8 @@ returns-clause-stands g c elements over =
     } in
     let s : Snapshot = record { operations = elements; bits = c.args.bits.bits; floor = c.args.floor } in
     let n : m.leaves ≡ length elements = over.count ∙ length-leaf_digests h (ungrafted S) 0 elements in
+    let rest : IsRest g.row.N c.args.bits c.args.bits.bits =
+    unpruned_rest g.row.N c.args.bits c.requires.bits.unpruned in
     let none : c.args.bits.pruned * (8 * g.row.N) ≡ 0 =
     ap (λ p. p * (8 * g.row.N)) c.requires.bits.unpruned ∙ zero-mul (8 * g.row.N) in
     let snapshot : IsSnapshot s = record {
@@ -86,9 +91,19 @@ returns-clause-stands g c elements over =
     } in
     let grafting : IsGrafting G = record { laws = g.met.F.Family.laws; size = c.requires.chunks } in
     let grafted : AreGraftedLeaves h G s has.more = all_grafts h G s has.more
-    (sym has.stands.count ∙ c.in_ok-append_grafts.ensures.count ∙ ap (graftable G) n) (has.are s refl over) in (
+    (sym has.stands.count ∙ c.in_ok-append_grafts.ensures.count ∙ ap (graftable G) n) (has.are s rest over) in (
       snapshot,
       kept_stands text h G (g.met.F.Graftable.keeps_pace (height G)) grafting s snapshot m k c.args.bits
           c.trees_keep_the_nodes_of_their_list.ensures c.trees_keep_the_nodes_of_their_list-2.ensures kept over grafted
-          refl _ _ _ (c.over-roots.ensures s refl refl over),
+          rest c.args.floor _ _ _ refl (c.over-roots.ensures s rest refl over),
     )
+
+pub append_grafts-requires : goal.append_grafts-requires
+append_grafts-requires g c =
+    let G : Grafting = record { shape = g.F.Family.shape; bytes = g.row.N } in
+    let m = c.args.operations in
+    let pruned = all_unpruned G m c.args.bits c.requires.bits c.requires.all.unpruned in
+    let kept : c.args.bits.pruned ≤ c.new-chunks.result.leaves = omega (arith, c.requires.bits.unpruned) in
+    let within : c.new-chunks.result.leaves ≤ graftable G m.leaves =
+    omega (arith, ap (λ t. t.leaves) c.new-chunks.ensures.kept) in
+    search rules

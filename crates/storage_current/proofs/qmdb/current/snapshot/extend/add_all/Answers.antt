@@ -1,10 +1,9 @@
-use Rattle.std.proofs.Common.{◌≡◌, ◌≤◌, ◌<◌, ◌+◌, ◌^◌, ◌++◌, ◌∷◌, [], ℕ, List, length, map, take, get_or, append-nil, append_assoc, ap, sym, ◌∙◌, arith, add-one, is_ok, true}
+use Rattle.std.proofs.Common.{◌≡◌, ◌≤◌, ◌<◌, ◌+◌, ◌^◌, ◌++◌, ◌∷◌, [], ℕ, List, length, map, take, get_or, append-nil, append_assoc, ap, sym, ◌∙◌, refl, arith, add-one, true}
 use Rattle.std.proofs.Math.Seq.{take-suc}
 use Rattle.std.proofs.lemmas.List.{get_or-map, length-map, take_all}
 use Rattle.storage_merkle.specs.Kept.{HasRoomFor}
 use Rattle.storage_merkle.specs.Shape.{size}
 use Rattle.storage_merkle.specs.Laws.Shape.{grows_at_most}
-use Rattle.storage_current.specs.NodeLists.{IsOver}
 use Rattle.storage_current.proofs.MemViews.{granted, over_more}
 use Rattle.storage_current.proofs.qmdb.current.snapshot.extend.add_all.Goals as goal
 
@@ -12,6 +11,7 @@ pub loop-operation-init : goal.loop-operation-init
 loop-operation-init g c = record {
   count = omega arith;
   room = omega arith;
+  boundary = refl;
   grown = c.requires.grown;
   over = λ elements over. rw (append-nil elements) over;
 }
@@ -42,7 +42,7 @@ loop-operation-preserved g c =
     let most : size S (k.leaves + 1) ≤ size S (old.leaves + n) =
     grows_at_most (size S) L.grows (k.leaves + 1) (old.leaves + n) (omega (arith, before.count, within)) in
     let start : size S k.boundary ≡ size S old.boundary =
-    ap (size S) (before.grown.unpruned ∙ sym c.requires.grown.unpruned) in
+    ap (size S) before.boundary in
     let one : HasRoomFor S 1 k = omega (arith, most, c.requires.room, before.room, start) in
     let ok = c.add.ensures.succeeds less one in
     let place = granted c.add.result _ ok c.add.ensures.place in
@@ -50,10 +50,9 @@ loop-operation-preserved g c =
     record {
       count = omega (arith, place.0, before.count);
       room = omega (arith, before.room, c.add.ensures.room);
+      boundary = place.1 ∙ before.boundary;
       grown = record {
         few = omega (arith, place.0, less);
-        unpruned = place.1 ∙ before.grown.unpruned;
-        unpinned = place.2 ∙ before.grown.unpinned;
         list = _;
         stands = grown before.grown.list [] before.grown.stands;
       };

@@ -10,6 +10,7 @@ invariant-loop-operation g l =
     record {
       count : l.tree.leaves ≡ l.fn.tree.leaves + l.operation-index;
       room : l.fn.tree.room ≤ l.tree.room;
+      boundary : l.tree.boundary ≡ l.fn.tree.boundary;
       grown : IsGrown text h S l.tree;
       over : (elements : List (List ℕ)) → IsOver text h S l.fn.tree elements
           → IsOver text h S l.tree (elements ++ take l.operation-index (map g.E.AsSlice.items l.operations));

@@ -1,11 +1,10 @@
-use Rattle.std.proofs.Common.{◌≡◌, ◌<◌, ◌≤◌, ◌+◌, ◌-◌, ◌*◌, ◌++◌, ◌∷◌, [], ℕ, List, Bool, false, length, take, set, get_or, ap, ap₂, sym, ◌∙◌, arith, add-one, slice_set}
-use Rattle.std.proofs.Math.Nat.{zero-mul}
+use Rattle.std.proofs.Common.{◌≡◌, ◌<◌, ◌≤◌, ◌+◌, ◌-◌, ◌*◌, ◌++◌, ◌∷◌, [], ℕ, List, Bool, false, length, take, set, get_or, ap, ap₂, sym, ◌∙◌, arith, add-one}
 use Rattle.std.proofs.Math.Seq.{take-suc}
 use Rattle.std.proofs.lemmas.Grind.{get_or_default_zero}
 use Rattle.std.proofs.lemmas.List.Elements.{All-get_or}
-use Rattle.storage_current.specs.Extended.{cleared}
-use Rattle.storage_current.proofs.Extending.{length-cleared}
-use Rattle.storage_current.proofs.Growing.{cleared-push}
+use Rattle.storage_bitmap.specs.Chunks.{bit_count}
+use Rattle.storage_current.specs.Extended.{cleared_from}
+use Rattle.storage_current.proofs.Growing.{cleared-push, length-cleared_from}
 use Rattle.storage_current.proofs.qmdb.current.snapshot.extend.clear_bits.Goals as goal
 
 pub set_bit-requires : goal.set_bit-requires
@@ -17,14 +16,16 @@ set_bit-requires g c =
     let inside : i < length locations = c.loop-location-test.true in
     let at : c.as_u64.result ≡ get_or locations i 0 =
     c.as_u64.ensures ∙ c.location-item.is ∙ get_or_default_zero locations i c.location-item.result inside in
-    let below : get_or locations i 0 < length old.bits =
-    All-get_or (λ l. l < length old.bits) locations i 0 inside c.requires.within in
+    let here = All-get_or (λ l. (old.pruned * (8 * g.row.N) ≤ l) × (l < bit_count g.row.N old)) locations i 0 inside
+    c.requires.within in
     let len : length now.bits ≡ length old.bits =
-    ap length c.loop-location.invariant.bits ∙ length-cleared (take i locations) old.bits in
-    let none : now.pruned * (8 * g.row.N) ≡ 0 =
-    ap (λ (p : ℕ). p * (8 * g.row.N)) (c.loop-location.invariant.pruned ∙ c.requires.unpruned) ∙ zero-mul (8 * g.row.N) in
-    let from : now.pruned * (8 * g.row.N) ≤ c.as_u64.result = omega (arith, none) in
-    let within : c.as_u64.result < now.pruned * (8 * g.row.N) + length now.bits = omega (arith, at, below, len, none) in
+    ap length c.loop-location.invariant.bits
+    ∙ length-cleared_from (old.pruned * (8 * g.row.N)) (take i locations) old.bits in
+    let same : now.pruned * (8 * g.row.N) ≡ old.pruned * (8 * g.row.N) =
+    ap (λ (p : ℕ). p * (8 * g.row.N)) c.loop-location.invariant.pruned in
+    let from : now.pruned * (8 * g.row.N) ≤ c.as_u64.result = omega (arith, same, at, here.0) in
+    let within : c.as_u64.result < now.pruned * (8 * g.row.N) + length now.bits =
+    omega (arith, at, here.1, len, same) in
     (omega arith, (from, within))
 
 pub loop-location-preserved : goal.loop-location-preserved
@@ -36,15 +37,16 @@ loop-location-preserved g c =
     let inside : i < length locations = c.loop-location-test.true in
     let at : c.as_u64.result ≡ get_or locations i 0 =
     c.as_u64.ensures ∙ c.location-item.is ∙ get_or_default_zero locations i c.location-item.result inside in
-    let none : now.pruned * (8 * g.row.N) ≡ 0 =
-    ap (λ (p : ℕ). p * (8 * g.row.N)) (c.loop-location.invariant.pruned ∙ c.requires.unpruned) ∙ zero-mul (8 * g.row.N) in
-    let place : c.as_u64.result - now.pruned * (8 * g.row.N) ≡ get_or locations i 0 = omega (arith, at, none) in
+    let start : now.pruned * (8 * g.row.N) ≡ old.pruned * (8 * g.row.N) =
+    ap (λ (p : ℕ). p * (8 * g.row.N)) c.loop-location.invariant.pruned in
+    let place : c.as_u64.result - now.pruned * (8 * g.row.N) ≡ get_or locations i 0 - old.pruned * (8 * g.row.N) =
+    ap₂ (λ (x y : ℕ). x - y) at start in
     let step : take (i + 1) locations ≡ take i locations ++ get_or locations i 0 ∷ [] =
     ap (λ (n : ℕ). take n locations) (add-one i) ∙ take-suc locations i 0 inside in
     record {
       pruned = ap (λ r. r.pruned) c.set_bit.ensures ∙ c.loop-location.invariant.pruned;
       bits = ap (λ r. r.bits) c.set_bit.ensures
           ∙ ap₂ (λ (b : List Bool) (p : ℕ). set b p false) c.loop-location.invariant.bits place
-          ∙ sym (cleared-push (take i locations) (get_or locations i 0) old.bits)
-          ∙ ap (λ (ls : List ℕ). cleared ls old.bits) (sym step);
+          ∙ sym (cleared-push (old.pruned * (8 * g.row.N)) (take i locations) (get_or locations i 0) old.bits)
+          ∙ ap (λ (ls : List ℕ). cleared_from (old.pruned * (8 * g.row.N)) ls old.bits) (sym step);
     }

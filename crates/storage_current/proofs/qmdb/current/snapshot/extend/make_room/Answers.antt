@@ -1,4 +1,4 @@
-use Rattle.std.proofs.Common.{◌≡◌, ◌≤◌, ◌+◌, ◌-◌, ℕ, ap, ap₂, sym, ◌∙◌, arith}
+use Rattle.std.proofs.Common.{◌≡◌, ◌+◌, ◌-◌, ℕ, ap, ap₂, sym, ◌∙◌, arith}
 use Rattle.storage_current.specs.Laws.Grafting.{graftable_is, height_of_power}
 use Rattle.storage_current.specs.Snapshots.{Grafting, graftable, graftable_at, height}
 use Rattle.storage_current.proofs.Extending.{graftable_grows}

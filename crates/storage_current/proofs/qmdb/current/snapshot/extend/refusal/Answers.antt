@@ -6,7 +6,7 @@ use Rattle.storage_current.specs.Extended.{AreWithin}
 use Rattle.storage_current.proofs.qmdb.current.snapshot.extend.refusal.Goals as goal
 
 pub returns-in-Some : goal.returns-in-Some
-returns-in-Some g c = inr (inl (c.if-bits-count.false, (c.in-Some.away, c.in-Some.ensures, refl)))
+returns-in-Some g c = inr (inl (c.if-bits-count.false, c.in-Some.ensures))
 
 pub returns-then-as_u64 : goal.returns-then-as_u64
 returns-then-as_u64 g c =
@@ -29,7 +29,7 @@ returns-then-not-is_valid g c =
       | inl more ↦ more
       | inr valid ↦ absurd (let no = c.if-not-is_valid.ensures.1 valid in cc)
     ] in
-    let within : AreWithin c.args.leaves c.args.count c.args.clear.now c.args.floor = record {
+    let within : AreWithin c.args.pruned c.args.leaves c.args.count c.args.clear.now c.args.floor = record {
       earlier = c.in_default.ensures;
       inside = omega (arith, end, c.as_u64.ensures, c.as_u64-2.ensures, c.if-as_u64.false);
     } in

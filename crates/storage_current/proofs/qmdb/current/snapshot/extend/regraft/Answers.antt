@@ -1,7 +1,7 @@
 use Rattle.std.proofs.Common.{◌≡◌, ◌≤◌, ◌<◌, ◌+◌, ◌*◌, ◌^◌, ◌++◌, ◌∷◌, [], ℕ, List, All, length, map, take, get_or, ap, ap₂, sym, ◌∙◌, arith, add-one, is_ok, true, vec_len, rules, inl, inr, ⊎_elim}
 use Rattle.std.proofs.Math.Seq.{take-suc}
 use Rattle.std.proofs.lemmas.List.{map-append, take_all}
-use Rattle.std.proofs.lemmas.List.Elements.{All-get_or, All-push, All-same}
+use Rattle.std.proofs.lemmas.List.Elements.{All-get_or, All-push, All-same, All-weaker}
 use Rattle.storage_merkle.specs.Shape.{size}
 use Rattle.storage_merkle.specs.Laws.Shape.{grows_at_most}
 use Rattle.storage_current.specs.Laws.Grafting.{graftable_by_birth, height_of_power}
@@ -16,9 +16,11 @@ graft_at-digest-requires g c =
     let G : Grafting = record { shape = g.F.Family.shape; bytes = g.row.N } in
     let touched : List ℕ = c.args.touched.now in
     let i : ℕ = c.loop-index.index-index in
-    let below : get_or touched i 0 < c.args.chunks.now.leaves =
-    All-get_or (λ j. j < c.args.chunks.now.leaves) touched i 0 c.loop-index-test.true c.requires.below in
-    let within : get_or touched i 0 < graftable G c.args.operations.now.leaves = omega (arith, below, c.requires.within) in
+    let here = All-get_or (λ j. (c.args.status.now.pruned ≤ j) × (j < c.args.chunks.now.leaves)) touched i 0
+    c.loop-index-test.true c.requires.below in
+    let from : c.args.status.now.pruned ≤ get_or touched i 0 = here.0 in
+    let within : get_or touched i 0 < graftable G c.args.operations.now.leaves =
+    omega (arith, here.1, c.requires.within) in
     search rules
 
 pub loop-index-preserved : goal.loop-index-preserved
@@ -74,14 +76,16 @@ returns-clause-regrafted g c list stands =
     let all : take c.loop-index.index-index touched ≡ touched =
     take_all c.loop-index.index-index touched (omega (arith, c.loop-index-test.false)) in
     let keys : map (λ u. u.0) us ≡ touched = c.loop-index.invariant.keys ∙ all in
-    let inside : All (λ j. j < old.leaves) (map (λ u. u.0) us) = All-same (λ j. j < old.leaves) _ touched keys c.requires.below in
+    let inside : All (λ j. j < old.leaves) (map (λ u. u.0) us) = All-same (λ j. j < old.leaves) _ touched keys
+    (All-weaker (λ j. (c.args.status.now.pruned ≤ j) × (j < old.leaves)) (λ j. j < old.leaves) (λ j w. w.1) touched
+    c.requires.below) in
     let why = rw c.deref.ensures.value at c.update_leaves.ensures.why in
     let ok : is_ok c.update_leaves.result ≡ true = in_place c.update_leaves.result _ why (λ e w.
     none_away old.leaves (map (λ u. u.0) us) inside old.boundary w.0 c.requires.unpruned w.1
     (⊎_elim (λ l. inl l.0) (λ r. inr r.0) w.2)) in
     let put = rw (c.new-hasher.ensures.height, c.deref.ensures.value) at c.update_leaves.ensures.stands in
     let written = granted c.update_leaves.result _ ok put in
-    regrafted text h G c.args.operations.now old c.update_leaves.new.self c.args.status.now.bits touched us keys
+    regrafted text h G c.args.operations.now old c.update_leaves.new.self c.args.status.now touched us keys
     c.loop-index.invariant.grafts (chunk_written text h G c.height-height.result old c.update_leaves.new.self
     (map (λ u. (u.0, text u.1)) us) level written) list stands
 
@@ -94,7 +98,9 @@ returns-clause-place g c =
     take_all c.loop-index.index-index touched (omega (arith, c.loop-index-test.false)) in
     let keys : map (λ u. u.0) us ≡ touched = c.loop-index.invariant.keys ∙ all in
     let inside : All (λ j. j < old.leaves) (map (λ u. u.0) us) =
-    All-same (λ j. j < old.leaves) _ touched keys c.requires.below in
+    All-same (λ j. j < old.leaves) _ touched keys
+    (All-weaker (λ j. (c.args.status.now.pruned ≤ j) × (j < old.leaves)) (λ j. j < old.leaves) (λ j w. w.1) touched
+    c.requires.below) in
     let why = rw c.deref.ensures.value at c.update_leaves.ensures.why in
     let ok : is_ok c.update_leaves.result ≡ true = in_place c.update_leaves.result _ why (λ e w.
     none_away old.leaves (map (λ u. u.0) us) inside old.boundary w.0 c.requires.unpruned w.1

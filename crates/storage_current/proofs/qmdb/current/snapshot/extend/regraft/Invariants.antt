@@ -1,4 +1,5 @@
-use Rattle.std.proofs.Common.{◌≡◌, ◌+◌, ◌-◌, ◌*◌, ◌^◌, ◌≤◌, ℕ, All, length, map, take, vec_len, vec_capacity}
+use Rattle.std.proofs.Common.{◌≡◌, ◌+◌, ◌-◌, ◌*◌, ◌^◌, ◌≤◌, All, length, map, take, vec_len, vec_capacity}
+use Rattle.storage_bitmap.specs.Chunks.{IsRest}
 use Rattle.storage_current.specs.NodeLists.{IsOver}
 use Rattle.storage_current.specs.Snapshots.{Grafting, Snapshot, height, view_node}
 use Rattle.storage_current.proofs.qmdb.current.snapshot.extend.regraft.Given as goal
@@ -12,6 +13,6 @@ invariant-loop-index g l =
     record {
       room : vec_len l.updates + (length l.touched - l.index-index) ≤ vec_capacity l.updates;
       keys : map (λ u. u.0) l.updates.items ≡ take l.index-index l.touched;
-      grafts : (s : Snapshot) → s.bits ≡ l.status.bits → IsOver text h S l.operations s.operations
+      grafts : (s : Snapshot) → IsRest g.row.N l.status s.bits → IsOver text h S l.operations s.operations
           → All (λ u. text u.1 ≡ view_node h G s (u.0 * 2 ^ height G) (height G)) l.updates.items;
     }

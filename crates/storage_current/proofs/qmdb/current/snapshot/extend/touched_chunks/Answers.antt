@@ -1,4 +1,4 @@
-use Rattle.std.proofs.Common.{◌≡◌, ◌<◌, ◌≤◌, ◌/◌, ◌^◌, ◌++◌, ◌∷◌, [], ℕ, List, length, get_or, ap, ◌∙◌, arith, eqb}
+use Rattle.std.proofs.Common.{◌≡◌, ◌≤◌, ◌/◌, ◌^◌, ℕ, List, length, get_or, ap, ◌∙◌, arith, eqb}
 use Rattle.std.proofs.lemmas.Grind.{get_or_default_zero}
 use Rattle.std.proofs.lemmas.List.Filters.{dedup_is}
 use Rattle.storage_current.proofs.Growing.{touched_none, touched_more, touched_skip, touched_end}
@@ -18,8 +18,9 @@ loop-location-preserved g c =
     ∙ c.location-item.is ∙ get_or_default_zero locations i c.location-item.result c.loop-location-test.true) in
     elim c.if-chunk-count.branch [
       | then-chunk-count+in_ok-push w ↦
-          touched_more c.args.height c.args.count i locations c.loop-location.touched.items c.if-chunk-count.touched.items
-          chunk c.loop-location.invariant at w.if-chunk-count.true
+          touched_more c.args.height c.args.count i locations c.loop-location.touched.items
+          c.if-chunk-count.touched.items chunk c.loop-location.invariant c.loop-location-test.true at
+          w.if-chunk-count.true
           (ap (λ v. v.items) w.touched-is ∙ w.in_ok-push.ensures.items)
       | else-chunk-count w ↦
           touched_skip c.args.height c.args.count i locations c.loop-location.touched.items c.if-chunk-count.touched.items

@@ -1,6 +1,6 @@
 use Rattle.storage_ops.specs.Laws.Reading.{commit_steps}
 use Rattle.storage_ops.specs.Fixed.{floor_at}
-use Rattle.storage_ops.proofs.Failing.{fails_then, hands_on}
+use Rattle.storage_codec.specs.Laws.Failing.{fails_then, hands_on}
 use Rattle.std.proofs.Common.{arith}
 use Rattle.storage_codec.specs.Laws.Parts.{ends_then}
 use Rattle.storage_ops.proofs.qmdb.any.operation.fixed.read_commit.Goals as goal

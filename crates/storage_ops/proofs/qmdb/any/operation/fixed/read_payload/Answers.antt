@@ -1,4 +1,4 @@
-use Rattle.storage_ops.proofs.Failing.{hands_on, may_fail}
+use Rattle.storage_codec.specs.Laws.Failing.{hands_on, may_fail}
 use Rattle.storage_ops.proofs.Padded.{padded_read, padded_fails}
 use Rattle.std.proofs.Common.{arith}
 use Rattle.storage_codec.specs.Laws.Parts.{ends_then}

@@ -10,8 +10,8 @@ invariant_of-result g c = search rules
 pub returns-then-not-is_valid-clause-why : goal.returns-then-not-is_valid-clause-why
 returns-then-not-is_valid-clause-why g c = search rules
 
-pub needed-requires : goal.needed-requires
-needed-requires g c = search rules
+pub count_pins-requires : goal.count_pins-requires
+count_pins-requires g c = search rules
 
 pub returns-in_default-clause-why : goal.returns-in_default-clause-why
 returns-in_default-clause-why g c = search rules

@@ -1,6 +1,6 @@
 use Rattle.std.proofs.Common.{refl, arith}
 use Rattle.storage_codec.specs.Laws.Parts.{ends_then}
-use Rattle.storage_current.proofs.Failing.{fails_then}
+use Rattle.storage_codec.specs.Laws.Failing.{fails_then}
 use Rattle.storage_current.proofs.qmdb.current.proof.codec.RangeProofRead.read_cfg.Goals as goal
 
 pub returns-in-Err-clause-gives : goal.returns-in-Err-clause-gives

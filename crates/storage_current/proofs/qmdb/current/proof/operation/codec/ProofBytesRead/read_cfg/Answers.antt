@@ -1,7 +1,7 @@
 use Rattle.std.proofs.Common.{refl, sym, ◌∙◌, rules}
 use Rattle.storage_codec.specs.Laws.Parts.{ends_then}
 use Rattle.storage_bitmap.specs.Chunks.{IsChunkSize}
-use Rattle.storage_current.proofs.Failing.{fails_then}
+use Rattle.storage_codec.specs.Laws.Failing.{fails_then}
 use Rattle.storage_current.proofs.SharedChunks.{chunk_size_is, operations_alike}
 use Rattle.storage_current.proofs.qmdb.current.proof.operation.codec.ProofBytesRead.read_cfg.Goals as goal
 

@@ -1,6 +1,6 @@
 use Rattle.std.proofs.Common.{refl, rules}
 use Rattle.storage_codec.specs.Laws.Parts.{ends_then}
-use Rattle.storage_current.proofs.Failing.{fails_then}
+use Rattle.storage_codec.specs.Laws.Failing.{fails_then}
 use Rattle.storage_current.proofs.qmdb.current.proof.witness.codec.CountedRead.read_cfg.Goals as goal
 
 pub returns-in-Ok-clause-ends : goal.returns-in-Ok-clause-ends

@@ -1,0 +1,4 @@
+pub mod Agreed
+pub mod Rows
+pub mod Shown
+pub mod Status

@@ -1,0 +1,210 @@
+//! Why a run has no answer.
+
+ghost use Rattle.std.specs.Prelude.{◌≡◌};
+ghost use Rattle.gawerunoa_cli.specs.Status.{status_of};
+
+use crate::agreed::Function;
+use crate::answer::MOST_CHUNK;
+use crate::mark::Mark;
+use crate::source::Source;
+use clap::error::ErrorKind;
+use std::alloc::{AllocError, AllocFailed};
+use std::{fmt, io};
+use storage_codec::NoMemory;
+
+/// What is at fault where a run has no answer.
+#[derive(Clone, Copy, Debug, PartialEq, Eq)]
+pub enum Blame {
+    /// The question: the words, or a number in them that does not fit the file.
+    Question,
+    /// A file, standard input or standard output.
+    File,
+    /// Memory, which ran out.
+    Memory,
+}
+
+impl Blame {
+    /// Returns the exit status: 2 for the question, 3 for a file, 4 for memory.
+    pub fn status(self) -> u8
+        ensures { result ≡ status_of self }
+    {
+        match self {
+            Blame::Question => 2,
+            Blame::File => 3,
+            Blame::Memory => 4,
+        }
+    }
+}
+
+/// Why a run has no answer. Its text says what is wrong, where, and what was expected.
+#[derive(Debug, Drop)]
+pub enum Fault<'a> {
+    /// The words are none that the program takes, or ask for help or the version.
+    Words(clap::Error),
+    /// The words are not all UTF-8.
+    NotUtf8,
+    /// An option is not there.
+    Missing(&'static str),
+    /// The word of an option is no number.
+    Number {
+        /// The option.
+        option: &'static str,
+        /// Its word.
+        word: &'a str,
+    },
+    /// A word is no size of a chunk.
+    Chunk {
+        /// The word.
+        word: &'a str,
+        /// The greatest size that would do.
+        most: usize,
+    },
+    /// No snapshot is made with such a chunk.
+    Size {
+        /// How many bytes the chunk has.
+        chunk: usize,
+    },
+    /// A word has not as many digits as a root.
+    Root {
+        /// The word.
+        word: &'a str,
+        /// The digest function.
+        function: Function,
+    },
+    /// A word of the command line is not hexadecimal.
+    Digits {
+        /// The option.
+        option: &'static str,
+        /// Where it is not.
+        mark: Mark,
+    },
+    /// Two options both ask for standard input.
+    Twice,
+    /// The floor is past the operations.
+    Floor {
+        /// The floor.
+        floor: u64,
+        /// How many operations there are.
+        count: u64,
+    },
+    /// There is no operation at a location.
+    Location {
+        /// The location.
+        location: u64,
+        /// How many operations there are.
+        count: u64,
+    },
+    /// A line of a source is not what it has to be.
+    Line {
+        /// The source.
+        source: Source<'a>,
+        /// The number of the line, counted from 1.
+        number: u64,
+        /// Where it is not.
+        mark: Mark,
+    },
+    /// A source can't be read.
+    Unread {
+        /// The source.
+        source: Source<'a>,
+        /// Why.
+        error: io::Error,
+    },
+    /// Standard output can't be written.
+    Unwritten(io::Error),
+    /// Out of memory.
+    Memory,
+}
+
+impl From<NoMemory> for Fault<'_> {
+    fn from(_error: NoMemory) -> Self {
+        Fault::Memory
+    }
+}
+
+impl From<AllocError> for Fault<'_> {
+    fn from(_error: AllocError) -> Self {
+        Fault::Memory
+    }
+}
+
+impl<T: Drop> From<AllocFailed<T>> for Fault<'_> {
+    fn from(_error: AllocFailed<T>) -> Self {
+        Fault::Memory
+    }
+}
+
+impl<'a> Fault<'a> {
+    /// Returns the fault where `source` can't be read.
+    pub(crate) fn unread(source: Source<'a>, error: io::Error) -> Fault<'a> {
+        match error.kind() {
+            io::ErrorKind::OutOfMemory => Fault::Memory,
+            _ => Fault::Unread { source, error },
+        }
+    }
+
+    /// Returns what is at fault.
+    pub fn blame(&self) -> Blame {
+        match self {
+            Fault::Words(error) => match error.kind() {
+                ErrorKind::OutOfMemory => Blame::Memory,
+                _ => Blame::Question,
+            },
+            Fault::Line { .. } | Fault::Unread { .. } | Fault::Unwritten(_) => Blame::File,
+            Fault::Memory => Blame::Memory,
+            _ => Blame::Question,
+        }
+    }
+}
+
+impl fmt::Display for Fault<'_> {
+    fn fmt<W: fmt::Write>(&self, f: &mut fmt::Formatter<W>) -> fmt::Result {
+        match self {
+            Fault::Words(error) => write!(f, "{error}"),
+            Fault::NotUtf8 => f.write_str("the words of the command line are not all UTF-8"),
+            Fault::Missing(option) => write!(f, "{option}: not given"),
+            Fault::Number { option, word } => write!(
+                f,
+                "{option}: `{word}`: expected a number from 0 to {}, of at most 20 digits",
+                u64::MAX
+            ),
+            Fault::Chunk { word, most } => {
+                write!(
+                    f,
+                    "--chunk: `{word}`: expected a power of two from 1 to {most}"
+                )
+            }
+            Fault::Size { chunk } => write!(
+                f,
+                "--chunk: {chunk}: expected a power of two from 1 to {MOST_CHUNK}"
+            ),
+            Fault::Root { word, function } => {
+                let (found, name, digits) = (word.len(), function.name(), function.digits());
+                write!(
+                    f,
+                    "--root: {found} hexadecimal digits: a root of {name} has {digits}"
+                )
+            }
+            Fault::Digits { option, mark } => write!(f, "{option}: {mark}"),
+            Fault::Twice => f.write_str(
+                "--operation and --proof: `@-` twice: expected standard input for one of them",
+            ),
+            Fault::Floor { floor, count } => write!(
+                f,
+                "--floor: {floor} is past the operations, of which there are {count}: expected at most {count}"
+            ),
+            Fault::Location { location, count } => write!(
+                f,
+                "--at: no operation stands at {location}: there are {count}, and the first is at 0"
+            ),
+            Fault::Line {
+                source,
+                number,
+                mark,
+            } => write!(f, "{source}: line {number}, {mark}"),
+            Fault::Unread { source, error } => write!(f, "{source}: {error}"),
+            Fault::Unwritten(error) => write!(f, "standard output: {error}"),
+            Fault::Memory => f.write_str("out of memory"),
+        }
+    }
+}

@@ -1,0 +1,51 @@
+//! Where bytes come from: a file, standard input, or the command line itself.
+
+use std::fmt;
+
+/// A file, or standard input.
+#[derive(Clone, Copy, Debug, PartialEq, Eq)]
+pub enum Source<'a> {
+    /// Standard input.
+    Standard,
+    /// The file with this name.
+    File(&'a str),
+}
+
+/// What is given in hexadecimal.
+#[derive(Clone, Copy, Debug, PartialEq, Eq)]
+pub enum Given<'a> {
+    /// On the command line.
+    Digits(&'a str),
+    /// In a file, or on standard input.
+    In(Source<'a>),
+}
+
+impl<'a> Source<'a> {
+    /// Returns the source that `word` names: `-` is standard input.
+    pub(crate) fn named(word: &'a str) -> Source<'a> {
+        match word {
+            "-" => Source::Standard,
+            name => Source::File(name),
+        }
+    }
+}
+
+impl<'a> Given<'a> {
+    /// Returns what `word` gives: the source that is named behind an `@`, and else the digits of the word.
+    pub(crate) fn named(word: &'a str) -> Given<'a> {
+        match word.strip_prefix('@') {
+            Some(name) => Given::In(Source::named(name)),
+            None => Given::Digits(word),
+        }
+    }
+}
+
+impl fmt::Display for Source<'_> {
+    fn fmt<W: fmt::Write>(&self, f: &mut fmt::Formatter<W>) -> fmt::Result {
+        match self {
+            Source::Standard => f.write_str("standard input"),
+            Source::File("") => f.write_str("a file with an empty name"),
+            Source::File(name) => f.write_str(name),
+        }
+    }
+}

@@ -1,8 +1,0 @@
-use Rattle.std.proofs.Common.{refl, get_or, ◌/◌, ◌%◌}
-use Rattle.std.proofs.lemmas.Nat.Bits.{shr_and_one}
-use Rattle.storage_bitmap.specs.Packed.{bit_in}
-use Rattle.storage_current.proofs.qmdb.current.proof.operation.is_set.Goals as goal
-
-pub returns : goal.returns
-unfolding bit_in
-returns c = rw (shr_and_one (get_or c.args.bytes.now (c.args.place / 8) 0) (c.args.place % 8)) refl

@@ -1,0 +1,23 @@
+use Rattle.std.proofs.Common.{◌≡◌, Some, sym, ap, ◌∙◌, rules}
+use Rattle.storage_merkle.specs.Plans.{PlanOf}
+use Rattle.storage_current.specs.KeptSnapshots.{pruned_operations}
+use Rattle.storage_current.specs.NodeLists.{told_by}
+use Rattle.storage_current.specs.Snapshots.{grafting_of, own_range_proof}
+use Rattle.storage_db.proofs.Cases.{if_ok}
+use Rattle.storage_db.proofs.Planned.{parts_of, plan_is}
+use Rattle.storage_db.proofs.db.nodes.own_range.Goals as goal
+
+pub returns : goal.returns
+returns g c =
+    let h = g.H.Hasher.hash_of in
+    let gr = grafting_of g.F.Family.shape g.row.N in
+    let text = g.H.Digest.Digest.text in
+    let nodes = c.args.snapshot.now.nodes in
+    let plan : c.in-Ok.plan ≡ record { leaves = c.args.leaves; start = c.args.range.start; end = c.args.range.end }
+    = plan_is _ _ _ c.in-Ok.ensures in
+    if_ok _ _ c.range_by.result (λ proof own s whole stands count floor.
+    own s (parts_of text _ h gr c.in-Ok.plan c.status-status.result.now c.args.floor (text c.ops_root-ops_root.result) s nodes
+    (pruned_operations gr c.args.snapshot.now.status) (sym count ∙ ap (λ (p : PlanOf). p.leaves) (sym plan)) (rw c.status-status.ensures stands.status) floor whole.floor_within
+    (c.ops_root-ops_root.ensures.stands s stands) stands.nodes
+    (λ p d given. let found : Some (text d) ≡ told_by nodes p = search rules in sym found))
+    ∙ ap (λ (p : PlanOf). own_range_proof h gr s p.start p.end) plan) c.range_by.ensures

@@ -1,0 +1,72 @@
+use Rattle.std.proofs.Common.{◌≡◌, ℕ, ◌<◌, ◌≤◌, ◌^◌, List, length, map, Option, refl, sym, ap, ◌∙◌, subst, arith}
+use Rattle.std.specs.Global.{Vec}
+use Rattle.std.specs.List.{slice_range}
+use Rattle.std.specs.Prelude.{IsSomeAnd}
+use Rattle.std.proofs.lemmas.Bool.{le-ltb, lt-ltb}
+use Rattle.storage_current.specs.Held.{range_proof_of}
+use Rattle.storage_current.specs.Keys.{Keyed, keyed_by}
+use Rattle.storage_current.specs.Served.{end_of}
+use Rattle.storage_current.specs.Snapshots.{grafting_of}
+use Rattle.storage_db.specs.declared.db.error.Error.TheVariants.{Memory, RangeOutOfBounds}
+use Rattle.storage_db.specs.Kept.{KeptCommit}
+use Rattle.storage_db.specs.Parts.{IsSince, IsSinceCommit, kept_of}
+use Rattle.storage_db.specs.Shown.{IsPage}
+use Rattle.storage_db.proofs.Cases.{cond_yes, cond_no, err_and}
+use Rattle.storage_db.proofs.Pages.{page_at_last, texts_between}
+use Rattle.storage_db.proofs.Shown.{told_at_last, told_before}
+use Rattle.storage_db.proofs.db.ordered.Ordered.range_proof.Goals as goal
+
+pub returns-in_default-clause-why : goal.returns-in_default-clause-why
+returns-in_default-clause-why g c = λ d keeps.
+    told_before (keyed_by g.K.Write.text g.V.Value.Write.text g.V.OperationCodec.operation_text g.K.Ord.cmp) g.V.Value.Read.view
+    g.H.Hasher.hash_of (grafting_of g.F.Family.shape g.row.N) _ _ c.self.view_is d keeps _ _ c.in_default.is refl
+
+pub returns-then-first-len-clause-why : goal.returns-then-first-len-clause-why
+returns-then-first-len-clause-why g c = λ d keeps.
+    let e : Keyed g.row.K.Denot g.row.V-Value.Denot
+    = keyed_by g.K.Write.text g.V.Value.Write.text g.V.OperationCodec.operation_text g.K.Ord.cmp in
+    told_at_last e g.V.Value.Read.view g.H.Hasher.hash_of (grafting_of g.F.Family.shape g.row.N) _ _ c.self.view_is d keeps
+    c.in-Some.last c.in-Some.is _ _ (λ commit kept.
+    let past : length commit.snapshot.operations ≤ c.args.start
+    = omega (arith, c.if-first-len.true, c.as_u64-first.ensures, c.len.ensures, kept.count) in
+    sym (cond_no _ Memory (RangeOutOfBounds c.args.start) (le-ltb _ _ past)))
+
+pub returns-in_err-proof-clause-why : goal.returns-in_err-proof-clause-why
+returns-in_err-proof-clause-why g c =
+    let e : Keyed g.row.K.Denot g.row.V-Value.Denot
+    = keyed_by g.K.Write.text g.V.Value.Write.text g.V.OperationCodec.operation_text g.K.Ord.cmp in
+    err_and _ _ c.from_residual.result (λ error same d keeps.
+    told_at_last e g.V.Value.Read.view g.H.Hasher.hash_of (grafting_of g.F.Family.shape g.row.N) _ _ c.self.view_is d keeps
+    c.in-Some.last c.in-Some.is _ _ (λ commit kept.
+    let within : c.args.start < length commit.snapshot.operations
+    = omega (arith, c.if-first-len.false, c.as_u64-first.ensures, c.len.ensures, kept.count) in
+    same ∙ sym (cond_yes _ Memory (RangeOutOfBounds c.args.start) (lt-ltb _ _ within)))) c.from_residual.ensures.1
+
+pub returns-clause-own : goal.returns-clause-own
+returns-clause-own g c = λ d keeps.
+    let e : Keyed g.row.K.Denot g.row.V-Value.Denot
+    = keyed_by g.K.Write.text g.V.Value.Write.text g.V.OperationCodec.operation_text g.K.Ord.cmp in
+    let h = g.H.Hasher.hash_of in
+    let gr = grafting_of g.F.Family.shape g.row.N in
+    let log = c.self.inside.log in
+    let last : KeptCommit g.row.K.Denot g.row.V-Value.Denot = c.in-Some.last in
+    let since : IsSinceCommit log last
+    = subst (λ (o : Option (KeptCommit g.row.K.Denot g.row.V-Value.Denot)). IsSince log o) c.in-Some.is c.self.invariant.1 in
+    let few : last.count ≤ 2 ^ 62 = omega (arith, since.committed, log.within, log.few) in
+    let first : ℕ = c.as_u64-first.result in
+    let end : ℕ = c.min-end.result in
+    let end_is : end ≡ end_of first c.args.max_ops last.count
+    = omega (arith, c.saturating_add.ensures, c.len-2.ensures, c.min-end.ensures, few) in
+    let within : first < last.count = omega (arith, c.if-first-len.false, c.len.ensures) in
+    let lent : map (λ (v : Vec ℕ). v.items) (slice_range c.deref.result.now first end)
+    ≡ slice_range (map (λ (v : Vec ℕ). v.items) log.operations.items) first end
+    = texts_between c.deref.result.now first end
+    ∙ ap (λ (l : List (Vec ℕ)). slice_range (map (λ (v : Vec ℕ). v.items) l) first end) c.deref.ensures.value in
+    let proof = range_proof_of g.H.Digest.Digest.text c.in_ok-proof.proof in
+    let page = page_at_last e g.V.Value.Read.view h gr
+    (kept_of log c.self.inside.active.entries c.self.inside.last) c.args.self.now c.self.view_is d keeps last c.in-Some.is first
+    c.args.max_ops end within c.requires end_is proof c.in_ok-proof.chunks.items c.in_ok-proof.ensures
+    (map (λ (v : Vec ℕ). v.items) (slice_range c.deref.result.now first end)) lent in
+    subst (λ (start : ℕ). IsSomeAnd d.last (λ x. IsPage h gr x.snapshot start c.args.max_ops proof
+    (map (λ (v : Vec ℕ). v.items) (slice_range c.deref.result.now first end)) c.in_ok-proof.chunks.items))
+    c.as_u64-first.ensures page

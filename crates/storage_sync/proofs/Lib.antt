@@ -1,0 +1,10 @@
+mod Bits
+mod Lists
+mod Copies
+mod Kept
+mod States
+mod Own
+mod Ending
+mod Locations
+mod Serving
+mod Joined

@@ -1,0 +1,9 @@
+pub mod Pages
+pub mod Messages
+pub mod Held
+pub mod Syncs
+pub mod Refusals
+pub mod Runs
+pub mod Serving
+pub mod Joined
+pub mod Laws

@@ -1,0 +1,51 @@
+//! What holds of pages that are proved: laws over the definitions, each the contract of a function that does nothing.
+
+ghost use Rattle.storage_sync.specs.Joined.{AnswersAreHonest, ServedCopiesAreWhole};
+ghost use Rattle.storage_sync.specs.Pages.{CopiesAreSnapshots, PagesAreCopies};
+ghost use Rattle.storage_sync.specs.Refusals.{HonestPagesAreTaken};
+ghost use Rattle.storage_sync.specs.Runs.{RunsEnd};
+
+use storage_current::laws::{
+    current_proofs_are_sound, own_current_proofs_are_accepted, own_current_proofs_are_read_again,
+};
+
+/// Pages that are proved against a root, of as many operations as the first one names, give together the operations and bits of each
+/// snapshot with that root, or two different strings have one digest, one hashed by a check and one for the root.
+pub fn pages_are_copies()
+    ensures { PagesAreCopies }
+{
+    current_proofs_are_sound();
+}
+
+/// A copy with the snapshot's inactivity floor is the snapshot: it has its roots, and serves its proofs.
+pub fn copies_are_snapshots()
+    ensures { CopiesAreSnapshots }
+{}
+
+/// A page of a snapshot with the trusted root, of what is wanted next and within the limits, is refused for want of memory alone.
+pub fn honest_pages_are_taken()
+    ensures { HonestPagesAreTaken }
+{
+    own_current_proofs_are_accepted();
+    own_current_proofs_are_read_again();
+}
+
+/// No more pages are taken, one after another, than operations were left: honest pages, as they are wanted, come to an end.
+pub fn taken_pages_end()
+    ensures { RunsEnd }
+{}
+
+/// What a server answers to what a copy of its snapshot wants, within the copy's limits, is an honest page: it is refused for want of
+/// memory alone.
+pub fn answers_are_honest()
+    ensures { AnswersAreHonest }
+{}
+
+/// A copy is whole once as many answers of a server of its snapshot are taken, one after another, as there are steps left of what it
+/// wants at most.
+pub fn served_copies_are_whole()
+    ensures { ServedCopiesAreWhole }
+{
+    own_current_proofs_are_accepted();
+    own_current_proofs_are_read_again();
+}

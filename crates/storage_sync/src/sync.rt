@@ -1,0 +1,19 @@
+//! State synchronisation: one who asks for a copy of a snapshot, one who serves it, and their messages.
+
+mod ask;
+mod bits;
+mod limits;
+mod lists;
+mod page;
+mod refusal;
+mod request;
+mod serve;
+mod unanswered;
+
+pub use ask::{Replica, Sync};
+pub use limits::Limits;
+pub use page::Page;
+pub use refusal::Refusal;
+pub use request::Request;
+pub use serve::Server;
+pub use unanswered::Unanswered;
