@@ -1,14 +1,14 @@
 #!/usr/bin/env python3
 """Tests tools/wrong_bodies.py on small crates: what it must name, and what it must count as refused.
 
-Of the edits of a crate a harmless one must be named, also where the function that it is in calls one with a wrong body, where it
-needs a trait's block that is not proved for another edit, where it takes away a goal that a proof file answers, and where such a goal
-of another function of that name fails. An edit that cannot be applied must be named too, one that cannot be applied behind those above
-it in its file among them, and a crate that is not proved without an edit. An edit that names the goal that it breaks is refused by it,
-and one that names another goal by a search; an edit whose own answer does not hold without it is named, and so is a harmless edit of a
-constant, or of a contract that other functions stand on. What is refused is the same over work that was kept of another crate of the
-same name, in which a wrong body is the right one, and over files that hold nothing. A crate that a gate keeps from an earlier run is
-tried all the same. The last line is 'N passed, M failed'.
+Of the edits of a crate a harmless one must be named, also where the function that it is in calls one with a wrong body, or one that is
+taken at its contract, where it needs a trait's block that is not proved for another edit, where it takes away a goal that a proof file
+answers, and where such a goal of another function of that name fails. An edit that cannot be applied must be named too, one that cannot
+be applied behind those above it in its file among them, and a crate that is not proved without an edit. An edit that names the goal that
+it breaks is refused by it, and one that names another goal by a search; an edit whose own answer does not hold without it is named, and
+so is a harmless edit of a constant, or of a contract that other functions stand on. What is refused is the same over work that was kept
+of another crate of the same name, in which a wrong body is the right one, and over files that hold nothing. A crate that a gate keeps
+from an earlier run is tried all the same. The last line is 'N passed, M failed'.
 """
 import pathlib
 import shutil
@@ -66,6 +66,31 @@ pub fn five_more(n: u64) -> u64
     ensures { result ≡ n + 5 }
 {
     n + FIVE
+}
+
+/// Ten more than a number.
+pub fn ten_more(n: u64) -> u64
+    requires { n < 45 }
+    ensures { result ≡ n + 10 }
+{
+    let more = five_more(n);
+    five_more(more)
+}
+
+/// Eleven more than a number.
+pub fn eleven_more(n: u64) -> u64
+    requires { n < 45 }
+    ensures { result ≡ n + 11 }
+{
+    ten_more(n) + 1
+}
+
+/// Twelve more than a number.
+pub fn twelve_more(n: u64) -> u64
+    requires { n < 45 }
+    ensures { result ≡ n + 12 }
+{
+    ten_more(n) + 2
 }
 
 /// A number is less than the next, and than each later one.
@@ -145,6 +170,9 @@ EDITS = {
     "block_wrong": ("        2", "        1"),
     "harmless_beside_block": ("word.measure()", "word.measure() + 0"),
     "harmless_where_a_goal_is_answered": ("let third = three_more(n);", "let third = n + 3;"),
+    # edits of functions that call one without an edit, which is taken at its contract
+    "harmless_over_a_contract": ("ten_more(n) + 1", "1 + ten_more(n)"),
+    "wrong_over_a_contract": ("ten_more(n) + 2", "ten_more(n) + 3"),
     "no_such_text": ("seven_more", "six_more"),
     "text_taken_by_one_above": ("    n + 1", "    n + 3"),
     # an edit that names the answered goal that it breaks, a harmless one that names a goal, and one that breaks another goal
@@ -165,7 +193,7 @@ EDITS = {
 # the edits that are not in a file of their own, which has their name
 GROUPS = {"callee_wrong": "src.lib", "text_taken_by_one_above": "src.lib"}
 REFUSED = {"callee_wrong", "other_word_wrong", "block_wrong", "wrong_by_its_answer", "wrong_by_another_goal", "wrong_by_its_own_answer"}
-REFUSED |= {"constant_wrong", "law_wrong", "called_contract_wrong"}
+REFUSED |= {"constant_wrong", "law_wrong", "called_contract_wrong", "wrong_over_a_contract"}
 # a crate of the same name in which a wrong body is the right one
 OTHER = CRATE.replace("n + 2 }\n{\n    let", "n + 4 }\n{\n    let").replace("n + 1 }\n{\n    n + 1", "n + 2 }\n{\n    n + 2")
 # proves the crate of the folder where it runs, and keeps that work
@@ -210,7 +238,7 @@ def said(text, edits, gate=None, kept=None):
             group = crate / f"must-fail/{GROUPS.get(it, it)}.edit"
             above = group.read_text() if group.exists() else "file: src/lib.rt\n"
             group.write_text(f"{above}\nname: {it}\n{lines_of(edit)}old: {edit[0]}\nnew: {edit[1]}\n")
-        words = [root / "tools/wrong_bodies.py"]
+        words = [root / "tools/wrong_bodies.py", "--times"]
         if kept:
             shutil.copytree(kept / "kept", crate / "out/incremental")
             words += ["--kept"]
@@ -228,6 +256,7 @@ def main():
     results = {f"{it} is {'refused' if it in REFUSED else 'named'}": tried.get(it, "").startswith("refused") == (it in REFUSED) for it in EDITS}
     results["each edit has a line"] = EDITS.keys() <= tried.keys()
     results["the status is 1"] = status == 1
+    results["what is called is taken at its contract"] = "at their contracts" in output
     wrong, status, _ = said(CRATE.replace("    n + 3", "    n + 4"), {"callee_wrong": EDITS["callee_wrong"]})
     results["a crate that is not proved is named"] = status == 1 and any("without an edit" in it for it in wrong)
     kept = "rt: sums is kept: an earlier run on this machine proved the same files over the same libraries\n"

@@ -16,13 +16,16 @@ the crate from nothing, that is the check without an edit, and the others begin 
 where it says that an earlier run proved the same files, the crate is checked here. What was kept makes no goal fail: the check takes
 from it what is proved of the same texts, and proves the rest. Answers that edits bring must hold in a copy of the crate with no edit.
 
-Then all edits of bodies are put into one copy, and the functions that they are in are checked together, with what they call and nothing
-that calls them. An edit of the contract of a function that nothing else names, as of a law, is tried with those of bodies, since it
-changes that function alone. The next round has those that touch a function or a text which one of the first touches, and those in
-doubt: a goal may fail since it needs an `impl` block that is not proved for another edit. What a round does not settle is tried alone,
-as is an edit whose goal stands in a proof file where more than one function may have it, and any edit of anything else: on the function
-that it names, then that of a constant on the first function that names it and on all of them, any other on the laws and on the
-functions of its module too, and at last on the whole crate.
+Then all edits of bodies are put into one copy, and the functions that they are in are checked together. What they call is not proved
+again: each other function that is written on lines of its own is taken at its contract. It gets a body that does nothing and a proof
+that is left open, and the check is told to allow that (--allow-holes), so that it judges each goal as if what the function calls were
+proved. No goal stands on another function's body or proof, and that these are proved without an edit is known. An edit of the contract
+of a function that nothing else names, as of a law, is tried with those of bodies, since it changes that function alone. The next round
+has those that touch a function or a text which one of the first touches, and those in doubt: a goal may fail since it needs an `impl`
+block that is not proved for another edit. What a round does not settle is tried alone, as is an edit whose goal stands in a proof file
+where more than one function may have it, and any edit of anything else: on the function that it names, then that of a constant on the
+first function that names it and on all of them, any other on the laws and on the functions of its module too. What is not refused so is
+tried once more with what is called proved too, and at last on the whole crate.
 
 An edit is refused where the check names a goal inside the edited function that is not proved. That the function calls, or waits for,
 one that is not proved does not count, nor that a proof file misses a name. A function that fails by goals of its own without an edit in
@@ -63,6 +66,12 @@ ANSWER = re.compile(r"(?:\./)?proofs/(\S+)/(?:Answers|Invariants|Proof)\.antt:\d
 MISSES_NAME = re.compile(r"has no field|is not in scope|has no `|was not admitted")
 # What keeps the check from searching a function's goals.
 UNSEARCHED = "#[tactic(none)]"
+# The proof file of a function that is taken at its contract: it says what is to be proved, and leaves it open.
+AT_CONTRACT = """use Rattle.{module}.Statement.{{statement}}
+
+pub {name}_spec : {{M : Type 1}} → statement M
+{name}_spec = ?
+"""
 # A line that declares a constant.
 CONSTANT = re.compile(r"(?:pub(?:\([\w:]+\))? )?const (\w+)")
 # The modules of what an edit's answer names.
@@ -314,7 +323,7 @@ def tried_together(edits):
 class Verdict:
     """What a check says: whether the crate is proved, each goal that is left with its function, and what only misses a name."""
 
-    def __init__(self, said, seconds=0):
+    def __init__(self, said, seconds=0, at_contract=()):
         self.said, self.seconds = said, seconds
         self.goals, self.nameless, self.doubtful, self.functions = [], [], set(), []
         blocks, open_goals = set(BLOCK.findall(said)), []
@@ -330,13 +339,14 @@ class Verdict:
             elif function:
                 name, verdict = function.groups()
                 self.functions.append(name)
-                self.goals += [Goal(name, *it) for it in open_goals]
-                self.goals += [Goal(name, None, None, it) for it in answers["/".join(name.split("::")[1:])]]
+                if name not in at_contract:
+                    self.goals += [Goal(name, *it) for it in open_goals]
+                    self.goals += [Goal(name, None, None, it) for it in answers["/".join(name.split("::")[1:])]]
                 self.note_needs(name, verdict, blocks)
                 if verdict.startswith("not proved") and not WAITS.match(verdict) and not any(it.function == name for it in self.goals):
                     self.nameless.append(name)
                 open_goals = []
-        some = re.search(r"^only=(\d+) proved=(\d+)", said, re.M)
+        some = re.search(r"^only=(\d+) (?:proved=(\d+)|holes=\d+)$", said, re.M)
         self.is_proved = some[1] == some[2] if some else re.search(r"^logic=proved", said, re.M) is not None
         self.is_refused = some[1] != some[2] if some else re.search(r"^logic=not-proved", said, re.M) is not None
 
@@ -352,8 +362,8 @@ class Verdict:
         return next((it for it in self.goals if is_inside(it, edit.places) and is_its(it)), None)
 
     def has_no_fault_in(self, file):
-        """Whether the check finds no fault in a file."""
-        return not re.search(rf"^(?:\./)?{re.escape(file)}:.*error", self.said, re.M)
+        """Whether the check came to its end, and finds no fault in a file."""
+        return (self.is_proved or self.is_refused) and not re.search(rf"^(?:\./)?{re.escape(file)}:.*error", self.said, re.M)
 
     def strays(self, edits):
         """The goals in functions that none of the edits changes, and that need no block which is not proved."""
@@ -394,11 +404,14 @@ class Crate:
         """Where checks of this crate have kept their work in a tree."""
         return folder / "crates" / self.name / "out/incremental"
 
-    def check(self, edits, kept, functions=(), by_answers=False, answers=()):
+    def check(self, edits, kept, functions=(), by_answers=False, answers=(), at_contract=()):
         """Checks a copy of the crate with the edits, over what earlier checks kept: all of it, or these functions and what they call. By
-        answers, nothing is searched of the functions of edits that name a goal. The answers are proof files that this check has."""
-        only = [word for it in functions for word in ("--only", it.partition("::")[2])]
+        answers, nothing is searched of the functions of edits that name a goal. The answers are proof files that this check has. What is
+        taken at its contract is not proved, and what calls it is judged as if it were."""
+        only = [word for it in functions for word in ("--only", it.partition("::")[2])] + ["--allow-holes"] * bool(at_contract)
         texts = {file: text.split("\n") for file, text in {**self.texts, **dict(answers)}.items()}
+        for function, place in dict(at_contract).items():
+            self.leave_unproved(texts, function, place)
         for edit in edits:
             for (file, number), line in edit.lines.items():
                 texts[file][number] = line
@@ -414,7 +427,7 @@ class Crate:
                 said = ran.stdout.read()
                 _, status, usage = os.wait4(ran.pid, 0)
                 ran.returncode = os.waitstatus_to_exitcode(status)
-        return Verdict(said, usage.ru_utime + usage.ru_stime)
+        return Verdict(said, usage.ru_utime + usage.ru_stime, at_contract)
 
     def proof_file(self, function):
         """The file in which the goals of a function are answered."""
@@ -422,6 +435,17 @@ class Crate:
         folders = (it.rpartition("/")[0] for it in self.texts if it.startswith("proofs/"))
         folder = next((it for it in folders if re.sub(r"(^|/)\+", r"\1", it) == f"proofs/{path}"), f"proofs/{path}")
         return f"{folder}/Answers.antt"
+
+    def leave_unproved(self, texts, function, place):
+        """Gives a function at a place a body that says nothing and a proof that is left open. No line moves."""
+        folder = "/".join(["proofs", *function.split("::")[1:]])
+        before = self.proof_file(function).removesuffix("Answers.antt")
+        for it in [it for it in texts if it.startswith(before)]:
+            del texts[it]
+        lines = texts[place.file]
+        lines[place.body : place.last - 1] = ["    loop {}"] + [""] * (place.last - place.body - 2)
+        module = f"{self.name}.{folder.replace('/', '.')}"
+        texts[f"{folder}/Proof.antt"] = AT_CONTRACT.format(module=module, name=place.name).split("\n")
 
     def with_answers(self, answers):
         """The proof files with more answers, each given by its function, its goal and what stands behind the goal's name."""
@@ -533,7 +557,7 @@ class Trial:
 
     def __init__(self, crate, printing, asked):
         self.crate, self.printing, self.asked = crate, printing, asked
-        self.functions, self.answers = [], {}
+        self.functions, self.answers, self.bodies = [], {}, {}
         self.refused = self.failed = 0
 
     def say(self, text, is_refused):
@@ -570,6 +594,7 @@ class Trial:
             if not self.functions:
                 self.say("is not proved without an edit", False)
                 return self
+            self.bodies = self.bodies_of_functions()
             sound = self.with_sure_answers(sound, kept)
             self.try_together([it for it in sound if it.is_of_functions], kept)
             for edit in sound:
@@ -614,27 +639,43 @@ class Trial:
             return edits
         answers = self.crate.with_answers((function, it.goal, it.answer) for it in asked for function in self.functions_of(it))
         functions = sorted({function for it in asked for function in self.functions_of(it)})
-        verdict = self.timed([it.without_change() for it in asked], kept, functions, True, answers)
+        verdict = self.timed([it.without_change() for it in asked], kept, functions, True, answers, by_contracts=True)
         self.answers = {file: text for file, text in answers.items() if verdict.has_no_fault_in(file)}
         lost = [it for it in asked if any(self.crate.proof_file(function) not in self.answers for function in self.functions_of(it))]
         for edit in lost:
             self.say(f"{edit.name}: NOT TRIED: its own answer does not hold without it", False)
         return [it for it in edits if it not in lost]
 
-    def timed(self, edits, kept, functions=(), by_answers=False, answers=None):
+    def timed(self, edits, kept, functions=(), by_answers=False, answers=None, by_contracts=False):
         """Checks the crate with the edits and their own answers, and says what that took where times are asked for. By answers, nothing
-        but the goal that an edit names is answered of its functions."""
+        but the goal that an edit names is answered of its functions. By contracts, no function is proved but those that are named."""
         texts, files = {**self.crate.texts, **(answers or self.answers)}, {}
         for edit in edits:
             for file in {self.crate.proof_file(it) for it in self.functions_of(edit)} & texts.keys():
                 files[file] = with_one_answer(texts[file], edit.goal) if by_answers and edit.goal else texts[file]
-        verdict = self.crate.check(edits, kept, functions, by_answers, files)
+        at_contract = self.at_contract(functions, edits) if by_contracts else {}
+        verdict = self.crate.check(edits, kept, functions, by_answers, files, at_contract)
         if self.asked.times:
             tried = ", ".join(it.name for it in edits[:1]) + f" and {len(edits) - 1} more" * (len(edits) > 1)
             how = f"{len(functions) or 'all'} functions by {'answers' if by_answers else 'searches'}"
+            how += f", {len(at_contract)} at their contracts" * bool(at_contract)
             with self.printing:
                 print(f"time: {self.crate.name} {verdict.seconds:.0f} s, {how}: {tried or 'no edit'}", flush=True)
         return verdict
+
+    def at_contract(self, functions, edits):
+        """The functions that a check of these ones takes at their contracts, with their places: all others that no edit touches."""
+        lines = {line for it in edits for line in it.lines}
+        is_touched = lambda place: any(place.file == file and place.first <= number + 1 <= place.last for file, number in lines)
+        return {it: place for it, place in self.bodies.items() if it not in functions and not is_touched(place)}
+
+    def bodies_of_functions(self):
+        """The places of those functions that a check can take at their contracts, since they have a body on lines of its own."""
+        places = [it for file, text in self.crate.texts.items() for it in places_in(file, text)]
+        named = {place: [it for it in self.functions if is_of(it, place)] for place in places}
+        times = collections.Counter(it for functions in named.values() for it in functions)
+        is_sure = lambda place: len(named[place]) == 1 and times[named[place][0]] == 1
+        return {named[it][0]: it for it in places if it.last > it.body + 1 and is_sure(it)}
 
     def functions_of(self, edit):
         """The functions that an edit is in, or that it names."""
@@ -679,7 +720,7 @@ class Trial:
         left, alone = edits, []
         while left:
             tried = tried_together(left)
-            verdict = self.timed(tried, kept, sorted({name for it in tried for name in self.functions_of(it)}), True)
+            verdict = self.timed(tried, kept, sorted({name for it in tried for name in self.functions_of(it)}), True, by_contracts=True)
             for goal in verdict.strays(tried):
                 self.say(f"no edit: a function without one fails, {told(goal)}", False)
             still = [it for it in tried if not self.judge(it, verdict, False)]
@@ -690,14 +731,15 @@ class Trial:
             self.try_alone(edit, kept)
 
     def try_alone(self, edit, kept):
-        """Tries an edit with no other: by the answer to the goal that it names, then by searches, at last on the whole crate."""
+        """Tries an edit with no other: by the answer to the goal that it names, then by searches, at last with what is called proved too,
+        and on the whole crate."""
         lists = self.lists_of(edit)
         if edit.goal and edit.places:
-            verdict = self.timed([edit], kept, lists[0], True)
+            verdict = self.timed([edit], kept, lists[0], True, by_contracts=True)
             if verdict.is_refused and (goal := verdict.refusal_of(edit, True)) and not self.may_be_of_another(edit, goal):
                 return self.say(f"{edit.name}: refused, {told(goal)}", True)
-        for functions in lists:
-            verdict = self.timed([edit], kept, functions)
+        for functions, by_contracts in [*((it, True) for it in lists if it), *((it, False) for it in lists)]:
+            verdict = self.timed([edit], kept, functions, by_contracts=by_contracts)
             if self.judge(edit, verdict, True):
                 return None
         return self.say(f"{edit.name}: {why_not(edit, verdict)}", False)
