@@ -24,11 +24,11 @@ fn without_row_name(line: &str) -> &str {
 
 /// Returns the answer to a line: the list's name, then the columns of the case, with blanks between them. The digests
 /// of a list are those of SHA-256, but of SHA-512 where `sha512` stands before its name.
-pub fn answer(alloc: Global, line: &str) -> Result<String, Fault> {
+pub fn answer(alloc: Global, line: &str, out: &mut String) -> Result<(), Fault> {
     let columns: Vec<&str> = without_row_name(line).split(' ').collect(alloc)?;
     match columns.as_slice() {
-        ["sha512", list, columns @ ..] => over::<Sha512, 64>(alloc, *list, columns),
-        [list, columns @ ..] => over::<Sha256, 32>(alloc, *list, columns),
+        ["sha512", list, columns @ ..] => over::<Sha512, 64>(alloc, *list, columns, out),
+        [list, columns @ ..] => over::<Sha256, 32>(alloc, *list, columns, out),
         [] => Err(Fault::Malformed),
     }
 }
@@ -38,51 +38,56 @@ fn over<H: Hasher<Digest = FixedBytes<D>>, const D: usize>(
     alloc: Global,
     list: &str,
     columns: &[&str],
-) -> Result<String, Fault>
+    out: &mut String,
+) -> Result<(), Fault>
 where
     FixedBytes<D>: Digest,
     requires small { D ≤ 64 }
 {
     match list {
-        "asked" | "equal" | "valued" => asked::answer(alloc, list, columns),
+        "asked" | "equal" | "valued" => asked::answer(alloc, list, columns, out),
         "bit_proofs" | "bitmaps" | "bitmaps_checks" | "bitmaps_init" | "bitmaps_read" => {
-            bitmaps::answer::<H, D>(alloc, list, columns)
+            bitmaps::answer::<H, D>(alloc, list, columns, out)
         }
         "bitmaps_served" | "bitmaps_stages" | "bitmaps_verified" => {
-            bitmaps::answer::<H, D>(alloc, list, columns)
+            bitmaps::answer::<H, D>(alloc, list, columns, out)
         }
-        "cuts" => values::cuts(alloc, columns),
-        "db" => program::db(alloc, columns),
-        "errors" => errors::errors(alloc, columns),
-        "filled" => codecs::filled::<H>(alloc, columns),
-        "golden_hash" => codecs::golden_hash::<H>(alloc, columns),
-        "operations" => operations::operations(alloc, columns),
-        "program" => program::program(alloc, columns),
-        "runs" => program::runs(alloc, columns),
-        "values" => values::values(alloc, columns),
-        "varints" => codecs::varints(alloc, columns),
-        "written" => operations::written(alloc, columns),
+        "cuts" => values::cuts(alloc, columns, out),
+        "db" => program::db(alloc, columns, out),
+        "errors" => errors::errors(alloc, columns, out),
+        "filled" => codecs::filled::<H>(alloc, columns, out),
+        "golden_hash" => codecs::golden_hash::<H>(alloc, columns, out),
+        "operations" | "written" => operations::answer(alloc, list, columns, out),
+        "program" => program::program(alloc, columns, out),
+        "runs" => program::runs(alloc, columns, out),
+        "values" => values::values(alloc, columns, out),
+        "varints" => codecs::varints(alloc, columns, out),
         "golden" | "ranges" | "ranges_checks" | "each_operation" | "each_range" => {
-            lists::answer::<H, D>(alloc, list, columns)
+            lists::answer::<H, D>(alloc, list, columns, out)
         }
         "combined" | "combined_asked" | "combined_reads" | "combined_views" => {
-            lists::answer::<H, D>(alloc, list, columns)
+            lists::answer::<H, D>(alloc, list, columns, out)
         }
         "combined_marks" | "combined_ranges" | "fetched_ranges" | "keyed" | "exclusions" => {
-            lists::answer::<H, D>(alloc, list, columns)
+            lists::answer::<H, D>(alloc, list, columns, out)
         }
         "golden_keys" | "key_values" | "operation_checks" | "texts" => {
-            lists::answer::<H, D>(alloc, list, columns)
+            lists::answer::<H, D>(alloc, list, columns, out)
         }
-        _ => by_family::<H>(alloc, list, columns),
+        _ => by_family::<H>(alloc, list, columns, out),
     }
 }
 
 /// Returns the answer of a list whose first column is the family.
-fn by_family<H: Hasher>(alloc: Global, list: &str, columns: &[&str]) -> Result<String, Fault> {
+fn by_family<H: Hasher>(
+    alloc: Global,
+    list: &str,
+    columns: &[&str],
+    out: &mut String,
+) -> Result<(), Fault> {
     match columns {
-        ["mmr", columns @ ..] => of_shapes::<mmr::Family, H>(alloc, list, columns),
-        ["mmb", columns @ ..] => of_shapes::<mmb::Family, H>(alloc, list, columns),
+        ["mmr", columns @ ..] => of_shapes::<mmr::Family, H>(alloc, list, columns, out),
+        ["mmb", columns @ ..] => of_shapes::<mmb::Family, H>(alloc, list, columns, out),
         _ => Err(Fault::Malformed),
     }
 }
@@ -92,20 +97,21 @@ fn of_shapes<F: Graftable, H: Hasher>(
     alloc: Global,
     list: &str,
     columns: &[&str],
-) -> Result<String, Fault> {
+    out: &mut String,
+) -> Result<(), Fault> {
     match list {
-        "around" => trees::around::<F>(alloc, columns),
-        "elements" => trees::elements::<F>(alloc, columns),
-        "families" => trees::families::<F>(alloc, columns),
-        "graftable" => trees::graftable::<F>(alloc, columns),
-        "inactive" => trees::inactive::<F>(alloc, columns),
-        "maps" => trees::maps::<F>(alloc, columns),
-        "nodes" => trees::nodes::<F>(alloc, columns),
-        "places" => places::places::<F>(alloc, columns),
-        "plans" => trees::plans::<F>(alloc, columns),
-        "ranges_extracted" | "required" => by_chunk::<F, H>(alloc, list, columns),
-        "sizes" => trees::sizes::<F>(alloc, columns),
-        _ => of_proofs::<F, H>(alloc, list, columns),
+        "around" => trees::around::<F>(alloc, columns, out),
+        "elements" => trees::elements::<F>(alloc, columns, out),
+        "families" => trees::families::<F>(alloc, columns, out),
+        "graftable" => trees::graftable::<F>(alloc, columns, out),
+        "inactive" => trees::inactive::<F>(alloc, columns, out),
+        "maps" => trees::maps::<F>(alloc, columns, out),
+        "nodes" => trees::nodes::<F>(alloc, columns, out),
+        "places" => places::places::<F>(alloc, columns, out),
+        "plans" => trees::plans::<F>(alloc, columns, out),
+        "ranges_extracted" | "required" => by_chunk::<F, H>(alloc, list, columns, out),
+        "sizes" => trees::sizes::<F>(alloc, columns, out),
+        _ => of_proofs::<F, H>(alloc, list, columns, out),
     }
 }
 
@@ -114,29 +120,30 @@ fn of_proofs<F: Graftable, H: Hasher>(
     alloc: Global,
     list: &str,
     columns: &[&str],
-) -> Result<String, Fault> {
+    out: &mut String,
+) -> Result<(), Fault> {
     match list {
-        "both_chunks" => both_chunks::both_chunks::<F, H>(alloc, columns),
-        "built" => own::built::<F, H>(alloc, columns),
-        "element_checks" => checks::element_checks::<F, H>(alloc, columns),
-        "extracted" => extracted::extracted::<F, H>(alloc, columns),
-        "grafted_trees" => grafted_trees::grafted_trees::<F, H>(alloc, columns),
-        "key_proofs" => key_proofs::key_proofs::<F, H>(alloc, columns),
-        "mem_init" => mems::mem_init::<F, H>(alloc, columns),
-        "mems" => mems::mems::<F, H>(alloc, columns),
-        "multi_checks" => checks::multi_checks::<F, H>(alloc, columns),
-        "parts" => own::parts::<F, H>(alloc, columns),
-        "pinned_checks" => checks::pinned_checks::<F, H>(alloc, columns),
-        "plain_checks" => checks::plain_checks::<F, H>(alloc, columns),
-        "plain_operations" => checks::plain_operations::<F, H>(alloc, columns),
-        "program_checks" => program::program_checks::<F, H>(alloc, columns),
-        "recomputed" => extracted::recomputed::<F, H>(alloc, columns),
-        "served" => own::served::<F, H>(alloc, columns),
-        "slots" => places::slots::<F, H>(alloc, columns),
-        "slots_read" => places::slots_read::<F, H>(alloc, columns),
-        "stores" => stores::stores::<F, H>(alloc, columns),
-        "verifiers" => verifiers::verifiers::<F, H>(alloc, columns),
-        "witnesses" => witnesses::witnesses::<F, H>(alloc, columns),
+        "both_chunks" => both_chunks::both_chunks::<F, H>(alloc, columns, out),
+        "built" => own::built::<F, H>(alloc, columns, out),
+        "element_checks" => checks::element_checks::<F, H>(alloc, columns, out),
+        "extracted" => extracted::extracted::<F, H>(alloc, columns, out),
+        "grafted_trees" => grafted_trees::grafted_trees::<F, H>(alloc, columns, out),
+        "key_proofs" => key_proofs::key_proofs::<F, H>(alloc, columns, out),
+        "mem_init" => mems::mem_init::<F, H>(alloc, columns, out),
+        "mems" => mems::mems::<F, H>(alloc, columns, out),
+        "multi_checks" => checks::multi_checks::<F, H>(alloc, columns, out),
+        "parts" => own::parts::<F, H>(alloc, columns, out),
+        "pinned_checks" => checks::pinned_checks::<F, H>(alloc, columns, out),
+        "plain_checks" => checks::plain_checks::<F, H>(alloc, columns, out),
+        "plain_operations" => checks::plain_operations::<F, H>(alloc, columns, out),
+        "program_checks" => program::program_checks::<F, H>(alloc, columns, out),
+        "recomputed" => extracted::recomputed::<F, H>(alloc, columns, out),
+        "served" => own::served::<F, H>(alloc, columns, out),
+        "slots" => places::slots::<F, H>(alloc, columns, out),
+        "slots_read" => places::slots_read::<F, H>(alloc, columns, out),
+        "stores" => stores::stores::<F, H>(alloc, columns, out),
+        "verifiers" => verifiers::verifiers::<F, H>(alloc, columns, out),
+        "witnesses" => witnesses::witnesses::<F, H>(alloc, columns, out),
         _ => Err(Fault::Malformed),
     }
 }
@@ -146,12 +153,13 @@ fn by_chunk<F: Graftable, H: Hasher>(
     alloc: Global,
     list: &str,
     columns: &[&str],
-) -> Result<String, Fault> {
+    out: &mut String,
+) -> Result<(), Fault> {
     match columns {
-        ["1", columns @ ..] => of_chunk::<F, H, 1>(alloc, list, columns),
-        ["2", columns @ ..] => of_chunk::<F, H, 2>(alloc, list, columns),
-        ["4", columns @ ..] => of_chunk::<F, H, 4>(alloc, list, columns),
-        ["32", columns @ ..] => of_chunk::<F, H, 32>(alloc, list, columns),
+        ["1", columns @ ..] => of_chunk::<F, H, 1>(alloc, list, columns, out),
+        ["2", columns @ ..] => of_chunk::<F, H, 2>(alloc, list, columns, out),
+        ["4", columns @ ..] => of_chunk::<F, H, 4>(alloc, list, columns, out),
+        ["32", columns @ ..] => of_chunk::<F, H, 32>(alloc, list, columns, out),
         _ => Err(Fault::Malformed),
     }
 }
@@ -160,11 +168,12 @@ fn of_chunk<F: Graftable, H: Hasher, const N: usize>(
     alloc: Global,
     list: &str,
     columns: &[&str],
-) -> Result<String, Fault>
+    out: &mut String,
+) -> Result<(), Fault>
     requires { IsChunkSize N }
 {
     match list {
-        "required" => trees::required::<F, N>(alloc, columns),
-        _ => extracted::ranges_extracted::<F, H, N>(alloc, columns),
+        "required" => trees::required::<F, N>(alloc, columns, out),
+        _ => extracted::ranges_extracted::<F, H, N>(alloc, columns, out),
     }
 }

@@ -12,8 +12,9 @@ use std::io::{BufRead, BufReader, BufWriter, Write};
 
 /// Returns the line to print for a line of the lists.
 fn reply(alloc: Global, line: &str) -> Result<String, AllocError> {
-    match lists::answer(alloc, line) {
-        Ok(answer) => Ok(answer),
+    let mut answer = String::new(alloc);
+    match lists::answer(alloc, line, &mut answer) {
+        Ok(()) => Ok(answer),
         Err(Fault::Malformed) => String::from_str(alloc, "malformed"),
         Err(Fault::Differs) => String::from_str(alloc, "differs"),
         Err(Fault::Memory) => Err(AllocError),

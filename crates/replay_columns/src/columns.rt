@@ -255,6 +255,17 @@ pub struct Digests<D>(pub Vec<D>);
 #[derive(Drop)]
 pub struct List<T>(pub Vec<T>);
 
+/// What says how a case was made.
+#[derive(Drop)]
+pub struct Label;
+
+impl Column for Label {
+    fn read(_alloc: Global, columns: &mut Columns<'_>) -> Result<Label, Fault> {
+        columns.text()?;
+        Ok(Label)
+    }
+}
+
 impl Column for u64 {
     fn read(_alloc: Global, columns: &mut Columns<'_>) -> Result<u64, Fault> {
         number(columns.text()?)
@@ -380,30 +391,5 @@ impl<A: Column, B: Column, C: Column, D: Column> Column for (A, B, C, D) {
     fn read(alloc: Global, columns: &mut Columns<'_>) -> Result<(A, B, C, D), Fault> {
         let (first, second, third) = Column::read(alloc, columns)?;
         Ok((first, second, third, D::read(alloc, columns)?))
-    }
-}
-
-impl<A: Column, B: Column, C: Column, D: Column, E: Column> Column for (A, B, C, D, E) {
-    fn read(alloc: Global, columns: &mut Columns<'_>) -> Result<(A, B, C, D, E), Fault> {
-        let (first, second, third, fourth) = Column::read(alloc, columns)?;
-        Ok((first, second, third, fourth, E::read(alloc, columns)?))
-    }
-}
-
-impl<A: Column, B: Column, C: Column, D: Column, E: Column, F: Column> Column
-    for (A, B, C, D, E, F) {
-    fn read(alloc: Global, columns: &mut Columns<'_>) -> Result<(A, B, C, D, E, F), Fault> {
-        let (first, second, third) = Column::read(alloc, columns)?;
-        let (fourth, fifth, sixth) = Column::read(alloc, columns)?;
-        Ok((first, second, third, fourth, fifth, sixth))
-    }
-}
-
-impl<A: Column, B: Column, C: Column, D: Column, E: Column, F: Column, G: Column> Column
-    for (A, B, C, D, E, F, G) {
-    fn read(alloc: Global, columns: &mut Columns<'_>) -> Result<(A, B, C, D, E, F, G), Fault> {
-        let (first, second, third) = Column::read(alloc, columns)?;
-        let (fourth, fifth, sixth, seventh) = Column::read(alloc, columns)?;
-        Ok((first, second, third, fourth, fifth, sixth, seventh))
     }
 }

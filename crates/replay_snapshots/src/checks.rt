@@ -6,9 +6,8 @@ use commonware_storage::light::{MAX_DIGESTS, TextError, check_range, check_text}
 use commonware_storage::merkle::{Graftable, Location};
 use commonware_storage::qmdb::current::proof::RangeProof;
 use commonware_storage::qmdb::current::proof::dynamic::OperationProof;
-use replay_columns::answers::{agreed, owned, told};
-use replay_columns::columns::{Fault, Hex, List, lent, parse};
-use replay_columns::refusals::codec_refusal;
+use replay_columns::answers::{Answer, agreed};
+use replay_columns::columns::{Fault, Hex, Label, List, lent, parse};
 use replay_columns::unframed::Unframed;
 use std::alloc::Global;
 
@@ -18,25 +17,20 @@ pub fn ranges_checks<F: Graftable, H: Hasher>(
     alloc: Global,
     chunk_size: usize,
     columns: &[&str],
-) -> Result<String, Fault> {
-    let (most, start, List(operations), List(chunks), proof, Hex(root), _): (
-        usize,
-        Location<F>,
-        List<Vec<u8>>,
-        List<Vec<u8>>,
+    out: &mut String,
+) -> Result<(), Fault> {
+    let ((most, start), (operations, chunks), bytes, (Hex(root), _)): (
+        (usize, Location<F>),
+        (List<Vec<u8>>, List<Vec<u8>>),
         Vec<u8>,
-        Hex<H::Digest>,
-        String,
+        (Hex<H::Digest>, Label),
     ) = parse(alloc, columns)?;
-    let (items, chunks) = (lent(alloc, &operations)?, lent(alloc, &chunks)?);
-    let yes = check_range::<F, H>(
-        alloc, &proof, chunk_size, most, start, &items, &chunks, &root,
-    )?;
-    let other = match RangeProof::decode_cfg(alloc, proof.as_slice(), &most) {
+    let chunks = lent(alloc, &chunks.0)?;
+    let other = match RangeProof::decode_cfg(alloc, bytes.as_slice(), &most) {
         Ok(proof) => proof.verify_encoded::<H, _, &[u8]>(
             alloc,
             start,
-            &operations,
+            &operations.0,
             &chunks,
             chunk_size,
             &root,
@@ -44,7 +38,11 @@ pub fn ranges_checks<F: Graftable, H: Hasher>(
         Err(Error::Memory) => return Err(Fault::Memory),
         Err(_) => false,
     };
-    told(alloc, &agreed(yes, other)?)
+    let items = lent(alloc, &operations.0)?;
+    let yes = check_range::<F, H>(
+        alloc, &bytes, chunk_size, most, start, &items, &chunks, &root,
+    )?;
+    agreed(yes, other)?.tell(out)
 }
 
 /// `leaves operation proof root label`: whether the bytes, read as the proof of an operation and said to be over that
@@ -54,13 +52,13 @@ pub fn operation_checks<F: Graftable, H: Hasher>(
     alloc: Global,
     chunk_size: usize,
     columns: &[&str],
-) -> Result<String, Fault> {
-    let (leaves, operation, given, Hex(root), _): (
+    out: &mut String,
+) -> Result<(), Fault> {
+    let (leaves, operation, given, (Hex(root), _)): (
         Option<u64>,
         Vec<u8>,
         Vec<u8>,
-        Hex<H::Digest>,
-        String,
+        (Hex<H::Digest>, Label),
     ) = parse(alloc, columns)?;
     let cfg = (chunk_size, MAX_DIGESTS);
     match OperationProof::<F, H::Digest>::decode_cfg(alloc, given.as_slice(), &cfg) {
@@ -71,9 +69,9 @@ pub fn operation_checks<F: Graftable, H: Hasher>(
             if let Some(leaves) = leaves {
                 proof.range_proof.proof.leaves = Location::new(leaves);
             }
-            told(alloc, &is_shown::<F, H>(alloc, &proof, operation, &root)?)
+            is_shown::<F, H>(alloc, &proof, operation, &root)?.tell(out)
         }
-        Err(error) => codec_refusal(alloc, error),
+        Err(error) => error.tell(out),
     }
 }
 
@@ -97,26 +95,22 @@ pub fn texts<F: Graftable, H: Hasher>(
     alloc: Global,
     chunk_size: usize,
     columns: &[&str],
-) -> Result<String, Fault> {
-    let (loc, operation, proof, Hex(root)): (
-        Location<F>,
-        Option<String>,
-        Option<String>,
-        Hex<H::Digest>,
-    ) = parse(alloc, columns)?;
-    let operation = operation.unwrap_or(String::new(alloc));
-    let proof = proof.unwrap_or(String::new(alloc));
-    match check_text::<F, H>(
-        alloc,
-        proof.as_str(),
-        chunk_size,
-        loc,
-        operation.as_str(),
-        &root,
-    ) {
-        Ok(yes) => told(alloc, &yes),
-        Err(TextError::Operation) => owned(alloc, "operation"),
-        Err(TextError::Proof) => owned(alloc, "proof"),
+    out: &mut String,
+) -> Result<(), Fault> {
+    let [loc, operation, proof, root] = columns else {
+        return Err(Fault::Malformed);
+    };
+    let (loc, Hex(root)): (Location<F>, Hex<H::Digest>) = parse(alloc, &[*loc, *root])?;
+    let (operation, proof) = (text_of(*operation), text_of(*proof));
+    match check_text::<F, H>(alloc, proof, chunk_size, loc, operation, &root) {
+        Ok(yes) => yes.tell(out),
+        Err(TextError::Operation) => "operation".tell(out),
+        Err(TextError::Proof) => "proof".tell(out),
         Err(TextError::Memory) => Err(Fault::Memory),
     }
+}
+
+/// Returns a text; `-` is that of nothing.
+fn text_of(column: &str) -> &str {
+    if column == "-" { "" } else { column }
 }

@@ -4,10 +4,10 @@ ghost use Rattle.storage_bitmap.specs.Chunks.{IsChunkSize};
 
 use crate::faulty::{ALWAYS, Faulty, NONE, STORE_FAULT};
 use crate::served::{from_trees, from_view};
-use crate::stores::{Call, Left, Nodes, Told};
+use crate::stores::{Call, Counts, Left, Nodes};
 use crate::trees::view_nodes;
 use commonware_storage::bitmap::Prunable;
-use commonware_storage::codec::{Decode, Error, FixedBytes, Write};
+use commonware_storage::codec::{Decode, Encode, FixedBytes, Write};
 use commonware_storage::digest::{Digest, Hasher};
 use commonware_storage::laws::built_proofs_are_accepted;
 use commonware_storage::laws::keys::{
@@ -23,7 +23,7 @@ use commonware_storage::qmdb::any::operation::Ordered;
 use commonware_storage::qmdb::current::ordered::constant::{ExclusionProof, KeyValueProof};
 use commonware_storage::qmdb::current::proof::constant::OperationProof;
 use commonware_storage::qmdb::current::{Snapshot, grafting};
-use replay_columns::answers::{encoded, told};
+use replay_columns::answers::Answer;
 use replay_columns::columns::{Fault, Hex, Refusal as _, lent, or_fault, places};
 use replay_columns::digits::{bits_of, chunks_of};
 use std::alloc::Global;
@@ -39,8 +39,11 @@ pub trait Asked {
     /// Returns how many operations it has.
     fn count(&self) -> u64;
 
-    /// Returns the canonical root; and the root of the operations, the grafted root, and the bytes of the witness.
-    fn roots(&self, alloc: Global) -> Result<(String, String), Fault>;
+    /// Adds the canonical root.
+    fn tell_root(&self, out: &mut String) -> Result<(), Fault>;
+
+    /// Adds the canonical root, that of the operations, the grafted root, and the bytes of the witness.
+    fn tell_roots(&self, alloc: Global, out: &mut String) -> Result<(), Fault>;
 
     /// Returns what a client answers that is given the bytes of its own proof of the operation at a location.
     fn shows_operation(&self, alloc: Global, location: u64) -> Result<bool, Fault>;
@@ -62,8 +65,14 @@ pub trait Asked {
     /// Returns the same of the proof that by this operation the key has no value.
     fn shows_absence(&self, alloc: Global, location: u64, key: Key) -> Result<(bool, usize), Fault>;
 
-    /// Returns what is told where a store and a log have so many answers.
-    fn fetch(&self, alloc: Global, call: &Call, left: Left) -> Result<Told, Fault>;
+    /// Adds what is told where a store and a log have so many answers; how often they were asked and failed.
+    fn fetch(
+        &self,
+        alloc: Global,
+        call: &Call,
+        left: Left,
+        out: &mut String,
+    ) -> Result<Counts, Fault>;
 }
 
 /// A snapshot with its floor, its operations, and its bits as digits and in chunks.
@@ -91,10 +100,7 @@ impl<F: Graftable, H: Hasher, const N: usize> Kept<F, H, N> {
     {
         let chunks = chunks_of::<N>(alloc, digits.as_str())?;
         let bits = bits_of::<N>(alloc, digits.as_str())?;
-        let snapshot = match Snapshot::new(alloc, &operations, bits, Location::new(floor)) {
-            Ok(snapshot) => snapshot,
-            Err(error) => return Err(error.fault()),
-        };
+        let snapshot = or_fault(Snapshot::new(alloc, &operations, bits, Location::new(floor)))?;
         let nodes = view_nodes(alloc, &snapshot)?;
         Ok(Kept {
             snapshot,
@@ -113,8 +119,7 @@ impl<F: Graftable, H: Hasher, const N: usize> Kept<F, H, N> {
         };
         match Ordered::decode_cfg(alloc, operation.as_slice(), &()) {
             Ok(operation) => Ok(operation),
-            Err(Error::Memory) => Err(Fault::Memory),
-            Err(_) => Err(Fault::Malformed),
+            Err(error) => Err(Fault::from(error)),
         }
     }
 }
@@ -124,20 +129,28 @@ impl<F: Graftable + Countable, H: Hasher, const N: usize> Asked for Kept<F, H, N
         self.operations.len() as u64
     }
 
-    fn roots(&self, alloc: Global) -> Result<(String, String), Fault> {
-        let root = told(alloc, &Hex(self.snapshot.root()))?;
+    fn tell_root(&self, out: &mut String) -> Result<(), Fault> {
+        Hex(self.snapshot.root()).tell(out)
+    }
+
+    fn tell_roots(&self, alloc: Global, out: &mut String) -> Result<(), Fault> {
         let witness = self.snapshot.witness();
-        let roots = (Hex(self.snapshot.ops_root()), Hex(witness.grafted_root));
-        let witness = told(alloc, &(roots, encoded(alloc, &witness)?))?;
-        Ok((root, witness))
+        let (root, ops_root) = (Hex(self.snapshot.root()), Hex(self.snapshot.ops_root()));
+        (
+            root,
+            ops_root,
+            Hex(witness.grafted_root),
+            witness.encode(alloc)?,
+        )
+            .tell(out)
     }
 
     fn shows_operation(&self, alloc: Global, location: u64) -> Result<bool, Fault> {
         let at = Location::new(location);
-        let plan = or_fault(ElementPlan::<F>::new(alloc, Location::new(self.count()), at))?;
         let Some(operation) = self.operations.get(location as usize) else {
             return Err(Fault::Malformed);
         };
+        let plan = or_fault(ElementPlan::<F>::new(alloc, Location::new(self.count()), at))?;
         let nodes = self.nodes.as_slice();
         match built_proofs_are_accepted::<F, H, Prunable<N>, _, N>(
             alloc,
@@ -155,13 +168,15 @@ impl<F: Graftable + Countable, H: Hasher, const N: usize> Asked for Kept<F, H, N
     }
 
     fn shows_range(&self, alloc: Global, start: u64, end: u64) -> Result<bool, Fault> {
+        let leaves = Location::new(self.count());
         let range = Location::new(start)..Location::new(end);
-        let plan = or_fault(RangePlan::<F>::new(alloc, Location::new(self.count()), range))?;
         let height = grafting::height::<N>();
         let past = (end.saturating_sub(1) >> height).saturating_add(1);
-        let operations = lent(alloc, places(&self.operations, start, end)?)?;
+        let operations = places(&self.operations, start, end)?;
         let chunks = places(&self.chunks, start >> height, past)?;
+        let operations = lent(alloc, operations)?;
         let chunks = arrays_lent(alloc, chunks)?;
+        let plan = or_fault(RangePlan::<F>::new(alloc, leaves, range))?;
         let nodes = self.nodes.as_slice();
         match built_ranges_are_accepted::<F, H, Prunable<N>, _, N>(
             alloc,
@@ -213,10 +228,16 @@ impl<F: Graftable + Countable, H: Hasher, const N: usize> Asked for Kept<F, H, N
         absence_shown::<F, H, N>(alloc, &proof.clone()?, &key, &self.snapshot.root())
     }
 
-    fn fetch(&self, alloc: Global, call: &Call, left: Left) -> Result<Told, Fault> {
+    fn fetch(
+        &self,
+        alloc: Global,
+        call: &Call,
+        left: Left,
+        out: &mut String,
+    ) -> Result<Counts, Fault> {
         match call.nodes {
-            Nodes::View => from_view(alloc, self, call, left),
-            Nodes::Trees(pruned) => from_trees(alloc, self, call, pruned, left),
+            Nodes::View => from_view(alloc, self, call, left, out),
+            Nodes::Trees(pruned) => from_trees(alloc, self, call, pruned, left, out),
         }
     }
 }
@@ -231,17 +252,14 @@ fn operation_proof<F: Graftable + Countable, H: Hasher, const N: usize>(
     nodes.extend_from_slice(&kept.nodes)?;
     let size = kept.nodes.len() as u64;
     let mut store = Faulty::new(nodes, size, NONE, ALWAYS, STORE_FAULT);
-    match OperationProof::new::<H, Prunable<N>, Faulty<H::Digest>>(
+    or_fault(OperationProof::new::<H, Prunable<N>, Faulty<H::Digest>>(
         alloc,
         kept.snapshot.status(),
         &mut store,
         Location::new(kept.floor),
         Location::new(location),
         kept.snapshot.ops_root(),
-    ) {
-        Ok(proof) => Ok(proof),
-        Err(error) => Err(error.fault()),
-    }
+    ))
 }
 
 /// Returns what a client answers that is given the bytes of a proof of the value of a key, and how many these are.

@@ -6,7 +6,7 @@ use commonware_storage::digest::Hasher;
 use commonware_storage::merkle::Graftable;
 use commonware_storage::qmdb::any::{FixedEncoding, VariableEncoding, VariableValue};
 use commonware_storage::qmdb::operation::Key;
-use replay_columns::answers::told;
+use replay_columns::answers::Answer;
 use replay_columns::columns::{Fault, Hex, bytes, halves, lengths, number, parse};
 use std::alloc::Global;
 
@@ -26,7 +26,8 @@ pub fn answer<F: Graftable, H: Hasher>(
     list: &str,
     chunk_size: usize,
     columns: &[&str],
-) -> Result<String, Fault> {
+    out: &mut String,
+) -> Result<(), Fault> {
     let (kind, columns, value) = match (list, columns) {
         ("key_values", [kind, proof, key, value, root, _]) => {
             (*kind, [*proof, *key, *root], Some(bytes(alloc, *value)?))
@@ -45,7 +46,7 @@ pub fn answer<F: Graftable, H: Hasher>(
         root,
     };
     let case = Case { given, key, value };
-    told(alloc, &by_type::<F, H>(alloc, kind, &case)?)
+    by_type::<F, H>(alloc, kind, &case)?.tell(out)
 }
 
 /// Returns the encoding of a number; none for `absent`.
@@ -57,6 +58,12 @@ fn encoded_number(alloc: Global, text: &str) -> Result<Option<Vec<u8>>, Fault> {
     Ok(Some(Vec::from_slice(alloc, &number.to_be_bytes())?))
 }
 
+/// Any length.
+const ANY: RangeCfg = RangeCfg {
+    min: 0,
+    max: usize::MAX,
+};
+
 /// Returns the answer for a type `ordered-ENCODING/KEY/VALUE`.
 fn by_type<F: Graftable, H: Hasher>(
     alloc: Global,
@@ -65,43 +72,36 @@ fn by_type<F: Graftable, H: Hasher>(
 ) -> Result<bool, Fault> {
     let (shape, types) = halves(kind, '/')?;
     let (key, value) = halves(types, '/')?;
-    let any = (
-        RangeCfg {
-            min: 0,
-            max: usize::MAX,
-        },
-        (),
-    );
     match (shape, key, value) {
         ("ordered-fixed", "fixed4", "u64") => fixed::<F, H, FixedBytes<4>>(alloc, case),
         ("ordered-fixed", "u64", "u64") => fixed::<F, H, U64>(alloc, case),
-        ("ordered-variable", "fixed4", "u64") => {
-            variable::<F, H, FixedBytes<4>, u64>(alloc, &(((), ()), ()), (&(), &()), case)
-        }
-        ("ordered-variable", "u64", "u64") => {
-            variable::<F, H, U64, u64>(alloc, &(((), ()), ()), (&(), &()), case)
-        }
         ("ordered-variable", "fixed4", _) => {
-            let value = (lengths(value)?, ());
-            let cfgs = (((), value), value);
-            variable::<F, H, FixedBytes<4>, Vec<u8>>(alloc, &cfgs, (&(), &any), case)
+            by_value::<F, H, FixedBytes<4>>(alloc, (), (), value, case)
         }
-        ("ordered-variable", "u64", _) => {
-            let value = (lengths(value)?, ());
-            let cfgs = (((), value), value);
-            variable::<F, H, U64, Vec<u8>>(alloc, &cfgs, (&(), &any), case)
-        }
-        ("ordered-variable", _, "u64") => {
-            let cfgs = (((lengths(key)?, ()), ()), ());
-            variable::<F, H, Vec<u8>, u64>(alloc, &cfgs, (&any, &()), case)
-        }
+        ("ordered-variable", "u64", _) => by_value::<F, H, U64>(alloc, (), (), value, case),
         ("ordered-variable", _, _) => {
-            let value = (lengths(value)?, ());
-            let cfgs = (((lengths(key)?, ()), value), value);
-            variable::<F, H, Vec<u8>, Vec<u8>>(alloc, &cfgs, (&any, &any), case)
+            by_value::<F, H, Vec<u8>>(alloc, (lengths(key)?, ()), (ANY, ()), value, case)
         }
         _ => Err(Fault::Malformed),
     }
+}
+
+/// Returns the answer for keys that are read as `key` says, and alone as `own` says.
+fn by_value<F: Graftable, H: Hasher, K: Key>(
+    alloc: Global,
+    key: K::Cfg,
+    own: K::Cfg,
+    value: &str,
+    case: &Case<H::Digest>,
+) -> Result<bool, Fault>
+where
+    K::Cfg: Drop,
+{
+    if value == "u64" {
+        return variable::<F, H, K, u64>(alloc, &((key, ()), ()), (&own, &()), case);
+    }
+    let value = (lengths(value)?, ());
+    variable::<F, H, K, Vec<u8>>(alloc, &((key, value), value), (&own, &(ANY, ())), case)
 }
 
 /// Returns the key or value that claimed bytes are; none if they are not one whole of its type.

@@ -17,7 +17,8 @@ pub fn answer<H: Hasher<Digest = FixedBytes<D>>, const D: usize>(
     alloc: Global,
     list: &str,
     columns: &[&str],
-) -> Result<String, Fault>
+    out: &mut String,
+) -> Result<(), Fault>
 where
     FixedBytes<D>: Digest,
     requires small { D ≤ 64 }
@@ -26,8 +27,8 @@ where
         return Err(Fault::Malformed);
     };
     match *family {
-        "mmr" => over::<mmr::Family, H, D>(alloc, list, *chunk_size, columns),
-        "mmb" => over::<mmb::Family, H, D>(alloc, list, *chunk_size, columns),
+        "mmr" => over::<mmr::Family, H, D>(alloc, list, *chunk_size, columns, out),
+        "mmb" => over::<mmb::Family, H, D>(alloc, list, *chunk_size, columns, out),
         _ => Err(Fault::Malformed),
     }
 }
@@ -37,7 +38,8 @@ fn over<F: Graftable + Countable, H: Hasher<Digest = FixedBytes<D>>, const D: us
     list: &str,
     chunk_size: &str,
     columns: &[&str],
-) -> Result<String, Fault>
+    out: &mut String,
+) -> Result<(), Fault>
 where
     FixedBytes<D>: Digest,
     requires small { D ≤ 64 }
@@ -48,12 +50,12 @@ where
         | "key_values"
         | "operation_checks"
         | "ranges_checks"
-        | "texts" => of_bytes::<F, H>(alloc, list, number(chunk_size)? as usize, columns),
+        | "texts" => of_bytes::<F, H>(alloc, list, number(chunk_size)? as usize, columns, out),
         _ => match chunk_size {
-            "1" => of_snapshot::<F, H, D, 1>(alloc, list, columns),
-            "2" => of_snapshot::<F, H, D, 2>(alloc, list, columns),
-            "4" => of_snapshot::<F, H, D, 4>(alloc, list, columns),
-            "32" => of_snapshot::<F, H, D, 32>(alloc, list, columns),
+            "1" => of_snapshot::<F, H, D, 1>(alloc, list, columns, out),
+            "2" => of_snapshot::<F, H, D, 2>(alloc, list, columns, out),
+            "4" => of_snapshot::<F, H, D, 4>(alloc, list, columns, out),
+            "32" => of_snapshot::<F, H, D, 32>(alloc, list, columns, out),
             _ => Err(Fault::Malformed),
         },
     }
@@ -65,12 +67,13 @@ fn of_bytes<F: Graftable, H: Hasher>(
     list: &str,
     chunk_size: usize,
     columns: &[&str],
-) -> Result<String, Fault> {
+    out: &mut String,
+) -> Result<(), Fault> {
     match list {
-        "operation_checks" => checks::operation_checks::<F, H>(alloc, chunk_size, columns),
-        "ranges_checks" => checks::ranges_checks::<F, H>(alloc, chunk_size, columns),
-        "texts" => checks::texts::<F, H>(alloc, chunk_size, columns),
-        _ => keys::answer::<F, H>(alloc, list, chunk_size, columns),
+        "operation_checks" => checks::operation_checks::<F, H>(alloc, chunk_size, columns, out),
+        "ranges_checks" => checks::ranges_checks::<F, H>(alloc, chunk_size, columns, out),
+        "texts" => checks::texts::<F, H>(alloc, chunk_size, columns, out),
+        _ => keys::answer::<F, H>(alloc, list, chunk_size, columns, out),
     }
 }
 
@@ -81,7 +84,7 @@ fn of_snapshot<
     H: Hasher<Digest = FixedBytes<D>>,
     const D: usize,
     const N: usize,
->(alloc: Global, list: &str, columns: &[&str]) -> Result<String, Fault>
+>(alloc: Global, list: &str, columns: &[&str], out: &mut String) -> Result<(), Fault>
 where
     FixedBytes<D>: Digest,
     requires chunk { IsChunkSize N }
@@ -95,7 +98,7 @@ where
         &[*floor, *bits, *operations],
     )?;
     let kept = Kept::<F, H, N>::of(alloc, floor, bits, operations)?;
-    of_kept(alloc, &kept, list, columns)
+    of_kept(alloc, &kept, list, columns, out)
 }
 
 /// Returns the answer of a list on a snapshot that is there.
@@ -104,20 +107,21 @@ fn of_kept<S: Asked>(
     kept: &S,
     list: &str,
     columns: &[&str],
-) -> Result<String, Fault> {
+    out: &mut String,
+) -> Result<(), Fault> {
     match list {
-        "golden" => snapshots::golden(alloc, kept, columns),
-        "ranges" => snapshots::ranges(alloc, kept, columns),
-        "each_operation" => snapshots::each_operation(alloc, kept),
-        "each_range" => snapshots::each_range(alloc, kept),
-        "keyed" => snapshots::keyed(alloc, kept, columns),
-        "combined" => stores::combined(alloc, kept, columns),
-        "combined_asked" => stores::combined_asked(alloc, kept, columns),
-        "combined_marks" => stores::combined_marks(alloc, kept, columns),
-        "combined_ranges" => stores::combined_ranges(alloc, kept, columns),
-        "combined_reads" => stores::combined_reads(alloc, kept),
-        "combined_views" => stores::combined_views(alloc, kept),
-        "fetched_ranges" => stores::fetched_ranges(alloc, kept, columns),
+        "golden" => snapshots::golden(alloc, kept, columns, out),
+        "ranges" => snapshots::ranges(alloc, kept, columns, out),
+        "each_operation" => snapshots::each_operation(alloc, kept, out),
+        "each_range" => snapshots::each_range(alloc, kept, out),
+        "keyed" => snapshots::keyed(alloc, kept, columns, out),
+        "combined" => stores::combined(alloc, kept, columns, out),
+        "combined_asked" => stores::combined_asked(alloc, kept, columns, out),
+        "combined_marks" => stores::combined_marks(alloc, kept, columns, out),
+        "combined_ranges" => stores::combined_ranges(alloc, kept, columns, out),
+        "combined_reads" => stores::combined_reads(alloc, kept, out),
+        "combined_views" => stores::combined_views(alloc, kept, out),
+        "fetched_ranges" => stores::fetched_ranges(alloc, kept, columns, out),
         _ => Err(Fault::Malformed),
     }
 }

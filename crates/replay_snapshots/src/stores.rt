@@ -3,7 +3,7 @@
 use crate::faulty::{ALWAYS, LOG_FAULT, NONE, STORE_FAULT};
 use crate::kept::Asked;
 use crate::snapshots::Span;
-use replay_columns::answers::{Series, owned, told};
+use replay_columns::answers::Answer;
 use replay_columns::columns::{Column, Columns, Fault, halves, number, parse};
 use std::alloc::Global;
 
@@ -115,11 +115,9 @@ impl Left {
     }
 }
 
-/// What a store and a log gave: a proof, with what goes with it, or the refusal; how often the store was asked and failed, and how
-/// often the log failed.
-#[derive(Drop)]
-pub struct Told {
-    pub text: String,
+/// How often a store was asked and failed, and how often a log failed.
+#[derive(Clone, Copy)]
+pub struct Counts {
     pub calls: u64,
     pub failures: u64,
     pub log_failures: u64,
@@ -128,9 +126,15 @@ pub struct Told {
 /// `location pruned grafted absent`: the proof of the operation at the location, or the refusal, where `pruned` chunks of the status and
 /// `grafted` chunks of the tree over chunks are pruned, or that tree is `empty`, and the one over the operations lacks a position or
 /// `none`.
-pub fn combined<S: Asked>(alloc: Global, kept: &S, columns: &[&str]) -> Result<String, Fault> {
+pub fn combined<S: Asked>(
+    alloc: Global,
+    kept: &S,
+    columns: &[&str],
+    out: &mut String,
+) -> Result<(), Fault> {
     let call: Call = parse(alloc, columns)?;
-    Ok(kept.fetch(alloc, &call, ALL)?.text)
+    kept.fetch(alloc, &call, ALL, out)?;
+    Ok(())
 }
 
 /// Returns the same with a last column, how many digests the tree over the operations answers: the proof or the
@@ -139,39 +143,40 @@ pub fn combined_asked<S: Asked>(
     alloc: Global,
     kept: &S,
     columns: &[&str],
-) -> Result<String, Fault> {
+    out: &mut String,
+) -> Result<(), Fault> {
     let (call, left): (Call, u64) = parse(alloc, columns)?;
     let left = Left {
         nodes: left,
         items: ALWAYS,
         codes: (STORE_FAULT, LOG_FAULT),
     };
-    let asked = kept.fetch(alloc, &call, left)?;
-    told(alloc, &(asked.text, asked.calls, asked.failures))
+    let asked = kept.fetch(alloc, &call, left, out)?;
+    Ok(write!(out, " {} {}", asked.calls, asked.failures)?)
 }
 
 /// Returns how many nodes both trees have, where each is that of the snapshot's grafted view, and there are none after
 /// them.
-pub fn combined_views<S: Asked>(alloc: Global, kept: &S) -> Result<String, Fault> {
-    let call = Call::of(TREES, Wanted::Nodes);
-    Ok(kept.fetch(alloc, &call, ALL)?.text)
+pub fn combined_views<S: Asked>(alloc: Global, kept: &S, out: &mut String) -> Result<(), Fault> {
+    kept.fetch(alloc, &Call::of(TREES, Wanted::Nodes), ALL, out)?;
+    Ok(())
 }
 
 /// Where each position is asked for in turn, the first one whose read fails, and how many reads fail, for each number of answers of
 /// the tree over the operations from 0 to that with which none fails, `-`. All other reads are answered as by the snapshot's grafted
 /// view, and after its nodes there are none.
-pub fn combined_reads<S: Asked>(alloc: Global, kept: &S) -> Result<String, Fault> {
+pub fn combined_reads<S: Asked>(alloc: Global, kept: &S, out: &mut String) -> Result<(), Fault> {
     let call = Call::of(TREES, Wanted::Nodes);
-    let mut reads = Series::new(alloc);
     for left in 0..MANY {
-        let read = kept.fetch(alloc, &call, Left::of_store(left))?;
-        if read.failures == 0 {
+        let mut read = String::new(alloc);
+        let counts = kept.fetch(alloc, &call, Left::of_store(left), &mut read)?;
+        if counts.failures == 0 {
             break;
         }
-        reads.push(alloc, &read.text)?;
+        out.push_str(read.as_str())?;
+        out.push(',')?;
     }
-    reads.push(alloc, &owned(alloc, "-")?)?;
-    Ok(reads.finish()?)
+    Ok(out.push('-')?)
 }
 
 /// `start most`: what is told of the proof of the operation at `start`, of the proof of at most `most` operations from there on, and of
@@ -181,14 +186,28 @@ pub fn combined_marks<S: Asked>(
     alloc: Global,
     kept: &S,
     columns: &[&str],
-) -> Result<String, Fault> {
+    out: &mut String,
+) -> Result<(), Fault> {
     let Span { start, end, count } = parse(alloc, columns)?;
-    let operation = row(alloc, kept, &Call::of(TREES, Wanted::Operation(start)))?;
-    let range = row(alloc, kept, &Call::of(TREES, Wanted::Range(start, end)))?;
+    tell_row(alloc, kept, &Call::of(TREES, Wanted::Operation(start)), out)?;
+    out.push(' ')?;
+    tell_row(
+        alloc,
+        kept,
+        &Call::of(TREES, Wanted::Range(start, end)),
+        out,
+    )?;
+    out.push(' ')?;
     let call = Call::of(TREES, Wanted::WithOperations(start, count));
-    let own = kept.fetch(alloc, &call, ALL)?.text;
-    let rows = rows(alloc, kept, &call, own.as_str(), None)?;
-    told(alloc, &(operation, range, rows))
+    let own = text_of(alloc, kept, &call)?;
+    tell_rows(alloc, kept, &call, own.as_str(), None, out)
+}
+
+/// Returns what is told where nothing fails.
+fn text_of<S: Asked>(alloc: Global, kept: &S, call: &Call) -> Result<String, Fault> {
+    let mut text = String::new(alloc);
+    kept.fetch(alloc, call, ALL, &mut text)?;
+    Ok(text)
 }
 
 /// `start most`: the operations that both trees and a log serve, their chunks, and whether the proof is accepted, if it
@@ -197,20 +216,30 @@ pub fn combined_ranges<S: Asked>(
     alloc: Global,
     kept: &S,
     columns: &[&str],
-) -> Result<String, Fault> {
+    out: &mut String,
+) -> Result<(), Fault> {
     let Span { start, end, count } = parse(alloc, columns)?;
+    let own = text_of(
+        alloc,
+        kept,
+        &Call::of(Nodes::View, Wanted::Range(start, end)),
+    )?;
     let call = Call::of(TREES, Wanted::Range(start, end));
-    let without = kept.fetch(alloc, &call, ALL)?.text;
-    let call = Call::of(TREES, Wanted::WithOperations(start, count));
-    let with = kept.fetch(alloc, &call, ALL)?.text;
-    let call = Call::of(Nodes::View, Wanted::Range(start, end));
-    let own = kept.fetch(alloc, &call, ALL)?.text;
-    let (proof, parts) = halves(with.as_str(), ' ')?;
-    if proof != own.as_str() || without != own {
+    if text_of(alloc, kept, &call)? != own {
         return Err(Fault::Differs);
     }
-    let yes = kept.shows_range(alloc, start, end)?;
-    told(alloc, &(owned(alloc, parts)?, yes))
+    let with = text_of(
+        alloc,
+        kept,
+        &Call::of(TREES, Wanted::WithOperations(start, count)),
+    )?;
+    let (proof, parts) = halves(with.as_str(), ' ')?;
+    if proof != own.as_str() {
+        return Err(Fault::Differs);
+    }
+    out.push_str(parts)?;
+    out.push(' ')?;
+    kept.shows_range(alloc, start, end)?.tell(out)
 }
 
 /// `pruned nodes first start most`: what is answered where `pruned` chunks of the status are pruned, the store says to
@@ -222,68 +251,77 @@ pub fn fetched_ranges<S: Asked>(
     alloc: Global,
     kept: &S,
     columns: &[&str],
-) -> Result<String, Fault> {
-    let (pruned, size, first, start, most): (u64, Option<u64>, u64, u64, u64) = parse(
+    out: &mut String,
+) -> Result<(), Fault> {
+    let (pruned, size, first, (start, most)): (u64, Option<u64>, u64, (u64, u64)) = parse(
         alloc, columns,
     )?;
     let mut call = Call::of(Nodes::View, Wanted::WithOperations(start, most));
     call.pruned = pruned;
     call.size = size;
     call.first = first;
-    let own = kept.fetch(alloc, &call, ALL)?.text;
+    let own = text_of(alloc, kept, &call)?;
+    out.push_str(own.as_str())?;
+    out.push(' ')?;
     let codes = Some((STORE_FAULT, LOG_FAULT));
-    let rows = rows(alloc, kept, &call, own.as_str(), codes)?;
-    told(alloc, &(own, rows))
+    tell_rows(alloc, kept, &call, own.as_str(), codes, out)
 }
 
-/// Returns what is told for each number of answers of the store, with this number as its code.
-fn row<S: Asked>(alloc: Global, kept: &S, call: &Call) -> Result<String, Fault> {
-    let own = kept.fetch(alloc, call, ALL)?.text;
-    let mut row = String::new(alloc);
+/// Adds what is told for each number of answers of the store, with this number as its code.
+fn tell_row<S: Asked>(alloc: Global, kept: &S, call: &Call, out: &mut String) -> Result<(), Fault> {
+    let own = text_of(alloc, kept, call)?;
     for nodes in 0..ENOUGH {
-        let left = Left::of_store(nodes);
-        let told = kept.fetch(alloc, call, left)?;
-        row.push(mark(alloc, &told, own.as_str(), left.codes)?)?;
+        out.push(mark(alloc, kept, call, Left::of_store(nodes), own.as_str())?)?;
     }
-    Ok(row)
+    Ok(())
 }
 
-/// Returns what is told for each number of answers of the store, and in it of the log, if `own` is told with all of
+/// Adds what is told for each number of answers of the store, and in it of the log, if `own` is told with all of
 /// them. Where no codes are said both numbers are.
-fn rows<S: Asked>(
+fn tell_rows<S: Asked>(
     alloc: Global,
     kept: &S,
     call: &Call,
     own: &str,
     codes: Option<(u32, u32)>,
-) -> Result<String, Fault> {
-    let mut rows = Series::inner(alloc);
+    out: &mut String,
+) -> Result<(), Fault> {
     for nodes in 0..ENOUGH {
-        let mut row = String::new(alloc);
+        if nodes > 0 {
+            out.push('/')?;
+        }
         for items in 0..ENOUGH {
             let left = Left {
                 nodes: nodes as u64,
                 items: items as u64,
                 codes: codes.unwrap_or((nodes, items)),
             };
-            let told = kept.fetch(alloc, call, left)?;
-            row.push(mark(alloc, &told, own, left.codes)?)?;
+            out.push(mark(alloc, kept, call, left, own)?)?;
         }
-        rows.push(alloc, &row)?;
     }
-    Ok(rows.finish()?)
+    Ok(())
 }
 
 /// `s` if the store's one fault is told, `l` if the log's is, with their codes, `=` where neither failed and the answer
 /// is `own`.
-fn mark(alloc: Global, told: &Told, own: &str, codes: (u32, u32)) -> Result<char, Fault> {
-    let of_store = format!(in alloc; "Q3(E13({}))", codes.0)?;
-    let of_log = format!(in alloc; "Q4({})", codes.1)?;
-    let text = told.text.as_str();
-    match (told.failures, told.log_failures) {
-        (1, 0) if text == of_store.as_str() => Ok('s'),
-        (0, 1) if text == of_log.as_str() => Ok('l'),
-        (0, 0) if text == own => Ok('='),
-        _ => Err(Fault::Differs),
+fn mark<S: Asked>(
+    alloc: Global,
+    kept: &S,
+    call: &Call,
+    left: Left,
+    own: &str,
+) -> Result<char, Fault> {
+    let mut text = String::new(alloc);
+    let counts = kept.fetch(alloc, call, left, &mut text)?;
+    let (mark, fault) = match (counts.failures, counts.log_failures) {
+        (1, 0) => ('s', format!(in alloc; "Q3(E13({}))", left.codes.0)?),
+        (0, 1) => ('l', format!(in alloc; "Q4({})", left.codes.1)?),
+        (0, 0) if text.as_str() == own => return Ok('='),
+        _ => return Err(Fault::Differs),
+    };
+    if text == fault {
+        Ok(mark)
+    } else {
+        Err(Fault::Differs)
     }
 }

@@ -1,12 +1,11 @@
 //! The list on proofs over a chunk that is an array and over one that is shared bytes. Chunks have one byte.
 
 use bytes::Bytes;
-use replay_columns::answers::{agreed, told};
-use replay_columns::columns::{Fault, Hex, List, bytes, halves, parse};
-use replay_columns::refusals::codec_refusal;
+use replay_columns::answers::{Answer, agreed};
+use replay_columns::columns::{Fault, Hex, List, bytes, parse};
 use replay_columns::unframed::Unframed;
 use std::alloc::Global;
-use storage_codec::codec::{Buf, Decode, Read, Write};
+use storage_codec::codec::{Buf, Decode, Error, Read, Write};
 use storage_codec::digest::{DigestOf, Hasher};
 use storage_current::qmdb::current::proof::{RangeProof, operation};
 use storage_merkle::merkle::{Graftable, Location};
@@ -19,25 +18,27 @@ type Operation<F, H, C> = operation::Proof<F, DigestOf<H>, C>;
 pub fn both_chunks<F: Graftable, H: Hasher>(
     alloc: Global,
     columns: &[&str],
-) -> Result<String, Fault> {
-    let (size, kind, proof, claim, Hex(root)): (u64, String, Vec<u8>, String, Hex<H::Digest>) =
-        parse(alloc, columns)?;
-    let (proof, claim) = (proof.as_slice(), claim.as_str());
-    let yes = match (size, kind.as_str()) {
-        (1, "operation") => operation_shown::<F, H>(alloc, proof, claim, &root)?,
-        (1, "range") => range_shown::<F, H>(alloc, proof, claim, &root)?,
+    out: &mut String,
+) -> Result<(), Fault> {
+    let ["1", kind, proof, claim, root] = columns else {
+        return Err(Fault::Malformed);
+    };
+    let (proof, Hex(root)): (Vec<u8>, Hex<H::Digest>) = parse(alloc, &[*proof, *root])?;
+    let yes = match *kind {
+        "operation" => operation_shown::<F, H>(alloc, &proof, *claim, &root)?,
+        "range" => range_shown::<F, H>(alloc, &proof, *claim, &root)?,
         _ => return Err(Fault::Malformed),
     };
-    told(alloc, &yes)
+    yes.tell(out)
 }
 
-/// Returns the value that bytes are, which is written as these bytes, or the name of the refusal.
+/// Returns the value that bytes are, which is written as these bytes, or the refusal.
 fn read<T: Read + Write, B: Buf>(
     alloc: Global,
     buf: B,
     given: &[u8],
     cfg: &T::Cfg,
-) -> Result<Result<T, String>, Fault> {
+) -> Result<Result<T, Error>, Fault> {
     match T::decode_cfg(alloc, buf, cfg) {
         Ok(value) => {
             let mut written = Vec::new(alloc);
@@ -47,12 +48,13 @@ fn read<T: Read + Write, B: Buf>(
             }
             Ok(Ok(value))
         }
-        Err(error) => Ok(Err(codec_refusal(alloc, error)?)),
+        Err(Error::Memory) => Err(Fault::Memory),
+        Err(error) => Ok(Err(error)),
     }
 }
 
 /// Returns whether a proof is accepted, read by either of two types, or refused by both alike.
-fn same(one: Result<bool, String>, other: Result<bool, String>) -> Result<bool, Fault> {
+fn same(one: Result<bool, Error>, other: Result<bool, Error>) -> Result<bool, Fault> {
     if one == other {
         Ok(one.unwrap_or(false))
     } else {
@@ -67,11 +69,11 @@ fn operation_shown<F: Graftable, H: Hasher>(
     root: &H::Digest,
 ) -> Result<bool, Fault> {
     let operation = bytes(alloc, operation)?;
-    let buffer = Bytes::copy_from_slice(alloc, proof)?;
     let one = match read::<Operation<F, H, [u8; 1]>, _>(alloc, proof, proof, &128)? {
         Ok(proof) => Ok(proof.verify_encoded::<H>(alloc, &operation, root)?),
         Err(refusal) => Err(refusal),
     };
+    let buffer = Bytes::copy_from_slice(alloc, proof)?;
     let other = match read::<Operation<F, H, Bytes>, _>(alloc, buffer, proof, &(1, 128))? {
         Ok(proof) => Ok(proof.verify_encoded::<H>(alloc, &operation, root)?),
         Err(refusal) => Err(refusal),
@@ -85,22 +87,18 @@ fn range_shown<F: Graftable, H: Hasher>(
     claim: &str,
     root: &H::Digest,
 ) -> Result<bool, Fault> {
-    let (start, claim) = halves(claim, '/')?;
-    let (operations, chunks) = halves(claim, '/')?;
-    let (start, List(operations), List(arrays)): (Location<F>, List<Unframed>, List<[u8; 1]>) =
-        parse(alloc, &[start, operations, chunks])?;
-    let shared = cut_chunks(alloc, &arrays)?;
     let Ok(proof) = read::<RangeProof<F, H::Digest>, &[u8]>(alloc, proof, proof, &128)? else {
         return Ok(false);
     };
-    let yes = proof.verify::<H, _, 1>(alloc, start, &operations, &arrays, root)?;
+    let parts: Vec<&str> = claim.split('/').collect(alloc)?;
+    let (start, operations, arrays): (Location<F>, List<Unframed>, List<[u8; 1]>) = parse(
+        alloc, &parts,
+    )?;
+    let (operations, arrays) = (&operations.0, &arrays.0);
+    let yes = proof.verify::<H, _, 1>(alloc, start, operations, arrays, root)?;
+    let shared = cut_chunks(alloc, arrays)?;
     let other = proof.verify_with_chunk_size::<H, _, Bytes>(
-        alloc,
-        start,
-        &operations,
-        &shared,
-        1,
-        root,
+        alloc, start, operations, &shared, 1, root,
     )?;
     agreed(yes, other)
 }

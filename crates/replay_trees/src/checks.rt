@@ -1,10 +1,10 @@
 //! Lists on checks of proofs of trees. Under the direction of databases those of pinned digests and of any locations are the checks
 //! of operations. A last column `label` says how the case was made.
 
+use crate::claims::Claim;
 use crate::counting::Counting;
-use replay_columns::answers::told;
-use replay_columns::columns::{Digests, Fault, Hex, List, halves, parse};
-use replay_columns::refusals::merkle_refusal;
+use replay_columns::answers::Answer;
+use replay_columns::columns::{Digests, Fault, Hex, Label, halves, parse};
 use replay_columns::unframed::Unframed;
 use std::alloc::Global;
 use std::cell::Cell;
@@ -18,22 +18,15 @@ use storage_ops::qmdb::verify::{verify_multi_proof, verify_proof, verify_proof_a
 pub fn plain_checks<F: Family, H: Hasher>(
     alloc: Global,
     columns: &[&str],
-) -> Result<String, Fault> {
-    let (bagging, proof, start, List(items), Hex(root), _): (
-        Bagging,
-        Proof<F, H::Digest>,
-        Location<F>,
-        List<Vec<u8>>,
-        Hex<H::Digest>,
-        String,
-    ) = parse(alloc, columns)?;
+    out: &mut String,
+) -> Result<(), Fault> {
+    let (bagging, claim, Hex(root), _): (Bagging, Claim<F, H::Digest>, Hex<H::Digest>, Label) =
+        parse(alloc, columns)?;
     let hasher = Standard::<H>::new(bagging);
-    let yes = proof.verify_range_inclusion(alloc, &hasher, &items, start, &root)?;
-    let given = match proof.reconstruct_root(alloc, &hasher, &items, start) {
-        Ok(root) => told(alloc, &Hex(root))?,
-        Err(error) => merkle_refusal(alloc, &error)?,
-    };
-    told(alloc, &(yes, given))
+    let (proof, items, start) = (&claim.proof, &claim.items, claim.start);
+    let yes = proof.verify_range_inclusion(alloc, &hasher, items, start, &root)?;
+    let given = proof.reconstruct_root(alloc, &hasher, items, start);
+    (yes, given.map(Hex)).tell(out)
 }
 
 /// `bagging leaves inactive digests location element root label`: whether the proof of one element is accepted, and how many digests of
@@ -41,63 +34,54 @@ pub fn plain_checks<F: Family, H: Hasher>(
 pub fn element_checks<F: Family, H: Hasher>(
     alloc: Global,
     columns: &[&str],
-) -> Result<String, Fault> {
-    let (bagging, proof, location, element, Hex(root), _): (
-        Bagging,
-        Proof<F, H::Digest>,
-        Location<F>,
-        Vec<u8>,
-        Hex<H::Digest>,
-        String,
-    ) = parse(alloc, columns)?;
+    out: &mut String,
+) -> Result<(), Fault> {
+    let (bagging, claim, Hex(root), _): (Bagging, Claim<F, H::Digest>, Hex<H::Digest>, Label) =
+        parse(alloc, columns)?;
+    let [element] = claim.items.as_slice() else {
+        return Err(Fault::Malformed);
+    };
     let hasher = Counting {
         standard: Standard::<H>::new(bagging),
         nodes: Cell::new(0),
         folds: Cell::new(0),
     };
-    let yes = proof.verify_element_inclusion(alloc, &hasher, &element, location, &root)?;
-    told(alloc, &(yes, hasher.nodes.get(), hasher.folds.get()))
+    let (proof, location) = (&claim.proof, claim.start);
+    let yes = proof.verify_element_inclusion(alloc, &hasher, &element.bytes, location, &root)?;
+    (yes, hasher.nodes.get(), hasher.folds.get()).tell(out)
 }
 
 /// `leaves inactive digests start operations root label`: whether the proof of operations is accepted.
 pub fn plain_operations<F: Family, H: Hasher>(
     alloc: Global,
     columns: &[&str],
-) -> Result<String, Fault> {
-    let (proof, start, List(operations), Hex(root), _): (
-        Proof<F, H::Digest>,
-        Location<F>,
-        List<Unframed>,
-        Hex<H::Digest>,
-        String,
-    ) = parse(alloc, columns)?;
-    told(
-        alloc,
-        &verify_proof::<H, F, _>(alloc, &proof, start, &operations, &root)?,
-    )
+    out: &mut String,
+) -> Result<(), Fault> {
+    let (claim, Hex(root), _): (Claim<F, H::Digest>, Hex<H::Digest>, Label) = parse(
+        alloc, columns,
+    )?;
+    verify_proof::<H, F, _>(alloc, &claim.proof, claim.start, &claim.items, &root)?.tell(out)
 }
 
 /// `bagging leaves inactive digests start elements pinned root label`: whether the proof and the pinned digests are accepted.
 pub fn pinned_checks<F: Family, H: Hasher>(
     alloc: Global,
     columns: &[&str],
-) -> Result<String, Fault> {
-    let (bagging, proof, start, List(items), Digests(pinned), Hex(root), _): (
+    out: &mut String,
+) -> Result<(), Fault> {
+    let (bagging, claim, (pinned, Hex(root), _)): (
         Bagging,
-        Proof<F, H::Digest>,
-        Location<F>,
-        List<Unframed>,
-        Digests<H::Digest>,
-        Hex<H::Digest>,
-        String,
+        Claim<F, H::Digest>,
+        (Digests<H::Digest>, Hex<H::Digest>, Label),
     ) = parse(alloc, columns)?;
+    let (proof, items, start) = (&claim.proof, &claim.items, claim.start);
     let yes = if bagging == Bagging::BackwardFold {
-        verify_proof_and_pinned_nodes::<H, F, _>(alloc, &proof, start, &items, &pinned, &root)?
+        verify_proof_and_pinned_nodes::<H, F, _>(alloc, proof, start, items, &pinned.0, &root)?
     } else {
         let hasher = Standard::<H>::new(bagging);
-        proof.verify_proof_and_pinned_nodes(alloc, &hasher, &items, start, &pinned, &root)?
+        proof.verify_proof_and_pinned_nodes(alloc, &hasher, items, start, &pinned.0, &root)?
     };
-    told(alloc, &yes)
+    yes.tell(out)
 }
 
 /// `bagging leaves inactive digests claims root label`: whether the proof is accepted. A claim is a location, a colon and an element;
@@ -105,13 +89,12 @@ pub fn pinned_checks<F: Family, H: Hasher>(
 pub fn multi_checks<F: Family, H: Hasher>(
     alloc: Global,
     columns: &[&str],
-) -> Result<String, Fault> {
-    let (bagging, proof, claims, Hex(root), _): (
+    out: &mut String,
+) -> Result<(), Fault> {
+    let (bagging, proof, (claims, Hex(root), _)): (
         Bagging,
         Proof<F, H::Digest>,
-        String,
-        Hex<H::Digest>,
-        String,
+        (String, Hex<H::Digest>, Label),
     ) = parse(alloc, columns)?;
     let yes = if bagging == Bagging::BackwardFold {
         operations_shown::<F, H>(alloc, &proof, claims.as_str(), &root)?
@@ -119,7 +102,7 @@ pub fn multi_checks<F: Family, H: Hasher>(
         let hasher = Standard::<H>::new(bagging);
         elements_shown(alloc, &hasher, &proof, claims.as_str(), &root)?
     };
-    told(alloc, &yes)
+    yes.tell(out)
 }
 
 /// Returns whether a proof is accepted for claims of operations.

@@ -2,12 +2,11 @@
 
 ghost use Rattle.std.specs.Prelude.{◌≤◌};
 
-use crate::mems::nodes_text;
-use replay_columns::answers::{Series, told};
+use crate::mems::tell_nodes;
+use replay_columns::answers::{Answer, At, or_word, tell_next};
 use replay_columns::columns::{Digests, Fault, List, parse};
-use replay_columns::refusals::merkle_refusal;
 use std::alloc::Global;
-use storage_codec::digest::{Digest, Hasher};
+use storage_codec::digest::Hasher;
 use storage_current::laws::combined::nodes_over_chunks_are_taken;
 use storage_current::qmdb::current::grafting::{GraftedHasher, GraftedTree};
 use storage_merkle::merkle::hasher::Standard;
@@ -23,60 +22,59 @@ const MANY: u64 = 1000;
 pub fn grafted_trees<F: Graftable, H: Hasher>(
     alloc: Global,
     columns: &[&str],
-) -> Result<String, Fault> {
-    let (height, pruned, Digests(pinned), Digests(leaves), List(prunings)): (
+    out: &mut String,
+) -> Result<(), Fault> {
+    let (height, pruned, pinned, (leaves, prunings)): (
         u64,
         u64,
         Digests<H::Digest>,
-        Digests<H::Digest>,
-        List<u64>,
+        (Digests<H::Digest>, List<u64>),
     ) = parse(alloc, columns)?;
     if height < 1 || height > 8 {
         return Err(Fault::Malformed);
     }
-    match GraftedTree::<F, _>::init(alloc, pruned, &pinned, leaves) {
-        Ok(mut tree) => pruned_to::<F, H>(alloc, &mut tree, height as u32, &prunings),
-        Err(error) => merkle_refusal(alloc, &error),
+    match GraftedTree::<F, _>::init(alloc, pruned, &pinned.0, leaves.0) {
+        Ok(mut tree) => tell_pruned::<F, H>(&mut tree, height as u32, &prunings.0, out),
+        Err(error) => error.tell(out),
     }
 }
 
-/// Returns what is left of a tree after prunings.
-fn pruned_to<F: Graftable, H: Hasher>(
-    alloc: Global,
+/// Prunes a tree to each of some numbers of chunks, and adds the places of the refused ones, their refusals, and what is
+/// left.
+fn tell_pruned<F: Graftable, H: Hasher>(
     tree: &mut GraftedTree<F, H::Digest>,
     height: u32,
     prunings: &[u64],
-) -> Result<String, Fault>
+    out: &mut String,
+) -> Result<(), Fault>
     requires low { 1 ≤ height }
     requires high { height ≤ 8 }
 {
-    let mut refusals = Series::new(alloc);
+    let start = out.len();
     let mut place: u64 = 0;
     for chunks in prunings {
-        if let Some(refusal) = pruned::<F, H>(alloc, tree, height, *chunks)? {
-            refusals.push_at(alloc, place, &refusal)?;
-        }
+        pruned::<F, H>(tree, height, *chunks, place, start, out)?;
         place = place.saturating_add(1);
     }
-    let nodes = nodes(alloc, tree)?;
-    told(
-        alloc,
-        &(
-            refusals.finish()?,
-            tree.leaves(),
-            tree.pruned_chunks(),
-            nodes,
-        ),
-    )
+    or_word(out, start, "none")?;
+    let leaves = tree.leaves().as_u64();
+    if leaves >= MANY {
+        return Err(Fault::Malformed);
+    }
+    write!(out, " {leaves} {} ", tree.pruned_chunks())?;
+    tell_nodes(tree, F::nodes_over(leaves) + 2, out)
 }
 
-/// Prunes a tree; the name of the refusal, if there is one.
+/// Prunes a tree, and adds the place of the pruning and its refusal, if there is one, behind a comma where something
+/// stands behind the first `start` bytes.
 fn pruned<F: Graftable, H: Hasher>(
-    alloc: Global,
     tree: &mut GraftedTree<F, H::Digest>,
     height: u32,
     chunks: u64,
-) -> Result<Option<String>, Fault>
+    place: u64,
+    start: usize,
+    out: &mut String,
+) -> Result<(), Fault>
     requires low { 1 ≤ height }
     requires high { height ≤ 8 }
 {
@@ -86,19 +84,7 @@ fn pruned<F: Graftable, H: Hasher>(
     }
     let hasher = GraftedHasher::new(Standard::<H>::new(Bagging::BackwardFold), height);
     match tree.prune(&hasher, chunks) {
-        Ok(()) => Ok(None),
-        Err(error) => Ok(Some(merkle_refusal(alloc, &error)?)),
+        Ok(()) => Ok(()),
+        Err(error) => tell_next(out, start, ',', &At(place, error)),
     }
-}
-
-/// Returns the digests at all positions and at the next two.
-fn nodes<F: Graftable, D: Digest>(
-    alloc: Global,
-    tree: &GraftedTree<F, D>,
-) -> Result<String, Fault> {
-    let leaves = tree.leaves().as_u64();
-    if leaves >= MANY {
-        return Err(Fault::Malformed);
-    }
-    nodes_text(alloc, tree, F::nodes_over(leaves) + 2)
 }

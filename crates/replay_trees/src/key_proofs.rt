@@ -1,9 +1,8 @@
 //! The list on proofs about keys as bytes. Keys have four bytes, and values are numbers.
 
 use bytes::Bytes;
-use replay_columns::answers::{encoded, owned, told};
+use replay_columns::answers::Answer;
 use replay_columns::columns::{Fault, number, parse};
-use replay_columns::refusals::codec_refusal;
 use std::alloc::Global;
 use storage_codec::codec::{Decode, Encode, EncodeSize, FixedBytes, Read};
 use storage_codec::digest::{Digest, Hasher};
@@ -42,51 +41,59 @@ impl<F: Graftable, D: Digest, C: Chunk + Clone> OwnCopy for Absence<F, D, C> {
 pub fn key_proofs<F: Graftable, H: Hasher>(
     alloc: Global,
     columns: &[&str],
-) -> Result<String, Fault> {
-    let (claim, reader, most, input): (String, String, usize, Vec<u8>) = parse(alloc, columns)?;
-    let (claim, input) = (claim.as_str(), input.as_slice());
-    if reader.as_str() == "array" {
-        return match claim {
-            "value" => read::<Value<F, H::Digest, [u8; 1]>>(alloc, input, &(most, ())),
-            _ => read::<Absence<F, H::Digest, [u8; 1]>>(alloc, input, &(most, (), ())),
+    out: &mut String,
+) -> Result<(), Fault> {
+    let [claim, reader, columns @ ..] = columns else {
+        return Err(Fault::Malformed);
+    };
+    let (most, input): (usize, Vec<u8>) = parse(alloc, columns)?;
+    if *reader == "array" {
+        return match *claim {
+            "value" => tell_read::<Value<F, H::Digest, [u8; 1]>>(alloc, &input, &(most, ()), out),
+            _ => tell_read::<Absence<F, H::Digest, [u8; 1]>>(alloc, &input, &(most, (), ()), out),
         };
     }
-    let size = number(reader.as_str())? as usize;
-    match claim {
-        "value" => read::<Value<F, H::Digest, Bytes>>(alloc, input, &((size, most), ())),
-        _ => read::<Absence<F, H::Digest, Bytes>>(alloc, input, &((size, most), (), ())),
+    let size = (number(*reader)? as usize, most);
+    match *claim {
+        "value" => tell_read::<Value<F, H::Digest, Bytes>>(alloc, &input, &(size, ()), out),
+        _ => tell_read::<Absence<F, H::Digest, Bytes>>(alloc, &input, &(size, (), ()), out),
     }
 }
 
-/// Returns what is in front of the bytes, and what all of them are: `same` for a proof that is written as they are.
-fn read<T: Read + EncodeSize + OwnCopy + PartialEq>(
+/// Adds what is in front of the bytes, and what all of them are: `same` for a proof that is written as they are.
+fn tell_read<T: Read + EncodeSize + OwnCopy + PartialEq>(
     alloc: Global,
     input: &[u8],
     cfg: &T::Cfg,
-) -> Result<String, Fault> {
-    let front = front::<T>(alloc, input, cfg)?;
-    let whole = match T::decode_cfg(alloc, input, cfg) {
-        Ok(proof) if proof.encode(alloc)?.as_slice() == input => owned(alloc, "same")?,
-        Ok(_) => return Err(Fault::Differs),
-        Err(error) => codec_refusal(alloc, error)?,
-    };
-    told(alloc, &(front, whole))
+    out: &mut String,
+) -> Result<(), Fault> {
+    tell_front::<T>(alloc, input, cfg, out)?;
+    out.push(' ')?;
+    match T::decode_cfg(alloc, input, cfg) {
+        Ok(proof) => {
+            if proof.encode(alloc)?.as_slice() != input {
+                return Err(Fault::Differs);
+            }
+            Ok(out.push_str("same")?)
+        }
+        Err(error) => error.tell(out),
+    }
 }
 
-/// Returns the bytes of a copy of the proof in front, which is equal, and how many are left; or the refusal, and `-`.
-fn front<T: Read + EncodeSize + OwnCopy + PartialEq>(
+/// Adds the bytes of a copy of the proof in front, which is equal, and how many are left; or the refusal, and `-`.
+fn tell_front<T: Read + EncodeSize + OwnCopy + PartialEq>(
     alloc: Global,
     mut input: &[u8],
     cfg: &T::Cfg,
-) -> Result<(String, Option<usize>), Fault> {
-    match T::read_cfg(alloc, &mut input, cfg) {
-        Ok(proof) => {
-            let copy = proof.own_copy()?;
-            if copy != proof {
-                return Err(Fault::Differs);
-            }
-            Ok((encoded(alloc, &copy)?, Some(input.len())))
-        }
-        Err(error) => Ok((codec_refusal(alloc, error)?, None)),
+    out: &mut String,
+) -> Result<(), Fault> {
+    let proof = match T::read_cfg(alloc, &mut input, cfg) {
+        Ok(proof) => proof,
+        Err(error) => return (error, "-").tell(out),
+    };
+    let copy = proof.own_copy()?;
+    if copy != proof {
+        return Err(Fault::Differs);
     }
+    (copy.encode(alloc)?, input.len()).tell(out)
 }

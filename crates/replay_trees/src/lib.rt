@@ -5,6 +5,7 @@ pub mod asked;
 pub mod bitmaps;
 pub mod both_chunks;
 pub mod checks;
+pub mod claims;
 pub mod codecs;
 pub mod counting;
 pub mod extracted;

@@ -1,10 +1,9 @@
 //! Lists on trees in memory.
 
-use replay_columns::answers::{Series, owned, told};
+use replay_columns::answers::{Answer, At, or_word, tell_next};
 use replay_columns::columns::{
     Digests, Fault, Hex, List, bytes, digests_between, halves, number, parse, placed,
 };
-use replay_columns::refusals::merkle_refusal;
 use std::alloc::Global;
 use storage_codec::digest::{Digest, Hasher};
 use storage_merkle::merkle::hasher::Standard;
@@ -13,146 +12,158 @@ use storage_merkle::merkle::{Bagging, Family, Location, Position, Readable};
 
 /// `bagging boundary digests`: how many nodes the tree has whose leaves before the boundary are forgotten, its root, and what
 /// adding a leaf of no bytes answers; or the refusal.
-pub fn mem_init<F: Family, H: Hasher>(alloc: Global, columns: &[&str]) -> Result<String, Fault> {
-    let (bagging, boundary, Digests(pinned)): (Bagging, Location<F>, Digests<H::Digest>) = parse(
+pub fn mem_init<F: Family, H: Hasher>(
+    alloc: Global,
+    columns: &[&str],
+    out: &mut String,
+) -> Result<(), Fault> {
+    let (bagging, boundary, pinned): (Bagging, Location<F>, Digests<H::Digest>) = parse(
         alloc, columns,
     )?;
-    match Mem::init(alloc, boundary, &pinned) {
-        Ok(mut tree) => begun(alloc, &Standard::<H>::new(bagging), &mut tree),
-        Err(error) => merkle_refusal(alloc, &error),
+    match Mem::init(alloc, boundary, &pinned.0) {
+        Ok(mut tree) => tell_begun(&Standard::<H>::new(bagging), &mut tree, out),
+        Err(error) => error.tell(out),
     }
 }
 
-/// Returns how many nodes a tree has, its root, and what adding a leaf of no bytes answers; or the root's refusal.
-fn begun<F: Family, H: Hasher>(
-    alloc: Global,
+/// Adds how many nodes a tree has, its root, and what adding a leaf of no bytes answers; or the root's refusal.
+fn tell_begun<F: Family, H: Hasher>(
     hasher: &Standard<H>,
     tree: &mut Mem<F, H::Digest>,
-) -> Result<String, Fault> {
-    let size = tree.size();
+    out: &mut String,
+) -> Result<(), Fault> {
     let root = match tree.root(hasher, 0) {
         Ok(root) => root,
-        Err(error) => return merkle_refusal(alloc, &error),
+        Err(error) => return error.tell(out),
     };
+    let size = tree.size();
     let added = match tree.add(hasher, &[]) {
-        Ok(()) => owned(alloc, "ok")?,
-        Err(error) => merkle_refusal(alloc, &error)?,
+        Ok(()) => Ok("ok"),
+        Err(error) => Err(error),
     };
-    let root = hex::encode(alloc, root.bytes())?;
-    Ok(format!(in alloc; "{size}:{root}:{added}")?)
+    At(size, At(Hex(root), added)).tell(out)
 }
 
 /// `bagging calls`: the places of the refused calls on a tree in memory and their refusals, and what stands after the last call:
 /// how many leaves and nodes there are, the root with none of the peaks inactive, with one, and so on up to the refusal, and
 /// the digests at all positions and at the next two.
-pub fn mems<F: Family, H: Hasher>(alloc: Global, columns: &[&str]) -> Result<String, Fault> {
-    let (bagging, List(calls)): (Bagging, List<String>) = parse(alloc, columns)?;
+pub fn mems<F: Family, H: Hasher>(
+    alloc: Global,
+    columns: &[&str],
+    out: &mut String,
+) -> Result<(), Fault> {
+    let (bagging, calls): (Bagging, List<String>) = parse(alloc, columns)?;
     let hasher = Standard::<H>::new(bagging);
     let mut tree = Mem::<F, _>::new(alloc);
-    let refusals = refusals(alloc, &hasher, &mut tree, &calls)?;
-    let grown = grown(alloc, &hasher, &tree)?;
-    told(alloc, &(refusals, grown))
+    tell_refusals(alloc, &hasher, &mut tree, &calls.0, out)?;
+    tell_grown(&hasher, &tree, out)
 }
 
-/// Makes calls: the places of the refused ones and their refusals.
-fn refusals<F: Family, H: Hasher>(
+/// Makes calls, and adds the places of the refused ones and their refusals.
+fn tell_refusals<F: Family, H: Hasher>(
     alloc: Global,
     hasher: &Standard<H>,
     tree: &mut Mem<F, H::Digest>,
     calls: &[String],
-) -> Result<String, Fault> {
-    let mut refusals = Series::new(alloc);
+    out: &mut String,
+) -> Result<(), Fault> {
+    let start = out.len();
     let mut place: u64 = 0;
     for call in calls {
-        if let Some(refusal) = called(alloc, hasher, tree, call.as_str())? {
-            refusals.push_at(alloc, place, &refusal)?;
-        }
+        called(alloc, hasher, tree, call.as_str(), place, start, out)?;
         place = place.saturating_add(1);
     }
-    Ok(refusals.finish()?)
+    or_word(out, start, "none")
 }
 
 /// Makes a call: `a:ELEMENT` adds a leaf, `u:LOCATION=DIGEST/..` changes leaves, `x:LOCATION` forgets those before it, and
-/// `init:BOUNDARY:DIGESTS` takes another tree, whose leaves are all forgotten. The name of its refusal, if there is one.
+/// `init:BOUNDARY:DIGESTS` takes another tree, whose leaves are all forgotten. Adds the call's place and its refusal, if
+/// there is one, behind a comma where something stands behind the first `start` bytes.
 fn called<F: Family, H: Hasher>(
     alloc: Global,
     hasher: &Standard<H>,
     tree: &mut Mem<F, H::Digest>,
     call: &str,
-) -> Result<Option<String>, Fault> {
+    place: u64,
+    start: usize,
+    out: &mut String,
+) -> Result<(), Fault> {
     let (verb, rest) = halves(call, ':')?;
     let answer = match verb {
-        "a" => {
-            let element = bytes(alloc, rest)?;
-            tree.add(hasher, &element)
-        }
+        "a" => tree.add(hasher, &bytes(alloc, rest)?),
         "u" => {
             let updates: Vec<(Location<F>, H::Digest)> = placed(alloc, rest)?;
             tree.update_leaves(hasher, &updates)
         }
         "x" => tree.prune(Location::new(number(rest)?)),
-        "init" => return taken(alloc, tree, rest),
+        "init" => return taken(alloc, tree, rest, place, start, out),
         _ => return Err(Fault::Malformed),
     };
     match answer {
-        Ok(()) => Ok(None),
-        Err(error) => Ok(Some(merkle_refusal(alloc, &error)?)),
+        Ok(()) => Ok(()),
+        Err(error) => tell_next(out, start, ',', &At(place, error)),
     }
 }
 
-/// Takes the tree of `BOUNDARY:DIGESTS` in place of this one; the name of the refusal, if there is one.
+/// Takes the tree of `BOUNDARY:DIGESTS` in place of this one.
 fn taken<F: Family, D: Digest>(
     alloc: Global,
     tree: &mut Mem<F, D>,
     parts: &str,
-) -> Result<Option<String>, Fault> {
+    place: u64,
+    start: usize,
+    out: &mut String,
+) -> Result<(), Fault> {
     let (boundary, pinned) = halves(parts, ':')?;
     let boundary = Location::new(number(boundary)?);
     let pinned: Vec<D> = digests_between(alloc, pinned, '/')?;
     match Mem::init(alloc, boundary, &pinned) {
         Ok(other) => {
             *tree = other;
-            Ok(None)
+            Ok(())
         }
-        Err(error) => Ok(Some(merkle_refusal(alloc, &error)?)),
+        Err(error) => tell_next(out, start, ',', &At(place, error)),
     }
 }
 
-/// Returns how many leaves and nodes a tree has, its roots, and the digests at all positions and at the next two.
-fn grown<F: Family, H: Hasher>(
-    alloc: Global,
+/// Adds, with a blank before them, how many leaves and nodes a tree has, its roots, and the digests at all positions
+/// and at the next two.
+fn tell_grown<F: Family, H: Hasher>(
     hasher: &Standard<H>,
     tree: &Mem<F, H::Digest>,
-) -> Result<String, Fault> {
-    let roots = roots(alloc, hasher, tree)?;
-    let nodes = nodes_text(alloc, tree, tree.size().as_u64().saturating_add(2))?;
-    told(alloc, &(tree.leaves(), tree.size(), roots, nodes))
+    out: &mut String,
+) -> Result<(), Fault> {
+    let (leaves, size) = (tree.leaves(), tree.size());
+    write!(out, " {leaves} {size} ")?;
+    tell_roots(hasher, tree, out)?;
+    out.push(' ')?;
+    tell_nodes(tree, size.as_u64().saturating_add(2), out)
 }
 
-/// Returns the digests at so many positions.
-pub fn nodes_text<T: Readable>(alloc: Global, tree: &T, count: u64) -> Result<String, Fault> {
-    let mut nodes = Series::new(alloc);
+/// Adds the digests at so many positions.
+pub fn tell_nodes<T: Readable>(tree: &T, count: u64, out: &mut String) -> Result<(), Fault> {
+    let start = out.len();
     for place in 0..count {
-        nodes.push_at(alloc, place, &tree.get_node(Position::new(place)).map(Hex))?;
+        let digest = tree.get_node(Position::new(place)).map(Hex);
+        tell_next(out, start, ',', &At(place, digest))?;
     }
-    Ok(nodes.finish()?)
+    or_word(out, start, "none")
 }
 
-/// Returns the roots with none of the peaks inactive, with one, and so on up to the refusal.
-fn roots<F: Family, H: Hasher>(
-    alloc: Global,
+/// Adds the roots with none of the peaks inactive, with one, and so on up to the refusal.
+fn tell_roots<F: Family, H: Hasher>(
     hasher: &Standard<H>,
     tree: &Mem<F, H::Digest>,
-) -> Result<String, Fault> {
-    let mut roots = Series::new(alloc);
+    out: &mut String,
+) -> Result<(), Fault> {
+    let start = out.len();
     for inactive in 0..=u64::BITS {
-        match tree.root(hasher, inactive as usize) {
-            Ok(root) => roots.push_at(alloc, inactive as u64, &Hex(root))?,
-            Err(error) => {
-                roots.push_at(alloc, inactive as u64, &merkle_refusal(alloc, &error)?)?;
-                break;
-            }
+        let root = tree.root(hasher, inactive as usize);
+        let is_last = root.is_err();
+        tell_next(out, start, ',', &At(inactive as u64, root.map(Hex)))?;
+        if is_last {
+            break;
         }
     }
-    Ok(roots.finish()?)
+    or_word(out, start, "none")
 }

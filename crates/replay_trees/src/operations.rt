@@ -1,9 +1,8 @@
 //! Lists on the encodings of operations.
 
-use crate::spelling::{Show, Spell, spelled};
-use replay_columns::answers::{told, unblanked};
-use replay_columns::columns::{Fault, halves, lengths, parse};
-use replay_columns::refusals::codec_refusal;
+use crate::spelling::{Parse, Show, Spell};
+use replay_columns::answers::{Answer, Unblanked};
+use replay_columns::columns::{Fault, bytes, halves, lengths};
 use std::alloc::Global;
 use storage_codec::codec::{
     Codec, Decode, Encode, EncodeSize, FixedBytes, FixedSize, Read, Small, U64,
@@ -13,144 +12,134 @@ use storage_ops::qmdb::any::operation::{Ordered, Unordered};
 use storage_ops::qmdb::any::value::{FixedEncoding, VariableEncoding, VariableValue};
 use storage_ops::qmdb::operation::Key;
 
-/// What is asked of an operation.
-#[derive(Drop)]
-enum Job {
-    /// The operation in front of these bytes, how many bytes are left, and the operation that all bytes are.
-    Read(Vec<u8>),
-    /// The bytes of this operation, its fixed size, and its text.
-    Write(String),
-}
-
-/// `type bytes`: the operation in front, how many bytes are left, and the operation that all bytes are.
-pub fn operations(alloc: Global, columns: &[&str]) -> Result<String, Fault> {
-    let (kind, input): (String, Vec<u8>) = parse(alloc, columns)?;
-    by_type(alloc, kind.as_str(), &Job::Read(input))
-}
-
-/// `type operation`: its bytes, the size of all operations of the type, and its text.
-pub fn written(alloc: Global, columns: &[&str]) -> Result<String, Fault> {
-    let (kind, operation): (String, String) = parse(alloc, columns)?;
-    by_type(alloc, kind.as_str(), &Job::Write(operation))
-}
-
-/// Returns the answer for a type `ORDER-ENCODING/KEY/VALUE`.
-fn by_type(alloc: Global, kind: &str, job: &Job) -> Result<String, Fault> {
-    let (shape, types) = halves(kind, '/')?;
+/// `type bytes` for `operations`: the operation in front, how many bytes are left, and the operation that all bytes are.
+/// `type operation` for `written`: its bytes, the size of all operations of the type, and its text.
+pub fn answer(alloc: Global, list: &str, columns: &[&str], out: &mut String) -> Result<(), Fault> {
+    let [kind, text] = columns else {
+        return Err(Fault::Malformed);
+    };
+    let (shape, types) = halves(*kind, '/')?;
     let (key, value) = halves(types, '/')?;
-    match (shape, key, value) {
-        ("ordered-fixed" | "unordered-fixed", "fixed4", "u64") => {
-            fixed::<FixedBytes<4>>(alloc, shape, job)
-        }
-        ("ordered-fixed" | "unordered-fixed", "fixed8", "u64") => {
-            fixed::<FixedBytes<8>>(alloc, shape, job)
-        }
-        ("ordered-fixed" | "unordered-fixed", "u64", "u64") => { fixed::<U64>(alloc, shape, job) }
-        (_, "fixed4", _) => by_value::<FixedBytes<4>>(alloc, shape, (), value, job),
-        (_, "fixed8", _) => by_value::<FixedBytes<8>>(alloc, shape, (), value, job),
-        (_, "u64", _) => by_value::<U64>(alloc, shape, (), value, job),
-        _ => by_value::<Vec<u8>>(alloc, shape, (lengths(key)?, ()), value, job),
+    let job = (list, *text);
+    match key {
+        "fixed4" => by_value::<FixedBytes<4>>(alloc, shape, value, job, out),
+        "fixed8" => by_value::<FixedBytes<8>>(alloc, shape, value, job, out),
+        "u64" => by_value::<U64>(alloc, shape, value, job, out),
+        _ => variable::<Vec<u8>>(alloc, shape, (lengths(key)?, ()), value, job, out),
     }
 }
 
-fn by_value<K: Key + Spell>(
+/// Answers a job, which is a list and what stands in its second column, for keys that all have one size.
+fn by_value<K: Key + Parse + Small + Read<Cfg = ()>>(
     alloc: Global,
     shape: &str,
-    key: K::Cfg,
     value: &str,
-    job: &Job,
-) -> Result<String, Fault>
-where
-    K::Cfg: Drop,
-{
-    if value == "u64" {
-        return variable::<K, u64>(alloc, shape, &(key, ()), job);
-    }
-    variable::<K, Vec<u8>>(alloc, shape, &(key, (lengths(value)?, ())), job)
-}
-
-fn fixed<K: Key + Spell + Small + Read<Cfg = ()>>(
-    alloc: Global,
-    shape: &str,
-    job: &Job,
-) -> Result<String, Fault> {
-    match shape {
-        "ordered-fixed" => sized::<Ordered<mmr::Family, K, FixedEncoding<u64>>>(alloc, job),
-        _ => sized::<Unordered<mmr::Family, K, FixedEncoding<u64>>>(alloc, job),
+    job: (&str, &str),
+    out: &mut String,
+) -> Result<(), Fault> {
+    match (shape, value) {
+        ("ordered-fixed", "u64") => {
+            sized::<Ordered<mmr::Family, K, FixedEncoding<u64>>>(alloc, job, out)
+        }
+        ("unordered-fixed", "u64") => {
+            sized::<Unordered<mmr::Family, K, FixedEncoding<u64>>>(alloc, job, out)
+        }
+        _ => variable::<K>(alloc, shape, (), value, job, out),
     }
 }
 
 fn sized<O: Codec + EncodeSize + FixedSize + Read<Cfg = ()> + Spell + Show>(
     alloc: Global,
-    job: &Job,
-) -> Result<String, Fault> {
-    done::<O>(alloc, &(), job, Some(O::fixed_size()))
+    job: (&str, &str),
+    out: &mut String,
+) -> Result<(), Fault> {
+    done::<O>(alloc, &(), job, Some(O::fixed_size()), out)
 }
 
-fn variable<K: Key + Spell, V: VariableValue + Spell>(
+/// Answers a job for keys of any size.
+fn variable<K: Key + Parse>(
+    alloc: Global,
+    shape: &str,
+    key: K::Cfg,
+    value: &str,
+    job: (&str, &str),
+    out: &mut String,
+) -> Result<(), Fault>
+where
+    K::Cfg: Drop,
+{
+    if value == "u64" {
+        return by_shape::<K, u64>(alloc, shape, &(key, ()), job, out);
+    }
+    by_shape::<K, Vec<u8>>(alloc, shape, &(key, (lengths(value)?, ())), job, out)
+}
+
+fn by_shape<K: Key + Parse, V: VariableValue + Spell>(
     alloc: Global,
     shape: &str,
     cfg: &(K::Cfg, V::Cfg),
-    job: &Job,
-) -> Result<String, Fault> {
+    job: (&str, &str),
+    out: &mut String,
+) -> Result<(), Fault> {
     match shape {
         "ordered-variable" => {
-            done::<Ordered<mmr::Family, K, VariableEncoding<V>>>(alloc, cfg, job, None)
+            done::<Ordered<mmr::Family, K, VariableEncoding<V>>>(alloc, cfg, job, None, out)
         }
         "unordered-variable" => {
-            done::<Unordered<mmr::Family, K, VariableEncoding<V>>>(alloc, cfg, job, None)
+            done::<Unordered<mmr::Family, K, VariableEncoding<V>>>(alloc, cfg, job, None, out)
         }
         _ => Err(Fault::Malformed),
     }
 }
 
-/// Returns the answer over one type of operations, which may all have one size.
+/// Answers a job over one type of operations, which may all have one size.
 fn done<O: Codec + EncodeSize + Spell + Show>(
     alloc: Global,
     cfg: &O::Cfg,
-    job: &Job,
+    job: (&str, &str),
     size: Option<usize>,
-) -> Result<String, Fault> {
-    match job {
-        Job::Read(input) => read::<O>(alloc, input, cfg),
-        Job::Write(spelling) => {
-            let operation = O::parse(alloc, spelling.as_str())?;
-            let (bytes, text) = text_of(alloc, &operation)?;
-            told(alloc, &(bytes, size, text))
-        }
+    out: &mut String,
+) -> Result<(), Fault> {
+    let (list, text) = job;
+    if list == "written" {
+        tell_written(alloc, &O::parse(alloc, text)?, size, out)
+    } else {
+        tell_read::<O>(alloc, &bytes(alloc, text)?, cfg, out)
     }
 }
 
-/// Returns the bytes of an operation, and its text.
-fn text_of<O: Codec + EncodeSize + Show>(
+/// Adds the bytes of an operation, the size of all operations of its type, and its text.
+fn tell_written<O: Codec + EncodeSize + Show>(
     alloc: Global,
     operation: &O,
-) -> Result<(Vec<u8>, String), Fault> {
+    size: Option<usize>,
+    out: &mut String,
+) -> Result<(), Fault> {
     let bytes = operation.encode(alloc)?;
     if operation.encode_size() != Some(bytes.len() as u64) {
         return Err(Fault::Malformed);
     }
     let text = operation.show(alloc)?;
-    Ok((bytes, unblanked(alloc, text.as_str())?))
+    (bytes, size, Unblanked(text.as_str())).tell(out)
 }
 
-fn read<O: Read + Spell>(alloc: Global, input: &[u8], cfg: &O::Cfg) -> Result<String, Fault> {
-    let front = front::<O>(alloc, input, cfg)?;
-    let whole = match O::decode_cfg(alloc, input, cfg) {
-        Ok(operation) => spelled(alloc, &operation)?,
-        Err(error) => codec_refusal(alloc, error)?,
-    };
-    told(alloc, &(front, whole))
-}
-
-/// Returns the operation in front, and how many bytes are left; or the refusal, and `-`.
-fn front<O: Read + Spell>(
+/// Adds the operation in front of bytes, how many are left, and the operation that all bytes are, or the refusals.
+fn tell_read<O: Read + Spell>(
     alloc: Global,
-    mut input: &[u8],
+    input: &[u8],
     cfg: &O::Cfg,
-) -> Result<(String, Option<usize>), Fault> {
-    match O::read_cfg(alloc, &mut input, cfg) {
-        Ok(operation) => Ok((spelled(alloc, &operation)?, Some(input.len()))),
-        Err(error) => Ok((codec_refusal(alloc, error)?, None)),
+    out: &mut String,
+) -> Result<(), Fault> {
+    let mut left = input;
+    match O::read_cfg(alloc, &mut left, cfg) {
+        Ok(operation) => {
+            operation.spell(out)?;
+            write!(out, " {} ", left.len())?;
+        }
+        Err(error) => (error, "- ").tell(out)?,
+    }
+    match O::decode_cfg(alloc, input, cfg) {
+        Ok(operation) => operation.spell(out),
+        Err(error) => error.tell(out),
     }
 }

@@ -1,9 +1,10 @@
 //! Lists on what trees in memory give: their own proofs, their nodes, and proofs from nodes.
 
-use crate::stores::digests_told;
-use replay_columns::answers::told;
-use replay_columns::columns::{Digests, Fault, List, Refusal, or_fault, parse, placed, places};
-use replay_columns::refusals::merkle_refusal;
+use crate::claims::tell_made;
+use replay_columns::answers::Answer;
+use replay_columns::columns::{
+    Digests, Fault, List, Refusal as _, or_fault, parse, placed, places,
+};
 use std::alloc::Global;
 use storage_codec::digest::{Digest, Hasher};
 use storage_merkle::merkle::hasher::Standard;
@@ -12,7 +13,22 @@ use storage_merkle::merkle::{
     Bagging, ElementPlan, Family, Location, Position, Proof, ProofStore, RangePlan, Storage,
 };
 
-/// A tree over some elements.
+/// Returns the tree over elements.
+fn tree_of<F: Family, H: Hasher>(
+    alloc: Global,
+    hasher: &Standard<H>,
+    elements: &[Vec<u8>],
+) -> Result<Mem<F, H::Digest>, Fault> {
+    let mut mem = Mem::new(alloc);
+    for element in elements {
+        if let Err(error) = mem.add(hasher, element) {
+            return Err(error.fault());
+        }
+    }
+    Ok(mem)
+}
+
+/// A tree over some elements, of which some peaks are inactive.
 #[derive(Drop)]
 struct Grown<F: Family, H: Hasher> {
     hasher: Standard<H>,
@@ -21,34 +37,13 @@ struct Grown<F: Family, H: Hasher> {
 }
 
 impl<F: Family, H: Hasher> Grown<F, H> {
-    /// Returns the tree over elements with that many inactive peaks.
-    fn new(
-        alloc: Global,
-        bagging: Bagging,
-        inactive: usize,
-        elements: &[Vec<u8>],
-    ) -> Result<Self, Fault> {
-        let hasher = Standard::new(bagging);
-        let mut mem = Mem::new(alloc);
-        for element in elements {
-            if let Err(error) = mem.add(&hasher, element) {
-                return Err(error.fault());
-            }
-        }
-        Ok(Grown {
-            hasher,
-            mem,
-            inactive,
-        })
-    }
-
     /// Returns the tree's own proof of a range.
     fn proof(&self, start: u64, end: u64) -> Result<Proof<F, H::Digest>, Fault> {
         let range = Location::new(start)..Location::new(end);
         or_fault(self.mem.range_proof(&self.hasher, range, self.inactive))
     }
 
-    /// Returns the store of the tree's own proof of a range.
+    /// Returns the store of the tree's own proof of a range, of which these are the elements.
     fn store(
         &self,
         alloc: Global,
@@ -56,11 +51,10 @@ impl<F: Family, H: Hasher> Grown<F, H> {
         start: u64,
         end: u64,
     ) -> Result<ProofStore<F, H::Digest>, Fault> {
-        let claimed = places(elements, start, end)?;
         let root = or_fault(self.mem.root(&self.hasher, self.inactive))?;
         let proof = self.proof(start, end)?;
         let first = Location::new(start);
-        or_fault(ProofStore::new(alloc, &self.hasher, &proof, claimed, first, &root))
+        or_fault(ProofStore::new(alloc, &self.hasher, &proof, elements, first, &root))
     }
 
     /// Returns whether a store gives the tree's own proof of a range.
@@ -72,8 +66,8 @@ impl<F: Family, H: Hasher> Grown<F, H> {
         end: u64,
     ) -> Result<bool, Fault> {
         let range = Location::new(start)..Location::new(end);
-        let given = or_fault(store.range_proof(alloc, &self.hasher, range))?;
-        Ok(given == self.proof(start, end)?)
+        let own = self.proof(start, end)?;
+        Ok(or_fault(store.range_proof(alloc, &self.hasher, range))? == own)
     }
 
     /// Returns how many ranges there are from `start` to before `end`, and of how many of them a store gives the tree's
@@ -101,25 +95,41 @@ impl<F: Family, H: Hasher> Grown<F, H> {
 
 /// `bagging inactive elements start end`: how many ranges there are among these locations, and of how many of them the store of the
 /// tree's proof of the whole gives the tree's own proof.
-pub fn parts<F: Family, H: Hasher>(alloc: Global, columns: &[&str]) -> Result<String, Fault> {
-    let (bagging, inactive, List(elements), start, end): (Bagging, usize, List<Vec<u8>>, u64, u64) =
+pub fn parts<F: Family, H: Hasher>(
+    alloc: Global,
+    columns: &[&str],
+    out: &mut String,
+) -> Result<(), Fault> {
+    let (bagging, inactive, elements, (start, end)): (Bagging, usize, List<Vec<u8>>, (u64, u64)) =
         parse(alloc, columns)?;
-    let tree = Grown::<F, H>::new(alloc, bagging, inactive, &elements)?;
-    let store = tree.store(alloc, &elements, start, end)?;
-    told(alloc, &tree.given(alloc, &store, start, end)?)
+    let hasher = Standard::<H>::new(bagging);
+    let mem = tree_of::<F, H>(alloc, &hasher, &elements.0)?;
+    let tree = Grown {
+        hasher,
+        mem,
+        inactive,
+    };
+    let store = tree.store(alloc, places(&elements.0, start, end)?, start, end)?;
+    tree.given(alloc, &store, start, end)?.tell(out)
 }
 
 /// `bagging elements positions`: the digests that the tree serves at these positions, or the refusal.
-pub fn served<F: Family, H: Hasher>(alloc: Global, columns: &[&str]) -> Result<String, Fault> {
-    let (bagging, List(elements), List(positions)): (Bagging, List<Vec<u8>>, List<Position<F>>) =
-        parse(alloc, columns)?;
-    let mut mem = Grown::<F, H>::new(alloc, bagging, 0, &elements)?.mem;
-    match Storage::<F>::get_nodes(&mut mem, alloc, &positions) {
+pub fn served<F: Family, H: Hasher>(
+    alloc: Global,
+    columns: &[&str],
+    out: &mut String,
+) -> Result<(), Fault> {
+    let (bagging, elements, positions): (Bagging, List<Vec<u8>>, List<Position<F>>) = parse(
+        alloc, columns,
+    )?;
+    let hasher = Standard::<H>::new(bagging);
+    let mut mem = tree_of::<F, H>(alloc, &hasher, &elements.0)?;
+    match Storage::<F>::get_nodes(&mut mem, alloc, &positions.0) {
         Ok(digests) => {
-            compare_each(&mut mem, &positions, &digests)?;
-            told(alloc, &Digests(digests))
+            compare_each(&mut mem, &positions.0, &digests)?;
+            Digests(digests).tell(out)
         }
-        Err(error) => merkle_refusal(alloc, &error),
+        Err(error) => error.tell(out),
     }
 }
 
@@ -154,20 +164,23 @@ fn at<F: Family, D: Digest>(nodes: &[(Position<F>, D)], position: Position<F>) -
 
 /// `bagging leaves location inactive nodes`: the digests of the proof of one element that is built from these nodes, `POSITION=DIGEST`
 /// with slashes between them or `-` for none, or the refusal.
-pub fn built<F: Family, H: Hasher>(alloc: Global, columns: &[&str]) -> Result<String, Fault> {
-    let (bagging, leaves, location, inactive, nodes): (
-        Bagging,
-        Location<F>,
-        Location<F>,
-        usize,
-        String,
-    ) = parse(alloc, columns)?;
-    let nodes: Vec<(Position<F>, H::Digest)> = placed(alloc, nodes.as_str())?;
+pub fn built<F: Family, H: Hasher>(
+    alloc: Global,
+    columns: &[&str],
+    out: &mut String,
+) -> Result<(), Fault> {
+    let [columns @ .., nodes] = columns else {
+        return Err(Fault::Malformed);
+    };
+    let (bagging, leaves, location, inactive): (Bagging, Location<F>, Location<F>, usize) = parse(
+        alloc, columns,
+    )?;
     let plan: RangePlan<F> = match ElementPlan::new(alloc, leaves, location) {
         Ok(plan) => plan.into(),
-        Err(error) => return merkle_refusal(alloc, &error),
+        Err(error) => return error.tell(out),
     };
     let hasher = Standard::<H>::new(bagging);
+    let nodes: Vec<(Position<F>, H::Digest)> = placed(alloc, *nodes)?;
     let proof = plan.build(alloc, &hasher, inactive, |position| at(&nodes, position));
-    digests_told(alloc, proof)
+    tell_made(out, proof)
 }

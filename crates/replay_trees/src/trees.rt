@@ -4,9 +4,8 @@ ghost use Rattle.std.specs.Prelude.{◌≡◌, ◌%◌, ◌^◌, ◌≤◌};
 ghost use Rattle.storage_merkle.specs.Shape.{size, max_leaves};
 ghost use Rattle.storage_bitmap.specs.Chunks.{IsChunkSize};
 
-use replay_columns::answers::{Series, told};
-use replay_columns::columns::{Fault, parse};
-use replay_columns::refusals::{database_refusal, merkle_refusal};
+use replay_columns::answers::{Answer, or_word, tell_next};
+use replay_columns::columns::{Fault, List, parse};
 use std::alloc::Global;
 use storage_current::qmdb::current::grafting::{
     chunk_aligned_inactive_peaks, exact_inactive, graftable_chunks, grafted_to_ops_pos,
@@ -26,60 +25,64 @@ fn most_nodes<F: Graftable>() -> u64
 }
 
 /// `leaves`: the number of nodes, the peaks' heights and positions, and the positions to pin.
-pub fn families<F: Graftable>(alloc: Global, columns: &[&str]) -> Result<String, Fault> {
+pub fn families<F: Graftable>(
+    alloc: Global,
+    columns: &[&str],
+    out: &mut String,
+) -> Result<(), Fault> {
     let leaves: u64 = parse(alloc, columns)?;
     if leaves > MAX_LEAVES {
         return Err(Fault::Malformed);
     }
     let peaks = peaks::<F>(alloc, leaves)?;
     let pins = pins::<F>(alloc, leaves)?;
-    told(alloc, &(F::nodes_over(leaves), peaks, pins))
+    (F::nodes_over(leaves), peaks, pins).tell(out)
 }
 
 /// Returns the peaks' heights and positions.
-fn peaks<F: Graftable>(alloc: Global, leaves: u64) -> Result<(String, String), Fault>
+fn peaks<F: Graftable>(alloc: Global, leaves: u64) -> Result<(List<u64>, List<Position<F>>), Fault>
     requires { leaves ≤ max_leaves }
 {
-    let mut heights = Series::new(alloc);
-    let mut positions = Series::new(alloc);
+    let mut heights = Vec::new(alloc);
+    let mut positions = Vec::new(alloc);
     for (position, height) in F::peaks(Position::new(F::nodes_over(leaves))) {
-        heights.push(alloc, &(height as u64))?;
-        positions.push(alloc, &position)?;
+        heights.push(height as u64)?;
+        positions.push(position)?;
     }
-    Ok((heights.finish()?, positions.finish()?))
+    Ok((List(heights), List(positions)))
 }
 
 /// Returns the positions to pin.
-fn pins<F: Graftable>(alloc: Global, leaves: u64) -> Result<String, Fault>
+fn pins<F: Graftable>(alloc: Global, leaves: u64) -> Result<List<Position<F>>, Fault>
     requires { leaves ≤ max_leaves }
 {
-    let mut pins = Series::new(alloc);
+    let mut pins = Vec::new(alloc);
     for position in F::nodes_to_pin(Location::new(leaves)) {
-        pins.push(alloc, &position)?;
+        pins.push(position)?;
     }
-    Ok(pins.finish()?)
+    Ok(List(pins))
 }
 
 /// `nodes`: of how many leaves this is the number of nodes.
-pub fn sizes<F: Graftable>(alloc: Global, columns: &[&str]) -> Result<String, Fault> {
+pub fn sizes<F: Graftable>(alloc: Global, columns: &[&str], out: &mut String) -> Result<(), Fault> {
     let nodes: u64 = parse(alloc, columns)?;
     if nodes > most_nodes::<F>() {
         return Err(Fault::Malformed);
     }
     let leaves = leaves_within::<F>(nodes);
-    told(alloc, &(F::nodes_over(leaves) == nodes).then_some(leaves))
+    (F::nodes_over(leaves) == nodes).then_some(leaves).tell(out)
 }
 
 /// `first_leaf height`: the position of this node, at how many leaves it comes, and its children.
-pub fn nodes<F: Graftable>(alloc: Global, columns: &[&str]) -> Result<String, Fault> {
+pub fn nodes<F: Graftable>(alloc: Global, columns: &[&str], out: &mut String) -> Result<(), Fault> {
     let (first, height): (u64, u64) = parse(alloc, columns)?;
     if height > 61 || first > MAX_LEAVES || !first.is_multiple_of(1 << height) {
         return Err(Fault::Malformed);
     }
-    node::<F>(alloc, first, height as u32)
+    node::<F>(first, height as u32, out)
 }
 
-fn node<F: Graftable>(alloc: Global, first: u64, height: u32) -> Result<String, Fault>
+fn node<F: Graftable>(first: u64, height: u32, out: &mut String) -> Result<(), Fault>
     requires aligned { first % 2 ^ height ≡ 0 }
     requires early { first ≤ max_leaves }
     requires low { height ≤ 61 }
@@ -89,51 +92,55 @@ fn node<F: Graftable>(alloc: Global, first: u64, height: u32) -> Result<String, 
         return Err(Fault::Malformed);
     }
     if height == 0 {
-        let none: Option<u64> = None;
-        return told(alloc, &(position, F::birth(first, height), none, none));
+        return (position, F::birth(first, height), "- -").tell(out);
     }
-    let (left, right) = F::children(position, height);
-    told(
-        alloc,
-        &(position, F::peak_birth_size(position, height), left, right),
-    )
+    let children = F::children(position, height);
+    (position, F::peak_birth_size(position, height), children).tell(out)
 }
 
 /// `position`: the height of the node there, its children, its first leaf, and at how many leaves it comes; or `leaf`.
-pub fn around<F: Graftable>(alloc: Global, columns: &[&str]) -> Result<String, Fault> {
+pub fn around<F: Graftable>(
+    alloc: Global,
+    columns: &[&str],
+    out: &mut String,
+) -> Result<(), Fault> {
     let position: Position<F> = parse(alloc, columns)?;
     if position.as_u64() > most_nodes::<F>() {
         return Err(Fault::Malformed);
     }
     let (_, height) = node_at::<F>(position.as_u64());
     if height == 0 {
-        return Ok(String::from_str(alloc, "leaf")?);
+        return "leaf".tell(out);
     }
     let children = F::children(position, height);
     let first = F::leftmost_leaf(position, height);
     let birth = F::peak_birth_size(position, height);
-    told(alloc, &(height as u64, children, first, birth))
+    (height as u64, children, first, birth).tell(out)
 }
 
 /// `leaves height`: how many chunks are graftable.
-pub fn graftable<F: Graftable>(alloc: Global, columns: &[&str]) -> Result<String, Fault> {
+pub fn graftable<F: Graftable>(
+    alloc: Global,
+    columns: &[&str],
+    out: &mut String,
+) -> Result<(), Fault> {
     let (leaves, height): (u64, u64) = parse(alloc, columns)?;
     if height < 1 || height > 62 {
         return Err(Fault::Malformed);
     }
-    told(alloc, &graftable_chunks::<F>(leaves, height as u32))
+    graftable_chunks::<F>(leaves, height as u32).tell(out)
 }
 
 /// `height position`: the operations position of a grafted one, and what that is mapped back to.
-pub fn maps<F: Graftable>(alloc: Global, columns: &[&str]) -> Result<String, Fault> {
+pub fn maps<F: Graftable>(alloc: Global, columns: &[&str], out: &mut String) -> Result<(), Fault> {
     let (height, position): (u64, u64) = parse(alloc, columns)?;
     if height < 1 || height > 62 || position > most_nodes::<F>() {
         return Err(Fault::Malformed);
     }
-    map::<F>(alloc, position, height as u32)
+    map::<F>(position, height as u32, out)
 }
 
-fn map<F: Graftable>(alloc: Global, position: u64, height: u32) -> Result<String, Fault>
+fn map<F: Graftable>(position: u64, height: u32, out: &mut String) -> Result<(), Fault>
     requires low { 1 ≤ height }
     requires high { height ≤ 62 }
     requires valid { position ≤ size F.shape max_leaves }
@@ -152,40 +159,41 @@ fn map<F: Graftable>(alloc: Global, position: u64, height: u32) -> Result<String
     }
     let above = grafted_to_ops_pos::<F>(Position::new(position), height);
     let below = ops_to_grafted_pos::<F>(above, height);
-    told(alloc, &(above, below))
+    (above, below).tell(out)
 }
 
 /// `leaves floor height`: how many leading peaks end at or before the floor, and how many up to the last that ends on a multiple of
 /// two to the height.
-pub fn inactive<F: Graftable>(alloc: Global, columns: &[&str]) -> Result<String, Fault> {
+pub fn inactive<F: Graftable>(
+    alloc: Global,
+    columns: &[&str],
+    out: &mut String,
+) -> Result<(), Fault> {
     let (leaves, floor, height): (u64, u64, u64) = parse(alloc, columns)?;
     if leaves > MAX_LEAVES || height > 62 {
         return Err(Fault::Malformed);
     }
     let exact = exact_inactive::<F>(leaves, floor);
     let aligned = chunk_aligned_inactive_peaks::<F>(leaves, floor, height as u32);
-    told(alloc, &(exact, aligned))
+    (exact, aligned).tell(out)
 }
 
 /// `leaves location`: the positions that the plan of this location has, or its refusal.
-pub fn elements<F: Family>(alloc: Global, columns: &[&str]) -> Result<String, Fault> {
+pub fn elements<F: Family>(alloc: Global, columns: &[&str], out: &mut String) -> Result<(), Fault> {
     let (leaves, location): (Location<F>, Location<F>) = parse(alloc, columns)?;
     match ElementPlan::new(alloc, leaves, location) {
         Ok(plan) => {
             let plan: RangePlan<F> = plan.into();
-            told(alloc, &plan)
+            plan.tell(out)
         }
-        Err(error) => merkle_refusal(alloc, &error),
+        Err(error) => error.tell(out),
     }
 }
 
 /// `leaves start end`: the positions that the plan of this range has, or its refusal.
-pub fn plans<F: Family>(alloc: Global, columns: &[&str]) -> Result<String, Fault> {
+pub fn plans<F: Family>(alloc: Global, columns: &[&str], out: &mut String) -> Result<(), Fault> {
     let (leaves, start, end): (Location<F>, Location<F>, Location<F>) = parse(alloc, columns)?;
-    match RangePlan::new(alloc, leaves, start..end) {
-        Ok(plan) => told(alloc, &plan),
-        Err(error) => merkle_refusal(alloc, &error),
-    }
+    RangePlan::new(alloc, leaves, start..end).tell(out)
 }
 
 /// `leaves bits pruned location`: the chunks that are read for a proof, of one operation or, where the location is `-`, of none; or
@@ -193,7 +201,8 @@ pub fn plans<F: Family>(alloc: Global, columns: &[&str]) -> Result<String, Fault
 pub fn required<F: Graftable, const N: usize>(
     alloc: Global,
     columns: &[&str],
-) -> Result<String, Fault>
+    out: &mut String,
+) -> Result<(), Fault>
     requires { IsChunkSize N }
 {
     let (leaves, bits, pruned, location): (Location<F>, u64, u64, Option<Location<F>>) = parse(
@@ -201,12 +210,12 @@ pub fn required<F: Graftable, const N: usize>(
     )?;
     match required_chunks::<F, N>(leaves, bits, pruned, location) {
         Ok(chunks) => {
-            let mut series = Series::new(alloc);
+            let start = out.len();
             for chunk in chunks {
-                series.push(alloc, &chunk)?;
+                tell_next(out, start, ',', &chunk)?;
             }
-            Ok(series.finish()?)
+            or_word(out, start, "none")
         }
-        Err(error) => database_refusal(alloc, &error),
+        Err(error) => error.tell(out),
     }
 }

@@ -1,7 +1,7 @@
 //! Lists on values as bytes.
 
 use bytes::Bytes;
-use replay_columns::answers::told;
+use replay_columns::answers::tell_bytes;
 use replay_columns::columns::{Fault, array, bytes, number, parse};
 use std::alloc::Global;
 use storage_codec::codec::{
@@ -9,47 +9,45 @@ use storage_codec::codec::{
 };
 
 /// `type value`: its bytes, and whether it is read again from them as a slice and as shared bytes.
-pub fn values(alloc: Global, columns: &[&str]) -> Result<String, Fault> {
-    let (kind, value): (String, String) = parse(alloc, columns)?;
-    let value = value.as_str();
-    match kind.as_str() {
-        "bool" => through(alloc, &(value == "true"), &()),
-        "u64" => through(alloc, &number(value)?, &()),
-        "varint" => through(alloc, &UInt(number(value)?), &()),
-        "key" => through(alloc, &U64::new(number(value)?), &()),
-        kind => strings(alloc, kind, value),
-    }
-}
-
-fn strings(alloc: Global, kind: &str, value: &str) -> Result<String, Fault> {
-    match kind {
-        "fixed4" => {
-            let bytes: [u8; 4] = array(value)?;
-            through(alloc, &FixedBytes { bytes }, &())
-        }
-        "optional" => {
-            let bytes: [u8; 4] = array(value)?;
-            through(alloc, &Some(FixedBytes { bytes }), &())
-        }
+pub fn values(alloc: Global, columns: &[&str], out: &mut String) -> Result<(), Fault> {
+    let [kind, value] = columns else {
+        return Err(Fault::Malformed);
+    };
+    let value = *value;
+    match *kind {
+        "bool" => through(alloc, &(value == "true"), &(), out),
+        "u64" => through(alloc, &number(value)?, &(), out),
+        "varint" => through(alloc, &UInt(number(value)?), &(), out),
+        "key" => through(alloc, &U64::new(number(value)?), &(), out),
+        "fixed4" => through(alloc, &fixed(value)?, &(), out),
+        "optional" => through(alloc, &Some(fixed(value)?), &(), out),
         "two" => {
             let value = bytes(alloc, value)?;
-            through(alloc, &value, &(RangeCfg { min: 2, max: 2 }, ()))
+            through(alloc, &value, &(RangeCfg { min: 2, max: 2 }, ()), out)
         }
         _ => Err(Fault::Malformed),
     }
+}
+
+/// Returns four bytes.
+fn fixed(text: &str) -> Result<FixedBytes<4>, Fault> {
+    Ok(FixedBytes {
+        bytes: array(text)?,
+    })
 }
 
 fn through<T: Codec + EncodeSize + PartialEq + Drop>(
     alloc: Global,
     value: &T,
     cfg: &T::Cfg,
-) -> Result<String, Fault> {
+    out: &mut String,
+) -> Result<(), Fault> {
     let bytes = value.encode(alloc)?;
+    tell_bytes(out, &bytes)?;
     let from_slice = is_read(alloc, bytes.as_slice(), cfg, value)?;
     let shared = Bytes::copy_from_slice(alloc, &bytes)?;
     let from_shared = is_read(alloc, shared, cfg, value)?;
-    let bytes = hex::encode(alloc, bytes.as_slice())?;
-    Ok(format!(in alloc; "{bytes} {from_slice} {from_shared}")?)
+    Ok(write!(out, " {from_slice} {from_shared}")?)
 }
 
 /// Returns whether the bytes are this value.
@@ -68,16 +66,15 @@ fn is_read<T: Read + PartialEq + Drop, B: Buf>(
 
 /// `bytes count`: the first `count` of five bytes, cut from the front of them as a slice and as shared bytes, each with how many are
 /// left.
-pub fn cuts(alloc: Global, columns: &[&str]) -> Result<String, Fault> {
+pub fn cuts(alloc: Global, columns: &[&str], out: &mut String) -> Result<(), Fault> {
     let (text, count): ([u8; 5], usize) = parse(alloc, columns)?;
-    let from_slice = cut(alloc, text.as_slice(), count)?;
-    let shared = Bytes::copy_from_slice(alloc, &text)?;
-    let from_shared = cut(alloc, shared, count)?;
-    told(alloc, &(from_slice, from_shared))
+    cut(alloc, text.as_slice(), count, out)?;
+    out.push(' ')?;
+    cut(alloc, Bytes::copy_from_slice(alloc, &text)?, count, out)
 }
 
-fn cut<B: Buf>(alloc: Global, mut buf: B, count: usize) -> Result<String, Fault> {
+fn cut<B: Buf>(alloc: Global, mut buf: B, count: usize, out: &mut String) -> Result<(), Fault> {
     let front = buf.cut(alloc, count)?;
-    let front = hex::encode(alloc, &front)?;
-    told(alloc, &(front, buf.remaining()))
+    tell_bytes(out, &front)?;
+    Ok(write!(out, " {}", buf.remaining())?)
 }

@@ -1,6 +1,6 @@
 //! The list on the hasher of checks over a grafted view.
 
-use replay_columns::answers::told;
+use replay_columns::answers::Answer;
 use replay_columns::columns::{Fault, Hex, List, lent, parse};
 use std::alloc::Global;
 use storage_codec::digest;
@@ -13,15 +13,11 @@ use storage_merkle::merkle::{Graftable, MAX_LEAVES, Position};
 pub fn verifiers<F: Graftable, H: digest::Hasher>(
     alloc: Global,
     columns: &[&str],
-) -> Result<String, Fault> {
-    let (height, start, List(chunks), graftable, position, Hex(left), Hex(right)): (
-        u64,
-        u64,
-        List<Vec<u8>>,
-        u64,
-        Position<F>,
-        Hex<H::Digest>,
-        Hex<H::Digest>,
+    out: &mut String,
+) -> Result<(), Fault> {
+    let ((height, start, chunks), (graftable, position, Hex(left), Hex(right))): (
+        (u64, u64, List<Vec<u8>>),
+        (u64, Position<F>, Hex<H::Digest>, Hex<H::Digest>),
     ) = parse(alloc, columns)?;
     let Ok(height) = u32::try_from(height) else {
         return Err(Fault::Malformed);
@@ -29,12 +25,12 @@ pub fn verifiers<F: Graftable, H: digest::Hasher>(
     if position.as_u64() > F::nodes_over(MAX_LEAVES) {
         return Err(Fault::Malformed);
     }
-    let chunks = lent(alloc, &chunks)?;
+    let chunks = lent(alloc, &chunks.0)?;
     let verifier = Verifier::<F, H>::new(height, start, chunks, graftable);
     let copy = verifier.clone()?;
     let digest = verifier.node_digest(position, &left, &right);
     if copy.node_digest(position, &left, &right) != digest {
         return Err(Fault::Differs);
     }
-    told(alloc, &Hex(digest))
+    Hex(digest).tell(out)
 }

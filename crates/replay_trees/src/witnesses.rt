@@ -1,8 +1,7 @@
 //! The list on witnesses of the operations root.
 
-use replay_columns::answers::told;
-use replay_columns::columns::{Fault, Hex, parse};
-use replay_columns::refusals::codec_refusal;
+use replay_columns::answers::Answer;
+use replay_columns::columns::{Fault, Hex, Label, parse};
 use std::alloc::Global;
 use storage_codec::codec::{Decode, Encode};
 use storage_codec::digest::Hasher;
@@ -14,17 +13,17 @@ use storage_merkle::merkle::Graftable;
 pub fn witnesses<F: Graftable, H: Hasher>(
     alloc: Global,
     columns: &[&str],
-) -> Result<String, Fault> {
-    let (witness, Hex(ops_root), Hex(root), _): (Vec<u8>, Hex<H::Digest>, Hex<H::Digest>, String) =
+    out: &mut String,
+) -> Result<(), Fault> {
+    let (witness, Hex(ops_root), Hex(root), _): (Vec<u8>, Hex<H::Digest>, Hex<H::Digest>, Label) =
         parse(alloc, columns)?;
-    match OpsRootWitness::<F, H::Digest>::decode_cfg(alloc, witness.as_slice(), &()) {
-        Ok(read) => {
-            let copy = read.clone()?;
-            if copy != read || copy.encode(alloc)? != witness {
-                return Err(Fault::Differs);
-            }
-            told(alloc, &copy.verify::<H>(&ops_root, &root))
-        }
-        Err(error) => codec_refusal(alloc, error),
+    let read = match OpsRootWitness::<F, H::Digest>::decode_cfg(alloc, witness.as_slice(), &()) {
+        Ok(read) => read,
+        Err(error) => return error.tell(out),
+    };
+    let copy = read.clone()?;
+    if copy != read || copy.encode(alloc)? != witness {
+        return Err(Fault::Differs);
     }
+    copy.verify::<H>(&ops_root, &root).tell(out)
 }

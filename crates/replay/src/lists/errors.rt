@@ -1,7 +1,7 @@
 //! The list on the texts of refusals.
 
 use commonware_storage::light::TextError;
-use replay_columns::answers::unblanked;
+use replay_columns::answers::{Answer, Unblanked};
 use replay_columns::columns::{Fault, parse};
 use std::alloc::Global;
 use std::fmt::Display;
@@ -12,19 +12,19 @@ use storage_ops::qmdb;
 
 /// `code first second`: the text of the refusal of that code and of the numbers that go with it, with `_` for each blank. Beside
 /// the codes of a reader, a tree and a database there are `X1` to `X3` of a check of texts, `L1` and `L2` of a log, and `M`.
-pub fn errors(alloc: Global, columns: &[&str]) -> Result<String, Fault> {
+pub fn errors(alloc: Global, columns: &[&str], out: &mut String) -> Result<(), Fault> {
     let (code, first, second): (String, u64, u64) = parse(alloc, columns)?;
     let code = code.as_str();
-    if let Some(place) = code.strip_prefix('C') {
-        return displayed(alloc, &of_reader(place, first));
-    }
-    if let Some(place) = code.strip_prefix('E') {
-        return displayed(alloc, &of_tree(place, first, second));
-    }
-    if let Some(place) = code.strip_prefix('Q') {
-        return displayed(alloc, &of_database(place, first));
-    }
-    other(alloc, code, (first % 1000) as u32)
+    let text = if let Some(place) = code.strip_prefix('C') {
+        displayed(alloc, &of_reader(place, first))?
+    } else if let Some(place) = code.strip_prefix('E') {
+        displayed(alloc, &of_tree(place, first, second))?
+    } else if let Some(place) = code.strip_prefix('Q') {
+        displayed(alloc, &of_database(place, first))?
+    } else {
+        other(alloc, code, (first % 1000) as u32)?
+    };
+    Unblanked(text.as_str()).tell(out)
 }
 
 /// Returns the text of a refusal of texts, of a log, or for want of memory alone.
@@ -40,13 +40,12 @@ fn other(alloc: Global, code: &str, fault: u32) -> Result<String, Fault> {
     }
 }
 
-/// Returns the text of a refusal, with `_` for each blank.
+/// Returns the text of a refusal.
 fn displayed<E: Display>(alloc: Global, error: &Option<E>) -> Result<String, Fault> {
-    let Some(error) = error else {
-        return Err(Fault::Malformed);
-    };
-    let text = format!(in alloc; "{error}")?;
-    unblanked(alloc, text.as_str())
+    match error {
+        Some(error) => Ok(format!(in alloc; "{error}")?),
+        None => Err(Fault::Malformed),
+    }
 }
 
 fn of_reader(place: &str, number: u64) -> Option<codec::Error> {

@@ -2,8 +2,8 @@
 
 use commonware_storage::digest::Hasher;
 use commonware_storage::merkle::{Graftable, Location};
-use replay_columns::answers::{told, unblanked};
-use replay_columns::columns::{Fault, Hex, bytes, halves, number, parse};
+use replay_columns::answers::{Answer, Unblanked};
+use replay_columns::columns::{Fault, Hex, Label, bytes, halves, number, parse};
 use replay_snapshots::shared::Given;
 use stateproof_cli::run;
 use std::alloc::Global;
@@ -54,16 +54,17 @@ fn output_of(alloc: Global, line: &[&str], input: &str) -> Result<String, Fault>
 
 /// `words input`: the status of a run over words with commas between them, `none` for none, and what it writes to its output and as
 /// its error, each `-` for nothing.
-pub fn runs(alloc: Global, columns: &[&str]) -> Result<String, Fault> {
+pub fn runs(alloc: Global, columns: &[&str], out: &mut String) -> Result<(), Fault> {
     let [line, input] = columns else {
         return Err(Fault::Malformed);
     };
     let words = words_of(alloc, *line)?;
     let input = bytes(alloc, *input)?;
     let outcome = outcome_of(alloc, &words, &input)?;
-    let output = column(alloc, &outcome.output)?;
-    let errors = column(alloc, &outcome.errors)?;
-    told(alloc, &(outcome.status as usize, output, errors))
+    write!(out, "{} ", outcome.status)?;
+    tell_column(alloc, &outcome.output, out)?;
+    out.push(' ')?;
+    tell_column(alloc, &outcome.errors, out)
 }
 
 /// Returns the words between commas; `none` is none.
@@ -76,25 +77,23 @@ fn words_of(alloc: Global, line: &str) -> Result<Vec<&str>, Fault> {
 
 /// `family chunk script`: the status of a run of `db` over the bytes of the script, and what it writes to its output and as its
 /// error, in hexadecimal.
-pub fn db(alloc: Global, columns: &[&str]) -> Result<String, Fault> {
+pub fn db(alloc: Global, columns: &[&str], out: &mut String) -> Result<(), Fault> {
     let [family, chunk, script] = columns else {
         return Err(Fault::Malformed);
     };
     let script = bytes(alloc, *script)?;
     let outcome = outcome_of(alloc, &["db", *family, *chunk], &script)?;
-    told(
-        alloc,
-        &(outcome.status as usize, outcome.output, outcome.errors),
-    )
+    write!(out, "{} ", outcome.status)?;
+    (outcome.output, outcome.errors).tell(out)
 }
 
-/// Returns the lines of a text as a column; none for no text.
-fn column(alloc: Global, text: &[u8]) -> Result<Option<String>, Fault> {
+/// Adds the lines of a text as a column; `-` for no text.
+fn tell_column(alloc: Global, text: &[u8], out: &mut String) -> Result<(), Fault> {
     if text.is_empty() {
-        return Ok(None);
+        return Ok(out.push('-')?);
     }
-    let line = unended(alloc, text)?;
-    Ok(Some(unblanked(alloc, line.as_str())?))
+    let lines = unended(alloc, text)?;
+    Unblanked(lines.as_str()).tell(out)
 }
 
 /// Returns the lines of a text with a blank in place of the feed between two of them.
@@ -114,7 +113,7 @@ fn unended(alloc: Global, text: &[u8]) -> Result<String, Fault> {
 
 /// `family chunk floor location operations`: the root as `root` writes it, root and proof as `prove` writes them, and what
 /// `check` answers for them. An operation is its bit, a colon and its bytes.
-pub fn program(alloc: Global, columns: &[&str]) -> Result<String, Fault> {
+pub fn program(alloc: Global, columns: &[&str], out: &mut String) -> Result<(), Fault> {
     let [family, chunk, floor, location, operations] = columns else {
         return Err(Fault::Malformed);
     };
@@ -125,7 +124,7 @@ pub fn program(alloc: Global, columns: &[&str]) -> Result<String, Fault> {
     let claim = claim(alloc, *operations, *location, made.as_str())?;
     let line = ["check", *family, *chunk, root.as_str(), *location];
     let answer = output_of(alloc, &line, claim.as_str())?;
-    told(alloc, &(root, made, answer))
+    (root.as_str(), made.as_str(), answer.as_str()).tell(out)
 }
 
 /// Returns the lines to check: the operation at a location, and the proof behind the root that `prove` wrote.
@@ -151,22 +150,20 @@ fn lines(alloc: Global, operations: &str) -> Result<String, Fault> {
 pub fn program_checks<F: Graftable, H: Hasher>(
     alloc: Global,
     columns: &[&str],
-) -> Result<String, Fault> {
-    let (chunk_size, loc, operation, proof, Hex(root), _): (
-        usize,
-        Location<F>,
-        Vec<u8>,
-        Vec<u8>,
+    out: &mut String,
+) -> Result<(), Fault> {
+    let ((chunk_size, loc), (operation, proof), Hex(root), _): (
+        (usize, Location<F>),
+        (Vec<u8>, Vec<u8>),
         Hex<H::Digest>,
-        String,
+        Label,
     ) = parse(alloc, columns)?;
     let given = Given {
         proof,
         chunk_size,
         root,
     };
-    told(
-        alloc,
-        &given.shows_operation::<F, H>(alloc, loc, &operation)?,
-    )
+    given
+        .shows_operation::<F, H>(alloc, loc, &operation)?
+        .tell(out)
 }

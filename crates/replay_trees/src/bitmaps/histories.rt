@@ -3,18 +3,16 @@
 ghost use Rattle.std.specs.Prelude.{◌≤◌};
 ghost use Rattle.storage_bitmap.specs.Chunks.{IsChunkSize};
 
-use replay_columns::answers::Series;
-use replay_columns::columns::{
-    Fault, Hex, List, Refusal, digests_between, halves, number, or_fault, parse,
-};
+use replay_columns::answers::{At, tell_next};
+use replay_columns::columns::{Fault, Refusal as _, digests_between, halves, number, or_fault};
 use std::alloc::Global;
 use storage_bitmap::bitmap::authenticated::{
     BitMap, MerkleizedBitMap, PrunedState, UnmerkleizedBitMap,
 };
 use storage_codec::codec::FixedBytes;
 use storage_codec::digest::{Digest, Hasher};
+use storage_merkle::merkle::MAX_LEAVES;
 use storage_merkle::merkle::hasher::Standard;
-use storage_merkle::merkle::{MAX_LEAVES, Position};
 
 /// A bitmap between two calls.
 #[derive(Drop)]
@@ -34,7 +32,7 @@ where
     requires chunk { IsChunkSize N }
     requires small { D ≤ 64 }
 {
-    let mut stage = begun(alloc, hasher)?;
+    let mut stage = restored::<H, N>(alloc, hasher, "0:-")?;
     for call in calls.split(',') {
         stage = called(alloc, hasher, stage, call)?;
     }
@@ -42,16 +40,6 @@ where
         Stage::Merkleized(bitmap) => Ok(bitmap),
         Stage::Unmerkleized(_) => Err(Fault::Malformed),
     }
-}
-
-/// Returns the bitmap without bits.
-pub fn begun<H: Hasher, const N: usize>(
-    alloc: Global,
-    hasher: &Standard<H>,
-) -> Result<Stage<H::Digest, N>, Fault>
-    requires { IsChunkSize N }
-{
-    Ok(Stage::Merkleized(restored(alloc, hasher, "0:-")?))
 }
 
 /// Returns what a bitmap is after a call.
@@ -75,44 +63,43 @@ pub fn called<H: Hasher, const N: usize>(
 fn merkleized<H: Hasher, const N: usize>(
     alloc: Global,
     hasher: &Standard<H>,
-    mut bitmap: MerkleizedBitMap<H::Digest, N>,
+    bitmap: MerkleizedBitMap<H::Digest, N>,
     verb: &str,
     rest: &str,
 ) -> Result<Stage<H::Digest, N>, Fault>
     requires { IsChunkSize N }
 {
     match verb {
-        "d" => return Ok(Stage::Unmerkleized(bitmap.into_dirty())),
-        "r" => bitmap = or_fault(BitMap::init(alloc, hasher, or_fault(bitmap.write_pruned())?))?,
-        "x" => prune(&mut bitmap, number(rest)?)?,
-        "init" => bitmap = restored(alloc, hasher, rest)?,
-        _ => return Err(Fault::Malformed),
+        "d" => Ok(Stage::Unmerkleized(bitmap.into_dirty())),
+        "r" => begun(alloc, hasher, or_fault(bitmap.write_pruned())?),
+        "x" => pruned(bitmap, number(rest)?),
+        "init" => restored(alloc, hasher, rest),
+        _ => Err(Fault::Malformed),
     }
-    Ok(Stage::Merkleized(bitmap))
 }
 
-/// Prunes up to a bit.
-fn prune<D: Digest, const N: usize>(
-    bitmap: &mut MerkleizedBitMap<D, N>,
+/// Returns the bitmap, pruned up to a bit.
+fn pruned<D: Digest, const N: usize>(
+    mut bitmap: MerkleizedBitMap<D, N>,
     bit: u64,
-) -> Result<(), Fault>
+) -> Result<Stage<D, N>, Fault>
     requires { IsChunkSize N }
 {
     if bit > bitmap.len() {
         return Err(Fault::Malformed);
     }
-    match bitmap.prune_to_bit(bit) {
-        Ok(()) => Ok(()),
-        Err(error) => Err(error.fault()),
+    if let Err(error) = bitmap.prune_to_bit(bit) {
+        return Err(error.fault());
     }
+    Ok(Stage::Merkleized(bitmap))
 }
 
 /// Returns the bitmap of `COUNT:DIGESTS`: that many chunks, all of them pruned, of which these digests are kept.
-fn restored<H: Hasher, const N: usize>(
+pub fn restored<H: Hasher, const N: usize>(
     alloc: Global,
     hasher: &Standard<H>,
     parts: &str,
-) -> Result<MerkleizedBitMap<H::Digest, N>, Fault>
+) -> Result<Stage<H::Digest, N>, Fault>
     requires { IsChunkSize N }
 {
     let (count, pinned) = halves(parts, ':')?;
@@ -120,7 +107,18 @@ fn restored<H: Hasher, const N: usize>(
         pruned_chunks: number(count)?,
         pinned: digests_between(alloc, pinned, '/')?,
     };
-    or_fault(BitMap::init(alloc, hasher, state))
+    begun(alloc, hasher, state)
+}
+
+/// Returns the bitmap of what is kept of pruned chunks.
+fn begun<H: Hasher, const N: usize>(
+    alloc: Global,
+    hasher: &Standard<H>,
+    state: PrunedState<H::Digest>,
+) -> Result<Stage<H::Digest, N>, Fault>
+    requires { IsChunkSize N }
+{
+    Ok(Stage::Merkleized(or_fault(BitMap::init(alloc, hasher, state))?))
 }
 
 /// Returns the bitmap after a call: `p:BITS` appends bits, `s:BIT:VALUE` changes a bit, and `m` hashes what changed.
@@ -177,128 +175,34 @@ fn set<D: Digest, const N: usize>(
     }
 }
 
-/// The roots that a bitmap had, and what stood after each call that left it with its root.
-#[derive(Drop)]
-pub struct History<D> {
-    roots: Vec<D>,
-    pub stages: Series,
-}
-
-impl<D: Digest> History<D> {
-    /// No call yet.
-    pub fn new(alloc: Global) -> Self {
-        History {
-            roots: Vec::new(alloc),
-            stages: Series::new(alloc),
-        }
-    }
-
-    /// Adds what stands after a call, where the bitmap has its root.
-    pub fn note<const N: usize>(
-        &mut self,
-        alloc: Global,
-        stage: &Stage<D, N>,
-    ) -> Result<(), Fault> {
-        if let Stage::Merkleized(bitmap) = stage {
-            let place = self.place_of(bitmap.root())?;
-            let stage = stage_text(alloc, bitmap, place)?;
-            self.stages.push(alloc, &stage)?;
-        }
-        Ok(())
-    }
-
-    /// Returns the place of a root among the roots, to which it is added if it is new.
-    fn place_of(&mut self, root: D) -> Result<u64, Fault> {
-        let mut place: u64 = 0;
-        for known in &self.roots {
-            if *known == root {
-                return Ok(place);
-            }
-            place = place.saturating_add(1);
-        }
-        self.roots.push(root)?;
-        Ok(place)
-    }
-}
-
-/// Returns what stands in a bitmap with its root, whose place among the roots is given.
-fn stage_text<D: Digest, const N: usize>(
-    alloc: Global,
-    bitmap: &MerkleizedBitMap<D, N>,
-    place: u64,
-) -> Result<String, Fault> {
-    let (length, pruned, size) = (bitmap.len(), bitmap.pruned_bits(), bitmap.size());
-    let (chunk, count) = bitmap.last_chunk();
-    let chunk = hex::encode(alloc, *chunk)?;
+/// Adds what stands after a call, where the bitmap has its root, behind a comma where something stands behind the first
+/// `start` bytes.
+pub fn tell_note<D: Digest, const N: usize>(
+    stage: &Stage<D, N>,
+    roots: &mut Vec<D>,
+    start: usize,
+    out: &mut String,
+) -> Result<(), Fault> {
+    let Stage::Merkleized(bitmap) = stage else {
+        return Ok(());
+    };
+    let place = place_of(roots, bitmap.root())?;
     let kept = or_fault(bitmap.write_pruned())?.pinned.len();
-    Ok(format!(in alloc; "{length}:{pruned}:{size}:{chunk}:{count}:{kept}:{place}")?)
+    let (chunk, count) = bitmap.last_chunk();
+    let last = At(At(*chunk, count), At(kept, place));
+    let lengths = At(bitmap.len(), At(bitmap.pruned_bits(), bitmap.size()));
+    tell_next(out, start, ',', &At(lengths, last))
 }
 
-/// Returns what is kept of the pruned chunks: their number and the digests of the peaks over them.
-pub fn kept<D: Digest, const N: usize>(
-    alloc: Global,
-    bitmap: &MerkleizedBitMap<D, N>,
-) -> Result<String, Fault> {
-    let state = or_fault(bitmap.write_pruned())?;
-    let chunks = state.pruned_chunks;
-    let pinned = joined(alloc, &state.pinned)?;
-    Ok(format!(in alloc; "{chunks}:{pinned}")?)
-}
-
-/// Digests with slashes between them; `-` is none.
-fn joined<D: Digest>(alloc: Global, digests: &[D]) -> Result<String, Fault> {
-    let mut series = Series::inner(alloc);
-    for digest in digests {
-        series.push(alloc, &Hex(*digest))?;
+/// Returns the place of a root among the roots, to which it is added if it is new.
+fn place_of<D: Digest>(roots: &mut Vec<D>, root: D) -> Result<u64, Fault> {
+    let mut place: u64 = 0;
+    for known in roots.as_slice() {
+        if *known == root {
+            return Ok(place);
+        }
+        place = place.saturating_add(1);
     }
-    Ok(series.finish_or("-")?)
-}
-
-/// Returns the proofs of bits: each bit with the number of leaves, the digests, and the bit's chunk.
-pub fn bits_proved<H: Hasher, const N: usize>(
-    alloc: Global,
-    hasher: &Standard<H>,
-    bitmap: &MerkleizedBitMap<H::Digest, N>,
-    bits: &str,
-) -> Result<String, Fault> {
-    let List(bits): List<u64> = parse(alloc, &[bits])?;
-    let mut series = Series::new(alloc);
-    for bit in &bits {
-        let proof = bit_proved(alloc, hasher, bitmap, *bit)?;
-        series.push_at(alloc, *bit, &proof)?;
-    }
-    Ok(series.finish_or("-")?)
-}
-
-/// Returns the number of leaves and the digests of the proof of a bit, and its chunk.
-fn bit_proved<H: Hasher, const N: usize>(
-    alloc: Global,
-    hasher: &Standard<H>,
-    bitmap: &MerkleizedBitMap<H::Digest, N>,
-    bit: u64,
-) -> Result<String, Fault> {
-    if bit < bitmap.pruned_bits() {
-        return Err(Fault::Malformed);
-    }
-    let (proof, chunk) = or_fault(bitmap.proof(hasher, bit))?;
-    let leaves = proof.leaves;
-    let digests = joined(alloc, &proof.digests)?;
-    let chunk = hex::encode(alloc, chunk)?;
-    Ok(format!(in alloc; "{leaves}:{digests}:{chunk}")?)
-}
-
-/// Returns the digests at all positions.
-pub fn nodes<D: Digest, const N: usize>(
-    alloc: Global,
-    bitmap: &MerkleizedBitMap<D, N>,
-) -> Result<String, Fault> {
-    let mut series = Series::new(alloc);
-    for place in 0..bitmap.size().as_u64() {
-        series.push_at(
-            alloc,
-            place,
-            &bitmap.get_node(Position::new(place)).map(Hex),
-        )?;
-    }
-    Ok(series.finish_or("-")?)
+    roots.push(root)?;
+    Ok(place)
 }

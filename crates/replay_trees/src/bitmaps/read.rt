@@ -2,9 +2,8 @@
 
 ghost use Rattle.storage_bitmap.specs.Chunks.{IsChunkSize};
 
-use replay_columns::answers::{Series, told};
+use replay_columns::answers::{Answer, At, or_word, tell_next};
 use replay_columns::columns::{Digests, Fault, Hex, List, or_fault, parse};
-use replay_columns::refusals::merkle_refusal;
 use std::alloc::Global;
 use storage_bitmap::bitmap::Readable;
 use storage_bitmap::bitmap::authenticated::{MerkleizedBitMap, UnmerkleizedBitMap};
@@ -17,51 +16,48 @@ pub fn bitmaps_read<D: Digest, const N: usize>(
     alloc: Global,
     bitmap: MerkleizedBitMap<D, N>,
     bits: &str,
-) -> Result<String, Fault>
+    out: &mut String,
+) -> Result<(), Fault>
     requires { IsChunkSize N }
 {
-    let List(bits): List<u64> = parse(alloc, &[bits])?;
-    let bits = bits_text(alloc, &bitmap, &bits)?;
-    let chunks = by_chunk::<N, MerkleizedBitMap<D, N>>(alloc, &bitmap)?;
-    let opened = by_chunk::<N, UnmerkleizedBitMap<D, N>>(alloc, &bitmap.into_dirty())?;
+    let bits: List<u64> = parse(alloc, &[bits])?;
+    MerkleizedBitMap::<D, N>::chunk_size_bits().tell(out)?;
+    out.push(' ')?;
+    tell_bits(&bitmap, &bits.0, out)?;
+    out.push(' ')?;
+    let mut chunks = String::new(alloc);
+    tell_chunks::<N, MerkleizedBitMap<D, N>>(&bitmap, &mut chunks)?;
+    let mut opened = String::new(alloc);
+    tell_chunks::<N, UnmerkleizedBitMap<D, N>>(&bitmap.into_dirty(), &mut opened)?;
     if opened.as_str() != chunks.as_str() {
         return Err(Fault::Differs);
     }
-    told(
-        alloc,
-        &(MerkleizedBitMap::<D, N>::chunk_size_bits(), bits, chunks),
-    )
+    Ok(out.push_str(chunks.as_str())?)
 }
 
-/// Returns how many bits there are, how many chunks of them are pruned, and those that are left.
-fn by_chunk<const N: usize, R: Readable<N>>(alloc: Global, bits: &R) -> Result<String, Fault>
+/// Adds how many bits there are, how many chunks of them are pruned, and those that are left.
+fn tell_chunks<const N: usize, R: Readable<N>>(bits: &R, out: &mut String) -> Result<(), Fault>
     requires { IsChunkSize N }
 {
-    let chunks = chunks_left::<N, R>(alloc, bits)?;
-    told(alloc, &(bits.len(), bits.pruned_chunks(), chunks))
-}
-
-/// Returns the chunks that are left.
-fn chunks_left<const N: usize, R: Readable<N>>(alloc: Global, bits: &R) -> Result<String, Fault>
-    requires { IsChunkSize N }
-{
-    let mut series = Series::new(alloc);
-    let count = bits.len().div_ceil(8 * N as u64) as usize;
-    for index in bits.pruned_chunks()..count {
-        series.push(alloc, &bits.get_chunk(index))?;
+    let count = bits.len();
+    let pruned = bits.pruned_chunks();
+    write!(out, "{count} {pruned} ")?;
+    let start = out.len();
+    for index in pruned..count.div_ceil(8 * N as u64) as usize {
+        tell_next(out, start, ',', &bits.get_chunk(index))?;
     }
-    Ok(series.finish()?)
+    or_word(out, start, "none")
 }
 
-/// Bits with their values, as their chunks have them, and their chunks.
-fn bits_text<D: Digest, const N: usize>(
-    alloc: Global,
+/// Adds bits with their values, as their chunks have them, and their chunks.
+fn tell_bits<D: Digest, const N: usize>(
     bitmap: &MerkleizedBitMap<D, N>,
     bits: &[u64],
-) -> Result<String, Fault>
+    out: &mut String,
+) -> Result<(), Fault>
     requires { IsChunkSize N }
 {
-    let mut series = Series::new(alloc);
+    let start = out.len();
     for bit in bits {
         let bit = *bit;
         if bit < bitmap.pruned_bits() || bit >= bitmap.len() {
@@ -72,11 +68,9 @@ fn bits_text<D: Digest, const N: usize>(
         if bitmap.get_bit(bit) != value {
             return Err(Fault::Differs);
         }
-        let value = u8::from(value);
-        let chunk = hex::encode(alloc, *chunk)?;
-        series.push_at(alloc, bit, &format!(in alloc; "{value}:{chunk}")?)?;
+        tell_next(out, start, ',', &At(bit, At(u64::from(value), *chunk)))?;
     }
-    Ok(series.finish()?)
+    or_word(out, start, "none")
 }
 
 /// `calls positions`: of the bitmap after the calls, as a store of the nodes of its tree, how many nodes it has, the digests at
@@ -85,17 +79,18 @@ pub fn bitmaps_served<D: Digest, const N: usize>(
     alloc: Global,
     bitmap: &mut MerkleizedBitMap<D, N>,
     positions: &str,
-) -> Result<String, Fault> {
-    let List(positions): List<Position<mmr::Family>> = parse(alloc, &[positions])?;
-    let mut each = Series::new(alloc);
-    for position in &positions {
+    out: &mut String,
+) -> Result<(), Fault> {
+    let positions: List<Position<mmr::Family>> = parse(alloc, &[positions])?;
+    Storage::<mmr::Family>::size(bitmap).tell(out)?;
+    out.push(' ')?;
+    let start = out.len();
+    for position in &positions.0 {
         let node = or_fault(Storage::<mmr::Family>::get_node(bitmap, *position))?;
-        each.push(alloc, &node.map(Hex))?;
+        tell_next(out, start, ',', &node.map(Hex))?;
     }
-    let size = Storage::<mmr::Family>::size(bitmap);
-    let all = match Storage::<mmr::Family>::get_nodes(bitmap, alloc, &positions) {
-        Ok(digests) => told(alloc, &Digests(digests))?,
-        Err(error) => merkle_refusal(alloc, &error)?,
-    };
-    told(alloc, &(size, each.finish()?, all))
+    or_word(out, start, "none")?;
+    out.push(' ')?;
+    let digests = Storage::<mmr::Family>::get_nodes(bitmap, alloc, &positions.0);
+    digests.map(Digests).tell(out)
 }

@@ -2,7 +2,7 @@
 
 ghost use Rattle.storage_bitmap.specs.Chunks.{IsChunkSize};
 
-use replay_columns::answers::Series;
+use replay_columns::answers::{or_word, tell_next};
 use replay_columns::columns::{Fault, List, or_fault, parse, parts_between};
 use std::alloc::Global;
 use storage_bitmap::bitmap::authenticated::MerkleizedBitMap;
@@ -18,25 +18,30 @@ pub fn bitmaps_verified<H: Hasher, const N: usize>(
     hasher: &Standard<H>,
     bitmap: &MerkleizedBitMap<H::Digest, N>,
     claims: &str,
-) -> Result<String, Fault>
+    out: &mut String,
+) -> Result<(), Fault>
     requires { IsChunkSize N }
 {
-    let List(claims): List<String> = parse(alloc, &[claims])?;
-    let mut answers = Series::new(alloc);
-    for claim in &claims {
+    let claims: List<String> = parse(alloc, &[claims])?;
+    let start = out.len();
+    for claim in &claims.0 {
+        if out.len() > start {
+            out.push(',')?;
+        }
         let numbers: Vec<u64> = parts_between(alloc, claim.as_str(), ':')?;
-        answers.push(alloc, &accepted(alloc, hasher, bitmap, &numbers)?)?;
+        tell_accepted(alloc, hasher, bitmap, &numbers, out)?;
     }
-    Ok(answers.finish()?)
+    or_word(out, start, "none")
 }
 
-/// Returns the numbers of leaves with which a claim is accepted.
-fn accepted<H: Hasher, const N: usize>(
+/// Adds the numbers of leaves with which a claim is accepted.
+fn tell_accepted<H: Hasher, const N: usize>(
     alloc: Global,
     hasher: &Standard<H>,
     bitmap: &MerkleizedBitMap<H::Digest, N>,
     claim: &[u64],
-) -> Result<String, Fault>
+    out: &mut String,
+) -> Result<(), Fault>
     requires { IsChunkSize N }
 {
     let [bit, claimed, inactive, first, last] = claim else {
@@ -48,12 +53,12 @@ fn accepted<H: Hasher, const N: usize>(
     let (mut proof, chunk) = or_fault(bitmap.proof(hasher, *bit))?;
     proof.inactive_peaks = *inactive as usize;
     let root = bitmap.root();
-    let mut numbers = Series::inner(alloc);
+    let start = out.len();
     for leaves in *first..=*last {
         proof.leaves = Location::new(leaves);
         if MerkleizedBitMap::verify_bit_inclusion(alloc, hasher, &proof, &chunk, *claimed, &root)? {
-            numbers.push(alloc, &leaves)?;
+            tell_next(out, start, '/', &leaves)?;
         }
     }
-    Ok(numbers.finish_or("-")?)
+    or_word(out, start, "-")
 }
