@@ -121,3 +121,15 @@ none_if (Some x) fails = absurd (true≢false fails)
 pub err_and : {T E : Type 0} (P Q : E → Type 0) (r : Result T E) → ((y : E) → P y → Q y) → IsErrAnd r P → IfErr r Q
 err_and P Q (Ok x) f h = tt
 err_and P Q (Err y) f h = f y h
+
+pub ok_both : {T E P Q R : Type 0} (r : Result T E) → (P → Q → R) → OnOk r P → OnOk r Q → OnOk r R
+ok_both (Ok x) f p q = f p q
+ok_both (Err y) f p q = tt
+
+pub err_both : {T E P Q R : Type 0} (r : Result T E) → (P → Q → R) → OnErr r P → OnErr r Q → OnErr r R
+err_both (Ok x) f p q = tt
+err_both (Err y) f p q = f p q
+
+pub either_way : {T E P Q R : Type 0} (r : Result T E) → (P → R) → (Q → R) → OnOk r P → OnErr r Q → R
+either_way (Ok x) f g p q = f p
+either_way (Err y) f g p q = g q

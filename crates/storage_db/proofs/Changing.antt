@@ -21,7 +21,7 @@ use Rattle.storage_db.specs.Rings.{next_key, previous}
 use Rattle.storage_db.specs.Databases.{Committed, Database, without, active_at, updated, relinked, removed, put, delete}
 use Rattle.storage_db.specs.Parts.{texts, database_of, moved, moved_to}
 use Rattle.storage_db.specs.Logs.{IsTooMany}
-use Rattle.storage_db.proofs.Cases.{by_bool, clash, cond_yes, cond_no, equal_of, err_and}
+use Rattle.storage_db.proofs.Cases.{by_bool, clash, cond_yes, cond_no, equal_of, err_and, somes}
 use Rattle.storage_db.proofs.Entries.{Above, Sorted, less_greater, some_past, above_found, lookup_alike, lookup-insert, lookup-remove}
 use Rattle.storage_db.proofs.Nexts.{IsPrevious, previous_some}
 
@@ -242,3 +242,14 @@ module _ {K W : Type 0} (log : Log) (m : List (K × Active W)) (step : Database 
       let why : IsTooMany {F = F} (length log.operations.items) (length log.operations.items + n) Memory
       = sym (cond_no _ (Full (length log.operations.items)) Memory (le-ltb _ _ few)) in
       no_room Memory why h
+
+-- the value that a key has, written again
+pub set_held : {K X : Type 0} (test : K → Bool) (es : List (K × X)) (x : X) → lookup test es ≡ Some x → set_value test es x ≡ es
+set_held test [] x held = refl
+set_held {K} {X} test (c ∷ es) x held = by_bool (test c.0)
+    (λ holds.
+    let same : x ≡ c.1 = somes x c.1 (sym held ∙ cond_yes (test c.0) (Some c.1) (lookup test es) holds) in
+    cond_yes (test c.0) ((c.0, x) ∷ es) (c ∷ set_value test es x) holds ∙ ap (λ (y : X). (c.0, y) ∷ es) same)
+    (λ fails. cond_no (test c.0) ((c.0, x) ∷ es) (c ∷ set_value test es x) fails
+    ∙ ap (λ (l : List (K × X)). c ∷ l)
+    (set_held test es x (sym (cond_no (test c.0) (Some c.1) (lookup test es) fails) ∙ held)))

@@ -7,7 +7,7 @@ use Rattle.std.specs.declared.ops.Bound.TheVariants.{Excluded, Unbounded}
 use Rattle.std.specs.BTreeMap.Range.{range_contains, entries_between}
 use Rattle.storage_current.specs.Keys.{Keyed, IsKeyed}
 use Rattle.storage_db.specs.declared.db.active.Active.{Active}
-use Rattle.storage_db.specs.Rings.{last_of, around, next_key, previous}
+use Rattle.storage_db.specs.Rings.{last_of, around, next_key}
 use Rattle.storage_db.specs.Databases.{active_at}
 use Rattle.storage_db.specs.Kept.{IsCopy}
 use Rattle.storage_db.proofs.Cases.{by_bool, some_not_none}
@@ -119,7 +119,3 @@ module _ {K W Y : Type 0} (e : Keyed K W) (seen : W → Y) (is : IsKeyed e) wher
   last_copy [] (d ∷ fs) h = absurd h
   last_copy (c ∷ es) [] h = absurd h
   last_copy (c ∷ es) (d ∷ fs) h = either (last_of es) (last_of fs) c d (last_copy es fs h.1) h.0
-
-  pub previous_copy : (es fs : List (K × Active W)) → AllZip (IsCopy e seen) es fs → (k : K)
-      → AreCopied (previous e.cmp es k) (previous e.cmp fs k)
-  previous_copy es fs h k = last_copy (around e.cmp es k) (around e.cmp fs k) (around_copy es fs h k k refl)

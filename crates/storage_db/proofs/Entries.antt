@@ -4,16 +4,8 @@ use Rattle.std.specs.Cmp.{IsTotalOrder, alike_right, tied_itself, eq_by_cmp_equi
 use Rattle.std.specs.Ordering.{ordering_reverse, match_ordering}
 use Rattle.std.specs.BTreeMap.{insert_entry, is_at}
 use Rattle.std.specs.Map.{lookup, remove_entry}
+pub use Rattle.storage_db.specs.Orders.{Above, Sorted}
 use Rattle.storage_db.proofs.Cases.{by_bool, by_order, clash, cond_yes, cond_no, equal_of, none_of}
-
--- each key comes after a key; each comes before those that follow it
-abbrev pub Above : {K X : Type 0} → (K → K → Ordering) → K → List (K × X) → Type 0
-Above cmp k [] = Unit {0}
-Above cmp k (c ∷ es) = (cmp k c.0 ≡ Less) × Above cmp k es
-
-abbrev pub Sorted : {K X : Type 0} → (K → K → Ordering) → List (K × X) → Type 0
-Sorted cmp [] = Unit {0}
-Sorted cmp (c ∷ es) = Above cmp c.0 es × Sorted cmp es
 
 module _ {K : Type 0} {cmp : K → K → Ordering} (o : IsTotalOrder cmp) where
   pub less_greater : (a b : K) → cmp a b ≡ Less → cmp b a ≡ Greater

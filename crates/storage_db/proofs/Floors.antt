@@ -1,5 +1,5 @@
 -- The floor that is found by the bits is the least location of an active update.
-use Rattle.std.proofs.Common.{◌≡◌, ◌⊎◌, ℕ, zero, suc, ◌+◌, ◌-◌, ◌<◌, ◌≤◌, ◌^◌, min, Bool, true, false, cond, List, [], ◌∷◌, ◌++◌, length, get_or, Option, Some, None, is_some, is_eq, nat_lt, inl, inr, refl, sym, ap, ◌∙◌, subst, arith, ltb-true, ltb-false}
+use Rattle.std.proofs.Common.{◌≡◌, ◌⊎◌, ℕ, zero, suc, ◌-◌, ◌<◌, ◌≤◌, ◌^◌, min, Bool, true, false, cond, List, [], ◌∷◌, length, get_or, Option, Some, None, is_some, is_eq, nat_lt, inl, inr, refl, sym, ap, ◌∙◌, subst, arith, ltb-true, ltb-false}
 use Rattle.std.specs.Prelude.{MatchOption, IsSomeAnd}
 use Rattle.std.specs.BTreeMap.{is_at}
 use Rattle.std.specs.Cmp.{IsTotalOrder}
@@ -19,7 +19,7 @@ use Rattle.storage_db.specs.Databases.{Command, Put, Delete, Commit, Committed, 
 use Rattle.storage_db.specs.Floors.{AreMarked, IsFirstMarked, IsMarked, floor_of}
 use Rattle.storage_db.specs.Kept.{IsMade, KeptCommit, KeptDatabase, KeepsCommit}
 use Rattle.storage_db.specs.Parts.{place_of}
-use Rattle.storage_db.proofs.Cases.{by_bool, by_option, clash, cond_yes, cond_no, some_not_none, somes}
+use Rattle.storage_db.proofs.Cases.{by_bool, clash, cond_yes, cond_no, some_not_none, somes}
 use Rattle.storage_db.proofs.Entries.{Sorted, hit, past, not_first, lookup-insert, lookup-remove}
 use Rattle.storage_db.proofs.Appends.{IsNot}
 use Rattle.storage_db.proofs.Placing.{IsCommit, Placed, commit_elsewhere, commit_place, here, place}

@@ -6,6 +6,10 @@ pub mod Neighbours
 pub mod Nexts
 pub mod Changing
 pub mod Going
+pub mod Notes
+pub mod Noting
+pub mod Walks
+pub mod Stepping
 pub mod Keeping
 pub mod Told
 pub mod Made
@@ -13,8 +17,11 @@ pub mod Extensions
 pub mod Commits
 pub mod Following
 pub mod Copies
+pub mod Neighbouring
 pub mod Recalled
+pub mod Remembering
 pub mod Ranges
+pub mod Commands
 pub mod Planned
 pub mod Shown
 pub mod Pages

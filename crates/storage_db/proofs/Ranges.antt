@@ -8,8 +8,10 @@ use Rattle.storage_current.specs.Keys.{Keyed, IsKeyed}
 use Rattle.storage_db.specs.declared.db.active.Active.{Active}
 use Rattle.storage_db.specs.Kept.{IsCopy}
 use Rattle.storage_db.specs.Ranges.{pairs_of, seen_pairs}
+use Rattle.storage_db.specs.Notes.{AreAlike}
 use Rattle.storage_db.proofs.Copies.{filter_copy, turn}
 use Rattle.storage_db.proofs.Recalled.{IsSame}
+use Rattle.storage_db.proofs.Remembering.{alike_copies}
 
 module _ {K W Y : Type 0} (e : Keyed K W) (seen : W → Y) (is : IsKeyed e) where
   start_copy : (lo : Bound K) (c d : K × Active W) → IsCopy e seen c d
@@ -42,9 +44,11 @@ module _ {K W Y : Type 0} (e : Keyed K W) (seen : W → Y) (is : IsKeyed e) wher
         (ap₂ (λ (k : List ℕ) (v : Z). pair k v) h.0.key (same c d h.0)) (pairs_copy es fs h.1)
 
     -- what a range of a commit in memory shows is that of the definition's commit
-    pub range_copy : (lo hi : Bound K) (es fs : List (K × Active W)) → AllZip (IsCopy e seen) es fs → (pairs : List (K × W))
-        → pairs ≡ pairs_of (entries_between e.cmp lo hi fs)
+    pub range_alike : (lo hi : Bound K) (es fs others : List (K × Active W)) → AllZip (IsCopy e seen) es fs
+        → AreAlike e.cmp (entries_between e.cmp lo hi fs) others → (pairs : List (K × W)) → pairs ≡ pairs_of others
         → seen_pairs e.key f pairs ≡ seen_pairs e.key f (pairs_of (entries_between e.cmp lo hi es))
-    range_copy lo hi es fs h pairs are =
+    range_alike lo hi es fs others h alike pairs are =
         ap (seen_pairs e.key f) are
-        ∙ pairs_copy (entries_between e.cmp lo hi es) (entries_between e.cmp lo hi fs) (between_copy lo hi es fs h)
+        ∙ pairs_copy (entries_between e.cmp lo hi es) others
+        (alike_copies e seen is (entries_between e.cmp lo hi es) (entries_between e.cmp lo hi fs) others
+        (between_copy lo hi es fs h) alike)

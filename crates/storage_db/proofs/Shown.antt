@@ -13,7 +13,7 @@ use Rattle.storage_db.specs.Databases.{Committed, Database, active_at}
 use Rattle.storage_db.specs.Kept.{KeptDatabase, KeptCommit, IsCopy, Keeps, KeepsCommit}
 use Rattle.storage_db.specs.Shown.{IsValueProof, IsAbsenceProof, absence_by}
 use Rattle.storage_db.proofs.Cases.{by_option, some_not_none, somes, none_if}
-use Rattle.storage_db.proofs.Copies.{seen_of, lookup_copy, next_copy, AreCopied, previous_copy}
+use Rattle.storage_db.proofs.Copies.{seen_of, lookup_copy, next_copy, AreCopied}
 
 -- of a commit in memory, as its parts and as its value
 module _ {K W Y : Type 0} (e : Keyed K W) (seen : W → Y) (h : HashFunction) (g : Grafting) (inside kept : KeptCommit K W)
@@ -89,36 +89,30 @@ module _ {K W Y : Type 0} (e : Keyed K W) (seen : W → Y) (is : IsKeyed e) wher
         = next_is ∙ next_copy e seen is commit.entries inside.entries within.entries c.0 k copy.key in
         cc
 
-    copied : AreCopied e seen is (previous e.cmp commit.entries k) (previous e.cmp inside.entries k)
-    copied = previous_copy e seen is commit.entries inside.entries within.entries k
-
     pub absence_by_update : is_some (active_at e inside.entries k) ≡ false → (before : K × Active W)
-        → previous e.cmp inside.entries k ≡ Some before → (x : Exclusion (K × W × K) W)
+        → AreCopied e seen is (previous e.cmp commit.entries k) (Some before) → (x : Exclusion (K × W × K) W)
         → ((c : K × Active W) → IsCopy e seen c before → exclusion_seen e.key e.value x ≡ absence_by e h g commit (Some c))
         → IsAbsenceProof e h g commit k x
-    absence_by_update none before before_is x shown =
+    absence_by_update none before copied x shown =
         let P : Option (K × Active W) → Type 0 = λ o. AreCopied e seen is o (Some before) in
-        let at : P (previous e.cmp commit.entries k)
-        = subst (AreCopied e seen is (previous e.cmp commit.entries k)) before_is copied in
         record {
           absent = absent_of commit.entries inside.entries within.entries k (none_if _ none);
           own = by_option (previous e.cmp commit.entries k)
-              (λ lone. absurd (some_not_none before (subst P lone at)))
-              (λ c there. shown c (subst P there at) ∙ ap (absence_by e h g commit) (sym there));
+              (λ lone. absurd (some_not_none before (subst P lone copied)))
+              (λ c there. shown c (subst P there copied) ∙ ap (absence_by e h g commit) (sym there));
         }
 
-    pub absence_by_commit : is_some (active_at e inside.entries k) ≡ false → previous e.cmp inside.entries k ≡ None
+    pub absence_by_commit : is_some (active_at e inside.entries k) ≡ false
+        → AreCopied e seen is (previous e.cmp commit.entries k) None
         → (x : Exclusion (K × W × K) W) → exclusion_seen e.key e.value x ≡ absence_by e h g commit None
         → IsAbsenceProof e h g commit k x
-    absence_by_commit none before x shown =
+    absence_by_commit none copied x shown =
         let P : Option (K × Active W) → Type 0 = λ o. AreCopied e seen is o None in
-        let at : P (previous e.cmp commit.entries k)
-        = subst (AreCopied e seen is (previous e.cmp commit.entries k)) before copied in
         record {
           absent = absent_of commit.entries inside.entries within.entries k (none_if _ none);
           own = by_option (previous e.cmp commit.entries k)
               (λ lone. shown ∙ ap (absence_by e h g commit) (sym lone))
-              (λ c there. absurd (subst P there at));
+              (λ c there. absurd (subst P there copied));
         }
 
     -- ---- what is told of a key

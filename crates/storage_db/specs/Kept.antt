@@ -10,14 +10,29 @@ use Rattle.storage_db.specs.declared.db.error.Error.{Error}
 use Rattle.storage_db.specs.declared.db.error.Error.TheVariants.{Full, Memory}
 use Rattle.storage_db.specs.Databases.{Committed, Database, Command, empty, done, is_full, run}
 
--- what is kept of the last commit: its value and its floor, how many operations there are up to it, copies of the active keys
--- as they were, and the snapshot
+-- what is held of the last commit itself: its value and its floor, how many operations there are up to it, and the snapshot
+pub record HeldCommit (W : Type 0) : Type 0 where
+  pub metadata : Option W
+  pub floor : ℕ
+  pub count : ℕ
+  pub snapshot : KeptSnapshot
+
+-- what is kept of the last commit: that, and the active keys as they were, or copies of them
 pub record KeptCommit (K W : Type 0) : Type 0 where
   pub metadata : Option W
   pub floor : ℕ
   pub count : ℕ
   pub entries : List (K × Active W)
   pub snapshot : KeptSnapshot
+
+abbrev pub with_keys : {K W : Type 0} → HeldCommit W → List (K × Active W) → KeptCommit K W
+with_keys commit entries = record {
+  metadata = commit.metadata;
+  floor = commit.floor;
+  count = commit.count;
+  entries = entries;
+  snapshot = commit.snapshot;
+}
 
 -- what the operations are written as, of each whether it is active, the active keys in their order, and the last commit
 pub record KeptDatabase (K W : Type 0) : Type 0 where

@@ -1,6 +1,8 @@
 pub mod Logs
 pub mod Rings
 pub mod Databases
+pub mod Orders
+pub mod Notes
 pub mod Kept
 pub mod Floors
 pub mod Parts

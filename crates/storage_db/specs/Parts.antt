@@ -1,16 +1,20 @@
 -- The parts of a database in memory, and how an active update moves.
-use Rattle.std.specs.Prelude.{◌≡◌, ℕ, ◌-◌, ◌<◌, Bool, List, ◌++◌, length, map, take, Option, Some, None, option_map, MatchOption}
+use Rattle.std.specs.Prelude.{◌≡◌, ℕ, ◌-◌, ◌<◌, Bool, true, List, ◌++◌, length, map, take, Option, Some, None, is_some, option_map, MatchOption}
 use Rattle.std.specs.Global.{Vec}
 use Rattle.std.specs.List.{AllZip}
+use Rattle.std.specs.BTreeMap.{is_at}
 use Rattle.std.specs.Map.{lookup, set_value}
+use Rattle.std.specs.declared.cmp.Ordering.{Ordering}
 use Rattle.storage_codec.specs.Digests.{HashFunction}
 use Rattle.storage_current.specs.Keys.{Keyed}
 use Rattle.storage_current.specs.KeptSnapshots.{StandsForSnapshot}
 use Rattle.storage_current.specs.Snapshots.{Grafting, Snapshot, IsSnapshot}
 use Rattle.storage_db.specs.declared.db.active.Active.{Active}
+use Rattle.storage_db.specs.declared.db.active.ActiveKeys.{ActiveKeys}
 use Rattle.storage_db.specs.declared.db.log.Log.{Log}
 use Rattle.storage_db.specs.Databases.{Committed, Database}
-use Rattle.storage_db.specs.Kept.{IsCopy, KeptCommit, KeptDatabase}
+use Rattle.storage_db.specs.Kept.{HeldCommit, IsCopy, KeptCommit, KeptDatabase, with_keys}
+use Rattle.storage_db.specs.Notes.{AreAlike, taken_back}
 use Rattle.storage_db.specs.Logs.{AreCommitted, cleared_at}
 
 -- what the operations of a log are written as
@@ -37,6 +41,25 @@ pub record IsSinceCommit {K W : Type 0} (log : Log) (commit : KeptCommit K W) : 
 
 abbrev pub IsSince : {K W : Type 0} → Log → Option (KeptCommit K W) → Type 0
 IsSince log last = MatchOption last (Unit {0}) (IsSinceCommit log)
+
+-- the entries of the last commit, by the active keys and the notes
+abbrev pub committed_of : {K W : Type 0} → (K → K → Ordering) → ActiveKeys K W → List (K × Active W)
+committed_of cmp active = taken_back cmp active.present.entries active.notes.entries
+
+-- what is kept of the last commit, if there is one, with those entries
+abbrev pub kept_with : {K W : Type 0} → (K → K → Ordering) → ActiveKeys K W → Option (HeldCommit W) → Option (KeptCommit K W)
+kept_with {K} {W} cmp active last = option_map (λ (commit : HeldCommit W). with_keys commit (committed_of cmp active)) last
+
+-- what the last commit had stays
+abbrev pub StayCommitted : {K W : Type 0} → (K → K → Ordering) → ActiveKeys K W → ActiveKeys K W → Type 0
+StayCommitted cmp old new = AreAlike cmp (committed_of cmp old) (committed_of cmp new)
+
+-- a key is noted; those that are stay so
+abbrev pub is_noted : {K W : Type 0} → (K → K → Ordering) → ActiveKeys K W → K → Bool
+is_noted cmp active key = is_some (lookup (is_at (cmp key)) active.notes.entries)
+
+abbrev pub StayNoted : {K W : Type 0} → (K → K → Ordering) → ActiveKeys K W → ActiveKeys K W → Type 0
+StayNoted {K} cmp old new = (key : K) → is_noted cmp old key ≡ true → is_noted cmp new key ≡ true
 
 -- the database of a log and active keys, with this last commit
 abbrev pub database_of : {K W : Type 0} → Log → List (K × Active W) → Option (Committed K W) → Database K W

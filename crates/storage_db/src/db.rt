@@ -7,6 +7,7 @@ mod encoding;
 mod error;
 mod log;
 mod nodes;
+mod notes;
 mod ordered;
 mod ranges;
 mod replay;

@@ -1,29 +1,26 @@
 //! What a database keeps of its last commit.
 
-ghost use Rattle.std.specs.Prelude.{◌≡◌, ◌+◌, ◌-◌, ◌/◌, ◌^◌, ◌<◌, Some, None, option_map, IfOk, IfErr, OnOk, OnErr, MatchOption, vec_len};
-ghost use Rattle.std.specs.BTreeMap.Range.{IsLeBy, IsLtBy, entries_between};
+ghost use Rattle.std.specs.Prelude.{◌≡◌, List, ◌+◌, ◌-◌, ◌/◌, ◌^◌, ◌<◌, Some, None, option_map, IfOk, IfErr, OnOk, OnErr, MatchOption, vec_len};
 ghost use Rattle.storage_bitmap.specs.Chunks.{IsChunkSize, chunks_from};
 ghost use Rattle.storage_current.specs.Held.{operation_proof_of, range_proof_of};
 ghost use Rattle.storage_current.specs.HeldKeys.{exclusion_of, exclusion_seen};
 ghost use Rattle.storage_current.specs.Keys.{keyed_by};
 ghost use Rattle.storage_current.specs.KeptSnapshots.{StandsForSnapshot};
 ghost use Rattle.storage_current.specs.Snapshots.{IsSnapshot, Snapshot as SnapshotOf, first_chunk, grafting_of, height, own_operation_proof, own_range_proof};
+ghost use Rattle.storage_db.specs.declared.db.active.Active.{Active};
 ghost use Rattle.storage_db.specs.Databases.{Committed, active_at, value_at};
-ghost use Rattle.storage_db.specs.Kept.{IsCopy, KeepsCommit};
-ghost use Rattle.storage_db.specs.Parts.{IsCommitOf, IsSinceCommit};
-ghost use Rattle.storage_db.specs.Ranges.{pairs_of};
+ghost use Rattle.storage_db.specs.Kept.{IsCopy, KeepsCommit, with_keys};
+ghost use Rattle.storage_db.specs.Notes.{shown};
+ghost use Rattle.storage_db.specs.Parts.{IsCommitOf, IsSinceCommit, committed_of};
 ghost use Rattle.storage_db.specs.Shown.{IsAbsenceProof, IsValueProof, absence_by};
 
 use crate::db::Error;
-use crate::db::active::{Active, previous};
+use crate::db::active::ActiveKeys;
 use crate::db::log::Log;
 use crate::db::nodes::{chunks_touched, own_proof, own_range};
-use crate::db::ranges::{Range, entries_of};
-use crate::db::strings::{next_or_own, value_copy};
+use crate::db::strings::value_copy;
 use std::alloc::Global;
-use std::collections::BTreeMap;
-use std::marker::Model;
-use std::ops::RangeBounds;
+use std::marker::{Model, PhantomData};
 use storage_bitmap::bitmap::Prunable;
 use storage_codec::NoMemory;
 use storage_codec::digest::Hasher;
@@ -38,29 +35,28 @@ use storage_ops::qmdb::any::operation::update::Ordered as Update;
 use storage_ops::qmdb::any::value::ValueEncoding;
 use storage_ops::qmdb::operation::Key;
 
-/// A commit: how many operations there are up to it, its value, its floor, the keys that were active, and the snapshot of
-/// the operations.
+/// A commit: how many operations there are up to it, its value, its floor, and the snapshot of the operations. Which keys
+/// were active, the [`ActiveKeys`] tell.
 #[derive(Drop)]
 pub(crate) struct Commit<F: Graftable, H: Hasher, K: Key, V: ValueEncoding, const N: usize> {
     length: u64,
     metadata: Option<V::Value>,
     floor: Location<F>,
-    active: BTreeMap<K, Active<V::Value>>,
     snapshot: Snapshot<F, H, N>,
+    keys: PhantomData<K>,
 }
 
 impl<F: Graftable, H: Hasher, K: Key, V: ValueEncoding, const N: usize> Model
     for Commit<F, H, K, V, N> {
     ghost use Rattle.std.specs.Prelude.{◌≡◌, ◌<◌};
-    ghost use Rattle.storage_db.specs.Kept.{KeptCommit};
+    ghost use Rattle.storage_db.specs.Kept.{HeldCommit};
 
-    ghost Value = { KeptCommit K V.Value };
+    ghost Value = { HeldCommit V.Value };
 
     ghost view = { λ c. record {
       metadata = c.metadata;
       floor = c.floor;
       count = c.length;
-      entries = c.active.entries;
       snapshot = c.snapshot;
     } };
 
@@ -78,28 +74,26 @@ impl<F: Graftable, H: Hasher, K: Key, V: OperationCodec<F, Update<K, V>>, const 
     pub(crate) fn first(
         alloc: Global,
         log: &Log,
-        active: &BTreeMap<K, Active<V::Value>>,
         metadata: Option<V::Value>,
         floor: Location<F>,
     ) -> Result<Self, NoMemory>
         requires size { IsChunkSize N }
         requires some { 0 < vec_len log.now.operations }
         ensures { let e = keyed_by K.text V.Value.text V.operation_text K.cmp in
-            IfOk result (IsCommitOf e V.Value.view H.hash_of (grafting_of F.shape N) log.now
-            active.now.entries None metadata floor) }
+            (entries : List (K × Active V.Value)) → IfOk result (λ c. IsCommitOf e V.Value.view H.hash_of
+            (grafting_of F.shape N) log.now entries None metadata floor (with_keys c entries)) }
     {
         let mut status = Prunable::new(alloc);
         status.append(&log.bits)?;
         let Ok(snapshot) = Snapshot::new(alloc, &log.operations, status, floor) else {
             return Err(NoMemory);
         };
-        let active = active.clone()?;
         Ok(Commit {
             length: log.len(),
             metadata,
             floor,
-            active,
             snapshot,
+            keys: PhantomData,
         })
     }
 
@@ -109,18 +103,16 @@ impl<F: Graftable, H: Hasher, K: Key, V: OperationCodec<F, Update<K, V>>, const 
         &mut self,
         alloc: Global,
         log: &Log,
-        active: &BTreeMap<K, Active<V::Value>>,
         metadata: Option<V::Value>,
         floor: Location<F>,
     ) -> Result<(), NoMemory>
         requires { 0 < vec_len log.now.operations }
         ensures ok { let e = keyed_by K.text V.Value.text V.operation_text K.cmp in
-            IsSinceCommit log.now self.old → OnOk result (IsCommitOf e V.Value.view H.hash_of
-            (grafting_of F.shape N) log.now active.now.entries (Some self.old) metadata floor
-            self.new) }
+            (before entries : List (K × Active V.Value)) → IsSinceCommit log.now (with_keys self.old before)
+            → OnOk result (IsCommitOf e V.Value.view H.hash_of (grafting_of F.shape N) log.now entries
+            (Some (with_keys self.old before)) metadata floor (with_keys self.new entries)) }
         ensures err { OnErr result (self.new ≡ self.old) }
     {
-        let active = active.clone()?;
         let clear = log.all_cleared::<F>(alloc, self.location())?;
         let operations = log.new_operations();
         let bits = log.new_bits();
@@ -135,7 +127,6 @@ impl<F: Graftable, H: Hasher, K: Key, V: OperationCodec<F, Update<K, V>>, const 
         self.length = log.len();
         self.metadata = metadata;
         self.floor = floor;
-        self.active = active;
         Ok(())
     }
 
@@ -144,15 +135,6 @@ impl<F: Graftable, H: Hasher, K: Key, V: OperationCodec<F, Update<K, V>>, const 
         ensures { result ≡ self.now.count }
     {
         self.length
-    }
-
-    /// Returns the keys of `range` that were active, with their values.
-    pub(crate) fn range<R: RangeBounds<K> + Drop>(&self, range: R) -> Range<'_, K, V::Value>
-        requires { R.is_forward range (IsLeBy K.cmp) (IsLtBy K.cmp) }
-        ensures { R.has_bounds range → result ≡ pairs_of (entries_between K.cmp
-            (R.start_bound range) (R.end_bound range) self.now.entries) }
-    {
-        entries_of(&self.active, range)
     }
 
     /// Returns the location of the commit itself.
@@ -183,17 +165,6 @@ impl<F: Graftable, H: Hasher, K: Key, V: OperationCodec<F, Update<K, V>>, const 
         &self.snapshot
     }
 
-    /// Returns the value that `key` had.
-    pub(crate) fn get(&self, key: &K) -> Option<&V::Value>
-        ensures { let e = keyed_by K.text V.Value.text V.operation_text K.cmp in
-            option_map (λ v. v.now) result ≡ value_at e self.now.entries key.now }
-    {
-        match self.active.get(key) {
-            Some(entry) => Some(&entry.value),
-            None => None,
-        }
-    }
-
     /// Returns the snapshot's own proof of the operation at `location`.
     fn proof(
         &self,
@@ -202,8 +173,9 @@ impl<F: Graftable, H: Hasher, K: Key, V: OperationCodec<F, Update<K, V>>, const 
     ) -> Result<OperationProof<F, H::Digest, N>, NoMemory>
         ensures { let e = keyed_by K.text V.Value.text V.operation_text K.cmp in
             let g = grafting_of F.shape N in
-            IfOk result (λ proof. (commit : Committed K V.Value)
-            → KeepsCommit e V.Value.view H.hash_of g self.now commit
+            IfOk result (λ proof. (entries : List (K × Active V.Value))
+            → (commit : Committed K V.Value)
+            → KeepsCommit e V.Value.view H.hash_of g (with_keys self.now entries) commit
             → operation_proof_of H.Digest.text (λ c. c) proof
             ≡ own_operation_proof H.hash_of g commit.snapshot location) }
     {
@@ -222,8 +194,9 @@ impl<F: Graftable, H: Hasher, K: Key, V: OperationCodec<F, Update<K, V>>, const 
         requires { IsChunkSize N }
         ensures { let e = keyed_by K.text V.Value.text V.operation_text K.cmp in
             let g = grafting_of F.shape N in
-            IfOk result (λ r. (commit : Committed K V.Value)
-            → KeepsCommit e V.Value.view H.hash_of g self.now commit
+            IfOk result (λ r. (entries : List (K × Active V.Value))
+            → (commit : Committed K V.Value)
+            → KeepsCommit e V.Value.view H.hash_of g (with_keys self.now entries) commit
             → (range_proof_of H.Digest.text r.0
             ≡ own_range_proof H.hash_of g commit.snapshot start end)
             × (r.1.items ≡ chunks_from N commit.snapshot.bits
@@ -240,31 +213,35 @@ impl<F: Graftable, H: Hasher, K: Key, V: OperationCodec<F, Update<K, V>>, const 
     pub(crate) fn prove_value(
         &self,
         alloc: Global,
+        active: &ActiveKeys<K, V::Value>,
         key: &K,
     ) -> Result<(V::Value, KeyValueProof<F, K, H::Digest, N>), Error<F>>
         ensures own { let e = keyed_by K.text V.Value.text V.operation_text K.cmp in
             let g = grafting_of F.shape N in
             IfOk result (λ r. (commit : Committed K V.Value)
-            → KeepsCommit e V.Value.view H.hash_of g self.now commit
+            → KeepsCommit e V.Value.view H.hash_of g
+            (with_keys self.now (committed_of K.cmp active.now)) commit
             → IsValueProof e H.hash_of g commit key.now r.0 r.1.next_key
             (operation_proof_of H.Digest.text (λ c. c) r.1.proof)) }
         ensures value { let e = keyed_by K.text V.Value.text V.operation_text K.cmp in
             IfOk result (λ r. (commit : Committed K V.Value)
-            → KeepsCommit e V.Value.view H.hash_of (grafting_of F.shape N) self.now commit
+            → KeepsCommit e V.Value.view H.hash_of (grafting_of F.shape N)
+            (with_keys self.now (committed_of K.cmp active.now)) commit
             → option_map V.Value.view (value_at e commit.entries key.now) ≡ Some (V.Value.view r.0)) }
         ensures why { let e = keyed_by K.text V.Value.text V.operation_text K.cmp in
             IfErr result (λ error. (commit : Committed K V.Value)
-            → KeepsCommit e V.Value.view H.hash_of (grafting_of F.shape N) self.now commit
+            → KeepsCommit e V.Value.view H.hash_of (grafting_of F.shape N)
+            (with_keys self.now (committed_of K.cmp active.now)) commit
             → MatchOption (active_at e commit.entries key.now) (error ≡ Error.Absent)
             (λ _. error ≡ Error.Memory)) }
     {
         operations_settle_keys::<F, K, V>();
-        let Some(entry) = self.active.get(key) else {
+        let Some((value, location)) = active.committed(key) else {
             return Err(Error::Absent);
         };
-        let value = entry.value.clone()?;
-        let next_key = next_or_own(&self.active, key)?;
-        let proof = self.proof(alloc, entry.location)?;
+        let value = value.clone()?;
+        let next_key = active.next_committed_or_own(key)?;
+        let proof = self.proof(alloc, location)?;
         Ok((value, KeyValueProof { proof, next_key }))
     }
 
@@ -273,53 +250,59 @@ impl<F: Graftable, H: Hasher, K: Key, V: OperationCodec<F, Update<K, V>>, const 
     pub(crate) fn prove_absence(
         &self,
         alloc: Global,
+        active: &ActiveKeys<K, V::Value>,
         key: &K,
     ) -> Result<ExclusionProof<F, K, V, H::Digest, N>, Error<F>>
         ensures own { let e = keyed_by K.text V.Value.text V.operation_text K.cmp in
             let g = grafting_of F.shape N in
             IfOk result (λ x. (commit : Committed K V.Value)
-            → KeepsCommit e V.Value.view H.hash_of g self.now commit
+            → KeepsCommit e V.Value.view H.hash_of g
+            (with_keys self.now (committed_of K.cmp active.now)) commit
             → IsAbsenceProof e H.hash_of g commit key.now
             (exclusion_of H.Digest.text (λ c. c) x)) }
         ensures why { let e = keyed_by K.text V.Value.text V.operation_text K.cmp in
             IfErr result (λ error. (commit : Committed K V.Value)
-            → KeepsCommit e V.Value.view H.hash_of (grafting_of F.shape N) self.now commit
+            → KeepsCommit e V.Value.view H.hash_of (grafting_of F.shape N)
+            (with_keys self.now (committed_of K.cmp active.now)) commit
             → MatchOption (active_at e commit.entries key.now) (error ≡ Error.Memory)
             (λ _. error ≡ Error.Present)) }
     {
         operations_settle_keys::<F, K, V>();
-        if self.active.contains_key(key) {
+        if active.contains_committed(key) {
             return Err(Error::Present);
         }
-        match previous(&self.active, key) {
-            Some((start, entry)) => Ok(self.absence_by_update(alloc, start, entry)?),
+        match active.previous_committed(key) {
+            Some(before) => Ok(self.absence_by_update(alloc, active, before)?),
             None => Ok(self.absence_by_commit(alloc)?),
         }
     }
 
-    /// Returns the proof that the other keys of the span of `start` have no value: by its active update, of which
-    /// `start` and `entry` are copies.
+    /// Returns the proof that the other keys of the span of the key in `before` had no value: by its active update, of
+    /// whose key, value and location `before` has copies.
     fn absence_by_update(
         &self,
         alloc: Global,
-        start: &K,
-        entry: &Active<V::Value>,
+        active: &ActiveKeys<K, V::Value>,
+        before: (&K, &V::Value, u64),
     ) -> Result<ExclusionProof<F, K, V, H::Digest, N>, NoMemory>
         ensures { let e = keyed_by K.text V.Value.text V.operation_text K.cmp in
             let g = grafting_of F.shape N in
             IfOk result (λ x. (commit : Committed K V.Value)
-            → KeepsCommit e V.Value.view H.hash_of g self.now commit
-            → (c : K × Active V.Value) → IsCopy e V.Value.view c (start.now, entry.now)
+            → KeepsCommit e V.Value.view H.hash_of g
+            (with_keys self.now (committed_of K.cmp active.now)) commit
+            → (c : K × Active V.Value) → IsCopy e V.Value.view c
+            (shown before.entry)
             → exclusion_seen e.key e.value (exclusion_of H.Digest.text (λ b. b) x)
             ≡ absence_by e H.hash_of g commit (Some c)) }
     {
         operations_settle_keys::<F, K, V>();
+        let (start, value, location) = before;
         let update = Update {
             key: start.clone()?,
-            value: entry.value.clone()?,
-            next_key: next_or_own(&self.active, start)?,
+            value: value.clone()?,
+            next_key: active.next_committed_or_own(start)?,
         };
-        let proof = self.proof(alloc, entry.location)?;
+        let proof = self.proof(alloc, location)?;
         Ok(ExclusionProof::KeyValue(proof, update))
     }
 
@@ -330,8 +313,9 @@ impl<F: Graftable, H: Hasher, K: Key, V: OperationCodec<F, Update<K, V>>, const 
     ) -> Result<ExclusionProof<F, K, V, H::Digest, N>, NoMemory>
         ensures { let e = keyed_by K.text V.Value.text V.operation_text K.cmp in
             let g = grafting_of F.shape N in
-            IfOk result (λ x. (commit : Committed K V.Value)
-            → KeepsCommit e V.Value.view H.hash_of g self.now commit
+            IfOk result (λ x. (entries : List (K × Active V.Value))
+            → (commit : Committed K V.Value)
+            → KeepsCommit e V.Value.view H.hash_of g (with_keys self.now entries) commit
             → exclusion_seen e.key e.value (exclusion_of H.Digest.text (λ b. b) x)
             ≡ absence_by e H.hash_of g commit None) }
     {

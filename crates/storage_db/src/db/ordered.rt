@@ -15,15 +15,14 @@ ghost use Rattle.storage_db.specs.Shown.{IsAbsenceProof, IsPage, IsValueProof};
 
 mod opening;
 
-use crate::db::active::Active;
+use crate::db::active::ActiveKeys;
 use crate::db::changes::{put_active, put_commit, put_new, remove};
 use crate::db::commit::Commit;
 use crate::db::log::Log;
-use crate::db::ranges::{Range, entries_of};
+use crate::db::ranges::{Range, committed_entries_of, entries_of};
 use crate::db::{Error, KeyedEncoding, OrderedCodec};
 pub use opening::OpenError;
 use std::alloc::Global;
-use std::collections::BTreeMap;
 use std::marker::Model;
 use std::ops::RangeBounds;
 use storage_codec::digest::Hasher;
@@ -35,7 +34,8 @@ use storage_merkle::merkle::{Graftable, Location};
 use storage_ops::qmdb::operation::Key;
 
 /// A map of keys to values that proves what it has committed. It keeps its operations as they are written, a bit for each
-/// that says whether it is active, the active keys, and of the last commit the keys that were active and the snapshot.
+/// that says whether it is active, the active keys, and of the last commit the snapshot. Of each key that has changed since
+/// the last commit it notes what the key had then.
 ///
 /// `F` is the family of the trees, `H` the digest function, `V` the encoding of the values, `N` the bytes of a chunk of
 /// bits. After each refusal the database is as it was.
@@ -43,7 +43,7 @@ use storage_ops::qmdb::operation::Key;
 pub struct Ordered<F: Graftable, H: Hasher, K: Key, V: KeyedEncoding<K>, const N: usize> {
     alloc: Global,
     log: Log,
-    active: BTreeMap<K, Active<V::Value>>,
+    active: ActiveKeys<K, V::Value>,
     last: Option<Commit<F, H, K, V, N>>,
 }
 
@@ -53,15 +53,16 @@ impl<F: Graftable, H: Hasher, K: Key, V: KeyedEncoding<K>, const N: usize> Model
     ghost use Rattle.storage_current.specs.Keys.{keyed_by};
     ghost use Rattle.storage_current.specs.Snapshots.{grafting_of};
     ghost use Rattle.storage_db.specs.Kept.{IsMade, KeptDatabase};
-    ghost use Rattle.storage_db.specs.Parts.{IsSince, kept_of};
+    ghost use Rattle.storage_db.specs.Parts.{IsSince, kept_of, kept_with};
 
     ghost Value = { KeptDatabase K V.Value };
 
-    ghost view = { λ s. kept_of s.log s.active.entries s.last };
+    ghost view = { λ s. kept_of s.log s.active.present.entries (kept_with K.cmp s.active s.last) };
 
-    ghost invariant = { λ s. IsChunkSize N × IsSince s.log s.last × IsMade
+    ghost invariant = { λ s. IsChunkSize N × IsSince s.log (kept_with K.cmp s.active s.last) × IsMade
         (keyed_by K.text V.Value.text V.keyed_text K.cmp) V.Value.view H.hash_of
-        (grafting_of F.shape N) (kept_of s.log s.active.entries s.last) };
+        (grafting_of F.shape N)
+        (kept_of s.log s.active.present.entries (kept_with K.cmp s.active s.last)) };
 }
 
 impl<F: Graftable, H: Hasher, K: Key, V: OrderedCodec<F, K>, const N: usize> Ordered<
@@ -83,7 +84,7 @@ impl<F: Graftable, H: Hasher, K: Key, V: OrderedCodec<F, K>, const N: usize> Ord
         Ordered {
             alloc,
             log: Log::new(alloc),
-            active: BTreeMap::new(alloc),
+            active: ActiveKeys::new(alloc),
             last: None,
         }
     }
@@ -100,10 +101,13 @@ impl<F: Graftable, H: Hasher, K: Key, V: OrderedCodec<F, K>, const N: usize> Ord
         ensures why { let e = keyed_by K.text V.Value.text V.operation_text K.cmp in IfErr result
             (IsCommandRefused e V.Value.view H.hash_of (grafting_of F.shape N) self.old (Put key value)) }
     {
-        if self.active.contains_key(&key) {
-            put_active::<F, K, V>(self.alloc, &mut self.log, &mut self.active, key, value)
+        operations_settle_keys::<F, K, V>();
+        let alloc = self.alloc;
+        let noting = self.last.is_some();
+        if self.active.present.contains_key(&key) {
+            put_active::<F, K, V>(alloc, &mut self.log, &mut self.active, noting, key, value)
         } else {
-            put_new::<F, K, V>(self.alloc, &mut self.log, &mut self.active, key, value)
+            put_new::<F, K, V>(alloc, &mut self.log, &mut self.active, noting, key, value)
         }
     }
 
@@ -128,10 +132,12 @@ impl<F: Graftable, H: Hasher, K: Key, V: OrderedCodec<F, K>, const N: usize> Ord
         ensures why { let e = keyed_by K.text V.Value.text V.operation_text K.cmp in IfErr result
             (IsCommandRefused e V.Value.view H.hash_of (grafting_of F.shape N) self.old (Delete key.now)) }
     {
-        if !self.active.contains_key(key) {
+        operations_settle_keys::<F, K, V>();
+        if !self.active.present.contains_key(key) {
             return Ok(false);
         }
-        remove::<F, K, V>(self.alloc, &mut self.log, &mut self.active, key)?;
+        let noting = self.last.is_some();
+        remove::<F, K, V>(self.alloc, &mut self.log, &mut self.active, noting, key)?;
         Ok(true)
     }
 
@@ -152,7 +158,7 @@ impl<F: Graftable, H: Hasher, K: Key, V: OrderedCodec<F, K>, const N: usize> Ord
         put_commit(
             self.alloc,
             &mut self.log,
-            &self.active,
+            &mut self.active,
             &mut self.last,
             metadata,
         )
@@ -164,7 +170,7 @@ impl<F: Graftable, H: Hasher, K: Key, V: OrderedCodec<F, K>, const N: usize> Ord
             (d : Database K V.Value) → Keeps e V.Value.view H.hash_of (grafting_of F.shape N) self.now d
             → option_map (λ v. v.now) result ≡ value_at e d.entries key.now }
     {
-        match self.active.get(key) {
+        match self.active.present.get(key) {
             Some(entry) => Some(&entry.value),
             None => None,
         }
@@ -180,7 +186,7 @@ impl<F: Graftable, H: Hasher, K: Key, V: OrderedCodec<F, K>, const N: usize> Ord
             → R.has_bounds range → result ≡ pairs_of (entries_between K.cmp (R.start_bound range)
             (R.end_bound range) d.entries) }
     {
-        entries_of(&self.active, range)
+        entries_of(&self.active.present, range)
     }
 
     /// Returns how many keys have a value now. Allocates nothing.
@@ -190,7 +196,7 @@ impl<F: Graftable, H: Hasher, K: Key, V: OrderedCodec<F, K>, const N: usize> Ord
             → Keeps e V.Value.view H.hash_of (grafting_of F.shape N) self.now d
             → result ≡ length d.entries }
     {
-        self.active.len()
+        self.active.present.len()
     }
 
     /// Returns the value that `key` had at the last commit; none if it had none, and before the first commit. Allocates
@@ -208,7 +214,7 @@ impl<F: Graftable, H: Hasher, K: Key, V: OrderedCodec<F, K>, const N: usize> Ord
     {
         operations_settle_keys::<F, K, V>();
         match &self.last {
-            Some(last) => last.get(key),
+            Some(_) => self.active.committed_value(key),
             None => None,
         }
     }
@@ -235,7 +241,7 @@ impl<F: Graftable, H: Hasher, K: Key, V: OrderedCodec<F, K>, const N: usize> Ord
     {
         operations_settle_keys::<F, K, V>();
         match &self.last {
-            Some(last) => Some(last.range(range)),
+            Some(_) => Some(committed_entries_of(&self.active, range)),
             None => None,
         }
     }
@@ -323,7 +329,7 @@ impl<F: Graftable, H: Hasher, K: Key, V: OrderedCodec<F, K>, const N: usize> Ord
             (λ _. error ≡ Error.Memory))) }
     {
         match &self.last {
-            Some(last) => last.prove_value(self.alloc, key),
+            Some(last) => last.prove_value(self.alloc, &self.active, key),
             None => Err(Error::NotCommitted),
         }
     }
@@ -348,7 +354,7 @@ impl<F: Graftable, H: Hasher, K: Key, V: OrderedCodec<F, K>, const N: usize> Ord
             (λ _. error ≡ Error.Present))) }
     {
         match &self.last {
-            Some(last) => last.prove_absence(self.alloc, key),
+            Some(last) => last.prove_absence(self.alloc, &self.active, key),
             None => Err(Error::NotCommitted),
         }
     }

@@ -9,13 +9,12 @@ ghost use Rattle.storage_db.specs.Opening.{Begins, IsOpenRefused, ReadsAs, Reads
 ghost use Rattle.storage_db.specs.Parts.{texts};
 ghost use Rattle.storage_db.specs.Replays.{AreReadAlike, IsDoneOr, IsFollowedBy, IsFoundBy, IsOnPath, IsRemade, IsReplayOf, floor_kept};
 
-use crate::db::active::Active;
+use crate::db::active::ActiveKeys;
 use crate::db::changes::{put_active, put_new, remove};
 use crate::db::log::Log;
 use crate::db::strings::written_commit;
 use crate::db::{Error, OpenError};
 use std::alloc::Global;
-use std::collections::BTreeMap;
 use storage_codec::{NoMemory, codec};
 use storage_current::laws::keys::operations_settle_keys;
 use storage_merkle::merkle::{Family, Location};
@@ -24,11 +23,12 @@ use storage_ops::qmdb::any::operation::{Operation, OperationCodec};
 use storage_ops::qmdb::any::value::ValueEncoding;
 use storage_ops::qmdb::operation::Key;
 
-/// A database as far as its operations have been followed. Of its last commit the value and the floor are kept.
+/// A database as far as its operations have been followed. Of its last commit the value and the floor are kept, and
+/// nothing is noted of the keys that have changed since.
 #[derive(Drop)]
 pub(crate) struct Replay<F: Family, K: Key, V: ValueEncoding> {
     pub(crate) log: Log,
-    pub(crate) active: BTreeMap<K, Active<V::Value>>,
+    pub(crate) active: ActiveKeys<K, V::Value>,
     pub(crate) last: Option<(Option<V::Value>, Location<F>)>,
 }
 
@@ -76,11 +76,11 @@ impl<F: Family, K: Key, V: OperationCodec<F, Update<K, V>>> Replay<F, K, V> {
             (cfg : V.ReadCfg) → IsOnPath e (ReadsCommand
             (ReadsAs (V.operation_parse cfg) V.operation_view)
             (λ k v n. record { key = k; value = v; next_key = n }))
-            result.log result.active.entries result.last [] }
+            result.log result.active.present.entries result.last [] }
     {
         Replay {
             log: Log::new(alloc),
-            active: BTreeMap::new(alloc),
+            active: ActiveKeys::new(alloc),
             last: None,
         }
     }
@@ -99,7 +99,7 @@ impl<F: Family, K: Key, V: OperationCodec<F, Update<K, V>>> Replay<F, K, V> {
         ensures ok { let e = keyed_by K.text V.Value.text V.operation_text K.cmp in
             let reads = ReadsCommand (ReadsAs (V.operation_parse cfg.now) V.operation_view)
             (λ k v n. record { key = k; value = v; next_key = n }) in
-            IfOk result (λ replay. IsOnPath e reads replay.log replay.active.entries replay.last
+            IfOk result (λ replay. IsOnPath e reads replay.log replay.active.present.entries replay.last
             (map (λ v. v.items) operations.items)) }
         ensures why { let e = keyed_by K.text V.Value.text V.operation_text K.cmp in
             let reads = ReadsCommand (ReadsAs (V.operation_parse cfg.now) V.operation_view)
@@ -108,7 +108,7 @@ impl<F: Family, K: Key, V: OperationCodec<F, Update<K, V>>> Replay<F, K, V> {
         ensures some { IfOk result (λ replay. MatchOption replay.last (Unit {0})
             (λ _. 0 < vec_len replay.log.operations)) }
         ensures made { let e = keyed_by K.text V.Value.text V.operation_text K.cmp in
-            IfOk result (λ replay. IsRemade e replay.log replay.active.entries replay.last) }
+            IfOk result (λ replay. IsRemade e replay.log replay.active.present.entries replay.last) }
     {
         let mut replay = Self::new(alloc);
         let mut place = 0;
@@ -134,9 +134,9 @@ impl<F: Family, K: Key, V: OperationCodec<F, Update<K, V>>> Replay<F, K, V> {
             let reads = ReadsCommand (ReadsAs (V.operation_parse cfg.now) V.operation_view)
             (λ k v n. record { key = k; value = v; next_key = n }) in
             (before : List (List ℕ)) → place ≡ length before
-            → IsOnPath e reads self.old.log self.old.active.entries self.old.last before
+            → IsOnPath e reads self.old.log self.old.active.present.entries self.old.last before
             → IfOk result (λ same. MatchBool same (IsOnPath e reads self.new.log
-            self.new.active.entries self.new.last (before ++ operation.now ∷ []))
+            self.new.active.present.entries self.new.last (before ++ operation.now ∷ []))
             (Begins e reads (before ++ operation.now ∷ []) → ⊥)) }
     {
         if place == self.log.len() {
@@ -157,9 +157,9 @@ impl<F: Family, K: Key, V: OperationCodec<F, Update<K, V>>> Replay<F, K, V> {
             let reads = ReadsCommand (ReadsAs (V.operation_parse cfg.now) V.operation_view)
             (λ k v n. record { key = k; value = v; next_key = n }) in
             (before : List (List ℕ)) → length self.old.log.operations.items ≡ length before
-            → IsOnPath e reads self.old.log self.old.active.entries self.old.last before
+            → IsOnPath e reads self.old.log self.old.active.present.entries self.old.last before
             → IfOk result (λ same. MatchBool same (IsOnPath e reads self.new.log
-            self.new.active.entries self.new.last (before ++ operation.now ∷ []))
+            self.new.active.present.entries self.new.last (before ++ operation.now ∷ []))
             (Begins e reads (before ++ operation.now ∷ []) → ⊥)) }
     {
         operations_settle_keys::<F, K, V>();
@@ -193,8 +193,8 @@ impl<F: Family, K: Key, V: OperationCodec<F, Update<K, V>>> Replay<F, K, V> {
             let reads = ReadsCommand (ReadsAs (V.operation_parse cfg.now) V.operation_view)
             (λ k v n. record { key = k; value = v; next_key = n }) in
             (commands : List (Command K V.Value))
-            → IsReplayOf self.old.log self.old.active.entries self.old.last (run e empty commands)
-            → IfOk result (IsFollowedBy e self.new.log self.new.active.entries self.new.last reads
+            → IsReplayOf self.old.log self.old.active.present.entries self.old.last (run e empty commands)
+            → IfOk result (IsFollowedBy e self.new.log self.new.active.present.entries self.new.last reads
             (run e empty commands) operation.now) }
     {
         operations_settle_keys::<F, K, V>();
@@ -211,14 +211,21 @@ impl<F: Family, K: Key, V: OperationCodec<F, Update<K, V>>> Replay<F, K, V> {
     fn put(&mut self, alloc: Global, key: K, value: V::Value) -> Result<bool, NoMemory>
         ensures { let e = keyed_by K.text V.Value.text V.operation_text K.cmp in
             (d : Database K V.Value)
-            → IsReplayOf self.old.log self.old.active.entries self.old.last d
-            → IfOk result (IsDoneOr e self.new.log self.new.active.entries self.new.last d
+            → IsReplayOf self.old.log self.old.active.present.entries self.old.last d
+            → IfOk result (IsDoneOr e self.new.log self.new.active.present.entries self.new.last d
             (Put key value)) }
     {
-        if self.active.contains_key(&key) {
-            is_done(put_active::<F, K, V>(alloc, &mut self.log, &mut self.active, key, value))
+        if self.active.present.contains_key(&key) {
+            is_done(put_active::<F, K, V>(
+                alloc,
+                &mut self.log,
+                &mut self.active,
+                false,
+                key,
+                value,
+            ))
         } else {
-            is_done(put_new::<F, K, V>(alloc, &mut self.log, &mut self.active, key, value))
+            is_done(put_new::<F, K, V>(alloc, &mut self.log, &mut self.active, false, key, value))
         }
     }
 
@@ -226,22 +233,22 @@ impl<F: Family, K: Key, V: OperationCodec<F, Update<K, V>>> Replay<F, K, V> {
     fn delete(&mut self, alloc: Global, key: &K) -> Result<bool, NoMemory>
         ensures { let e = keyed_by K.text V.Value.text V.operation_text K.cmp in
             (d : Database K V.Value)
-            → IsReplayOf self.old.log self.old.active.entries self.old.last d
-            → IfOk result (IsDoneOr e self.new.log self.new.active.entries self.new.last d
+            → IsReplayOf self.old.log self.old.active.present.entries self.old.last d
+            → IfOk result (IsDoneOr e self.new.log self.new.active.present.entries self.new.last d
             (Delete key.now)) }
     {
-        if !self.active.contains_key(key) {
+        if !self.active.present.contains_key(key) {
             return Ok(false);
         }
-        is_done(remove::<F, K, V>(alloc, &mut self.log, &mut self.active, key))
+        is_done(remove::<F, K, V>(alloc, &mut self.log, &mut self.active, false, key))
     }
 
     /// Commits with `metadata` as the value of the commit, and hashes nothing. Whether that was done.
     fn commit(&mut self, alloc: Global, metadata: Option<V::Value>) -> Result<bool, NoMemory>
         ensures { let e = keyed_by K.text V.Value.text V.operation_text K.cmp in
             (commands : List (Command K V.Value))
-            → IsReplayOf self.old.log self.old.active.entries self.old.last (run e empty commands)
-            → IfOk result (IsDoneOr e self.new.log self.new.active.entries self.new.last
+            → IsReplayOf self.old.log self.old.active.present.entries self.old.last (run e empty commands)
+            → IfOk result (IsDoneOr e self.new.log self.new.active.present.entries self.new.last
             (run e empty commands) (Committing metadata)) }
     {
         operations_settle_keys::<F, K, V>();

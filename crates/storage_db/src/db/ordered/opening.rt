@@ -4,20 +4,19 @@ ghost use Rattle.std.specs.Prelude.{◌≡◌, ◌<◌, ℕ, List, None, IfOk, I
 ghost use Rattle.storage_bitmap.specs.Chunks.{IsChunkSize};
 ghost use Rattle.storage_current.specs.Keys.{keyed_by};
 ghost use Rattle.storage_current.specs.Snapshots.{grafting_of};
+ghost use Rattle.storage_db.specs.declared.db.active.Active.{Active};
 ghost use Rattle.storage_db.specs.Databases.{Command, Database};
-ghost use Rattle.storage_db.specs.Kept.{Keeps};
+ghost use Rattle.storage_db.specs.Kept.{Keeps, with_keys};
 ghost use Rattle.storage_db.specs.Opening.{IsOpened, IsOpenRefused, Leave, ReadsAs, ReadsCommand};
 ghost use Rattle.storage_db.specs.Parts.{IsCommitOf};
 ghost use Rattle.storage_db.specs.Replays.{IsOnPath, IsRemade};
 ghost use Rattle.storage_db.specs.declared.db.ordered.opening.OpenError.TheVariants.{Memory};
 
-use crate::db::active::Active;
 use crate::db::commit::Commit;
 use crate::db::log::Log;
 use crate::db::replay::{Replay, bytes_settle_commands};
 use crate::db::{Ordered, OrderedCodec};
 use std::alloc::Global;
-use std::collections::BTreeMap;
 use storage_codec::NoMemory;
 use storage_codec::digest::Hasher;
 use storage_current::laws::keys::operations_settle_keys;
@@ -98,13 +97,13 @@ impl<F: Graftable, H: Hasher, K: Key, V: OrderedCodec<F, K>, const N: usize> Ord
         requires some { MatchOption replay.last (Unit {0})
             (λ _. 0 < vec_len replay.log.operations) }
         requires made { let e = keyed_by K.text V.Value.text V.operation_text K.cmp in
-            IsRemade e replay.log replay.active.entries replay.last }
+            IsRemade e replay.log replay.active.present.entries replay.last }
         ensures ok { let e = keyed_by K.text V.Value.text V.operation_text K.cmp in
             (cfg : V.ReadCfg) (all : List (List ℕ)) → count ≡ length all
             → IsOnPath e (ReadsCommand
             (ReadsAs (V.operation_parse cfg) V.operation_view)
             (λ k v n. record { key = k; value = v; next_key = n })) replay.log
-            replay.active.entries replay.last all
+            replay.active.present.entries replay.last all
             → IfOk result (IsOpened e (ReadsCommand
             (ReadsAs (V.operation_parse cfg) V.operation_view)
             (λ k v n. record { key = k; value = v; next_key = n })) V.Value.view H.hash_of (grafting_of F.shape N) all) }
@@ -113,18 +112,23 @@ impl<F: Graftable, H: Hasher, K: Key, V: OrderedCodec<F, K>, const N: usize> Ord
             → IsOnPath e (ReadsCommand
             (ReadsAs (V.operation_parse cfg) V.operation_view)
             (λ k v n. record { key = k; value = v; next_key = n })) replay.log
-            replay.active.entries replay.last all
+            replay.active.present.entries replay.last all
             → IfErr result (IsOpenRefused e (ReadsCommand
             (ReadsAs (V.operation_parse cfg) V.operation_view)
             (λ k v n. record { key = k; value = v; next_key = n })) all) }
     {
         operations_settle_keys::<F, K, V>();
         bytes_settle_commands::<F, K, V>();
-        let Replay { log, active, last } = replay;
+        let Replay {
+            log,
+            mut active,
+            last,
+        } = replay;
         if log.len() != count || log.committed != count {
             return Err(OpenError::NotALog(Location::new(count)));
         }
-        let last = Self::kept(alloc, &log, &active, last)?;
+        let last = Self::kept(alloc, &log, last)?;
+        active.forget();
         Ok(Ordered {
             alloc,
             log,
@@ -138,20 +142,19 @@ impl<F: Graftable, H: Hasher, K: Key, V: OrderedCodec<F, K>, const N: usize> Ord
     fn kept(
         alloc: Global,
         log: &Log,
-        active: &BTreeMap<K, Active<V::Value>>,
         last: Option<(Option<V::Value>, Location<F>)>,
     ) -> Result<Option<Commit<F, H, K, V, N>>, NoMemory>
         requires size { IsChunkSize N }
         requires some { MatchOption last (Unit {0}) (λ _. 0 < vec_len log.now.operations) }
         ensures { let e = keyed_by K.text V.Value.text V.operation_text K.cmp in
-            IfOk result (λ kept. MatchOption last (kept ≡ None) (λ p. IsSomeAnd kept
-            (IsCommitOf e V.Value.view H.hash_of (grafting_of F.shape N) log.now active.now.entries
-            None p.0 p.1))) }
+            IfOk result (λ kept. (entries : List (K × Active V.Value))
+            → MatchOption last (kept ≡ None) (λ p. IsSomeAnd kept (λ c. IsCommitOf e V.Value.view
+            H.hash_of (grafting_of F.shape N) log.now entries None p.0 p.1 (with_keys c entries)))) }
     {
         let Some((metadata, floor)) = last else {
             return Ok(None);
         };
-        let commit = Commit::first(alloc, log, active, metadata, floor)?;
+        let commit = Commit::first(alloc, log, metadata, floor)?;
         Ok(Some(commit))
     }
 

@@ -13,32 +13,32 @@ pub returns-in_err-make_room-clause-why : goal.returns-in_err-make_room-clause-w
 returns-in_err-make_room-clause-why g c =
     let e : Keyed g.row.K.Denot g.row.V-Value.Denot
     = keyed_by g.K.Write.text g.V.Value.Write.text g.V.OperationCodec.operation_text g.K.Ord.cmp in
-    no_room c.args.log.now c.args.active.now.entries (λ x. put e x c.args.key c.args.value) 1
-    (update_count e c.args.log.now c.args.active.now.entries c.args.key c.args.value c.requires)
+    no_room c.args.log.now c.args.active.now.present.entries (λ x. put e x c.args.key c.args.value) 1
+    (update_count e c.args.log.now c.args.active.now.present.entries c.args.key c.args.value c.requires)
     c.from_residual.result _ c.in_err-make_room.ensures.why c.from_residual.ensures.1
 
 pub returns-in_err-next_key-clause-why : goal.returns-in_err-next_key-clause-why
 returns-in_err-next_key-clause-why g c =
     let e : Keyed g.row.K.Denot g.row.V-Value.Denot
     = keyed_by g.K.Write.text g.V.Value.Write.text g.V.OperationCodec.operation_text g.K.Ord.cmp in
-    no_memory c.args.log.now c.args.active.now.entries (λ x. put e x c.args.key c.args.value) 1
-    (update_count e c.args.log.now c.args.active.now.entries c.args.key c.args.value c.requires)
+    no_memory c.args.log.now c.args.active.now.present.entries (λ x. put e x c.args.key c.args.value) 1
+    (update_count e c.args.log.now c.args.active.now.present.entries c.args.key c.args.value c.requires)
     c.from_residual-in_err-next_key.result c.in_ok-make_room.ensures.few c.from_residual-in_err-next_key.ensures.1
 
 pub returns-in_err-bytes-clause-why : goal.returns-in_err-bytes-clause-why
 returns-in_err-bytes-clause-why g c =
     let e : Keyed g.row.K.Denot g.row.V-Value.Denot
     = keyed_by g.K.Write.text g.V.Value.Write.text g.V.OperationCodec.operation_text g.K.Ord.cmp in
-    no_memory c.args.log.now c.args.active.now.entries (λ x. put e x c.args.key c.args.value) 1
-    (update_count e c.args.log.now c.args.active.now.entries c.args.key c.args.value c.requires)
+    no_memory c.args.log.now c.args.active.now.present.entries (λ x. put e x c.args.key c.args.value) 1
+    (update_count e c.args.log.now c.args.active.now.present.entries c.args.key c.args.value c.requires)
     c.from_residual-in_err-bytes.result c.in_ok-make_room.ensures.few c.from_residual-in_err-bytes.ensures.1
 
 pub returns-in_err-set-clause-why : goal.returns-in_err-set-clause-why
 returns-in_err-set-clause-why g c =
     let e : Keyed g.row.K.Denot g.row.V-Value.Denot
     = keyed_by g.K.Write.text g.V.Value.Write.text g.V.OperationCodec.operation_text g.K.Ord.cmp in
-    no_memory c.args.log.now c.args.active.now.entries (λ x. put e x c.args.key c.args.value) 1
-    (update_count e c.args.log.now c.args.active.now.entries c.args.key c.args.value c.requires)
+    no_memory c.args.log.now c.args.active.now.present.entries (λ x. put e x c.args.key c.args.value) 1
+    (update_count e c.args.log.now c.args.active.now.present.entries c.args.key c.args.value c.requires)
     c.from_residual-in_err-set.result c.in_ok-make_room.ensures.few c.from_residual-in_err-set.ensures.1
 
 pub returns-clause-ok : goal.returns-clause-ok
@@ -46,15 +46,15 @@ returns-clause-ok g c = grind (arith, common_steps)
 
 pub returns-in_err-make_room-clause-err : goal.returns-in_err-make_room-clause-err
 returns-in_err-make_room-clause-err g c = on_err c.from_residual.result
-    (same_database c.args.log.now c.make_room.new.self c.in_err-make_room.ensures.operations c.in_err-make_room.ensures.bits c.args.active.now.entries)
+    (same_database c.args.log.now c.make_room.new.self c.in_err-make_room.ensures.operations c.in_err-make_room.ensures.bits c.args.active.now.present.entries)
 
 pub returns-in_err-next_key-clause-err : goal.returns-in_err-next_key-clause-err
 returns-in_err-next_key-clause-err g c = on_err c.from_residual-in_err-next_key.result
-    (same_database c.args.log.now c.make_room.new.self c.in_ok-make_room.ensures.operations c.in_ok-make_room.ensures.bits c.args.active.now.entries)
+    (same_database c.args.log.now c.make_room.new.self c.in_ok-make_room.ensures.operations c.in_ok-make_room.ensures.bits c.args.active.now.present.entries)
 
 pub returns-in_err-bytes-clause-err : goal.returns-in_err-bytes-clause-err
 returns-in_err-bytes-clause-err g c = on_err c.from_residual-in_err-bytes.result
-    (same_database c.args.log.now c.make_room.new.self c.in_ok-make_room.ensures.operations c.in_ok-make_room.ensures.bits c.args.active.now.entries)
+    (same_database c.args.log.now c.make_room.new.self c.in_ok-make_room.ensures.operations c.in_ok-make_room.ensures.bits c.args.active.now.present.entries)
 
 pub returns-in_err-make_room-clause-on : goal.returns-in_err-make_room-clause-on
 returns-in_err-make_room-clause-on g c =

@@ -8,12 +8,12 @@ use Rattle.storage_db.proofs.db.changes.renew.Goals.{in-Some, in_default}
 pub returns-clause-on : goal.returns-clause-on
 returns-clause-on g c =
     let old = c.args.log.now in
-    goes_trans old c.match-get_mut.log c.append.new.self
-    (elim c.match-get_mut.branch [
+    goes_trans old c.match-relocate.log c.append.new.self
+    (elim c.match-relocate.branch [
       | in-Some w ↦
           subst (λ (l : Log). GoesOn old l) (sym w.log-is)
           (goes_cleared old w.clear.new.self w.clear.ensures.operations w.clear.ensures.committed w.clear.ensures.cleared)
       | in_default w ↦ subst (λ (l : Log). GoesOn old l) (sym w.log-is) (goes_same old old refl refl refl refl)
     ])
-    (goes_appended c.match-get_mut.log c.append.new.self c.args.bytes _ c.append.ensures.operations c.append.ensures.bits
+    (goes_appended c.match-relocate.log c.append.new.self c.args.bytes _ c.append.ensures.operations c.append.ensures.bits
     c.append.ensures.committed c.append.ensures.cleared)

@@ -5,23 +5,23 @@ use Rattle.storage_current.specs.Keys.{Keyed, keyed_by}
 use Rattle.storage_current.specs.KeptSnapshots.{KeptSnapshot, StandsForSnapshot}
 use Rattle.storage_current.specs.Laws.Retained.{cleared_from_first, rest_first}
 use Rattle.storage_current.specs.Snapshots.{Snapshot, IsSnapshot, grafting_of}
-use Rattle.storage_db.specs.Kept.{IsCopy, KeptCommit}
+use Rattle.storage_db.specs.Kept.{HeldCommit}
 use Rattle.storage_db.specs.Parts.{AreLast}
 use Rattle.storage_db.proofs.Cases.{on_ok, on_refused}
-use Rattle.storage_db.proofs.Copies.{zip_imply}
 use Rattle.storage_db.proofs.Extensions.{IsRest, extended_is, rest_bits}
+use Rattle.storage_db.proofs.Remembering.{copy_itself}
 use Rattle.storage_db.proofs.db.commit.Commit.extend.Goals as goal
 
 pub returns-clause-ok : goal.returns-clause-ok
-returns-clause-ok g c = λ since.
+returns-clause-ok g c = λ before entries since.
     let e : Keyed g.row.K.Denot g.row.V-Value.Denot
     = keyed_by g.K.Write.text g.V.Value.Write.text g.V.OperationCodec.operation_text g.K.Ord.cmp in
     let h = g.H.Hasher.hash_of in
     let gr = grafting_of g.F.Family.shape g.row.N in
     let log = c.args.log.now in
-    let was : KeptCommit g.row.K.Denot g.row.V-Value.Denot = c.args.self.now in
+    let was : HeldCommit g.row.V-Value.Denot = c.args.self.now in
     let kept : c.self.inside.snapshot ≡ was.snapshot
-    = ap (λ (k : KeptCommit g.row.K.Denot g.row.V-Value.Denot). k.snapshot) c.self.view_is in
+    = ap (λ (k : HeldCommit g.row.V-Value.Denot). k.snapshot) c.self.view_is in
     let unpruned : c.self.inside.snapshot.status.pruned ≡ 0 = c.self.invariant.1 in
     let begin : c.self.inside.snapshot.status.pruned * (8 * g.row.N) ≡ 0
     = ap (λ (p : ℕ). p * (8 * g.row.N)) unpruned ∙ zero-mul (8 * g.row.N) in
@@ -39,13 +39,7 @@ returns-clause-ok g c = λ since.
       metadata_is = refl;
       floor_is = refl;
       count = c.len-self-inside.ensures.count;
-      copies = zip_imply _ (IsCopy e g.V.Value.Read.view)
-          (λ x y cloned. record {
-            key = (g.met.K.Key.clones x.0 y.0 cloned.0).1;
-            value = (g.met.V.ValueEncoding.clones x.1.value y.1.value cloned.1.0).1;
-            seen_value = (g.met.V.ValueEncoding.clones x.1.value y.1.value cloned.1.0).0;
-            location = cloned.1.1;
-          }) c.args.active.now.entries c.in_ok-active.active.entries c.in_ok-active.ensures.cases;
+      copies = copy_itself e g.V.Value.Read.view entries;
       status = ap (λ (r : Retained). r.bits) status
           ∙ ap (λ (b : List Bool). b ++ c.new_bits-bits.result.now)
           (cleared_from_first _ c.deref.result.now c.self.inside.snapshot.status.bits begin)

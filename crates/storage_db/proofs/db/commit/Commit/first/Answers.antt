@@ -3,14 +3,13 @@ use Rattle.storage_bitmap.specs.Chunks.{Retained}
 use Rattle.storage_current.specs.Keys.{Keyed, keyed_by}
 use Rattle.storage_current.specs.KeptSnapshots.{StandsForSnapshot}
 use Rattle.storage_current.specs.Snapshots.{IsSnapshot, grafting_of}
-use Rattle.storage_db.specs.Kept.{IsCopy}
 use Rattle.storage_db.specs.Parts.{texts}
-use Rattle.storage_db.proofs.Copies.{zip_imply}
 use Rattle.storage_db.proofs.Extensions.{snapshot_with}
+use Rattle.storage_db.proofs.Remembering.{copy_itself}
 use Rattle.storage_db.proofs.db.commit.Commit.first.Goals as goal
 
 pub returns : goal.returns
-returns g c =
+returns g c = λ entries.
     let e : Keyed g.row.K.Denot g.row.V-Value.Denot
     = keyed_by g.K.Write.text g.V.Value.Write.text g.V.OperationCodec.operation_text g.K.Ord.cmp in
     let log = c.args.log.now in
@@ -22,13 +21,7 @@ returns g c =
       metadata_is = refl;
       floor_is = refl;
       count = c.len.ensures.count;
-      copies = zip_imply _ (IsCopy e g.V.Value.Read.view)
-          (λ x y cloned. record {
-            key = (g.met.K.Key.clones x.0 y.0 cloned.0).1;
-            value = (g.met.V.ValueEncoding.clones x.1.value y.1.value cloned.1.0).1;
-            seen_value = (g.met.V.ValueEncoding.clones x.1.value y.1.value cloned.1.0).0;
-            location = cloned.1.1;
-          }) c.args.active.now.entries c.in_ok-active.active.entries c.in_ok-active.ensures.cases;
+      copies = copy_itself e g.V.Value.Read.view entries;
       status = ap (λ (r : Retained). r.bits) c.in-Ok.ensures.status ∙ bits;
       snapshot = subst (λ (b : List Bool). IsSnapshot (snapshot_with (texts log) b c.args.floor)
           × StandsForSnapshot g.H.Hasher.hash_of (grafting_of g.F.Family.shape g.row.N) c.in-Ok.snapshot

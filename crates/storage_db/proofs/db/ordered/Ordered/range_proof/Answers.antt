@@ -8,9 +8,10 @@ use Rattle.storage_current.specs.Keys.{Keyed, keyed_by}
 use Rattle.storage_current.specs.Served.{end_of}
 use Rattle.storage_current.specs.Snapshots.{grafting_of}
 use Rattle.storage_db.specs.declared.db.error.Error.TheVariants.{Memory, RangeOutOfBounds}
-use Rattle.storage_db.specs.Kept.{KeptCommit}
-use Rattle.storage_db.specs.Parts.{IsSince, IsSinceCommit, kept_of}
+use Rattle.storage_db.specs.Kept.{KeptCommit, with_keys}
+use Rattle.storage_db.specs.Parts.{committed_of, IsSince, IsSinceCommit, kept_of}
 use Rattle.storage_db.specs.Shown.{IsPage}
+use Rattle.storage_db.proofs.Remembering.{with_all}
 use Rattle.storage_db.proofs.Cases.{cond_yes, cond_no, err_and}
 use Rattle.storage_db.proofs.Pages.{page_at_last, texts_between}
 use Rattle.storage_db.proofs.Shown.{told_at_last, told_before}
@@ -19,14 +20,14 @@ use Rattle.storage_db.proofs.db.ordered.Ordered.range_proof.Goals as goal
 pub returns-in_default-clause-why : goal.returns-in_default-clause-why
 returns-in_default-clause-why g c = λ d keeps.
     told_before (keyed_by g.K.Write.text g.V.Value.Write.text g.V.OperationCodec.operation_text g.K.Ord.cmp) g.V.Value.Read.view
-    g.H.Hasher.hash_of (grafting_of g.F.Family.shape g.row.N) _ _ c.self.view_is d keeps _ _ c.in_default.is refl
+    g.H.Hasher.hash_of (grafting_of g.F.Family.shape g.row.N) _ _ c.self.view_is d keeps _ _ (ap (with_all (committed_of g.K.Ord.cmp c.self.inside.active)) c.in_default.is) refl
 
 pub returns-then-first-len-clause-why : goal.returns-then-first-len-clause-why
 returns-then-first-len-clause-why g c = λ d keeps.
     let e : Keyed g.row.K.Denot g.row.V-Value.Denot
     = keyed_by g.K.Write.text g.V.Value.Write.text g.V.OperationCodec.operation_text g.K.Ord.cmp in
     told_at_last e g.V.Value.Read.view g.H.Hasher.hash_of (grafting_of g.F.Family.shape g.row.N) _ _ c.self.view_is d keeps
-    c.in-Some.last c.in-Some.is _ _ (λ commit kept.
+    (with_keys c.in-Some.last (committed_of g.K.Ord.cmp c.self.inside.active)) (ap (with_all (committed_of g.K.Ord.cmp c.self.inside.active)) c.in-Some.is) _ _ (λ commit kept.
     let past : length commit.snapshot.operations ≤ c.args.start
     = omega (arith, c.if-first-len.true, c.as_u64-first.ensures, c.len.ensures, kept.count) in
     sym (cond_no _ Memory (RangeOutOfBounds c.args.start) (le-ltb _ _ past)))
@@ -37,7 +38,7 @@ returns-in_err-proof-clause-why g c =
     = keyed_by g.K.Write.text g.V.Value.Write.text g.V.OperationCodec.operation_text g.K.Ord.cmp in
     err_and _ _ c.from_residual.result (λ error same d keeps.
     told_at_last e g.V.Value.Read.view g.H.Hasher.hash_of (grafting_of g.F.Family.shape g.row.N) _ _ c.self.view_is d keeps
-    c.in-Some.last c.in-Some.is _ _ (λ commit kept.
+    (with_keys c.in-Some.last (committed_of g.K.Ord.cmp c.self.inside.active)) (ap (with_all (committed_of g.K.Ord.cmp c.self.inside.active)) c.in-Some.is) _ _ (λ commit kept.
     let within : c.args.start < length commit.snapshot.operations
     = omega (arith, c.if-first-len.false, c.as_u64-first.ensures, c.len.ensures, kept.count) in
     same ∙ sym (cond_yes _ Memory (RangeOutOfBounds c.args.start) (lt-ltb _ _ within)))) c.from_residual.ensures.1
@@ -49,9 +50,10 @@ returns-clause-own g c = λ d keeps.
     let h = g.H.Hasher.hash_of in
     let gr = grafting_of g.F.Family.shape g.row.N in
     let log = c.self.inside.log in
-    let last : KeptCommit g.row.K.Denot g.row.V-Value.Denot = c.in-Some.last in
+    let entries = committed_of g.K.Ord.cmp c.self.inside.active in
+    let last : KeptCommit g.row.K.Denot g.row.V-Value.Denot = with_keys c.in-Some.last entries in
     let since : IsSinceCommit log last
-    = subst (λ (o : Option (KeptCommit g.row.K.Denot g.row.V-Value.Denot)). IsSince log o) c.in-Some.is c.self.invariant.1 in
+    = subst (λ (o : Option (KeptCommit g.row.K.Denot g.row.V-Value.Denot)). IsSince log o) (ap (with_all (committed_of g.K.Ord.cmp c.self.inside.active)) c.in-Some.is) c.self.invariant.1 in
     let few : last.count ≤ 2 ^ 62 = omega (arith, since.committed, log.within, log.few) in
     let first : ℕ = c.as_u64-first.result in
     let end : ℕ = c.min-end.result in
@@ -64,8 +66,8 @@ returns-clause-own g c = λ d keeps.
     ∙ ap (λ (l : List (Vec ℕ)). slice_range (map (λ (v : Vec ℕ). v.items) l) first end) c.deref.ensures.value in
     let proof = range_proof_of g.H.Digest.Digest.text c.in_ok-proof.proof in
     let page = page_at_last e g.V.Value.Read.view h gr
-    (kept_of log c.self.inside.active.entries c.self.inside.last) c.args.self.now c.self.view_is d keeps last c.in-Some.is first
-    c.args.max_ops end within c.requires end_is proof c.in_ok-proof.chunks.items c.in_ok-proof.ensures
+    (kept_of log c.self.inside.active.present.entries (with_all entries c.self.inside.last)) c.args.self.now c.self.view_is d keeps last (ap (with_all (committed_of g.K.Ord.cmp c.self.inside.active)) c.in-Some.is) first
+    c.args.max_ops end within c.requires end_is proof c.in_ok-proof.chunks.items (c.in_ok-proof.ensures entries)
     (map (λ (v : Vec ℕ). v.items) (slice_range c.deref.result.now first end)) lent in
     subst (λ (start : ℕ). IsSomeAnd d.last (λ x. IsPage h gr x.snapshot start c.args.max_ops proof
     (map (λ (v : Vec ℕ). v.items) (slice_range c.deref.result.now first end)) c.in_ok-proof.chunks.items))

@@ -15,7 +15,7 @@ returns g c = λ commands replay.
     let log = c.args.self.now.log in
     let room = c.make_room.new.self in
     let new = c.settle.new.self in
-    let entries = c.args.self.now.active.entries in
+    let entries = c.args.self.now.active.present.entries in
     let made = room_replay e log room entries c.args.self.now.last d c.make_room.ensures.operations c.make_room.ensures.bits
     c.make_room.ensures.committed c.make_room.ensures.cleared replay in
     let few = passed c.make_room.result c.in_ok-is_done.field-0 c.in_ok-is_done.ensures c.if-not-branch.false c.make_room.ensures.few in

@@ -8,16 +8,16 @@ pub returns-then-not-contains_key : goal.returns-then-not-contains_key
 returns-then-not-contains_key g c = λ d replay.
     let e : Keyed g.row.K.Denot g.row.V-Value.Denot
     = keyed_by g.K.Write.text g.V.Value.Write.text g.V.OperationCodec.operation_text g.K.Ord.cmp in
-    absent_not_done e c.args.self.now.log c.args.self.now.active.entries c.args.self.now.last d replay c.args.key.now
+    absent_not_done e c.args.self.now.log c.args.self.now.active.present.entries c.args.self.now.last d replay c.args.key.now
     (sym c.contains_key.ensures ∙ c.if-not-contains_key.true)
 
 pub returns : goal.returns
 returns g c = λ d replay.
     let e : Keyed g.row.K.Denot g.row.V-Value.Denot
     = keyed_by g.K.Write.text g.V.Value.Write.text g.V.OperationCodec.operation_text g.K.Ord.cmp in
-    step_answered e c.args.self.now.log c.remove.new.log c.args.self.now.active.entries c.remove.new.active.entries
+    step_answered e c.args.self.now.log c.remove.new.log c.args.self.now.active.present.entries c.remove.new.active.present.entries
     c.args.self.now.last d replay (Delete c.args.key.now) c.remove.result c.is_done.result c.is_done.ensures
     c.remove.ensures.ok c.remove.ensures.few c.remove.ensures.on.committed c.remove.ensures.why
-    (held_own e c.args.self.now.log c.args.self.now.active.entries c.args.self.now.last d replay c.args.key.now
+    (held_own e c.args.self.now.log c.args.self.now.active.present.entries c.args.self.now.last d replay c.args.key.now
     (sym c.contains_key.ensures ∙ c.if-not-contains_key.false))
     (delete_last e d c.args.key.now)

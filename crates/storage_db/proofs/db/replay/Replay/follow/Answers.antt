@@ -19,7 +19,7 @@ returns-in-Some-Update g c = λ commands replay.
     let some = rw c.in-Some-Update.is at c.in_ok-update.ensures in
     let found = rw c.in-Some-Update.field-0-is at some in
     followed_if e g.V.Value.Read.view c.operations_settle_keys.ensures reads (c.bytes_settle_commands.ensures c.args.cfg.now)
-    c.put.new.self.log c.put.new.self.active.entries c.put.new.self.last (run e empty commands) c.args.operation.now
+    c.put.new.self.log c.put.new.self.active.present.entries c.put.new.self.last (run e empty commands) c.args.operation.now
     (Put c.in-Some-Update.update.key c.in-Some-Update.update.value) (c.in-Some-Update.update.next_key, found) c.put.result (c.put.ensures (run e empty commands) replay)
 
 pub returns-in-Some-Delete : goal.returns-in-Some-Delete
@@ -31,7 +31,7 @@ returns-in-Some-Delete g c = λ commands replay.
     let some = rw c.in-Some-Delete.is at c.in_ok-update.ensures in
     let found = rw c.in-Some-Delete.field-0-is at some in
     followed_if e g.V.Value.Read.view c.operations_settle_keys.ensures reads (c.bytes_settle_commands.ensures c.args.cfg.now)
-    c.delete.new.self.log c.delete.new.self.active.entries c.delete.new.self.last (run e empty commands) c.args.operation.now
+    c.delete.new.self.log c.delete.new.self.active.present.entries c.delete.new.self.last (run e empty commands) c.args.operation.now
     (Delete c.in-Some-Delete.key) found c.delete.result (c.delete.ensures (run e empty commands) replay)
 
 pub returns-in-Some-CommitFloor : goal.returns-in-Some-CommitFloor
@@ -43,5 +43,5 @@ returns-in-Some-CommitFloor g c = λ commands replay.
     let some = rw c.in-Some-CommitFloor.is at c.in_ok-update.ensures in
     let found = rw c.in-Some-CommitFloor.field-0-is at some in
     followed_if e g.V.Value.Read.view c.operations_settle_keys.ensures reads (c.bytes_settle_commands.ensures c.args.cfg.now)
-    c.commit.new.self.log c.commit.new.self.active.entries c.commit.new.self.last (run e empty commands) c.args.operation.now
+    c.commit.new.self.log c.commit.new.self.active.present.entries c.commit.new.self.last (run e empty commands) c.args.operation.now
     (Commit c.in-Some-CommitFloor.metadata) (c.in-Some-CommitFloor.field-0-1, found) c.commit.result (c.commit.ensures commands replay)

@@ -8,5 +8,5 @@ returns g c = λ cfg.
     let e : Keyed g.row.K.Denot g.row.V-Value.Denot
     = keyed_by g.K.Write.text g.V.Value.Write.text g.V.OperationCodec.operation_text g.K.Ord.cmp in
     none_followed e (ReadsCommand (ReadsAs (g.V.OperationCodec.operation_parse cfg) g.V.OperationCodec.operation_view)
-    (λ k v n. record { key = k; value = v; next_key = n })) c.new.result c.new-2.result.entries c.new.ensures.operations
-    c.new.ensures.bits c.new.ensures.cleared c.new-2.ensures.empty
+    (λ k v n. record { key = k; value = v; next_key = n })) c.new.result c.new-2.result.present.entries c.new.ensures.operations
+    c.new.ensures.bits c.new.ensures.cleared c.new-2.ensures.present

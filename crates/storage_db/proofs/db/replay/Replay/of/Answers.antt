@@ -32,13 +32,13 @@ returns-then-not-branch-clause-why g c =
     let own : List ℕ = c.deref.result.now in
     let before : List (List ℕ) = map bytes c.loop-operation.yielded in
     let new = c.take.new.self in
-    let P : Bool → Type 0 = λ b. MatchBool b (IsOnPath e reads new.log new.active.entries new.last (before ++ own ∷ []))
+    let P : Bool → Type 0 = λ b. MatchBool b (IsOnPath e reads new.log new.active.present.entries new.last (before ++ own ∷ []))
     (Begins e reads (before ++ own ∷ []) → ⊥) in
     let none : Begins e reads (before ++ own ∷ []) → ⊥ = subst P c.if-not-branch.true
     (c.in_ok-take.ensures before (so_far.0 ∙ sym (length-map c.loop-operation.yielded bytes)) so_far.1) in
     stops_at e reads c.loop-operation.yielded (into_iter_items c.loop-operation.operation-iterator)
     (into_iter_items c.next.new.self) c.args.operations.items c.in-Some.operation own c.deref.ensures.value
-    c.in-Some.ensures.steps.0 so_far.2 replay.log replay.active.entries replay.last so_far.1 none c.new.result
+    c.in-Some.ensures.steps.0 so_far.2 replay.log replay.active.present.entries replay.last so_far.1 none c.new.result
     (c.new.ensures ∙ so_far.0)
 
 pub loop-operation-preserved : goal.loop-operation-preserved
@@ -53,12 +53,12 @@ loop-operation-preserved g c =
     let before : List (List ℕ) = map bytes c.loop-operation.yielded in
     let new = c.take.new.self in
     let rest = into_iter_items c.loop-operation.operation-iterator in
-    let P : Bool → Type 0 = λ b. MatchBool b (IsOnPath e reads new.log new.active.entries new.last (before ++ own ∷ []))
+    let P : Bool → Type 0 = λ b. MatchBool b (IsOnPath e reads new.log new.active.present.entries new.last (before ++ own ∷ []))
     (Begins e reads (before ++ own ∷ []) → ⊥) in
-    let on : IsOnPath e reads new.log new.active.entries new.last (before ++ own ∷ []) = subst P c.if-not-branch.false
+    let on : IsOnPath e reads new.log new.active.present.entries new.last (before ++ own ∷ []) = subst P c.if-not-branch.false
     (c.in_ok-take.ensures before (so_far.0 ∙ sym (length-map c.loop-operation.yielded bytes)) so_far.1) in (
       one_further c.loop-operation.yielded c.in-Some.operation c.loop-operation.place so_far.0,
-      goes_on e reads c.loop-operation.yielded c.in-Some.operation own c.deref.ensures.value new.log new.active.entries new.last on,
+      goes_on e reads c.loop-operation.yielded c.in-Some.operation own c.deref.ensures.value new.log new.active.present.entries new.last on,
       rest_further c.loop-operation.yielded rest (into_iter_items c.next.new.self) c.args.operations.items c.in-Some.operation
           c.in-Some.ensures.steps.0 so_far.2,
       fewer_left rest (into_iter_items c.next.new.self) c.in-Some.operation
@@ -78,13 +78,13 @@ returns-clause-ok g c =
     let all : c.loop-operation.yielded ≡ c.args.operations.items
     = all_taken c.loop-operation.yielded (into_iter_items c.loop-operation.operation-iterator) c.args.operations.items
     (into_iter_len c.loop-operation.operation-iterator) so_far.2 so_far.3 c.in-None.ensures.steps.0 in
-    subst (λ (l : List (Vec ℕ)). IsOnPath e reads replay.log replay.active.entries replay.last (map bytes l)) all so_far.1
+    subst (λ (l : List (Vec ℕ)). IsOnPath e reads replay.log replay.active.present.entries replay.last (map bytes l)) all so_far.1
 
 pub returns-clause-some : goal.returns-clause-some
 returns-clause-some g c =
     let replay = c.loop-operation.replay in
     let on = c.loop-operation.invariant.1 in
-    some_vec replay.log replay.active.entries replay.last on.database on.replay
+    some_vec replay.log replay.active.present.entries replay.last on.database on.replay
 
 pub returns-clause-made : goal.returns-clause-made
 returns-clause-made g c =
@@ -92,6 +92,6 @@ returns-clause-made g c =
     let on = c.loop-operation.invariant.1 in
     record {
       commands = on.path.commands;
-      replay = subst (λ (d : Database g.row.K.Denot g.row.V-Value.Denot). IsReplayOf replay.log replay.active.entries replay.last d)
+      replay = subst (λ (d : Database g.row.K.Denot g.row.V-Value.Denot). IsReplayOf replay.log replay.active.present.entries replay.last d)
           (sym on.path.leave) on.replay;
     }

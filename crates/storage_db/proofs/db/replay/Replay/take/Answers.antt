@@ -11,5 +11,5 @@ returns g c = λ before place on.
     let reads = ReadsCommand (ReadsAs (g.V.OperationCodec.operation_parse c.args.cfg.now) g.V.OperationCodec.operation_view)
     (λ k v n. record { key = k; value = v; next_key = n }) in
     let self = c.args.self.now in
-    rest_taken e reads self.log self.active.entries self.last before on c.args.operation.now c.args.place place
+    rest_taken e reads self.log self.active.present.entries self.last before on c.args.operation.now c.args.place place
     (λ same. c.if-place-len.false (same ∙ sym c.len.ensures.count)) c.has.result c.has.ensures

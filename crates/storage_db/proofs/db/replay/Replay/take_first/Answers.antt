@@ -14,13 +14,13 @@ returns-then-not-branch g c = λ before counted on.
     (λ k v n. record { key = k; value = v; next_key = n }) in
     let old = c.args.self.now in
     let new = c.follow.new.self in
-    let P : Bool → Type 0 = λ b. IsFollowedBy e new.log new.active.entries new.last reads on.database c.args.operation.now b in
-    let followed = subst (λ (d : Database g.row.K.Denot g.row.V-Value.Denot). IsFollowedBy e new.log new.active.entries new.last reads d
+    let P : Bool → Type 0 = λ b. IsFollowedBy e new.log new.active.present.entries new.last reads on.database c.args.operation.now b in
+    let followed = subst (λ (d : Database g.row.K.Denot g.row.V-Value.Denot). IsFollowedBy e new.log new.active.present.entries new.last reads d
     c.args.operation.now c.in_ok-follow.field-0) on.path.leave (c.in_ok-follow.ensures on.path.commands
-    (subst (λ (d : Database g.row.K.Denot g.row.V-Value.Denot). IsReplayOf old.log old.active.entries old.last d)
+    (subst (λ (d : Database g.row.K.Denot g.row.V-Value.Denot). IsReplayOf old.log old.active.present.entries old.last d)
     (sym on.path.leave) on.replay)) in
     none_taken e reads g.V.Value.Read.view c.operations_settle_keys.ensures (c.bytes_settle_commands.ensures c.args.cfg.now)
-    old.log new.log old.active.entries new.active.entries old.last new.last before on c.args.operation.now counted
+    old.log new.log old.active.present.entries new.active.present.entries old.last new.last before on c.args.operation.now counted
     (subst P c.if-not-branch.true followed)
 
 pub returns : goal.returns
@@ -31,12 +31,12 @@ returns g c = λ before counted on.
     (λ k v n. record { key = k; value = v; next_key = n }) in
     let old = c.args.self.now in
     let new = c.follow.new.self in
-    let P : Bool → Type 0 = λ b. IsFollowedBy e new.log new.active.entries new.last reads on.database c.args.operation.now b in
-    let followed = subst (λ (d : Database g.row.K.Denot g.row.V-Value.Denot). IsFollowedBy e new.log new.active.entries new.last reads d
+    let P : Bool → Type 0 = λ b. IsFollowedBy e new.log new.active.present.entries new.last reads on.database c.args.operation.now b in
+    let followed = subst (λ (d : Database g.row.K.Denot g.row.V-Value.Denot). IsFollowedBy e new.log new.active.present.entries new.last reads d
     c.args.operation.now c.in_ok-follow.field-0) on.path.leave (c.in_ok-follow.ensures on.path.commands
-    (subst (λ (d : Database g.row.K.Denot g.row.V-Value.Denot). IsReplayOf old.log old.active.entries old.last d)
+    (subst (λ (d : Database g.row.K.Denot g.row.V-Value.Denot). IsReplayOf old.log old.active.present.entries old.last d)
     (sym on.path.leave) on.replay)) in
     first_taken e reads g.V.Value.Read.view c.operations_settle_keys.ensures (c.bytes_settle_commands.ensures c.args.cfg.now)
-    old.log new.log old.active.entries new.active.entries old.last new.last before on c.args.operation.now counted
+    old.log new.log old.active.present.entries new.active.present.entries old.last new.last before on c.args.operation.now counted
     (subst P c.if-not-branch.false followed) c.has.result
     c.len-first.result (c.len-first.ensures.count ∙ counted) c.has.ensures
