@@ -73,6 +73,69 @@ fn ranges<F: Graftable>(rt: &impl Abort, alloc: Global) {
     assert!(rt; Database::<F>::new(alloc).range_committed(..).is_none());
 }
 
+/// Returns all keys that had a value at the last commit, with their values.
+fn committed<'a, F: Graftable>(rt: &impl Abort, database: &'a Database<F>) -> Range<'a, Key, u64> {
+    match database.range_committed(..) {
+        Some(range) => range,
+        None => panic!(rt; "nothing is committed"),
+    }
+}
+
+/// Asserts that the range has exactly these keys with these values, from its end.
+fn has_from_the_back(rt: &impl Abort, mut range: Range<'_, Key, u64>, entries: &[(u8, u64)]) {
+    for (byte, number) in entries {
+        let Some((key, value)) = range.next_back() else {
+            panic!(rt; "too few keys");
+        };
+        assert!(rt; key.bytes == [*byte]);
+        assert!(rt; *value == *number);
+    }
+    assert!(rt; range.next_back().is_none());
+    assert!(rt; range.next().is_none());
+}
+
+/// Gives each key its value.
+fn put_all<F: Graftable>(rt: &impl Abort, database: &mut Database<F>, entries: &[(u8, u64)]) {
+    for (byte, number) in entries {
+        done(rt, database.put(key(*byte), *number));
+    }
+}
+
+/// Takes the keys out, each of which has a value.
+fn delete_all<F: Graftable>(rt: &impl Abort, database: &mut Database<F>, bytes: &[u8]) {
+    for byte in bytes {
+        assert!(rt; done(rt, database.delete(&key(*byte))));
+    }
+}
+
+/// Asserts that the range has exactly these keys with these values, from its end, behind a first and before a last one.
+fn has_between(rt: &impl Abort, mut range: Range<'_, Key, u64>, entries: &[(u8, u64)]) {
+    assert!(rt; range.next().is_some());
+    assert!(rt; range.next_back().is_some());
+    has_from_the_back(rt, range, entries);
+}
+
+/// Asserts that the keys of a commit are told from both ends, whatever has changed since, until the next commit.
+fn committed_from_the_back<F: Graftable>(rt: &impl Abort, alloc: Global) {
+    let mut database = changed_since::<F>(rt, alloc);
+    delete_all(rt, &mut database, &[2]);
+    put_all(rt, &mut database, &[(8, 88), (9, 90), (2, 21)]);
+    has_from_the_back(
+        rt,
+        committed(rt, &database),
+        &[(8, 80), (6, 60), (4, 40), (2, 20)],
+    );
+    has_between(rt, committed(rt, &database), &[(6, 60), (4, 40)]);
+    done(rt, database.commit(None));
+    let now = [(9, 90), (8, 88), (5, 50), (4, 40), (2, 21)];
+    has_from_the_back(rt, committed(rt, &database), &now);
+    delete_all(rt, &mut database, &[4, 9, 2, 8, 5]);
+    has_from_the_back(rt, database.range(..), &[]);
+    has_from_the_back(rt, committed(rt, &database), &now);
+    done(rt, database.commit(None));
+    has_from_the_back(rt, committed(rt, &database), &[]);
+}
+
 /// Returns operations of eighteen bytes each as a proof takes them: written without their length.
 fn raw(rt: &impl Abort, alloc: Global, operations: &[Vec<u8>]) -> Vec<FixedBytes<18>> {
     let mut strings = Vec::new(alloc);
@@ -137,6 +200,12 @@ fn pages<F: Graftable>(rt: &impl Abort, alloc: Global) {
 fn ranges_in_order(rt: HostRuntime) {
     ranges::<mmr::Family>(&rt, rt.alloc());
     ranges::<mmb::Family>(&rt, rt.alloc());
+}
+
+#[test]
+fn committed_keys_from_the_back(rt: HostRuntime) {
+    committed_from_the_back::<mmr::Family>(&rt, rt.alloc());
+    committed_from_the_back::<mmb::Family>(&rt, rt.alloc());
 }
 
 #[test]
