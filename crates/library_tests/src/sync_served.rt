@@ -11,10 +11,10 @@ use std::ops::Range;
 use std::process::Abort;
 use storage_bitmap::bitmap::{Prunable, Readable as _};
 use storage_codec::codec::Encode;
-use storage_codec::digest::Sha256;
+use storage_codec::digest::{DigestOf, Sha256};
 use storage_current::qmdb::current::{Contiguous, LogError, Snapshot};
 use storage_merkle::merkle::{Graftable, Location, MAX_LEAVES, mmb, mmr};
-use storage_sync::sync::{Limits, Request, Server, Sync, Unanswered};
+use storage_sync::sync::{Limits, Replica, Request, Server, Sync, Unanswered, Unfounded};
 
 /// The code that the log fails with.
 const FAULT: u32 = 9;
@@ -262,12 +262,14 @@ fn copy_from_server<F: Graftable, const N: usize>(rt: &impl Abort, alloc: Global
     assert!(rt; again.as_slice() == third.as_slice());
     take_pages(rt, alloc, &server, &mut log, &mut sync, 2);
     assert!(rt; sync.next().is_none());
-    assert_whole(rt, sync, &server.snapshot);
+    assert_goes_on(rt, alloc, sync, &server.snapshot);
 }
 
-/// Asserts that `sync` has all operations, and the operations root, of `snapshot`.
-fn assert_whole<F: Graftable, const N: usize>(
+/// Asserts that `sync` has all operations of `snapshot`, and that with its floor, and no other, they are a snapshot with its
+/// roots, which grows.
+fn assert_goes_on<F: Graftable, const N: usize>(
     rt: &impl Abort,
+    alloc: Global,
     sync: Sync<F, Sha256, N>,
     snapshot: &Snapshot<F, Sha256, N>,
 )
@@ -276,8 +278,59 @@ fn assert_whole<F: Graftable, const N: usize>(
     let Ok(copy) = sync.done() else {
         panic!(rt; "not done")
     };
-    assert!(rt; copy.operations.len() as u64 == count::<N>());
-    assert!(rt; copy.ops_root == snapshot.ops_root());
+    let count = count::<N>();
+    let root = snapshot.root();
+    assert!(rt; copy.operations.len() as u64 == count && copy.ops_root == snapshot.ops_root());
+    assert_unfounded::<F, N>(rt, alloc, &copy, count + 1, root, Unfounded::FloorPastTheEnd);
+    assert_unfounded::<F, N>(rt, alloc, &copy, 0, root, Unfounded::OtherRoots);
+    let floor = Location::new(floor::<N>());
+    let mut made = some(rt, copy.to_snapshot::<F, Sha256>(alloc, floor, &root));
+    assert!(rt; made.root() == root && made.status().len() == count);
+    if let Err(refusal) = made.extend(alloc, &[[0]], &[true], &[], floor) {
+        refused(rt, &refusal)
+    }
+    assert!(rt; made.root() != root && made.status().len() == count + 1);
+}
+
+/// Asserts that with `floor` the copy is no snapshot with the canonical root `root`, by the name `why`.
+fn assert_unfounded<F: Graftable, const N: usize>(
+    rt: &impl Abort,
+    alloc: Global,
+    copy: &Replica<DigestOf<Sha256>, N>,
+    floor: u64,
+    root: DigestOf<Sha256>,
+    why: Unfounded,
+) {
+    match copy.to_snapshot::<F, Sha256>(alloc, Location::new(floor), &root) {
+        Ok(_) => panic!(rt; "another floor"),
+        Err(Unfounded::Memory) => out_of_memory(rt),
+        Err(found) => assert!(rt; found == why),
+    }
+}
+
+/// Asserts that the snapshot of no operations is known by its root, and no other is.
+fn nothing_known<F: Graftable>(rt: &impl Abort, alloc: Global) {
+    let none: [[u8; 0]; 0] = [];
+    let nothing = Snapshot::<F, Sha256, 1>::new(alloc, &none, Prunable::new(alloc), Location::new(0));
+    let nothing = some(rt, nothing);
+    let found = Sync::<F, Sha256, 1>::of_nothing(alloc, &nothing.root());
+    let Some(known) = some(rt, found) else {
+        panic!(rt; "the root of nothing")
+    };
+    assert!(rt; known.status().len() == 0 && known.ops_root() == nothing.ops_root());
+    let other = snapshot_of::<F, 1>(rt, alloc);
+    let found = Sync::<F, Sha256, 1>::of_nothing(alloc, &other.root());
+    assert!(rt; some(rt, found).is_none());
+}
+
+#[test]
+fn nothing_known_in_a_range(rt: HostRuntime) {
+    nothing_known::<mmr::Family>(&rt, rt.alloc());
+}
+
+#[test]
+fn nothing_known_in_a_belt(rt: HostRuntime) {
+    nothing_known::<mmb::Family>(&rt, rt.alloc());
 }
 
 #[test]

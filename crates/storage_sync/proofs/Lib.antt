@@ -8,3 +8,5 @@ mod Ending
 mod Locations
 mod Serving
 mod Joined
+mod Alike
+mod Founded

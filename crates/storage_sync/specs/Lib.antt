@@ -6,4 +6,6 @@ pub mod Refusals
 pub mod Runs
 pub mod Serving
 pub mod Joined
+pub mod Alike
+pub mod Founded
 pub mod Laws

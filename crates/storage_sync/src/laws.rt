@@ -1,5 +1,6 @@
 //! What holds of pages that are proved: laws over the definitions, each the contract of a function that does nothing.
 
+ghost use Rattle.storage_sync.specs.Alike.{FloorsProveAlike, RootOfNothing, RootsBindSnapshots};
 ghost use Rattle.storage_sync.specs.Joined.{AnswersAreHonest, ServedCopiesAreWhole};
 ghost use Rattle.storage_sync.specs.Pages.{CopiesAreSnapshots, PagesAreCopies};
 ghost use Rattle.storage_sync.specs.Refusals.{HonestPagesAreTaken};
@@ -7,7 +8,9 @@ ghost use Rattle.storage_sync.specs.Runs.{RunsEnd};
 
 use storage_current::laws::{
     current_proofs_are_sound, own_current_proofs_are_accepted, own_current_proofs_are_read_again,
+    own_witnesses_are_accepted, witnesses_are_sound,
 };
+use storage_merkle::laws::roots_bind_their_trees;
 
 /// Pages that are proved against a root, of as many operations as the first one names, give together the operations and bits of each
 /// snapshot with that root, or two different strings have one digest, one hashed by a check and one for the root.
@@ -48,4 +51,29 @@ pub fn served_copies_are_whole()
 {
     own_current_proofs_are_accepted();
     own_current_proofs_are_read_again();
+}
+
+/// Snapshots with one canonical root have as many operations and inactive peaks and one operations root, or two different strings of
+/// their calculations have one digest.
+pub fn roots_bind_snapshots()
+    ensures { RootsBindSnapshots }
+{
+    witnesses_are_sound();
+    own_witnesses_are_accepted();
+    roots_bind_their_trees();
+}
+
+/// A snapshot with the canonical root of the snapshot of no operations is that one, or two such strings have one digest.
+pub fn root_of_nothing()
+    ensures { RootOfNothing }
+{
+    roots_bind_snapshots();
+}
+
+/// Snapshots of the same operations and bits with one canonical root have the same proofs and witness, whatever floors they have, or two
+/// such strings have one digest.
+pub fn floors_prove_alike()
+    ensures { FloorsProveAlike }
+{
+    roots_bind_snapshots();
 }

@@ -1,21 +1,24 @@
 //! The one who asks: a copy of a snapshot that grows page by page.
 
-ghost use Rattle.std.specs.Prelude.{◌≡◌, ◌⊎◌, ℕ, ◌+◌, ◌-◌, ◌*◌, ◌/◌, ◌%◌, ◌^◌, ◌<◌, ◌≤◌, ◌↔◌, List, [], ◌∷◌, ◌++◌, length, map, min, unwrap_or, None, Some, Ok, IfOk, IfErr, IfSome, IsTrue, MatchOption, MatchResult, OnOk, OnErr};
+ghost use Rattle.std.specs.Prelude.{◌≡◌, ◌≢◌, ◌⊎◌, ℕ, ◌+◌, ◌-◌, ◌*◌, ◌/◌, ◌%◌, ◌^◌, ◌<◌, ◌≤◌, ◌↔◌, List, [], ◌∷◌, ◌++◌, length, map, min, unwrap_or, None, Some, Ok, IfOk, IfErr, IfSome, IsTrue, MatchOption, MatchResult, OnOk, OnErr};
 ghost use Rattle.storage_merkle.specs.Shape.{max_leaves};
 ghost use Rattle.storage_bitmap.specs.Chunks.{IsChunkSize};
 ghost use Rattle.storage_codec.specs.Codec.{Answer, MayFail};
 ghost use Rattle.storage_current.specs.CurrentProofs.{IsCurrent};
-ghost use Rattle.storage_current.specs.Snapshots.{Snapshot as SnapshotOf, grafting_of};
+ghost use Rattle.storage_current.specs.Snapshots.{IsSnapshot, Snapshot as SnapshotOf, canonical_root, grafting_of, ops_root_of, snapshot_strings};
+ghost use Rattle.storage_current.specs.KeptSnapshots.{StandsForSnapshot};
+ghost use Rattle.storage_codec.specs.Digests.{Cross};
+ghost use Rattle.storage_sync.specs.Alike.{nothing};
 ghost use Rattle.storage_sync.specs.Held.{page_of};
-ghost use Rattle.storage_sync.specs.Pages.{Page as PageOf, IsProved};
+ghost use Rattle.storage_sync.specs.Pages.{IsCopy, IsProved, Page as PageOf};
 ghost use Rattle.storage_sync.specs.Refusals.{IsHonest, IsRefused, IsUnproved, IsUnread};
 ghost use Rattle.storage_sync.specs.Messages.{request_of};
 ghost use Rattle.storage_sync.specs.Serving.{HasPage};
 ghost use Rattle.storage_sync.specs.Syncs.{IsAsked, IsKept, IsPromised, IsTaken, IsWhole, MayHave, leaves_with, step};
 
-use crate::laws::{honest_pages_are_taken, pages_are_copies};
+use crate::laws::{honest_pages_are_taken, pages_are_copies, root_of_nothing};
 use crate::sync::bits::bits_of;
-use crate::sync::{Limits, Page, Refusal, Request};
+use crate::sync::{Limits, Page, Refusal, Replica, Request};
 use bytes::Bytes;
 use std::alloc::Global;
 use std::marker::Model;
@@ -23,6 +26,7 @@ use storage_bitmap::bitmap::Prunable;
 use storage_codec::NoMemory;
 use storage_codec::codec::{Decode, Error};
 use storage_codec::digest::Hasher;
+use storage_current::qmdb::current::Snapshot;
 use storage_merkle::merkle::{Graftable, Location};
 
 /// A copy of a snapshot that is being taken from peers that are not trusted. It keeps the operations and bits that are proved so
@@ -56,17 +60,6 @@ impl<F: Graftable, H: Hasher, const N: usize> Model for Sync<F, H, N> {
         (length s.operations.items) s.status };
 }
 
-/// All operations of a snapshot, the bits that say which of them are active, and the operations root.
-#[derive(Drop)]
-pub struct Replica<D, const N: usize> {
-    /// The operations, as they are written.
-    pub operations: Vec<Vec<u8>>,
-    /// Their activity bits.
-    pub status: Prunable<N>,
-    /// The root of the tree over the operations alone.
-    pub ops_root: D,
-}
-
 impl<F: Graftable, H: Hasher, const N: usize> Sync<F, H, N> {
     /// Nothing yet of the snapshots with the canonical root `root`; `limits` bound each page. None where they admit
     /// fewer operations than a chunk has bits. Allocates nothing.
@@ -95,6 +88,42 @@ impl<F: Graftable, H: Hasher, const N: usize> Sync<F, H, N> {
             operations: Vec::new(alloc),
             status: Prunable::new(alloc),
         })
+    }
+
+    /// Returns the snapshot of no operations if `root` is its canonical root; else none. No page of it is ever accepted, so
+    /// ask this first.
+    ///
+    /// # Errors
+    ///
+    /// `NoMemory` if memory runs out.
+    pub fn of_nothing(
+        alloc: Global,
+        root: &H::Digest,
+    ) -> Result<Option<Snapshot<F, H, N>>, NoMemory>
+        requires { IsChunkSize N }
+        ensures exact { let g = grafting_of F.shape N in
+            IfOk result (λ found. MatchOption found
+            (H.Digest.text root.now ≢ canonical_root H.hash_of g nothing) (λ kept.
+            (H.Digest.text root.now ≡ canonical_root H.hash_of g nothing)
+            × StandsForSnapshot H.hash_of g kept nothing)) }
+        ensures promise { 0 < H.Digest.size → let g = grafting_of F.shape N in
+            IfOk result (λ found. IfSome found (λ _. (s : SnapshotOf) → IsSnapshot s
+            → canonical_root H.hash_of g s ≡ H.Digest.text root.now
+            → IsCopy H.hash_of g s [] [] (ops_root_of H.hash_of g nothing)
+            ⊎ Cross H.hash_of (snapshot_strings H.hash_of g nothing)
+            (snapshot_strings H.hash_of g s))) }
+    {
+        root_of_nothing();
+        let none = Vec::<Vec<u8>>::new(alloc);
+        let status = Prunable::new(alloc);
+        let made = Snapshot::<F, H, N>::new(alloc, none.as_slice(), status, Location::new(0));
+        let Ok(snapshot) = made else {
+            return Err(NoMemory);
+        };
+        if snapshot.root() != *root {
+            return Ok(None);
+        }
+        Ok(Some(snapshot))
     }
 
     /// Returns what is wanted next; none once all is there. Allocates nothing.
