@@ -41,3 +41,4 @@ pub mod OpeningFloors
 pub mod OpeningEnds
 pub mod OpeningReads
 pub mod OpeningCalls
+pub mod Trusted

@@ -9,5 +9,6 @@ pub mod Parts
 pub mod Shown
 pub mod Ranges
 pub mod Opening
+pub mod Trusted
 pub mod Replays
 pub mod Promises

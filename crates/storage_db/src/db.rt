@@ -15,5 +15,5 @@ mod strings;
 
 pub use encoding::{KeyedEncoding, OrderedCodec};
 pub use error::Error;
-pub use ordered::{OpenError, Ordered};
+pub use ordered::{OpenError, Ordered, TrustError};
 pub use ranges::Range;

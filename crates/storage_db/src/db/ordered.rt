@@ -14,6 +14,7 @@ ghost use Rattle.storage_db.specs.Ranges.{pairs_of, seen_pairs};
 ghost use Rattle.storage_db.specs.Shown.{IsAbsenceProof, IsPage, IsValueProof};
 
 mod opening;
+mod trusted;
 
 use crate::db::active::ActiveKeys;
 use crate::db::changes::{put_active, put_commit, put_new, remove};
@@ -32,6 +33,7 @@ use storage_current::qmdb::current::ordered::constant::{ExclusionProof, KeyValue
 use storage_current::qmdb::current::proof::RangeProof;
 use storage_merkle::merkle::{Graftable, Location};
 use storage_ops::qmdb::operation::Key;
+pub use trusted::TrustError;
 
 /// A map of keys to values that proves what it has committed. It keeps its operations as they are written, a bit for each
 /// that says whether it is active, the active keys, and of the last commit the snapshot. Of each key that has changed since
