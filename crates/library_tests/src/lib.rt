@@ -29,4 +29,6 @@ mod stops;
 #[cfg(test)]
 mod sync_copies;
 #[cfg(test)]
+mod sync_keyed;
+#[cfg(test)]
 mod sync_served;

@@ -10,16 +10,16 @@ use storage_db::db::{Error, OpenError, Ordered};
 use storage_merkle::merkle::{Family, Graftable, Location, mmb, mmr};
 use storage_ops::qmdb::any::FixedEncoding;
 
-type Key = FixedBytes<1>;
+pub type Key = FixedBytes<1>;
 
-type Database<F> = Ordered<F, Sha256, Key, FixedEncoding<u64>, 1>;
+pub type Database<F> = Ordered<F, Sha256, Key, FixedEncoding<u64>, 1>;
 
 fn key(byte: u8) -> Key {
     FixedBytes { bytes: [byte] }
 }
 
 /// Returns what a database answers, where it refuses nothing.
-fn done<T: Drop, F: Family>(rt: &impl Abort, answer: Result<T, Error<F>>) -> T {
+pub fn done<T: Drop, F: Family>(rt: &impl Abort, answer: Result<T, Error<F>>) -> T {
     match answer {
         Ok(answer) => answer,
         Err(Error::Memory) => out_of_memory(rt),
@@ -38,7 +38,7 @@ fn done<T: Drop, F: Family>(rt: &impl Abort, answer: Result<T, Error<F>>) -> T {
 /// put 4 40   5  update 4 -> 40, next 6        commit      12  commit, floor 2
 ///            6  update 2 -> 20, next 4
 /// ```
-fn two_commits<F: Graftable>(rt: &impl Abort, alloc: Global) -> Database<F> {
+pub fn two_commits<F: Graftable>(rt: &impl Abort, alloc: Global) -> Database<F> {
     let mut database = Ordered::new(alloc);
     for byte in [8, 2, 6, 4] {
         done(rt, database.put(key(byte), u64::from(byte) * 10));
@@ -51,7 +51,7 @@ fn two_commits<F: Graftable>(rt: &impl Abort, alloc: Global) -> Database<F> {
 }
 
 /// Returns copies of `operations`.
-fn copies(rt: &impl Abort, alloc: Global, operations: &[Vec<u8>]) -> Vec<Vec<u8>> {
+pub fn copies(rt: &impl Abort, alloc: Global, operations: &[Vec<u8>]) -> Vec<Vec<u8>> {
     let mut all = Vec::new(alloc);
     for operation in operations {
         let Ok(copy) = operation.clone() else {
@@ -83,7 +83,7 @@ fn is_refused<F: Graftable>(rt: &impl Abort, alloc: Global, operations: Vec<Vec<
 }
 
 /// Asserts that two databases tell the same of now and of the last commit.
-fn tell_alike<F: Graftable>(rt: &impl Abort, one: &Database<F>, other: &Database<F>) {
+pub fn tell_alike<F: Graftable>(rt: &impl Abort, one: &Database<F>, other: &Database<F>) {
     assert!(rt; one.operations() == other.operations());
     assert!(rt; one.root() == other.root());
     assert!(rt; one.floor() == other.floor());

@@ -92,10 +92,10 @@ fn page_of<F: Graftable>(
 }
 
 /// Asserts that `page` is refused, by `refusal` if one is named.
-fn assert_refused<F: Graftable>(
+pub fn assert_refused<F: Graftable, const N: usize>(
     rt: &impl Abort,
     alloc: Global,
-    sync: &mut Sync<F, Sha256, 1>,
+    sync: &mut Sync<F, Sha256, N>,
     page: &[u8],
     refusal: Option<Refusal>,
 ) {
@@ -106,22 +106,25 @@ fn assert_refused<F: Graftable>(
     }
 }
 
-/// Asserts that `page` is refused once any of its bytes is another, and cut anywhere.
-fn assert_changes_refused<F: Graftable>(
+/// Asserts that `page` is refused once a byte at a multiple of `apart` is another, cut there, and with a byte more.
+pub fn assert_changes_refused<F: Graftable, const N: usize>(
     rt: &impl Abort,
     alloc: Global,
-    sync: &mut Sync<F, Sha256, 1>,
+    sync: &mut Sync<F, Sha256, N>,
     page: &mut Vec<u8>,
+    apart: usize,
 ) {
     for index in 0..page.len() {
-        assert!(rt; index < page.len());
-        let byte = page[index];
-        page[index] = byte ^ 1;
-        assert_refused(rt, alloc, sync, page, None);
-        page[index] = byte ^ 128;
-        assert_refused(rt, alloc, sync, page, None);
-        page[index] = byte;
-        assert_refused(rt, alloc, sync, &page[..index], Some(Refusal::NotAPage));
+        assert!(rt; index < page.len() && apart > 0);
+        if index % apart == 0 {
+            let byte = page[index];
+            page[index] = byte ^ 1;
+            assert_refused(rt, alloc, sync, page, None);
+            page[index] = byte ^ 128;
+            assert_refused(rt, alloc, sync, page, None);
+            page[index] = byte;
+            assert_refused(rt, alloc, sync, &page[..index], Some(Refusal::NotAPage));
+        }
     }
     some(rt, page.push(0));
     assert_refused(rt, alloc, sync, page, Some(Refusal::NotAPage));
@@ -151,7 +154,7 @@ fn copy_from_a_liar<F: Graftable>(rt: &impl Abort, alloc: Global) {
         let page = page_of(rt, alloc, &other, start);
         assert_refused(rt, alloc, &mut sync, &page, Some(Refusal::NotProved));
         let mut page = page_of(rt, alloc, &snapshot, start);
-        assert_changes_refused(rt, alloc, &mut sync, &mut page);
+        assert_changes_refused(rt, alloc, &mut sync, &mut page, 1);
         some(rt, sync.take(alloc, &page));
         assert_refused(rt, alloc, &mut sync, &page, None);
     }

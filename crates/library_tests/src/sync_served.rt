@@ -1,11 +1,11 @@
 //! Copies of snapshots from a server: asker and server together.
 
-ghost use Rattle.std.specs.Prelude.{◌≡◌, map, IfOk};
+ghost use Rattle.std.specs.Prelude.{◌≡◌, ◌+◌, ◌<◌, ◌^◌, map, IfOk};
 ghost use Rattle.std.specs.Int.{to_be_bytes, w64};
 ghost use Rattle.storage_bitmap.specs.Chunks.{IsChunkSize};
 
 use crate::stops::{out_of_memory, refused};
-use crate::sync_copies::some;
+use crate::sync_copies::{assert_changes_refused, assert_refused, some};
 use std::alloc::{AllocError, Global};
 use std::ops::Range;
 use std::process::Abort;
@@ -80,6 +80,7 @@ fn operations_at(alloc: Global, locations: &[u64]) -> Result<Vec<Vec<u8>>, Alloc
 /// Returns how many operations the snapshot has: three complete chunks of them, and three more.
 fn count<const N: usize>() -> u64
     requires { IsChunkSize N }
+    ensures { result + 1 < 2 ^ 64 }
 {
     24 * N as u64 + 3
 }
@@ -91,16 +92,17 @@ fn floor<const N: usize>() -> u64
     16 * N as u64 + 1
 }
 
-/// Returns the snapshot of the operations of the log, of which each third is active.
+/// Returns the snapshot of the first `count` operations of the log, of which each third is active.
 fn snapshot_of<F: Graftable, const N: usize>(
     rt: &impl Abort,
     alloc: Global,
+    count: u64,
 ) -> Snapshot<F, Sha256, N>
     requires { IsChunkSize N }
 {
     let mut locations = Vec::new(alloc);
     let mut bits = Prunable::new(alloc);
-    for location in 0..count::<N>() {
+    for location in 0..count {
         assert!(rt; bits.len() < MAX_LEAVES);
         some(rt, bits.push(location % 3 == 0));
         some(rt, locations.push(location));
@@ -162,7 +164,8 @@ fn assert_unanswered<F: Graftable, const N: usize>(
     }
 }
 
-/// Takes what `server` answers to what is wanted, `pages` times.
+/// Takes what `server` answers to what is wanted, `pages` times. Each answer comes after changed ones, and once more when it
+/// is taken.
 fn take_pages<F: Graftable, const N: usize>(
     rt: &impl Abort,
     alloc: Global,
@@ -175,8 +178,10 @@ fn take_pages<F: Graftable, const N: usize>(
         let Some(wanted) = sync.next() else {
             panic!(rt; "nothing is wanted")
         };
-        let page = answer(rt, alloc, server, log, wanted);
+        let mut page = answer(rt, alloc, server, log, wanted);
+        assert_changes_refused(rt, alloc, sync, &mut page, 61);
         some(rt, sync.take(alloc, &page));
+        assert_refused(rt, alloc, sync, &page, None);
     }
 }
 
@@ -231,7 +236,7 @@ fn copy_from_server<F: Graftable, const N: usize>(rt: &impl Abort, alloc: Global
 {
     let floor = Location::new(floor::<N>());
     let mut server = Server {
-        snapshot: snapshot_of::<F, N>(rt, alloc),
+        snapshot: snapshot_of::<F, N>(rt, alloc, count::<N>()),
         floor,
     };
     let chunk = 8 * N as u64;
@@ -262,16 +267,17 @@ fn copy_from_server<F: Graftable, const N: usize>(rt: &impl Abort, alloc: Global
     assert!(rt; again.as_slice() == third.as_slice());
     take_pages(rt, alloc, &server, &mut log, &mut sync, 2);
     assert!(rt; sync.next().is_none());
-    assert_goes_on(rt, alloc, sync, &server.snapshot);
+    assert_goes_on(rt, alloc, sync, &server.snapshot, limits);
 }
 
 /// Asserts that `sync` has all operations of `snapshot`, and that with its floor, and no other, they are a snapshot with its
-/// roots, which grows.
+/// roots. That one grows, and a copy of it is taken.
 fn assert_goes_on<F: Graftable, const N: usize>(
     rt: &impl Abort,
     alloc: Global,
     sync: Sync<F, Sha256, N>,
     snapshot: &Snapshot<F, Sha256, N>,
+    limits: Limits,
 )
     requires { IsChunkSize N }
 {
@@ -281,15 +287,63 @@ fn assert_goes_on<F: Graftable, const N: usize>(
     let count = count::<N>();
     let root = snapshot.root();
     assert!(rt; copy.operations.len() as u64 == count && copy.ops_root == snapshot.ops_root());
-    assert_unfounded::<F, N>(rt, alloc, &copy, count + 1, root, Unfounded::FloorPastTheEnd);
+    assert_unfounded::<F, N>(
+        rt,
+        alloc,
+        &copy,
+        count + 1,
+        root,
+        Unfounded::FloorPastTheEnd,
+    );
     assert_unfounded::<F, N>(rt, alloc, &copy, 0, root, Unfounded::OtherRoots);
     let floor = Location::new(floor::<N>());
-    let mut made = some(rt, copy.to_snapshot::<F, Sha256>(alloc, floor, &root));
+    let made = some(rt, copy.to_snapshot::<F, Sha256>(alloc, floor, &root));
     assert!(rt; made.root() == root && made.status().len() == count);
-    if let Err(refusal) = made.extend(alloc, &[[0]], &[true], &[], floor) {
+    serve_again(rt, alloc, made, limits);
+    let Replica {
+        status,
+        ops_root,
+        ..
+    } = copy;
+    let short = Replica {
+        operations: Vec::new(alloc),
+        status,
+        ops_root,
+    };
+    assert_unfounded::<F, N>(rt, alloc, &short, 0, root, Unfounded::Malformed);
+}
+
+/// Appends the next operation of the log to `snapshot`, which has those before it, and takes a copy of it from a server.
+fn serve_again<F: Graftable, const N: usize>(
+    rt: &impl Abort,
+    alloc: Global,
+    mut snapshot: Snapshot<F, Sha256, N>,
+    limits: Limits,
+)
+    requires { IsChunkSize N }
+{
+    let count = count::<N>();
+    let floor = Location::new(floor::<N>());
+    let next = some(rt, operations_at(alloc, &[count]));
+    let clear: [Location<F>; 0] = [];
+    let active = [true];
+    let grown = snapshot.extend(alloc, next.as_slice(), &active, &clear, floor);
+    if let Err(refusal) = grown {
         refused(rt, &refusal)
     }
-    assert!(rt; made.root() != root && made.status().len() == count + 1);
+    let whole = snapshot_of::<F, N>(rt, alloc, count + 1);
+    assert!(rt; snapshot.root() == whole.root());
+    let server = Server { snapshot, floor };
+    let Some(mut sync) = Sync::<F, Sha256, N>::new(alloc, whole.root(), limits) else {
+        panic!(rt; "the limits admit a chunk")
+    };
+    let mut log = log_of(0, count + 1, u64::MAX);
+    take_pages(rt, alloc, &server, &mut log, &mut sync, 4);
+    assert!(rt; sync.next().is_none());
+    let Ok(copy) = sync.done() else {
+        panic!(rt; "not done")
+    };
+    assert!(rt; copy.operations.len() as u64 == count + 1 && copy.ops_root == whole.ops_root());
 }
 
 /// Asserts that with `floor` the copy is no snapshot with the canonical root `root`, by the name `why`.
@@ -311,14 +365,19 @@ fn assert_unfounded<F: Graftable, const N: usize>(
 /// Asserts that the snapshot of no operations is known by its root, and no other is.
 fn nothing_known<F: Graftable>(rt: &impl Abort, alloc: Global) {
     let none: [[u8; 0]; 0] = [];
-    let nothing = Snapshot::<F, Sha256, 1>::new(alloc, &none, Prunable::new(alloc), Location::new(0));
+    let nothing = Snapshot::<F, Sha256, 1>::new(
+        alloc,
+        &none,
+        Prunable::new(alloc),
+        Location::new(0),
+    );
     let nothing = some(rt, nothing);
     let found = Sync::<F, Sha256, 1>::of_nothing(alloc, &nothing.root());
     let Some(known) = some(rt, found) else {
         panic!(rt; "the root of nothing")
     };
     assert!(rt; known.status().len() == 0 && known.ops_root() == nothing.ops_root());
-    let other = snapshot_of::<F, 1>(rt, alloc);
+    let other = snapshot_of::<F, 1>(rt, alloc, count::<1>());
     let found = Sync::<F, Sha256, 1>::of_nothing(alloc, &other.root());
     assert!(rt; some(rt, found).is_none());
 }
