@@ -179,7 +179,7 @@ fn take_pages<F: Graftable, const N: usize>(
             panic!(rt; "nothing is wanted")
         };
         let mut page = answer(rt, alloc, server, log, wanted);
-        assert_changes_refused(rt, alloc, sync, &mut page, 61);
+        assert_changes_refused(rt, alloc, sync, &mut page, 211);
         some(rt, sync.take(alloc, &page));
         assert_refused(rt, alloc, sync, &page, None);
     }
