@@ -1,14 +1,16 @@
 #!/usr/bin/env python3
-"""What a database answers, from the definitions over whole lists: `stateproof db`, and the programs `example_server` and
-`example_follower`.
+"""What a database answers, from the definitions over whole lists: `stateproof db`, the work `commands` of `benchmarks`, and the programs
+`example_server` and `example_follower`.
 
     tools/database.py FAMILY CHUNK
+    tools/database.py commands
     tools/database.py example
     tools/database.py log
     tools/database.py follower
 
 Standard input has the commands and questions, a line for each, all of them as they should be: of `stateproof db`, or of `example_server`.
-With `log` its commands give the log that `example_follower` reads, with questions after each batch; with `follower` what it answers to it.
+With `commands` it has lines of `benchmarks`, each with a number that settles many commands. With `log` its commands give the log that
+`example_follower` reads, with questions after each batch; with `follower` what it answers to it.
 Nothing is taken from the sources of the crates: tools/definitions.py has trees, snapshots and proofs, docs/DEFINITIONS.md says in words
 what a command appends.
 """
@@ -73,6 +75,9 @@ class Commit:
         told = self.encoding.key(before) + self.encoding.value(value) + self.next_key(before)
         return b"\0" + self.snapshot.operation_proof(location) + told
 
+    def proof(self, key):
+        return self.value_proof(key) if key in self.active else self.absence_proof(key)
+
     def value(self, key):
         return f"{self.active[key][0]} {self.value_proof(key).hex()}" if key in self.active else "absent"
 
@@ -130,6 +135,15 @@ class Database:
         self.last = Commit(self.encoding, location, dict(self.active), snapshot)
         return snapshot.root.hex()
 
+    def change(self, word, key, value):
+        """Does what the word says, where that changes the database."""
+        if word == "put":
+            self.put(key, value)
+        elif word == "delete":
+            self.delete(key)
+        elif word == "commit":
+            self.commit()
+
     def answer(self, line):
         """What `stateproof db` answers to a line; none for a put."""
         word, *rest = line.split(" ")
@@ -154,6 +168,28 @@ class Database:
         if word == "delete":
             return self.delete(rest.encode()) and None
         return self.last.claim(rest.encode()) if self.last else "uncommitted"
+
+
+def drawn(keys, count, seed):
+    """So many commands that look random, with so many keys, a power of two: each a word, a key, and the number that gave both."""
+    for _ in range(count):
+        seed = (seed * 6_364_136_223_846_793_005 + 1_442_695_040_888_963_407) % 2**64
+        first, _, what, *_ = be8(seed)
+        word = "commit" if what % 64 == 0 else "ask" if what % 64 == 1 else "delete" if what % 64 <= 20 else "put"
+        yield word, be8(first % keys)[4:], seed
+
+
+def answer_to_commands(line):
+    """What `benchmarks` answers to a line of its work `commands`: the digest of all roots and proofs."""
+    *function, family, keys, count, seed = line.split()[1:]
+    digests = Digests(*function or ["sha256"])
+    database, answer = Database(family, 1, function=digests.name), digests.filled(0)
+    for word, key, number in drawn(int(keys), int(count), int(seed)):
+        database.change(word, key, number)
+        last = database.last
+        if last and word in ("commit", "ask"):
+            answer = digests.of(answer, last.snapshot.root, last.proof(key))
+    return answer.hex()
 
 
 def lines_of(answers):
@@ -200,7 +236,9 @@ def followed(lines):
 
 def main():
     lines = sys.stdin.read().splitlines()
-    if sys.argv[1:] == ["example"]:
+    if sys.argv[1:] == ["commands"]:
+        print(lines_of(map(answer_to_commands, lines)), end="")
+    elif sys.argv[1:] == ["example"]:
         print(example(lines)[0], end="")
     elif sys.argv[1:] in (["log"], ["follower"]):
         print(followed(lines)[sys.argv[1] == "follower"], end="")

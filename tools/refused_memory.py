@@ -5,10 +5,11 @@
 
 Takes what `rt ci` left: the tests of each crate that has some, and the programs `stateproof`, `gawerunoa`, `replay` and `benchmarks`; or of
 the named crates alone. A case is a test, a command of `stateproof` or `gawerunoa`, a line for `replay`, or for `benchmarks` the shortest line
-of each kind of its rows. Of the lines for `replay` that are of a worked row, which begin with its name and a colon, all of each list are taken where they
-are at most LINES_OF_ROW or the row is one of WHOLE, else LINES of them and those that ALSO names; of the others LINES of each list. A case
-is run once with all memory that it asks for, and must give the right answer. Then each of its requests for memory is refused in turn: once
-alone, and once with all that come after it. Such a run must give the right answer too, or name want of memory, and write nothing else.
+of each kind of its rows, and those of its work `commands`. Of the lines for `replay` that are of a worked row, which begin with its name and a
+colon, all of each list are taken where they are at most LINES_OF_ROW or the row is one of WHOLE, else LINES of them and those that ALSO names;
+of the others LINES of each list. A case is run once with all memory that it asks for, and must give the right answer. Then each of its requests
+for memory is refused in turn: once alone, and once with all that come after it. Such a run must give the right answer too, or name want of
+memory, and write nothing else.
 
 So each request is refused of a line of a row of WHOLE, of a test or a line of another worked row that makes at most EACH_OF_ROW, and of any
 other case that makes at most EACH. Where they are more the first EACH are refused, and SPREAD of the others, spread evenly up to the last;
@@ -210,9 +211,15 @@ def shortest_lines():
     return kinds
 
 
-def shortest_checks(tree):
+def lines_of_commands():
+    """The lines that give commands to a database of `benchmarks`, with their answers."""
+    given = [it for it in (ROOT / "crates/benchmarks/stdin").open() if it.startswith("commands ")]
+    return [(it, f"{database.answer_to_commands(it)}\n") for it in given]
+
+
+def lines_of_benchmarks(tree):
     """A case for each of these lines."""
-    for given, answer in shortest_lines().values():
+    for given, answer in [*shortest_lines().values(), *lines_of_commands()]:
         yield Case(given.strip(), [built(tree, "benchmarks")], given, (0, answer, ""), is_want_of_line)
 
 
@@ -270,7 +277,7 @@ def cases_of(shim, tree, crate):
     if crate == "replay":
         return [*lines(tree)]
     if crate == "benchmarks":
-        return [*shortest_checks(tree)]
+        return [*lines_of_benchmarks(tree)]
     sources = (ROOT / f"crates/{crate}/src").rglob("*.rt")
     return [*tests(shim, tree, crate)] if any("#[test]" in it.read_text() for it in sources) else []
 

@@ -1,5 +1,6 @@
 //! Words of a line, read.
 
+use commonware_storage::db;
 use hex::FromHexError;
 use std::alloc::{AllocError, AllocFailed, Global};
 use storage_codec::digest::Digest;
@@ -37,6 +38,14 @@ impl Fault {
     pub fn of_tree<F>(error: &merkle::Error<F>) -> Fault {
         match error {
             merkle::Error::Memory => Fault::Memory,
+            _ => Fault::Malformed,
+        }
+    }
+
+    /// Returns the fault of a call on a database that was refused.
+    pub fn of_database<F>(error: &db::Error<F>) -> Fault {
+        match error {
+            db::Error::Memory => Fault::Memory,
             _ => Fault::Malformed,
         }
     }

@@ -6,6 +6,7 @@
 mod bitmap;
 mod cases;
 mod columns;
+mod commands;
 mod database;
 mod extended;
 mod hash;
@@ -22,6 +23,7 @@ fn answer(alloc: Global, words: &[&str]) -> Result<String, Fault> {
         ["bitmap", words @ ..] => bitmap::reply(alloc, words),
         ["snapshot", words @ ..] => snapshot::reply(alloc, words),
         ["database", words @ ..] => database::reply(alloc, words),
+        ["commands", words @ ..] => commands::reply(alloc, words),
         [work @ ("extend" | "prove"), words @ ..] => extended::reply(alloc, *work, words),
         ["check", words @ ..] => cases::check(alloc, words),
         [row, words @ ..] => cases::reply(alloc, *row, words),
