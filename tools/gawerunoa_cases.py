@@ -12,8 +12,10 @@ words that the program does not take, the usage behind it is left out; of a help
 shell's redirection of the run. A byte above 127 in a text stands for itself.
 
 Then roots and proofs of snapshots of both families and both digest functions, over each size of a chunk, are computed from the definitions
-by tools/definitions.py. The program must print the same, say yes to the proofs of active operations, and no to those of others, to a proof
-with a byte changed, to another root and to another location. The last line is 'N runs, M of them wrong'; the status is 1 where M is not 0.
+by tools/definitions.py. The program must print the same, say yes to the proofs of active operations and of ranges, and no to those of others,
+to a proof with a byte changed, to another root and to another location. So it is with the values and the absences of databases of each kind of
+keys and each encoding of values, where every answer is the definitions'. The last line is 'N runs, M of them wrong'; the status is 1 where M
+is not 0.
 """
 import json
 import pathlib
@@ -25,6 +27,7 @@ import tempfile
 
 import definitions
 from c_library import called
+from key_questions import KINDS, Database, question
 from tries import Try
 from unproved import SECTIONS, X86
 
@@ -119,11 +122,95 @@ def shown(program, name, snapshot, bits, at):
 
     check("its proof", active)
     if active:
-        check("a digit of the root changed", False, root=root[:-1] + "0f"[root[-1] == "0"])
-        check("a byte of the proof changed", False, proof=proof[:-1] + "0f"[proof[-1] == "0"])
+        check("a digit of the root changed", False, root=turned(root))
+        check("a byte of the proof changed", False, proof=turned(proof))
         check("another location", False, at=at + 1)
         check("another operation", False, operation=operation + "00")
         check("a byte too many", False, proof=proof + "00")
+    ranges(program, words, snapshot, at)
+
+
+def turned(digits):
+    """The same with the last digit changed."""
+    return digits[:-1] + "0f"[digits[-1] == "0"]
+
+
+def ranges(program, words, snapshot, start):
+    """What a check says of the own proof of a range."""
+    end, width = min(start + 3, snapshot.leaves), snapshot.width
+    root, proof = snapshot.root.hex(), snapshot.range_part(start, end).hex()
+    operations = [it.hex() for it in snapshot.operations[start:end]]
+    chunks = [it.hex() for it in snapshot.chunks[start // width : (end - 1) // width + 1]]
+
+    def check(what, yes, operations=operations, chunks=chunks, proof=proof, root=root, start=start):
+        files = {"operations": "".join(f"{it}\n" for it in operations), "chunks": "".join(f"{it}\n" for it in chunks)}
+        asked = ["check", "range", *words, "--root", root, "--start", str(start), "--operations", "operations", "--chunks", "chunks"]
+        shows = f"{len(operations)} operations stand from location {start} on, and the chunks are theirs"
+        right = (0, f"yes: {shows}\n", "") if yes else (1, f"no: this does not show that {shows}\n", "")
+        program.see(f"check a range, {what} {words}", program.ended([*asked, "--proof", "@-"], proof, files), right)
+
+    check("its proof", True)
+    check("a digit of the root changed", False, root=turned(root))
+    check("a byte of the proof changed", False, proof=turned(proof))
+    check("a byte of an operation changed", False, operations=[turned(operations[0]), *operations[1:]])
+    check("a byte of a chunk changed", False, chunks=[*chunks[:-1], turned(chunks[-1])])
+    check("a chunk too many", False, chunks=[*chunks, chunks[-1]])
+    check("an operation too few", False, operations=operations[1:])
+
+
+def databases(program, hashes, seed=7):
+    """Values and absences of databases of each kind."""
+    dice = random.Random(seed)
+    for name in hashes:
+        for family in (definitions.MMR, definitions.MMB):
+            for kind in KINDS:
+                for size in dice.sample(SIZES, 2):
+                    shape = dice, definitions.Digests(name), family, size, *kind
+                    database = Database(*shape)
+                    values(program, dice, database)
+                    absences(program, dice, database)
+                    absences(program, dice, Database.of_nothing(*shape))
+
+
+def keyed(program, what, database, proof, root, key, value=None):
+    """Sees what a check says of a key, which is what the definitions say."""
+    snapshot, types = database.snapshot, database.types
+    shape, columns = (snapshot.digests, snapshot.family.name, snapshot.size, database.kind), [proof.hex(), database.key(key).hex()]
+    if value is None:
+        right, shows = definitions.exclusions(*shape, *columns, root, None), "the key has no value"
+    else:
+        written = database.written(types.value, value).hex()
+        right, shows = definitions.key_values(*shape, *columns, written, root, None), "the key has the value"
+    said = (0, f"yes: {shows}\n", "") if right == "yes" else (1, f"no: this does not show that {shows}\n", "")
+    program.see(f"check {what}, {shows} {database.words}", program.ended(*question(database, root, proof, key, value)), said)
+    if what == "its proof" and right != "yes":
+        program.faults.append(f"the definitions refuse a proof that {shows}: {database.words}")
+
+
+def values(program, dice, database):
+    key = dice.choice([*database.own])
+    right = {"root": database.snapshot.root.hex(), "proof": database.value_proof(key), "key": key, "value": database.own[key][0]}
+    check = lambda what, **given: keyed(program, what, database, **(right | given))
+    alike(check, **right)
+    check("a byte of the key changed", key=bytes([key[0] ^ 1]) + key[1:])
+    check("another value", value=bytes(it ^ 1 for it in right["value"]) or b"\0")
+
+
+def absences(program, dice, database):
+    least, most = definitions.lengths_of(database.types.key)
+    key = next(it for _ in range(99) if (it := dice.randbytes(dice.randint(max(least, 1), most))) not in database.own)
+    right = {"root": database.snapshot.root.hex(), "proof": database.absence_proof(key), "key": key}
+    check = lambda what, **given: keyed(program, what, database, **(right | given))
+    alike(check, **right)
+    check("a key that is there, if there is one", key=next(iter(database.own), b"\1" * most))
+
+
+def alike(check, root, proof, **_):
+    """What is tried of each claim about a key."""
+    check("its proof")
+    check("a digit of the root changed", root=turned(root))
+    check("a byte of the proof changed", proof=proof[:-1] + bytes([proof[-1] ^ 1]))
+    check("a byte too many", proof=proof + b"\0")
 
 
 def main():
@@ -133,6 +220,7 @@ def main():
         for case in json.loads(CASES.read_text()):
             typed(program, case)
         snapshots(program, ["sha256", "sha512"])
+        databases(program, ["sha256", "sha512"])
     print("".join(f"FAULT {it}\n" for it in program.faults), end="")
     print(f"{program.runs} runs, {len(program.faults)} of them wrong")
     return 1 if program.faults else 0

@@ -23,6 +23,7 @@ import functools
 import itertools
 import os
 import pathlib
+import random
 import re
 import resource
 import struct
@@ -31,6 +32,8 @@ import sys
 import tempfile
 
 import database
+import definitions
+from key_questions import KINDS, Database, question
 
 ROOT = pathlib.Path(__file__).resolve().parent.parent
 
@@ -147,7 +150,8 @@ def is_want_of_question(ending):
 
 
 def questions(shim, tree):
-    """Proofs and checks of `gawerunoa`, over both families and two chunk sizes, which its cases compare with the definitions, and its help."""
+    """Proofs and checks of `gawerunoa`, over both families and two chunk sizes, which its cases compare with the definitions, and its help; and
+    checks of keys over each kind of a database."""
     program = built(tree, "gawerunoa")
     asked = [(["--help"], "")]
     for family, size in itertools.product(("mmr", "mmb"), ("1", "32")):
@@ -156,9 +160,23 @@ def questions(shim, tree):
         shown = dict(line.split(": ") for line in ended(shim, [program, *words], OPERATIONS).output.splitlines())
         check = ["check", "operation", *shape, "--root", shown["root"], "--at", "7", "--operation", "ab" * 8, "--proof", "@-"]
         asked += [(words, OPERATIONS), (check, f"{shown['proof']}\n"), ([*check, "--floor"], "")]
+    asked += key_questions()
     for words, given in asked:
         right = ended(shim, [program, *words], given)[:3]
         yield Case(" ".join(words), [program, *words], given, right, is_want_of_question)
+
+
+def key_questions():
+    """The words and the input of a check of a value, an absence and a range, over each kind of a database."""
+    dice, digests = random.Random(3), definitions.Digests("sha256")
+    for kind in KINDS:
+        held = Database(dice, digests, definitions.MMB, 1, *kind)
+        key, root = next(iter(held.own)), held.snapshot.root.hex()
+        absent = next(it for byte in range(256) if (it := bytes([byte]) + key[1:]) not in held.own)
+        yield question(held, root, held.value_proof(key), key, held.own[key][0])
+        yield question(held, root, held.absence_proof(absent), absent)
+        side = ["--root", root, "--start", "0", "--operations", "-", "--chunks", os.devnull, "--proof", "00", "--json"]
+        yield ["check", "range", *held.words[:6], *side], "".join(f"{it.hex()}\n" for it in held.snapshot.operations)
 
 
 def is_want_of_line(ending):

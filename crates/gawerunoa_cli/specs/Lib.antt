@@ -1,4 +1,5 @@
 pub mod Agreed
+pub mod Claims
 pub mod Rows
 pub mod Shown
 pub mod Status

@@ -1,10 +1,10 @@
 //! What is agreed of a snapshot beforehand, and never read from a proof: the family of its trees, the digest function, and how many
 //! bytes a chunk of activity bits has.
 
-use commonware_storage::codec::FixedBytes;
+use light_questions::agreed::{MMB, MMR, SHA256, SHA512};
 
 /// A family of trees.
-#[derive(Clone, Copy, Debug, PartialEq, Eq)]
+#[derive(Clone, Copy)]
 pub enum Family {
     /// Merkle mountain ranges.
     Mmr,
@@ -13,7 +13,7 @@ pub enum Family {
 }
 
 /// A digest function.
-#[derive(Clone, Copy, Debug, PartialEq, Eq)]
+#[derive(Clone, Copy)]
 pub enum Function {
     /// SHA-256, with digests of 32 bytes.
     Sha256,
@@ -22,7 +22,7 @@ pub enum Function {
 }
 
 /// What is agreed of a snapshot.
-#[derive(Clone, Copy, Debug, PartialEq, Eq)]
+#[derive(Clone, Copy)]
 pub struct Agreed {
     /// The family of its trees.
     pub family: Family,
@@ -30,15 +30,6 @@ pub struct Agreed {
     pub function: Function,
     /// How many bytes a chunk has.
     pub chunk: usize,
-}
-
-/// A canonical root that is trusted.
-#[derive(Clone, Copy, Debug, PartialEq, Eq)]
-pub enum Root {
-    /// A digest of SHA-256.
-    Of256(FixedBytes<32>),
-    /// A digest of SHA-512.
-    Of512(FixedBytes<64>),
 }
 
 impl Family {
@@ -50,6 +41,14 @@ impl Family {
             _ => None,
         }
     }
+
+    /// Returns its number among the families.
+    pub(crate) fn number(self) -> u32 {
+        match self {
+            Family::Mmr => MMR,
+            Family::Mmb => MMB,
+        }
+    }
 }
 
 impl Function {
@@ -59,6 +58,14 @@ impl Function {
             "sha256" => Some(Function::Sha256),
             "sha512" => Some(Function::Sha512),
             _ => None,
+        }
+    }
+
+    /// Returns its number among the digest functions.
+    pub(crate) fn number(self) -> u32 {
+        match self {
+            Function::Sha256 => SHA256,
+            Function::Sha512 => SHA512,
         }
     }
 

@@ -1,75 +1,67 @@
 //! Whether a proof shows what is claimed.
 
-ghost use Rattle.std.specs.Prelude.{◌≡◌, ◌↔◌, ◌⊎◌, IfOk, IsTrue, Ok, false};
-ghost use Rattle.storage_bitmap.specs.Chunks.{IsChunkSize};
-ghost use Rattle.storage_current.specs.Snapshots.{grafting_of};
-ghost use Rattle.commonware_storage.specs.Light.{IsAcceptedAt, IsTrueAt};
-ghost use Rattle.gawerunoa_cli.specs.Agreed.{bytes_of, digest_size_of, function_of, has_pending_of, shape_of};
+ghost use Rattle.light_questions.specs.Agreed.{digest_size_of, function_of, has_pending_of, shape_of};
+ghost use Rattle.light_questions.specs.KeyParts.{IsAnswer, code_of, setting_of};
+ghost use Rattle.gawerunoa_cli.specs.Claims.{asked_of, refusal_of};
 
-use crate::agreed::{Family, Root};
-use commonware_storage::NoMemory;
-use commonware_storage::digest::{Hasher, Sha256, Sha512};
-use commonware_storage::light::check_operation;
-use commonware_storage::merkle::{Location, mmb, mmr};
+use crate::claim::Claim;
+use light_questions::agreement::{Agreed, Kind};
+use light_questions::answer::Fault;
+use light_questions::kinds::{ask_in, check_absence_in, check_value_in};
+use light_questions::operation::Operation;
+use light_questions::range::Range;
 use std::alloc::Global;
 
-/// Returns whether the operation with the bytes `operation` stands at `location` of the snapshot with the canonical root
-/// `root`, and is active. `proof` is an operation proof as it is written, over trees of `family` and a chunk of `chunk`
-/// bytes. The answer is no for bytes that are no such proof, and for a size that no chunk has.
-pub fn is_active(
+/// Returns whether `proof`, as it is written, shows what is claimed of the snapshot with the canonical root `root`, in a
+/// database of the kind `kind`. The answer is no for bytes that are no such proof, and for a size that no chunk has. It is
+/// what the claim's check in `light_questions` answers.
+///
+/// # Errors
+///
+/// What is refused of the question: a family, a digest function, a root, a key, a value or lengths that are none; and
+/// `Memory`, which may come at any point.
+pub fn is_shown(
     alloc: Global,
-    family: Family,
-    chunk: usize,
-    root: &Root,
-    location: u64,
-    operation: &[u8],
+    agreed: &Agreed,
+    kind: Kind,
+    root: &[u8],
     proof: &[u8],
-) -> Result<bool, NoMemory>
-    ensures refused { ¬ IsChunkSize chunk → result ≡ Ok false }
-    ensures exact { IfOk result (λ yes. IsTrue yes ↔ IsAcceptedAt (function_of root.now)
-        (grafting_of (shape_of family) chunk) (has_pending_of family) (digest_size_of root.now)
-        location proof.now operation.now (bytes_of root.now)) }
-    ensures meaning { IfOk result (λ yes. IsTrue yes → IsTrueAt (function_of root.now)
-        (grafting_of (shape_of family) chunk) (has_pending_of family) (digest_size_of root.now)
-        location proof.now operation.now (bytes_of root.now)) }
+    claim: &Claim,
+) -> Result<bool, Fault>
+    ensures { IsAnswer (refusal_of kind agreed.now root.now claim.now) (code_of result)
+        (asked_of kind agreed.now claim.now) (setting_of (function_of agreed.now.hash)
+        (shape_of agreed.now.family) (has_pending_of agreed.now.family)
+        (digest_size_of agreed.now.hash) agreed.now.chunk_size proof.now root.now) }
 {
-    match root {
-        Root::Of256(root) => {
-            is_active_under::<Sha256>(alloc, family, chunk, root, location, operation, proof)
+    match claim {
+        Claim::Operation {
+            location,
+            operation,
+        } => {
+            let question = Operation {
+                location: *location,
+                operation,
+            };
+            ask_in(alloc, agreed, proof, &question, root)
         }
-        Root::Of512(root) => {
-            is_active_under::<Sha512>(alloc, family, chunk, root, location, operation, proof)
+        Claim::Range {
+            start,
+            operations,
+            chunks,
+        } => {
+            let question = Range {
+                max_digests: agreed.max_digests,
+                start: *start,
+                operations: &operations.bytes,
+                operation_lengths: &operations.lengths,
+                chunks: &chunks.bytes,
+                chunk_lengths: &chunks.lengths,
+            };
+            ask_in(alloc, agreed, proof, &question, root)
         }
-    }
-}
-
-/// Returns the same over one digest function.
-fn is_active_under<H: Hasher>(
-    alloc: Global,
-    family: Family,
-    chunk: usize,
-    root: &H::Digest,
-    location: u64,
-    operation: &[u8],
-    proof: &[u8],
-) -> Result<bool, NoMemory>
-    ensures refused { ¬ IsChunkSize chunk → result ≡ Ok false }
-    ensures exact { IfOk result (λ yes. IsTrue yes ↔ IsAcceptedAt H.hash_of
-        (grafting_of (shape_of family) chunk) (has_pending_of family) H.Digest.size location
-        proof.now operation.now (H.Digest.text root.now)) }
-    ensures meaning { (H.Digest.size ≡ 32) ⊎ (H.Digest.size ≡ 64)
-        → IfOk result (λ yes. IsTrue yes → IsTrueAt H.hash_of (grafting_of (shape_of family) chunk)
-        (has_pending_of family) H.Digest.size location proof.now operation.now
-        (H.Digest.text root.now)) }
-{
-    match family {
-        Family::Mmr => {
-            let location = Location::<mmr::Family>::new(location);
-            check_operation::<mmr::Family, H>(alloc, proof, chunk, location, operation, root)
+        Claim::Value { key, value } => {
+            check_value_in(alloc, agreed, kind, proof, key, value, root)
         }
-        Family::Mmb => {
-            let location = Location::<mmb::Family>::new(location);
-            check_operation::<mmb::Family, H>(alloc, proof, chunk, location, operation, root)
-        }
+        Claim::Absence { key } => check_absence_in(alloc, agreed, kind, proof, key, root),
     }
 }

@@ -3,138 +3,370 @@
 use clap::{Arg, ArgAction, Command};
 use std::alloc::{AllocError, Global};
 
-static FAMILIES: [&str; 2] = ["mmr", "mmb"];
-
-static FUNCTIONS: [&str; 2] = ["sha256", "sha512"];
-
-/// Returns the whole command line.
-pub(crate) fn command<'a>(alloc: Global) -> Result<Command<'a>, AllocError> {
-    Command::new(alloc, "gawerunoa")
-        .version("0.1.0")
-        .about("Shows and checks what stands in a snapshot of operations under one root")
-        .after_help(STATUS)
-        .subcommand_required(true)
-        .subcommand(root(alloc)?)?
-        .subcommand(prove(alloc)?)?
-        .subcommand(check(alloc)?)
+/// An option, or the one file that is named without one.
+#[derive(Clone, Copy)]
+struct Parameter {
+    /// Its name, behind `--`.
+    name: &'static str,
+    /// What its value is called.
+    value: &'static str,
+    /// What is said of it.
+    help: &'static str,
+    /// What is given with it.
+    form: Form,
 }
+
+/// What is given with an option.
+#[derive(Clone, Copy)]
+enum Form {
+    /// A value, and there must be one.
+    Needed,
+    /// A value, and this one where none is given.
+    Usual(&'static str),
+    /// One of these values, and there must be one.
+    Among(&'static [&'static str]),
+    /// One of these values, and this one where none is given.
+    UsualAmong(&'static str, &'static [&'static str]),
+    /// A value, which may be left out.
+    Free,
+    /// Nothing.
+    Flag,
+    /// The value stands without a name.
+    Unnamed,
+}
+
+const FAMILY: Parameter = Parameter {
+    name: "family",
+    value: "FAMILY",
+    help: "Merkle mountain ranges (mmr) or belts (mmb)",
+    form: Form::Among(&["mmr", "mmb"]),
+};
+
+const HASH: Parameter = Parameter {
+    name: "hash",
+    value: "HASH",
+    help: "The digest function",
+    form: Form::UsualAmong("sha256", &["sha256", "sha512"]),
+};
+
+const CHUNK: Parameter = Parameter {
+    name: "chunk",
+    value: "BYTES",
+    help: "The bytes of a chunk of activity bits, a power of two",
+    form: Form::Needed,
+};
+
+const FLOOR: Parameter = Parameter {
+    name: "floor",
+    value: "N",
+    help: "The inactivity floor: no operation before it is active, as at the last commit",
+    form: Form::Needed,
+};
+
+const AT: Parameter = Parameter {
+    name: "at",
+    value: "LOCATION",
+    help: "The operation's location, counted from 0",
+    form: Form::Needed,
+};
+
+const FILE: Parameter = Parameter {
+    name: "file",
+    value: "FILE",
+    help: "The operations, a line for each; `-` is standard input",
+    form: Form::Unnamed,
+};
+
+const JSON: Parameter = Parameter {
+    name: "json",
+    value: "",
+    help: "Prints an object of JSON on one line, with a member for each label",
+    form: Form::Flag,
+};
+
+const ROOT: Parameter = Parameter {
+    name: "root",
+    value: "HEX",
+    help: "The canonical root that is trusted",
+    form: Form::Needed,
+};
+
+const OPERATION: Parameter = Parameter {
+    name: "operation",
+    value: "GIVEN",
+    help: "The operation",
+    form: Form::Needed,
+};
+
+const PROOF: Parameter = Parameter {
+    name: "proof",
+    value: "GIVEN",
+    help: "The proof, as it is written",
+    form: Form::Needed,
+};
+
+const START: Parameter = Parameter {
+    name: "start",
+    value: "LOCATION",
+    help: "The location of the first operation, counted from 0",
+    form: Form::Needed,
+};
+
+const OPERATIONS: Parameter = Parameter {
+    name: "operations",
+    value: "FILE",
+    help: "The operations, a line of hexadecimal for each; `-` is standard input",
+    form: Form::Needed,
+};
+
+const CHUNKS: Parameter = Parameter {
+    name: "chunks",
+    value: "FILE",
+    help: "The chunks with their activity bits, a line of hexadecimal for each",
+    form: Form::Needed,
+};
+
+const MAX_DIGESTS: Parameter = Parameter {
+    name: "max-digests",
+    value: "N",
+    help: "The most digests that the proof may have: no tree needs more than 186",
+    form: Form::Usual("186"),
+};
+
+const KEYS: Parameter = Parameter {
+    name: "keys",
+    value: "KIND",
+    help: "Keys all have one size, of 4, 8, 20 or 32 bytes, or are strings of any length",
+    form: Form::Among(&["one-size", "strings"]),
+};
+
+const VALUES: Parameter = Parameter {
+    name: "values",
+    value: "ENCODING",
+    help: "Values have any length (variable), or all have one size, of 4, 8, 20 or 32 bytes; with fixed, zeros fill up operations",
+    form: Form::Among(&["variable", "sized", "fixed"]),
+};
+
+const KEY: Parameter = Parameter {
+    name: "key",
+    value: "GIVEN",
+    help: "The key",
+    form: Form::Needed,
+};
+
+const VALUE: Parameter = Parameter {
+    name: "value",
+    value: "GIVEN",
+    help: "The value",
+    form: Form::Needed,
+};
+
+const VALUE_SIZE: Parameter = Parameter {
+    name: "value-size",
+    value: "BYTES",
+    help: "The size of values, where they have one",
+    form: Form::Free,
+};
+
+const MIN_KEY: Parameter = Parameter {
+    name: "min-key-length",
+    value: "BYTES",
+    help: "The least length of a key in the proof, where keys are strings; 0 if it is left out",
+    form: Form::Free,
+};
+
+const MAX_KEY: Parameter = Parameter {
+    name: "max-key-length",
+    value: "BYTES",
+    help: "The greatest; any if it is left out",
+    form: Form::Free,
+};
+
+const MIN_VALUE: Parameter = Parameter {
+    name: "min-value-length",
+    value: "BYTES",
+    help: "The least length of a value in the proof, where values are variable; 0 if it is left out",
+    form: Form::Free,
+};
+
+const MAX_VALUE: Parameter = Parameter {
+    name: "max-value-length",
+    value: "BYTES",
+    help: "The greatest; any if it is left out",
+    form: Form::Free,
+};
+
+const ABOUT: &str = "Shows and checks what stands in a snapshot of operations under one root";
 
 const STATUS: &str = "\
 Exit status: 0 yes, or done; 1 no; 2 the question is at fault; 3 a file is; 4 out of memory.
 Each subcommand has an example: gawerunoa root --help";
 
-/// Returns the subcommand `root`.
-fn root<'a>(alloc: Global) -> Result<Command<'a>, AllocError> {
-    let command = Command::new(alloc, "root")
-        .about("Prints the canonical root of operations")
-        .after_help(ROOT_EXAMPLE);
-    operations(alloc, floor(alloc, agreed(alloc, command)?)?)
-}
-
 const ROOT_EXAMPLE: &str = "\
 A line of FILE is an operation: `0` or `1` (active), a blank, the operation in hexadecimal.
+The label is `root`.
 
 Example:
   printf '1 ab\\n' | gawerunoa root --family mmr --chunk 1 --floor 0 -";
 
-/// Returns the subcommand `prove`.
-fn prove<'a>(alloc: Global) -> Result<Command<'a>, AllocError> {
-    let command = Command::new(alloc, "prove")
-        .about("Prints the canonical root of operations, and the proof of one of them")
-        .after_help(PROVE_EXAMPLE);
-    operations(alloc, at(alloc, floor(alloc, agreed(alloc, command)?)?)?)
-}
-
 const PROVE_EXAMPLE: &str = "\
 A line of FILE is an operation: `0` or `1` (active), a blank, the operation in hexadecimal.
+The labels are `root` and `proof`.
 
 Example:
   printf '1 ab\\n' | gawerunoa prove --family mmr --chunk 1 --floor 0 --at 0 -";
 
-/// Returns the subcommand `check`.
-fn check<'a>(alloc: Global) -> Result<Command<'a>, AllocError> {
-    Command::new(alloc, "check")
-        .about("Checks a proof against a root that is trusted")
-        .after_help("An example: gawerunoa check operation --help")
-        .subcommand_required(true)
-        .subcommand(check_operation(alloc)?)
-}
-
-/// Returns the subcommand `check operation`.
-fn check_operation<'a>(alloc: Global) -> Result<Command<'a>, AllocError> {
-    let command = Command::new(alloc, "operation")
-        .about("Checks that an operation stands at a location, and is active")
-        .after_help(CHECK_EXAMPLE);
-    given(alloc, at(alloc, trusted(alloc, agreed(alloc, command)?)?)?)
-}
-
-const CHECK_EXAMPLE: &str = "\
+const OPERATION_EXAMPLE: &str = "\
 GIVEN is hexadecimal, or `@` and the name of a file that has it; `@-` is standard input.
+With --json the members are `answer`, which is `yes` or `no`, and `claim`.
 
 Example, of the operation that `gawerunoa root --help` has:
   gawerunoa check operation --family mmr --chunk 1 --at 0 --operation ab \\
     --root 5f2e849bde46034529f198d71df7c3baafc1bcb7d79c91a7b5678038b52b24bf \\
     --proof @proof.hex";
 
-/// Adds the options of what is agreed of a snapshot.
-fn agreed<'a>(alloc: Global, command: Command<'a>) -> Result<Command<'a>, AllocError> {
-    let family = option(alloc, "family", "FAMILY")
-        .value_parser(FAMILIES.as_slice())
-        .help("Merkle mountain ranges (mmr) or belts (mmb)");
-    let hash = option(alloc, "hash", "HASH")
-        .value_parser(FUNCTIONS.as_slice())
-        .required(false)
-        .default_value("sha256")
-        .help("The digest function");
-    let chunk = option(alloc, "chunk", "BYTES").help(
-        "The bytes of a chunk of activity bits, a power of two",
-    );
-    command.arg(family)?.arg(hash)?.arg(chunk)
+const RANGE_EXAMPLE: &str = "\
+GIVEN is hexadecimal, or `@` and the name of a file that has it; `@-` is standard input.
+With --json the members are `answer`, which is `yes` or `no`, and `claim`.
+
+Example:
+  gawerunoa check range --family mmr --chunk 1 --start 0 --operations operations.hex \\
+    --chunks chunks.hex --proof @proof.hex --root e6a0b4f2cccadef9ae3c00ce4ae558d6d3a93d0d279798265be092c6c8b56f34";
+
+const VALUE_EXAMPLE: &str = "\
+GIVEN is hexadecimal, or `@` and the name of a file that has it; `@-` is standard input.
+A key and a value are their bytes, with no length before them.
+With --json the members are `answer`, which is `yes` or `no`, and `claim`.
+
+Example:
+  gawerunoa check value --family mmr --chunk 1 --keys one-size --values fixed \\
+    --key 00000001 --value 0000000000000005 --proof @proof.hex --root e6a0b4f2cccadef9ae3c00ce4ae558d6d3a93d0d279798265be092c6c8b56f34";
+
+const ABSENCE_EXAMPLE: &str = "\
+GIVEN is hexadecimal, or `@` and the name of a file that has it; `@-` is standard input.
+A key is its bytes, with no length before them.
+With --json the members are `answer`, which is `yes` or `no`, and `claim`.
+
+Example:
+  gawerunoa check absence --family mmr --chunk 1 --keys one-size --values fixed \\
+    --value-size 8 --key 00000002 --proof @proof.hex --root e6a0b4f2cccadef9ae3c00ce4ae558d6d3a93d0d279798265be092c6c8b56f34";
+
+/// Returns the whole command line.
+pub(crate) fn command<'a>(alloc: Global) -> Result<Command<'a>, AllocError> {
+    let root = subcommand(
+        alloc,
+        "root",
+        "Prints the canonical root of operations",
+        ROOT_EXAMPLE,
+        &[FAMILY, HASH, CHUNK, FLOOR, JSON, FILE],
+    )?;
+    let prove = subcommand(
+        alloc,
+        "prove",
+        "Prints the canonical root of operations, and the proof of one of them",
+        PROVE_EXAMPLE,
+        &[FAMILY, HASH, CHUNK, FLOOR, AT, JSON, FILE],
+    )?;
+    Command::new(alloc, "gawerunoa")
+        .version("0.1.0")
+        .about(ABOUT)
+        .after_help(STATUS)
+        .subcommand_required(true)
+        .subcommand(root)?
+        .subcommand(prove)?
+        .subcommand(check(alloc)?)
 }
 
-/// Adds the option of the inactivity floor.
-fn floor<'a>(alloc: Global, command: Command<'a>) -> Result<Command<'a>, AllocError> {
-    let floor = option(alloc, "floor", "N").help(
-        "The inactivity floor: no operation before it is active, as at the last commit",
-    );
-    command.arg(floor)
+/// Returns the subcommand `check`.
+fn check<'a>(alloc: Global) -> Result<Command<'a>, AllocError> {
+    let operation = subcommand(
+        alloc,
+        "operation",
+        "Checks that an operation stands at a location, and is active",
+        OPERATION_EXAMPLE,
+        &[FAMILY, HASH, CHUNK, ROOT, AT, OPERATION, PROOF, JSON],
+    )?;
+    let range = subcommand(
+        alloc,
+        "range",
+        "Checks that operations stand side by side, and which chunks of activity bits they touch",
+        RANGE_EXAMPLE,
+        &[
+            FAMILY,
+            HASH,
+            CHUNK,
+            ROOT,
+            START,
+            OPERATIONS,
+            CHUNKS,
+            MAX_DIGESTS,
+            PROOF,
+            JSON,
+        ],
+    )?;
+    let value = subcommand(
+        alloc,
+        "value",
+        "Checks that a key has a value",
+        VALUE_EXAMPLE,
+        &[
+            FAMILY, HASH, CHUNK, ROOT, KEYS, VALUES, MIN_KEY, MAX_KEY, KEY, VALUE, PROOF, JSON,
+        ],
+    )?;
+    let absence = subcommand(
+        alloc,
+        "absence",
+        "Checks that a key has no value",
+        ABSENCE_EXAMPLE,
+        &[
+            FAMILY, HASH, CHUNK, ROOT, KEYS, VALUES, VALUE_SIZE, MIN_KEY, MAX_KEY, MIN_VALUE,
+            MAX_VALUE, KEY, PROOF, JSON,
+        ],
+    )?;
+    Command::new(alloc, "check")
+        .about("Checks a proof against a root that is trusted")
+        .after_help("An example: gawerunoa check operation --help")
+        .subcommand_required(true)
+        .subcommand(operation)?
+        .subcommand(range)?
+        .subcommand(value)?
+        .subcommand(absence)
 }
 
-/// Adds the option of a location.
-fn at<'a>(alloc: Global, command: Command<'a>) -> Result<Command<'a>, AllocError> {
-    let at = option(alloc, "at", "LOCATION").help("The operation's location, counted from 0");
-    command.arg(at)
+/// Returns the subcommand `name` with these options, and what its help says.
+fn subcommand<'a>(
+    alloc: Global,
+    name: &'static str,
+    about: &'static str,
+    example: &'static str,
+    options: &[Parameter],
+) -> Result<Command<'a>, AllocError> {
+    let mut arguments = Vec::new(alloc);
+    for option in options {
+        arguments.push(argument(alloc, option))?;
+    }
+    Command::new(alloc, name)
+        .about(about)
+        .after_help(example)
+        .args(arguments)
 }
 
-/// Adds the file with the operations.
-fn operations<'a>(alloc: Global, command: Command<'a>) -> Result<Command<'a>, AllocError> {
-    let file = Arg::new(alloc, "file")
-        .value_name("FILE")
-        .required(true)
-        .action(ArgAction::Set)
-        .help("The operations, a line for each; `-` is standard input");
-    command.arg(file)
-}
-
-/// Adds the option of the root that is trusted.
-fn trusted<'a>(alloc: Global, command: Command<'a>) -> Result<Command<'a>, AllocError> {
-    let root = option(alloc, "root", "HEX").help("The canonical root that is trusted");
-    command.arg(root)
-}
-
-/// Adds the options of an operation and a proof.
-fn given<'a>(alloc: Global, command: Command<'a>) -> Result<Command<'a>, AllocError> {
-    let operation = option(alloc, "operation", "GIVEN").help("The operation");
-    let proof = option(alloc, "proof", "GIVEN").help("The proof, as `prove` prints it");
-    command.arg(operation)?.arg(proof)
-}
-
-/// Returns the option `--name` with one value, which must be given.
-fn option<'a>(alloc: Global, name: &'a str, value: &'a str) -> Arg<'a> {
-    Arg::new(alloc, name)
-        .long(name)
-        .value_name(value)
-        .required(true)
-        .allow_negative_numbers(true)
-        .action(ArgAction::Set)
+/// Returns an option, as the kit's `clap` takes it.
+fn argument<'a>(alloc: Global, option: &Parameter) -> Arg<'a> {
+    let arg = Arg::new(alloc, option.name).help(option.help);
+    if let Form::Flag = option.form {
+        return arg.long(option.name).action(ArgAction::SetTrue);
+    }
+    let arg = arg.value_name(option.value).action(ArgAction::Set);
+    if let Form::Unnamed = option.form {
+        return arg.required(true);
+    }
+    let arg = arg.long(option.name).allow_negative_numbers(true);
+    match option.form {
+        Form::Usual(value) => arg.default_value(value),
+        Form::Among(values) => arg.required(true).value_parser(values),
+        Form::UsualAmong(value, values) => arg.default_value(value).value_parser(values),
+        Form::Free => arg,
+        _ => arg.required(true),
+    }
 }

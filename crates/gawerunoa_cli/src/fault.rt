@@ -13,7 +13,7 @@ use std::{fmt, io};
 use storage_codec::NoMemory;
 
 /// What is at fault where a run has no answer.
-#[derive(Clone, Copy, Debug, PartialEq, Eq)]
+#[derive(Clone, Copy)]
 pub enum Blame {
     /// The question: the words, or a number in them that does not fit the file.
     Question,
@@ -37,7 +37,7 @@ impl Blame {
 }
 
 /// Why a run has no answer. Its text says what is wrong, where, and what was expected.
-#[derive(Debug, Drop)]
+#[derive(Drop)]
 pub enum Fault<'a> {
     /// The words are none that the program takes, or ask for help or the version.
     Words(clap::Error),
@@ -45,6 +45,8 @@ pub enum Fault<'a> {
     NotUtf8,
     /// An option is not there.
     Missing(&'static str),
+    /// An option is there that says nothing beside the others.
+    Needless(&'static str),
     /// The word of an option is no number.
     Number {
         /// The option.
@@ -78,6 +80,17 @@ pub enum Fault<'a> {
         /// Where it is not.
         mark: Mark,
     },
+    /// Keys that are strings have no fixed values.
+    Encoding,
+    /// A key, a value or a size of values, of so many bytes, is none where there is one size.
+    Sized {
+        /// The option.
+        option: &'static str,
+        /// How many bytes it has.
+        size: usize,
+    },
+    /// What is asked is refused for another reason.
+    Refused,
     /// Two options both ask for standard input.
     Twice,
     /// The floor is past the operations.
@@ -162,10 +175,14 @@ impl fmt::Display for Fault<'_> {
         match self {
             Fault::Words(error) => write!(f, "{error}"),
             Fault::NotUtf8 => f.write_str("the words of the command line are not all UTF-8"),
-            Fault::Missing(option) => write!(f, "{option}: not given"),
+            Fault::Missing(option) => write!(f, "--{option}: not given"),
+            Fault::Needless(option) => write!(
+                f,
+                "--{option}: not with these keys and values: expected --value-size where values are sized or fixed, else lengths"
+            ),
             Fault::Number { option, word } => write!(
                 f,
-                "{option}: `{word}`: expected a number from 0 to {}, of at most 20 digits",
+                "--{option}: `{word}`: expected a number from 0 to {}, of at most 20 digits",
                 u64::MAX
             ),
             Fault::Chunk { word, most } => {
@@ -185,9 +202,17 @@ impl fmt::Display for Fault<'_> {
                     "--root: {found} hexadecimal digits: a root of {name} has {digits}"
                 )
             }
-            Fault::Digits { option, mark } => write!(f, "{option}: {mark}"),
+            Fault::Digits { option, mark } => write!(f, "--{option}: {mark}"),
+            Fault::Encoding => f.write_str(
+                "--values: `fixed` with keys that are strings: expected `variable` or `sized`",
+            ),
+            Fault::Sized { option, size } => write!(
+                f,
+                "--{option}: {size} bytes: expected 4, 8, 20 or 32, where all have one size"
+            ),
+            Fault::Refused => f.write_str("the question is refused"),
             Fault::Twice => f.write_str(
-                "--operation and --proof: `@-` twice: expected standard input for one of them",
+                "standard input is asked for twice: expected `-` or `@-` once",
             ),
             Fault::Floor { floor, count } => write!(
                 f,

@@ -7,6 +7,7 @@ ghost use Rattle.std.specs.Prelude.{◌≡◌, ◌<◌, ◌≤◌};
 pub mod agreed;
 mod answer;
 pub mod check;
+pub mod claim;
 mod command;
 pub mod fault;
 pub mod lines;
@@ -15,6 +16,7 @@ pub mod operations;
 pub mod request;
 pub mod shown;
 pub mod source;
+pub mod strings;
 pub mod words;
 
 use answer::Answer;

@@ -17,7 +17,7 @@ use storage_codec::digest::Hasher;
 use storage_merkle::merkle::Graftable;
 
 /// How many bytes are read at once.
-const READ_AT_ONCE: usize = 65_536;
+pub(crate) const READ_AT_ONCE: usize = 65_536;
 
 /// Reads the operations on the lines of `input`, which is `source`: a line ends at its LF, and what follows the last LF
 /// is a line if it is not empty.
@@ -74,7 +74,7 @@ fn read_lines<'a, F: Graftable, H: Hasher, B: BufRead>(
 }
 
 /// Puts the next line of `input` in the place of `line`, its LF left out, and answers whether there is one.
-fn advance<B: BufRead>(input: &mut B, line: &mut Vec<u8>) -> io::Result<bool>
+pub(crate) fn advance<B: BufRead>(input: &mut B, line: &mut Vec<u8>) -> io::Result<bool>
     ensures line { IfOk result (λ more. more ≡ true
         → IsTaken line.new.items (B.remaining input.old) (B.remaining input.new)) }
     ensures end { IfOk result (λ more. more ≡ false
@@ -116,7 +116,7 @@ pub fn parse_operation(line: &[u8], operation: &mut Vec<u8>) -> Result<Option<bo
 
 /// Puts the bytes that `digits` spell in hexadecimal in the place of those in `bytes`, and answers whether they spell any.
 /// Where they do not, `bytes` may hold anything.
-fn decode(digits: &[u8], bytes: &mut Vec<u8>) -> Result<bool, AllocError>
+pub(crate) fn decode(digits: &[u8], bytes: &mut Vec<u8>) -> Result<bool, AllocError>
     ensures { IfOk result (λ whole. MatchResult (decode_of digits.now) (λ spelled. (whole ≡ true)
         × (bytes.new.items ≡ spelled)) (λ _. whole ≡ false)) }
 {

@@ -3,7 +3,7 @@
 use std::fmt;
 
 /// A place in a text at which something else was expected.
-#[derive(Clone, Copy, Debug, PartialEq, Eq)]
+#[derive(Clone, Copy)]
 pub struct Mark {
     /// The byte's number in its line, counted from 1.
     pub column: usize,
@@ -14,7 +14,7 @@ pub struct Mark {
 }
 
 /// What a place in a text is expected to have.
-#[derive(Clone, Copy, Debug, PartialEq, Eq)]
+#[derive(Clone, Copy)]
 pub enum Expected {
     /// The digit of an activity bit.
     Bit,

@@ -32,7 +32,7 @@ pub struct Shown<F: Graftable, H: Hasher, const N: usize> {
 }
 
 /// Why nothing is shown: the first reason that holds, in the order of the variants; out of memory comes at any point.
-#[derive(Clone, Copy, Debug, PartialEq, Eq)]
+#[derive(Clone, Copy)]
 pub enum Refusal {
     /// The floor is past the operations, of which there are so many.
     Floor(u64),

@@ -3,7 +3,7 @@
 use std::fmt;
 
 /// A file, or standard input.
-#[derive(Clone, Copy, Debug, PartialEq, Eq)]
+#[derive(Clone, Copy)]
 pub enum Source<'a> {
     /// Standard input.
     Standard,
@@ -12,7 +12,7 @@ pub enum Source<'a> {
 }
 
 /// What is given in hexadecimal.
-#[derive(Clone, Copy, Debug, PartialEq, Eq)]
+#[derive(Clone, Copy)]
 pub enum Given<'a> {
     /// On the command line.
     Digits(&'a str),
@@ -28,6 +28,11 @@ impl<'a> Source<'a> {
             name => Source::File(name),
         }
     }
+
+    /// Returns whether it is standard input.
+    pub(crate) fn is_standard(self) -> bool {
+        matches!(self, Source::Standard)
+    }
 }
 
 impl<'a> Given<'a> {
@@ -36,6 +41,14 @@ impl<'a> Given<'a> {
         match word.strip_prefix('@') {
             Some(name) => Given::In(Source::named(name)),
             None => Given::Digits(word),
+        }
+    }
+
+    /// Returns whether it is on standard input.
+    pub(crate) fn is_standard(self) -> bool {
+        match self {
+            Given::Digits(_) => false,
+            Given::In(source) => source.is_standard(),
         }
     }
 }

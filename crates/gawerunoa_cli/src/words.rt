@@ -6,11 +6,13 @@ ghost use Rattle.std.specs.Str.Parse.{digits_value};
 ghost use Rattle.hex.specs.Hex.{decode_of};
 ghost use Rattle.storage_bitmap.specs.Chunks.{IsChunkSize};
 ghost use Rattle.stateproof_cli.specs.Words.{IsNumber};
-ghost use Rattle.gawerunoa_cli.specs.Agreed.{IsRootOf, bytes_of};
+ghost use Rattle.light_questions.specs.Agreed.{root_bytes};
+ghost use Rattle.gawerunoa_cli.specs.Agreed.{IsRootOf};
 
-use crate::agreed::{Function, Root};
+use crate::agreed::Function;
 use commonware_storage::codec::FixedBytes;
 use hex::FromHex;
+use light_questions::agreed::Root;
 use storage_current::qmdb::current::grafting::chunk_height;
 
 /// Returns the number that `word` writes in 1 to 20 decimal digits, if it is below `2^64`.
@@ -39,7 +41,7 @@ pub fn chunk_size(word: &str, most: usize) -> Option<usize>
 /// Returns the digest of `function` that `word` writes in hexadecimal, in either case: 64 digits for SHA-256, 128 for
 /// SHA-512.
 pub fn root_of(word: &str, function: Function) -> Option<Root>
-    ensures { IfSome result (λ root. IsRootOf function root × (decode_of word.now ≡ Ok (bytes_of root))) }
+    ensures { IfSome result (λ root. IsRootOf function root × (decode_of word.now ≡ Ok (root_bytes root))) }
 {
     match function {
         Function::Sha256 => {

@@ -1,3 +1,1 @@
-pub mod Alike
-pub mod Answered
-pub mod Pieces
+mod Answered

@@ -5,16 +5,16 @@ ghost use Rattle.storage_bitmap.specs.Chunks.{IsChunkSize};
 ghost use Rattle.storage_current.specs.Snapshots.{grafting_of};
 ghost use Rattle.commonware_storage.specs.Light.{IsAcceptedAt, IsTrueAt};
 ghost use Rattle.commonware_storage.specs.LightRanges.{IsAcceptedRange, IsTrueRange};
-ghost use Rattle.light_c.specs.Agreed.{agreed_refusal, digest_size_of, function_of, has_pending_of, shape_of};
-ghost use Rattle.light_c.specs.Agreement.{AsAgreed, IsAcceptedAbsenceIn, IsAcceptedValueIn, IsTrueAbsenceIn, IsTrueValueIn, absence_refused, value_refused};
-ghost use Rattle.light_c.specs.Answers.{IsTold, Says, lengths_refusal, no, or_then, yes};
-ghost use Rattle.light_c.specs.ByteStrings.{cut};
+ghost use Rattle.light_questions.specs.Agreed.{agreed_refusal, digest_size_of, function_of, has_pending_of, shape_of};
+ghost use Rattle.light_questions.specs.Agreement.{AsAgreed, IsAcceptedAbsenceIn, IsAcceptedValueIn, IsTrueAbsenceIn, IsTrueValueIn, absence_refused, value_refused};
+ghost use Rattle.light_questions.specs.Answers.{IsTold, Says, lengths_refusal, no, or_then, yes};
+ghost use Rattle.light_questions.specs.ByteStrings.{cut};
 
-use crate::agreement::{Agreed, agreed_on};
-use crate::answer::told;
-use crate::kinds::{check_absence_in, check_value_in};
 use crate::operation::gawerunoa_check_operation;
 use crate::range::gawerunoa_check_range;
+use light_questions::agreement::{Agreed, agreed_on};
+use light_questions::answer::told;
+use light_questions::kinds::{check_absence_in, check_value_in};
 use std::alloc::Global;
 
 /// Returns what `gawerunoa_check_operation` answers over what is agreed: whether the operation stands at `location` and

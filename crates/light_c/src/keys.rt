@@ -3,17 +3,17 @@
 ghost use Rattle.std.specs.Prelude.{◌≡◌, None, length};
 ghost use Rattle.storage_bitmap.specs.Chunks.{IsChunkSize};
 ghost use Rattle.storage_current.specs.Snapshots.{grafting_of};
-ghost use Rattle.light_c.specs.Agreed.{function_of, has_pending_of, agreed_refusal, shape_of, digest_size_of};
-ghost use Rattle.light_c.specs.Answers.{IsTold, Says, no, or_then, yes};
-ghost use Rattle.light_c.specs.KeyBytes.{IsAcceptedAbsenceOf, IsAcceptedFixedAbsenceOf, IsAcceptedFixedValueOf, IsAcceptedSizedAbsenceOf, IsAcceptedSizedValueOf, IsAcceptedValueOf, IsTrueAbsenceOf, IsTrueFixedAbsenceOf, IsTrueFixedValueOf, IsTrueSizedAbsenceOf, IsTrueSizedValueOf, IsTrueValueOf};
-ghost use Rattle.light_c.specs.SizedStrings.{key_refusal, value_refusal};
+ghost use Rattle.light_questions.specs.Agreed.{function_of, has_pending_of, agreed_refusal, shape_of, digest_size_of};
+ghost use Rattle.light_questions.specs.Answers.{IsTold, Says, no, or_then, yes};
+ghost use Rattle.light_questions.specs.KeyBytes.{IsAcceptedAbsenceOf, IsAcceptedFixedAbsenceOf, IsAcceptedFixedValueOf, IsAcceptedSizedAbsenceOf, IsAcceptedSizedValueOf, IsAcceptedValueOf, IsTrueAbsenceOf, IsTrueFixedAbsenceOf, IsTrueFixedValueOf, IsTrueSizedAbsenceOf, IsTrueSizedValueOf, IsTrueValueOf};
+ghost use Rattle.light_questions.specs.SizedStrings.{key_refusal, value_refusal};
 
-use crate::answer::told;
-use crate::claim::SizedKey;
-use crate::fixed::{FixedAbsence, FixedValue};
-use crate::question::ask;
-use crate::variable::{Absence, SizedAbsence, SizedValue, Value};
 use commonware_storage::codec::RangeCfg;
+use light_questions::answer::told;
+use light_questions::claim::SizedKey;
+use light_questions::fixed::{FixedAbsence, FixedValue};
+use light_questions::question::ask;
+use light_questions::variable::{Absence, SizedAbsence, SizedValue, Value};
 use std::alloc::Global;
 
 /// Returns whether the key with the bytes `key` has the value with the bytes `value` in the snapshot with the canonical

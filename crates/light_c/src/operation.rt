@@ -1,18 +1,15 @@
 //! A check of an operation.
 
-ghost use Rattle.std.specs.Prelude.{◌≡◌, None, refl};
+ghost use Rattle.std.specs.Prelude.{◌≡◌, None};
 ghost use Rattle.storage_bitmap.specs.Chunks.{IsChunkSize};
 ghost use Rattle.storage_current.specs.Snapshots.{grafting_of};
 ghost use Rattle.commonware_storage.specs.Light.{IsAcceptedAt, IsTrueAt};
-ghost use Rattle.light_c.specs.Agreed.{function_of, has_pending_of, agreed_refusal, shape_of, digest_size_of};
-ghost use Rattle.light_c.specs.Answers.{IsTold, Says, no, yes};
-ghost use Rattle.light_c.specs.KeyParts.{operation_of};
+ghost use Rattle.light_questions.specs.Agreed.{function_of, has_pending_of, agreed_refusal, shape_of, digest_size_of};
+ghost use Rattle.light_questions.specs.Answers.{IsTold, Says, no, yes};
 
-use crate::answer::{Fault, checked, told};
-use crate::question::{Question, ask};
-use commonware_storage::digest::Hasher;
-use commonware_storage::light::check_operation;
-use commonware_storage::merkle::{Graftable, Location};
+use light_questions::answer::told;
+use light_questions::operation::Operation;
+use light_questions::question::ask;
 use std::alloc::Global;
 
 /// Returns whether the operation with the bytes `operation` stands at `location` of the snapshot with the canonical
@@ -44,33 +41,4 @@ pub extern "C" fn gawerunoa_check_operation(
         operation,
     };
     told(ask(alloc, family, hash, chunk_size, proof, &question, root))
-}
-
-/// Whether an operation stands at a location, and is active.
-#[derive(Drop)]
-struct Operation<'a> {
-    /// The location.
-    location: u64,
-
-    /// The operation's bytes.
-    operation: &'a [u8],
-}
-
-impl Question for Operation<'_> {
-    ghost refusal = { λ before _. before };
-
-    ghost asked = { λ it. operation_of it.location it.operation.now };
-
-    fn answer<F: Graftable, H: Hasher>(
-        &self,
-        alloc: Global,
-        chunk_size: usize,
-        proof: &[u8],
-        root: &H::Digest,
-    ) -> Result<bool, Fault> {
-        let location = Location::new(self.location);
-        checked(check_operation::<F, H>(alloc, proof, chunk_size, location, self.operation, root))
-    }
-
-    ghost first = { λ _ _. refl };
 }

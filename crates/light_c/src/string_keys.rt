@@ -3,15 +3,15 @@
 ghost use Rattle.std.specs.Prelude.{◌≡◌, None, length};
 ghost use Rattle.storage_bitmap.specs.Chunks.{IsChunkSize};
 ghost use Rattle.storage_current.specs.Snapshots.{grafting_of};
-ghost use Rattle.light_c.specs.Agreed.{function_of, has_pending_of, agreed_refusal, shape_of, digest_size_of};
-ghost use Rattle.light_c.specs.Answers.{IsTold, Says, no, or_then, yes};
-ghost use Rattle.light_c.specs.SizedStrings.{value_refusal};
-ghost use Rattle.light_c.specs.StringKeys.{IsAcceptedStringAbsenceOf, IsAcceptedStringSizedAbsenceOf, IsAcceptedStringSizedValueOf, IsAcceptedStringValueOf, IsTrueStringAbsenceOf, IsTrueStringSizedAbsenceOf, IsTrueStringSizedValueOf, IsTrueStringValueOf};
+ghost use Rattle.light_questions.specs.Agreed.{function_of, has_pending_of, agreed_refusal, shape_of, digest_size_of};
+ghost use Rattle.light_questions.specs.Answers.{IsTold, Says, no, or_then, yes};
+ghost use Rattle.light_questions.specs.SizedStrings.{value_refusal};
+ghost use Rattle.light_questions.specs.StringKeys.{IsAcceptedStringAbsenceOf, IsAcceptedStringSizedAbsenceOf, IsAcceptedStringSizedValueOf, IsAcceptedStringValueOf, IsTrueStringAbsenceOf, IsTrueStringSizedAbsenceOf, IsTrueStringSizedValueOf, IsTrueStringValueOf};
 
-use crate::answer::told;
-use crate::question::ask;
-use crate::strings::{StringAbsence, StringSizedAbsence, StringSizedValue, StringValue};
 use commonware_storage::codec::RangeCfg;
+use light_questions::answer::told;
+use light_questions::question::ask;
+use light_questions::strings::{StringAbsence, StringSizedAbsence, StringSizedValue, StringValue};
 use std::alloc::Global;
 
 /// Returns whether the key with the bytes `key` has the value with the bytes `value` in the snapshot with the canonical

@@ -39,7 +39,7 @@ import refused_memory
 from cases import cases_of
 
 HEADER = ROOT / "include/gawerunoa.h"
-SOURCES = ROOT / "crates/light_c/src"
+SOURCES = [ROOT / "crates/light_c/src", ROOT / "crates/light_questions/src"]
 NOT_RUN = 77
 SANITIZER = ["-fsanitize=address,undefined", "-fno-sanitize-recover=all", "-g"]
 WARNINGS = ["-Wall", "-Wextra", "-Wpedantic", "-Wconversion", "-Wshadow", "-Werror"]
@@ -102,7 +102,7 @@ def compiles(folder):
 def names(folder):
     """The functions, the numbers and the struct of the header, and what the library says of itself."""
     header = HEADER.read_text()
-    sources = "\n".join(path.read_text() for path in sorted(SOURCES.rglob("*.rt")))
+    sources = "\n".join(path.read_text() for folder in SOURCES for path in sorted(folder.rglob("*.rt")))
     declared = sorted(re.findall(r"^(?:u?int32_t |const char \*)(gawerunoa_\w+)\(", header, re.M))
     exported = [*re.findall(r'extern "C" fn (\w+)', sources), "gawerunoa_build"]
     same("functions of the header and of the sources", declared, sorted(exported))

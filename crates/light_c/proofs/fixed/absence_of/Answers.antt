@@ -1,6 +1,0 @@
-use Rattle.light_c.proofs.Answered.{check_answer}
-use Rattle.light_c.proofs.fixed.absence_of.Goals as goal
-
-pub returns : goal.returns
-returns g c =
-    check_answer c.check_absence.result _ _ c.check_absence.ensures.refused c.check_absence.ensures.exact c.check_absence.ensures.meaning

@@ -1,6 +1,0 @@
-use Rattle.light_c.proofs.Answered.{check_answer}
-use Rattle.light_c.proofs.fixed.value_of.Goals as goal
-
-pub returns : goal.returns
-returns g c =
-    check_answer c.check_value.result _ _ c.check_value.ensures.refused c.check_value.ensures.exact c.check_value.ensures.meaning

@@ -1,4 +1,0 @@
-use Rattle.light_c.proofs.variable.AbsenceClaim.of.Goals as goal
-
-pub returns : goal.returns
-returns g c = rw c.checked.ensures c.absence_of.ensures

@@ -1,0 +1,3 @@
+mod Alike
+mod Answered
+mod Pieces
