@@ -14,8 +14,10 @@ shell's redirection of the run. A byte above 127 in a text stands for itself.
 Then roots and proofs of snapshots of both families and both digest functions, over each size of a chunk, are computed from the definitions
 by tools/definitions.py. The program must print the same, say yes to the proofs of active operations and of ranges, and no to those of others,
 to a proof with a byte changed, to another root and to another location. So it is with the values and the absences of databases of each kind of
-keys and each encoding of values, where every answer is the definitions'. The last line is 'N runs, M of them wrong'; the status is 1 where M
-is not 0.
+keys and each encoding of values, where every answer is the definitions'. Proofs are taken apart, lines have ten megabytes, and pipes are closed.
+Then all these checks are the lines of one file, and crates/gawerunoa/gawerunoa.1 must be the page that tools/manual.py makes of the help.
+
+The last line is 'N runs, M of them wrong'; the status is 1 where M is not 0.
 """
 import json
 import pathlib
@@ -26,6 +28,7 @@ import sys
 import tempfile
 
 import definitions
+import manual
 from c_library import called
 from key_questions import KINDS, Database, question
 from tries import Try
@@ -34,6 +37,7 @@ from unproved import SECTIONS, X86
 ROOT = pathlib.Path(__file__).resolve().parent.parent
 CRATE = "gawerunoa"
 CASES = ROOT / f"crates/{CRATE}/cases.json"
+PAGE = ROOT / f"crates/{CRATE}/{CRATE}.1"
 SECONDS = 60
 # Behind these the usage stands, which is the same for all mistakes of a subcommand.
 USAGE = ("\n\nUsage: ", "\n\nFor more information, try ")
@@ -49,11 +53,20 @@ def unproved(work):
     return path
 
 
+# the options whose members are numbers, and those whose members are arrays
+NUMBERS, ARRAYS = ("chunk", "at", "start", "max-digests", "value-size"), ("operations", "chunks")
+
+
 class Program:
-    """The program, the runs that it has made, and what was wrong with them."""
+    """The program, the runs that it has made, what was wrong with them, and the checks among them as objects, with their right answers."""
 
     def __init__(self, path):
-        self.path, self.runs, self.faults = path, 0, []
+        self.path, self.runs, self.faults, self.lines = path, 0, [], []
+
+    def check(self, name, asked, given, files, right):
+        """Sees what a check says, and keeps it for the lines of a file."""
+        self.see(name, self.ended(asked, given, files), right)
+        self.lines.append((object_of(asked, given, files or {}), right))
 
     def ended(self, words, given="", files=None, to=""):
         """How a run ends: its status, what it wrote on standard output, and what on standard error."""
@@ -69,6 +82,20 @@ class Program:
         self.runs += 1
         if ending != right:
             self.faults.append(f"{name}: {ending!r} where {right!r} is right")
+
+
+def object_of(asked, given, files):
+    """The object that asks what the words of a check ask."""
+    members = {"check": asked[1]}
+    for option, word in zip(asked[2::2], asked[3::2]):
+        name = option.removeprefix("--")
+        if name in NUMBERS:
+            members[name] = int(word)
+        elif name in ARRAYS:
+            members[name] = files[word].splitlines()
+        else:
+            members[name] = given.strip() if word == "@-" else word
+    return members
 
 
 def without_usage(text):
@@ -118,7 +145,7 @@ def shown(program, name, snapshot, bits, at):
         asked = ["check", "operation", *words, "--root", root, "--at", str(at), "--operation", operation, "--proof", "@-"]
         shows = f"that the operation stands at location {at} and is active"
         right = (0, f"yes: {shows.removeprefix('that ')}\n", "") if yes else (1, f"no: this does not show {shows}\n", "")
-        program.see(f"check {what} {words}", program.ended(asked, proof), right)
+        program.check(f"check {what} {words}", asked, proof, None, right)
 
     check("its proof", active)
     if active:
@@ -147,7 +174,7 @@ def ranges(program, words, snapshot, start):
         asked = ["check", "range", *words, "--root", root, "--start", str(start), "--operations", "operations", "--chunks", "chunks"]
         shows = f"{len(operations)} operations stand from location {start} on, and the chunks are theirs"
         right = (0, f"yes: {shows}\n", "") if yes else (1, f"no: this does not show that {shows}\n", "")
-        program.see(f"check a range, {what} {words}", program.ended([*asked, "--proof", "@-"], proof, files), right)
+        program.check(f"check a range, {what} {words}", [*asked, "--proof", "@-"], proof, files, right)
 
     check("its proof", True)
     check("a digit of the root changed", False, root=turned(root))
@@ -182,7 +209,7 @@ def keyed(program, what, database, proof, root, key, value=None):
         written = database.written(types.value, value).hex()
         right, shows = definitions.key_values(*shape, *columns, written, root, None), "the key has the value"
     said = (0, f"yes: {shows}\n", "") if right == "yes" else (1, f"no: this does not show that {shows}\n", "")
-    program.see(f"check {what}, {shows} {database.words}", program.ended(*question(database, root, proof, key, value)), said)
+    program.check(f"check {what}, {shows} {database.words}", *question(database, root, proof, key, value), None, said)
     if what == "its proof" and right != "yes":
         program.faults.append(f"the definitions refuse a proof that {shows}: {database.words}")
 
@@ -213,6 +240,108 @@ def alike(check, root, proof, **_):
     check("a byte too many", proof=proof + b"\0")
 
 
+def batches(program):
+    """All checks above as the lines of one file, with lines at fault among them."""
+    faults = [
+        ("", "expected an object of JSON: "),
+        ("[]", "expected an object of JSON"),
+        ("{}", "--check: not given"),
+        ('{"check":"operations"}', "--family: not given"),
+        ('{"check":"operation","Family":"mmr"}', "Family: no option has this name"),
+        ('{"check":"operation","family":"mmx"}', "--family: `mmx`: expected one of its values"),
+        ('{"check":"operation","family":"mmr","chunk":"1"}', "chunk: expected a number from 0 to 18446744073709551615"),
+        ('{"check":"operation","family":"mmr","chunk":3}', f"--chunk: 3: expected a power of two from 1 to {2**59}"),
+    ]
+    lines = [json.dumps(asked) for asked, _ in program.lines] + [text for text, _ in faults]
+    said = [answer.rstrip("\n") for _, (_, answer, _) in program.lines]
+    count = len(said)
+    for named, source, words in (("lines", "", ["lines"]), ("standard input", "-", ["-", "--json"])):
+        text = "".join(f"{it}\n" for it in lines)
+        ending = program.ended(["check", "--batch", *words], text, {"lines": text})
+        right = said + [f"error: {named}: line {count + number}: {fault}" for number, (_, fault) in enumerate(faults, 1)]
+        told = ending[1].splitlines()
+        if source:
+            right, told = [object_said(it) for it in right], [json.loads(it) for it in told]
+        # what is wrong with JSON itself is said in the words of the kit
+        told[count] = right[count] if str(told[count]).startswith(str(right[count])[:60]) else told[count]
+        program.see(f"check --batch {words}", (ending[0], told, ending[2]), (3, right, ""))
+
+
+def object_said(line):
+    """The object that says what a line says."""
+    label, _, said = line.partition(": ")
+    return {"error": said} if label == "error" else {"answer": label, "claim": said.removeprefix("this does not show that ")}
+
+
+def fields(program, hashes, seed=11):
+    """The fields of proofs of each kind, over both families and functions: their offsets, bytes and names."""
+    dice = random.Random(seed)
+    for name in hashes:
+        for family in (definitions.MMR, definitions.MMB):
+            held = Database(dice, definitions.Digests(name), family, 1, *KINDS[3])
+            key, snapshot = next(iter(held.own)), held.snapshot
+            location = held.place[key]
+            shown = fields_of(snapshot, location)
+            start = [("tag", b"\0")]
+            value, update = held.value_proof(key), held.absence_proof(b"")
+            taken(program, snapshot, "operation", shown, snapshot.operation_proof(location))
+            taken(program, snapshot, "range", shown[2:], snapshot.range_part(location, location + 1))
+            taken(program, snapshot, "value", [*shown, ("next key", held.key(held.own[key][1]))], value)
+            last = max(held.own)
+            shown = [*start, *fields_of(snapshot, held.place[last])]
+            rest = update[sum(len(it) for _, it in shown) :]
+            taken(program, snapshot, "absence", [*shown, ("update or value", rest)], update)
+
+
+def fields_of(snapshot, location):
+    """The names and the bytes of the fields of an operation proof."""
+    leaves, inactive, proof, pending, partial, ops_root = snapshot.range_proof(location, location + 1)
+    slots = [("pending chunk", pending)] * (snapshot.family is definitions.MMB) + [("partial chunk", partial)]
+    counts = [("leaves", leaves), ("inactive peaks", inactive), ("number of digests", len(proof))]
+    return [
+        ("location", definitions.varint(location)),
+        ("chunk", snapshot.chunks[location // snapshot.width]),
+        *((name, definitions.varint(count)) for name, count in counts),
+        *(("digest", it) for it in proof),
+        *(part for name, it in slots for part in ([(name, b"\1"), (name, it)] if it else [(name, b"\0")])),
+        ("operations root", ops_root),
+    ]
+
+
+def taken(program, snapshot, shows, right, proof):
+    words = ["--family", snapshot.family.name, "--hash", snapshot.digests.name, "--chunk", str(snapshot.size), "--shows", shows]
+    status, output, errors = program.ended(["inspect", *words, "--json", "-"], proof.hex())
+    told = [json.loads(it) for it in output.splitlines()]
+    offsets = [sum(len(it) for _, it in right[:place]) for place in range(len(right))]
+    right = [{"offset": at, "bytes": it.hex(), "field": name} for at, (name, it) in zip(offsets, right)]
+    program.see(f"inspect {words}", (status, [{name: it[name] for name in right[0]} for it in told], errors), (0, right, ""))
+
+
+def hardships(program):
+    """Lines of ten megabytes, and a pipe that nobody reads any more."""
+    ten, words = 10**7, ["--family", "mmb", "--chunk", "32"]
+    operations = [b"\xab" * (ten // 2), b"\1"]
+    snapshot = definitions.Snapshot(definitions.Digests("sha256"), definitions.MMB, operations, "11", 0, 32)
+    root, proof = snapshot.root.hex(), snapshot.operation_proof(0).hex()
+    text = "".join(f"1 {it.hex()}\n" for it in operations)
+    program.see("root of a long line", program.ended(["root", *words, "--floor", "0", "-"], text), (0, f"root: {root}\n", ""))
+    fault = f"error: standard input: line 2, column {ten + 3}: expected a hexadecimal digit, found `g`\n"
+    ending = program.ended(["root", *words, "--floor", "0", "-"], "1 00\n1 " + "a" * ten + "g\n")
+    program.see("root of a long line at fault", ending, (3, "", fault))
+    asked = ["check", "operation", *words, "--root", root, "--at", "0", "--operation", "@-", "--proof", proof]
+    right = (0, "yes: the operation stands at location 0 and is active\n", "")
+    program.check("check of a long operation", asked, operations[0].hex(), None, right)
+    ending = program.ended(["check", "--batch", "-"], "x" * ten)
+    program.see("a long line of no JSON", (ending[0], ending[1][:50], ending[2]), (3, "error: standard input: line 1: expected an object ", ""))
+    ending = program.ended(["inspect", *words, "-"], "00" * ten)
+    program.see("a long proof", (ending[0], ending[1]), (3, ""))
+    for asked, given in (["root", *words, "--floor", "0", "-"], text), (["check", "--batch", "-"], "{}\n" * 9), (["--help"], ""):
+        run = subprocess.Popen([program.path, *asked], stdin=subprocess.PIPE, stdout=subprocess.PIPE, stderr=subprocess.PIPE)
+        run.stdout.close()
+        _, errors = run.communicate(given.encode(), timeout=SECONDS)
+        program.see(f"{asked[0]} into a closed pipe", (run.returncode, errors), (3, b"error: standard output: Broken pipe (os error 32)\n"))
+
+
 def main():
     with tempfile.TemporaryDirectory() as work:
         path = pathlib.Path(sys.argv[1] if sys.argv[1:] else ROOT / f"crates/{CRATE}/out/{CRATE}").resolve()
@@ -221,6 +350,10 @@ def main():
             typed(program, case)
         snapshots(program, ["sha256", "sha512"])
         databases(program, ["sha256", "sha512"])
+        fields(program, ["sha256", "sha512"])
+        hardships(program)
+        batches(program)
+        program.see("the page of the manual", manual.page(program.path), PAGE.read_text())
     print("".join(f"FAULT {it}\n" for it in program.faults), end="")
     print(f"{program.runs} runs, {len(program.faults)} of them wrong")
     return 1 if program.faults else 0

@@ -21,6 +21,7 @@ import collections
 import concurrent.futures
 import functools
 import itertools
+import json
 import os
 import pathlib
 import random
@@ -160,6 +161,8 @@ def questions(shim, tree):
         shown = dict(line.split(": ") for line in ended(shim, [program, *words], OPERATIONS).output.splitlines())
         check = ["check", "operation", *shape, "--root", shown["root"], "--at", "7", "--operation", "ab" * 8, "--proof", "@-"]
         asked += [(words, OPERATIONS), (check, f"{shown['proof']}\n"), ([*check, "--floor"], "")]
+        line = {"check": "operation", "family": family, "chunk": int(size), "at": 7, "operation": "ab" * 8, **shown}
+        asked += [(["check", "--batch", "-"], json.dumps(line)), (["check", "--batch", "-", "--json"], json.dumps(line | {"hash": "sha1"}))]
     asked += key_questions()
     for words, given in asked:
         right = ended(shim, [program, *words], given)[:3]

@@ -7,17 +7,16 @@ use crate::agreed::{Family, Function};
 use crate::check::is_shown;
 use crate::claim::Claim;
 use crate::fault::Fault;
+use crate::hexadecimal::{bytes_given, read_claim};
 use crate::lines::read_operations;
-use crate::mark::Mark;
-use crate::request::{Asked, Check, Claimed, Format, Request, Snapshot};
+use crate::request::{Check, Format, Snapshot};
 use crate::shown::{Refusal, Shown, show};
-use crate::source::{Given, Source};
-use crate::strings::{Strings, read_strings};
+use crate::source::Source;
 use light_questions::agreement::Agreed as Database;
 use light_questions::answer::Fault as Refused;
 use std::alloc::Global;
 use std::fs;
-use std::io::Read;
+use std::io::{self, Read, Write};
 use std::rt::Files;
 use storage_codec::digest::{Digest, Hasher, Sha256, Sha512};
 use storage_merkle::merkle::{Graftable, mmb, mmr};
@@ -27,33 +26,16 @@ use storage_merkle::merkle::{Graftable, mmb, mmr};
 pub(crate) struct Answer {
     /// What is written on standard output.
     pub text: String,
-    /// The exit status: 0, or 1 for a no.
+    /// The exit status: 0, or 1 for a no; 3 where a line is at fault.
     pub status: u8,
-    ghost answers: { status ≤ 1 },
-}
-
-impl Answer {
-    /// Returns the answer to `request`. `input` is standard input, which is read where the request names it.
-    pub(crate) fn of<'a, R: Files, I: Read + Drop>(
-        alloc: Global,
-        files: &R,
-        request: &Request<'a>,
-        input: I,
-    ) -> Result<Answer, Fault<'a>> {
-        match &request.asked {
-            Asked::Show { snapshot, at } => {
-                shown(alloc, files, snapshot, *at, request.format, input)
-            }
-            Asked::Check(check) => checked(alloc, files, check, request.format, input),
-        }
-    }
+    ghost answers: { status ≤ 3 },
 }
 
 /// The greatest number of bytes of a chunk that a snapshot is made with. A check takes each size that there is.
 pub(crate) const MOST_CHUNK: usize = 4096;
 
 /// Returns the canonical root of `snapshot`, and the proof of the operation at the location `at`, where one is named.
-fn shown<'a, R: Files, I: Read + Drop>(
+pub(crate) fn shown<'a, R: Files, I: Read + Drop>(
     alloc: Global,
     files: &R,
     snapshot: &Snapshot<'a>,
@@ -75,7 +57,10 @@ fn shown<'a, R: Files, I: Read + Drop>(
         1024 => shown_over::<R, I, 1024>(alloc, files, snapshot, at, format, input),
         2048 => shown_over::<R, I, 2048>(alloc, files, snapshot, at, format, input),
         4096 => shown_over::<R, I, 4096>(alloc, files, snapshot, at, format, input),
-        chunk => Err(Fault::Size { chunk }),
+        chunk => Err(Fault::Size {
+            chunk: chunk as u64,
+            most: MOST_CHUNK,
+        }),
     }
 }
 
@@ -171,7 +156,7 @@ fn fault_of(refusal: Refusal, floor: u64, at: Option<u64>) -> Fault<'static> {
 }
 
 /// Returns the answer to a claim: `yes`, or `no` with status 1.
-fn checked<'a, R: Files, I: Read + Drop>(
+pub(crate) fn checked<'a, R: Files, I: Read + Drop>(
     alloc: Global,
     files: &R,
     check: &Check<'a>,
@@ -204,7 +189,7 @@ fn answered<'a>(
 ) -> Result<Answer, Fault<'a>> {
     let text = match (format, yes) {
         (Format::Text, true) => format!(in alloc; "yes: {claim}\n")?,
-        (Format::Text, false) => { format!(in alloc; "no: this does not show that {claim}\n")? }
+        (Format::Text, false) => format!(in alloc; "no: this does not show that {claim}\n")?,
         (Format::Json, _) => {
             let answer = if yes { "yes" } else { "no" };
             format!(in alloc; "{{\"answer\":\"{answer}\",\"claim\":\"{claim}\"}}\n")?
@@ -236,101 +221,8 @@ fn refused(refusal: Refused, claim: &Claim, size: usize) -> Fault<'static> {
     }
 }
 
-/// Reads what is claimed.
-fn read_claim<'a, R: Files, I: Read + Drop>(
-    alloc: Global,
-    files: &R,
-    claim: Claimed<'a>,
-    input: &mut I,
-) -> Result<Claim, Fault<'a>> {
-    match claim {
-        Claimed::Operation { at, operation } => Ok(Claim::Operation {
-            location: at,
-            operation: bytes_given(alloc, files, "operation", operation, input)?,
-        }),
-        Claimed::Range {
-            start,
-            operations,
-            chunks,
-        } => Ok(Claim::Range {
-            start,
-            operations: strings_in(alloc, files, operations, input)?,
-            chunks: strings_in(alloc, files, chunks, input)?,
-        }),
-        Claimed::Value { key, value } => Ok(Claim::Value {
-            key: bytes_given(alloc, files, "key", key, input)?,
-            value: bytes_given(alloc, files, "value", value, input)?,
-        }),
-        Claimed::Absence { key } => Ok(Claim::Absence {
-            key: bytes_given(alloc, files, "key", key, input)?,
-        }),
-    }
-}
-
-/// Returns the bytes that are given for `option`.
-fn bytes_given<'a, R: Files, I: Read>(
-    alloc: Global,
-    files: &R,
-    option: &'static str,
-    given: Given<'a>,
-    input: &mut I,
-) -> Result<Vec<u8>, Fault<'a>> {
-    match given {
-        Given::Digits(word) => match hex::decode(alloc, word) {
-            Ok(bytes) => Ok(bytes),
-            Err(hex::FromHexError::OutOfMemory) => Err(Fault::Memory),
-            Err(_) => Err(Fault::Digits {
-                option,
-                mark: Mark::of_digits(word.as_bytes(), 1),
-            }),
-        },
-        Given::In(source) => match source {
-            Source::Standard => bytes_in(alloc, source, input),
-            Source::File(name) => match fs::open(files, name) {
-                Ok(mut file) => bytes_in(alloc, source, &mut file),
-                Err(error) => Err(Fault::unread(source, error)),
-            },
-        },
-    }
-}
-
-/// Returns the strings on the lines of `source`.
-fn strings_in<'a, R: Files, I: Read>(
-    alloc: Global,
-    files: &R,
-    source: Source<'a>,
-    input: &mut I,
-) -> Result<Strings, Fault<'a>> {
-    match source {
-        Source::Standard => read_strings(alloc, source, input),
-        Source::File(name) => match fs::open(files, name) {
-            Ok(mut file) => read_strings(alloc, source, &mut file),
-            Err(error) => Err(Fault::unread(source, error)),
-        },
-    }
-}
-
-/// Returns the bytes that the first line of `source` spells, whose text `input` has. Nothing may follow the line.
-fn bytes_in<'a, I: Read>(
-    alloc: Global,
-    source: Source<'a>,
-    input: &mut I,
-) -> Result<Vec<u8>, Fault<'a>> {
-    let mut text = Vec::new(alloc);
-    if let Err(error) = input.read_to_end(&mut text) {
-        return Err(Fault::unread(source, error));
-    }
-    let digits = match text.as_slice() {
-        [digits @ .., b'\n'] => digits,
-        digits => digits,
-    };
-    match hex::decode(alloc, digits) {
-        Ok(bytes) => Ok(bytes),
-        Err(hex::FromHexError::OutOfMemory) => Err(Fault::Memory),
-        Err(_) => Err(Fault::Line {
-            source,
-            number: 1,
-            mark: Mark::of_digits(digits, 1),
-        }),
-    }
+/// Writes all of `text` to `output`.
+pub(crate) fn print<O: Write>(output: &mut O, text: &str) -> io::Result<()> {
+    output.write_all(text.as_bytes())?;
+    output.flush()
 }

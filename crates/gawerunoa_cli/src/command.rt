@@ -3,6 +3,19 @@
 use clap::{Arg, ArgAction, Command};
 use std::alloc::{AllocError, Global};
 
+/// A subcommand.
+#[derive(Clone, Copy)]
+struct Subcommand {
+    /// Its name.
+    name: &'static str,
+    /// What it does.
+    about: &'static str,
+    /// What stands below its options.
+    example: &'static str,
+    /// Its options, and its file.
+    parameters: &'static [Parameter],
+}
+
 /// An option, or the one file that is named without one.
 #[derive(Clone, Copy)]
 struct Parameter {
@@ -196,6 +209,27 @@ const MAX_VALUE: Parameter = Parameter {
     form: Form::Free,
 };
 
+const BATCH: Parameter = Parameter {
+    name: "batch",
+    value: "FILE",
+    help: "Answers each line of a file, an object of JSON, instead of one claim; `-` is standard input",
+    form: Form::Free,
+};
+
+const SHOWS: Parameter = Parameter {
+    name: "shows",
+    value: "CLAIM",
+    help: "What the proof shows",
+    form: Form::UsualAmong("operation", &["operation", "range", "value", "absence"]),
+};
+
+const PROOF_FILE: Parameter = Parameter {
+    name: "file",
+    value: "FILE",
+    help: "The proof, one line of hexadecimal; `-` is standard input",
+    form: Form::Unnamed,
+};
+
 const ABOUT: &str = "Shows and checks what stands in a snapshot of operations under one root";
 
 const STATUS: &str = "\
@@ -215,6 +249,24 @@ The labels are `root` and `proof`.
 
 Example:
   printf '1 ab\\n' | gawerunoa prove --family mmr --chunk 1 --floor 0 --at 0 -";
+
+const INSPECT_EXAMPLE: &str = "\
+Each line is a field of the proof: its offset, its bytes, its name and what it means, with tabs between them.
+With --json the members are `offset`, `bytes`, `field` and `meaning`. Nothing is checked but the bytes' form.
+
+Example:
+  gawerunoa inspect --family mmr --chunk 1 proof.hex";
+
+const CHECK_EXAMPLE: &str = "\
+A line for --batch is an object whose members are named as the options, with `check` for the claim; numbers
+are numbers, what is given in hexadecimal is a string, and `operations` and `chunks` are arrays of strings.
+Each is answered with one line, in their order; that of a line at fault begins with `error`, or has that
+member. The exit status is the greatest: 3 where a line is at fault.
+
+Example:
+  echo '{\"check\":\"operation\",\"family\":\"mmr\",\"chunk\":1,\"at\":0,\"operation\":\"ab\",' \\
+    '\"root\":\"5f2e849bde46034529f198d71df7c3baafc1bcb7d79c91a7b5678038b52b24bf\",\"proof\":\"00\"}' |
+    gawerunoa check --batch -";
 
 const OPERATION_EXAMPLE: &str = "\
 GIVEN is hexadecimal, or `@` and the name of a file that has it; `@-` is standard input.
@@ -251,103 +303,125 @@ Example:
   gawerunoa check absence --family mmr --chunk 1 --keys one-size --values fixed \\
     --value-size 8 --key 00000002 --proof @proof.hex --root e6a0b4f2cccadef9ae3c00ce4ae558d6d3a93d0d279798265be092c6c8b56f34";
 
+const ROOT_COMMAND: Subcommand = Subcommand {
+    name: "root",
+    about: "Prints the canonical root of operations",
+    example: ROOT_EXAMPLE,
+    parameters: &[FAMILY, HASH, CHUNK, FLOOR, JSON, FILE],
+};
+
+const PROVE_COMMAND: Subcommand = Subcommand {
+    name: "prove",
+    about: "Prints the canonical root of operations, and the proof of one of them",
+    example: PROVE_EXAMPLE,
+    parameters: &[FAMILY, HASH, CHUNK, FLOOR, AT, JSON, FILE],
+};
+
+const INSPECT_COMMAND: Subcommand = Subcommand {
+    name: "inspect",
+    about: "Takes a proof apart, field by field",
+    example: INSPECT_EXAMPLE,
+    parameters: &[FAMILY, HASH, CHUNK, SHOWS, JSON, PROOF_FILE],
+};
+
+const CHECK_COMMAND: Subcommand = Subcommand {
+    name: "check",
+    about: "Checks a proof against a root that is trusted",
+    example: CHECK_EXAMPLE,
+    parameters: &[BATCH, JSON],
+};
+
+const OPERATION_CHECK: Subcommand = Subcommand {
+    name: "operation",
+    about: "Checks that an operation stands at a location, and is active",
+    example: OPERATION_EXAMPLE,
+    parameters: &[FAMILY, HASH, CHUNK, ROOT, AT, OPERATION, PROOF, JSON],
+};
+
+const RANGE_CHECK: Subcommand = Subcommand {
+    name: "range",
+    about: "Checks that operations stand side by side, and which chunks of activity bits they touch",
+    example: RANGE_EXAMPLE,
+    parameters: &[
+        FAMILY,
+        HASH,
+        CHUNK,
+        ROOT,
+        START,
+        OPERATIONS,
+        CHUNKS,
+        MAX_DIGESTS,
+        PROOF,
+        JSON,
+    ],
+};
+
+const VALUE_CHECK: Subcommand = Subcommand {
+    name: "value",
+    about: "Checks that a key has a value",
+    example: VALUE_EXAMPLE,
+    parameters: &[
+        FAMILY, HASH, CHUNK, ROOT, KEYS, VALUES, MIN_KEY, MAX_KEY, KEY, VALUE, PROOF, JSON,
+    ],
+};
+
+const ABSENCE_CHECK: Subcommand = Subcommand {
+    name: "absence",
+    about: "Checks that a key has no value",
+    example: ABSENCE_EXAMPLE,
+    parameters: &[
+        FAMILY, HASH, CHUNK, ROOT, KEYS, VALUES, VALUE_SIZE, MIN_KEY, MAX_KEY, MIN_VALUE,
+        MAX_VALUE, KEY, PROOF, JSON,
+    ],
+};
+
 /// Returns the whole command line.
 pub(crate) fn command<'a>(alloc: Global) -> Result<Command<'a>, AllocError> {
-    let root = subcommand(
-        alloc,
-        "root",
-        "Prints the canonical root of operations",
-        ROOT_EXAMPLE,
-        &[FAMILY, HASH, CHUNK, FLOOR, JSON, FILE],
-    )?;
-    let prove = subcommand(
-        alloc,
-        "prove",
-        "Prints the canonical root of operations, and the proof of one of them",
-        PROVE_EXAMPLE,
-        &[FAMILY, HASH, CHUNK, FLOOR, AT, JSON, FILE],
-    )?;
-    Command::new(alloc, "gawerunoa")
+    let command = Command::new(alloc, "gawerunoa")
         .version("0.1.0")
         .about(ABOUT)
         .after_help(STATUS)
-        .subcommand_required(true)
-        .subcommand(root)?
-        .subcommand(prove)?
-        .subcommand(check(alloc)?)
+        .subcommand_required(true);
+    with_all(
+        alloc,
+        command,
+        &[ROOT_COMMAND, PROVE_COMMAND, INSPECT_COMMAND],
+    )?
+    .subcommand(check(alloc)?)
 }
 
 /// Returns the subcommand `check`.
 fn check<'a>(alloc: Global) -> Result<Command<'a>, AllocError> {
-    let operation = subcommand(
+    let command = with_parameters(alloc, &CHECK_COMMAND)?.args_conflicts_with_subcommands(true);
+    with_all(
         alloc,
-        "operation",
-        "Checks that an operation stands at a location, and is active",
-        OPERATION_EXAMPLE,
-        &[FAMILY, HASH, CHUNK, ROOT, AT, OPERATION, PROOF, JSON],
-    )?;
-    let range = subcommand(
-        alloc,
-        "range",
-        "Checks that operations stand side by side, and which chunks of activity bits they touch",
-        RANGE_EXAMPLE,
-        &[
-            FAMILY,
-            HASH,
-            CHUNK,
-            ROOT,
-            START,
-            OPERATIONS,
-            CHUNKS,
-            MAX_DIGESTS,
-            PROOF,
-            JSON,
-        ],
-    )?;
-    let value = subcommand(
-        alloc,
-        "value",
-        "Checks that a key has a value",
-        VALUE_EXAMPLE,
-        &[
-            FAMILY, HASH, CHUNK, ROOT, KEYS, VALUES, MIN_KEY, MAX_KEY, KEY, VALUE, PROOF, JSON,
-        ],
-    )?;
-    let absence = subcommand(
-        alloc,
-        "absence",
-        "Checks that a key has no value",
-        ABSENCE_EXAMPLE,
-        &[
-            FAMILY, HASH, CHUNK, ROOT, KEYS, VALUES, VALUE_SIZE, MIN_KEY, MAX_KEY, MIN_VALUE,
-            MAX_VALUE, KEY, PROOF, JSON,
-        ],
-    )?;
-    Command::new(alloc, "check")
-        .about("Checks a proof against a root that is trusted")
-        .after_help("An example: gawerunoa check operation --help")
-        .subcommand_required(true)
-        .subcommand(operation)?
-        .subcommand(range)?
-        .subcommand(value)?
-        .subcommand(absence)
+        command,
+        &[OPERATION_CHECK, RANGE_CHECK, VALUE_CHECK, ABSENCE_CHECK],
+    )
 }
 
-/// Returns the subcommand `name` with these options, and what its help says.
-fn subcommand<'a>(
+/// Returns `command` with these subcommands.
+fn with_all<'a>(
     alloc: Global,
-    name: &'static str,
-    about: &'static str,
-    example: &'static str,
-    options: &[Parameter],
+    command: Command<'a>,
+    subcommands: &[Subcommand],
 ) -> Result<Command<'a>, AllocError> {
-    let mut arguments = Vec::new(alloc);
-    for option in options {
-        arguments.push(argument(alloc, option))?;
+    let mut commands = Vec::new(alloc);
+    for it in subcommands {
+        commands.push(with_parameters(alloc, it)?)?;
     }
-    Command::new(alloc, name)
-        .about(about)
-        .after_help(example)
+    command.subcommands(commands)
+}
+
+/// Returns a subcommand, as the kit's `clap` takes it.
+fn with_parameters<'a>(alloc: Global, it: &Subcommand) -> Result<Command<'a>, AllocError> {
+    let mut arguments = Vec::new(alloc);
+    for parameter in it.parameters {
+        arguments.push(argument(alloc, parameter))?;
+    }
+    Command::new(alloc, it.name)
+        .about(it.about)
+        .after_help(it.example)
         .args(arguments)
 }
 

@@ -4,7 +4,6 @@ ghost use Rattle.std.specs.Prelude.{◌≡◌};
 ghost use Rattle.gawerunoa_cli.specs.Status.{status_of};
 
 use crate::agreed::Function;
-use crate::answer::MOST_CHUNK;
 use crate::mark::Mark;
 use crate::source::Source;
 use clap::error::ErrorKind;
@@ -54,6 +53,28 @@ pub enum Fault<'a> {
         /// Its word.
         word: &'a str,
     },
+    /// The word of an option is none that it takes.
+    Word {
+        /// The option.
+        option: &'static str,
+        /// Its word.
+        word: &'a str,
+    },
+    /// Nothing says which claim is to be checked.
+    Claim,
+    /// A line is not an object of JSON.
+    Object,
+    /// A line is not JSON.
+    Json(serde_json::Error),
+    /// A member of an object is of another type.
+    Member {
+        /// Its name.
+        name: &'static str,
+        /// What was expected.
+        expected: &'static str,
+    },
+    /// An object has a member of a name that no option has.
+    Unknown(&'a str),
     /// A word is no size of a chunk.
     Chunk {
         /// The word.
@@ -61,10 +82,12 @@ pub enum Fault<'a> {
         /// The greatest size that would do.
         most: usize,
     },
-    /// No snapshot is made with such a chunk.
+    /// A number is no size of a chunk.
     Size {
-        /// How many bytes the chunk has.
-        chunk: usize,
+        /// The number.
+        chunk: u64,
+        /// The greatest size that would do.
+        most: usize,
     },
     /// A word has not as many digits as a root.
     Root {
@@ -116,6 +139,17 @@ pub enum Fault<'a> {
         /// Where it is not.
         mark: Mark,
     },
+    /// A proof ends, or goes on, where something else was expected.
+    Field {
+        /// Where it is.
+        source: Source<'a>,
+        /// How many bytes stand before the place.
+        offset: usize,
+        /// The field that was expected there.
+        name: &'static str,
+        /// What was expected of it.
+        expected: &'static str,
+    },
     /// A source can't be read.
     Unread {
         /// The source.
@@ -163,7 +197,8 @@ impl<'a> Fault<'a> {
                 ErrorKind::OutOfMemory => Blame::Memory,
                 _ => Blame::Question,
             },
-            Fault::Line { .. } | Fault::Unread { .. } | Fault::Unwritten(_) => Blame::File,
+            Fault::Line { .. } | Fault::Field { .. } | Fault::Unread { .. } | Fault::Unwritten(_) =>
+                Blame::File,
             Fault::Memory => Blame::Memory,
             _ => Blame::Question,
         }
@@ -191,10 +226,22 @@ impl fmt::Display for Fault<'_> {
                     "--chunk: `{word}`: expected a power of two from 1 to {most}"
                 )
             }
-            Fault::Size { chunk } => write!(
-                f,
-                "--chunk: {chunk}: expected a power of two from 1 to {MOST_CHUNK}"
+            Fault::Size { chunk, most } => {
+                write!(
+                    f,
+                    "--chunk: {chunk}: expected a power of two from 1 to {most}"
+                )
+            }
+            Fault::Word { option, word } => {
+                write!(f, "--{option}: `{word}`: expected one of its values")
+            }
+            Fault::Claim => f.write_str(
+                "check: expected `operation`, `range`, `value` or `absence`, or --batch FILE",
             ),
+            Fault::Object => f.write_str("expected an object of JSON"),
+            Fault::Json(error) => write!(f, "expected an object of JSON: {error}"),
+            Fault::Member { name, expected } => write!(f, "{name}: expected {expected}"),
+            Fault::Unknown(name) => write!(f, "{name}: no option has this name"),
             Fault::Root { word, function } => {
                 let (found, name, digits) = (word.len(), function.name(), function.digits());
                 write!(
@@ -227,6 +274,12 @@ impl fmt::Display for Fault<'_> {
                 number,
                 mark,
             } => write!(f, "{source}: line {number}, {mark}"),
+            Fault::Field {
+                source,
+                offset,
+                name,
+                expected,
+            } => write!(f, "{source}: byte {offset}: {name}: expected {expected}"),
             Fault::Unread { source, error } => write!(f, "{source}: {error}"),
             Fault::Unwritten(error) => write!(f, "standard output: {error}"),
             Fault::Memory => f.write_str("out of memory"),

@@ -2,14 +2,18 @@
 //! it says of a fault.
 #![tactic(auto)]
 
-ghost use Rattle.std.specs.Prelude.{◌≡◌, ◌<◌, ◌≤◌};
+ghost use Rattle.std.specs.Prelude.{◌≡◌, ◌<◌, ◌≤◌, IfOk};
 
 pub mod agreed;
 mod answer;
+mod batch;
 pub mod check;
 pub mod claim;
 mod command;
 pub mod fault;
+mod given;
+mod hexadecimal;
+mod inspect;
 pub mod lines;
 pub mod mark;
 pub mod operations;
@@ -19,11 +23,16 @@ pub mod source;
 pub mod strings;
 pub mod words;
 
-use answer::Answer;
+use answer::{checked, print, shown};
+use batch::answer_lines;
 use fault::Fault;
-use request::Request;
+use hexadecimal::bytes_given;
+use inspect::taken_apart;
+use request::{Asked, Format, Request};
+use source::{Given, Source};
 use std::alloc::Global;
-use std::io::{self, Read, Write};
+use std::fs;
+use std::io::{Read, Write};
 use std::rt::Files;
 
 /// Runs the program over `words`, of which the first is its name, and answers the exit status: 0 for a yes, for what is
@@ -40,29 +49,74 @@ pub fn run<R: Files, I: Read + Drop, O: Write, E: Write>(
     ensures status { result ≤ 4 }
     ensures answered { result < 2 → errors.new ≡ errors.old }
 {
-    match answer_to(alloc, files, words, input) {
-        Ok(answer) => match print(output, answer.text.as_str()) {
-            Ok(()) => answer.status,
-            Err(error) => fail(&Fault::Unwritten(error), errors),
-        },
+    match answered(alloc, files, words, input, output) {
+        Ok(status) => status,
         Err(fault) => fail(&fault, errors),
     }
 }
 
-/// Returns the answer to `words`.
-fn answer_to<'a, R: Files, I: Read + Drop>(
+/// Writes the answer to `words` to `output`, and returns its status.
+fn answered<'a, R: Files, I: Read + Drop, O: Write>(
     alloc: Global,
     files: &R,
     words: &'a [String],
-    input: I,
-) -> Result<Answer, Fault<'a>> {
-    match Request::parse(alloc, words) {
-        Ok(request) => Answer::of(alloc, files, &request, input),
-        Err(Fault::Words(error)) if !error.use_stderr() => Ok(Answer {
-            text: format!(in alloc; "{error}")?,
-            status: 0,
-        }),
-        Err(fault) => Err(fault),
+    mut input: I,
+    output: &mut O,
+) -> Result<u8, Fault<'a>>
+    ensures { IfOk result (λ status. status ≤ 3) }
+{
+    let request = match Request::parse(alloc, words) {
+        Ok(request) => request,
+        Err(Fault::Words(error)) if !error.use_stderr() => {
+            let text = format!(in alloc; "{error}")?;
+            return told(output, text.as_str(), 0);
+        }
+        Err(fault) => return Err(fault),
+    };
+    let format = request.format;
+    let answer = match &request.asked {
+        Asked::Show { snapshot, at } => shown(alloc, files, snapshot, *at, format, input)?,
+        Asked::Check(check) => checked(alloc, files, check, format, input)?,
+        Asked::Inspect(inspection) => {
+            let given = Given::In(inspection.proof);
+            let proof = bytes_given(alloc, files, "file", given, &mut input)?;
+            let text = taken_apart(alloc, inspection, format, &proof)?;
+            return told(output, text.as_str(), 0);
+        }
+        Asked::Batch(source) => {
+            return answered_lines(alloc, files, *source, format, &mut input, output);
+        }
+    };
+    told(output, answer.text.as_str(), answer.status)
+}
+
+/// Answers the lines of `source`.
+fn answered_lines<'a, R: Files, I: Read, O: Write>(
+    alloc: Global,
+    files: &R,
+    source: Source<'a>,
+    format: Format,
+    input: &mut I,
+    output: &mut O,
+) -> Result<u8, Fault<'a>>
+    ensures { IfOk result (λ status. status ≤ 3) }
+{
+    match source {
+        Source::Standard => answer_lines(alloc, files, source, format, input, output),
+        Source::File(name) => match fs::open(files, name) {
+            Ok(mut file) => answer_lines(alloc, files, source, format, &mut file, output),
+            Err(error) => Err(Fault::unread(source, error)),
+        },
+    }
+}
+
+/// Writes `text` to `output`, and returns `status`.
+fn told<'a, O: Write>(output: &mut O, text: &str, status: u8) -> Result<u8, Fault<'a>>
+    ensures { IfOk result (λ told. told ≡ status) }
+{
+    match print(output, text) {
+        Ok(()) => Ok(status),
+        Err(error) => Err(Fault::Unwritten(error)),
     }
 }
 
@@ -76,10 +130,4 @@ pub fn fail<E: Write>(fault: &Fault<'_>, errors: &mut E) -> u8
         fault => writeln!(errors, "error: {fault}"),
     };
     fault.blame().status()
-}
-
-/// Writes all of `text` to `output`.
-fn print<O: Write>(output: &mut O, text: &str) -> io::Result<()> {
-    output.write_all(text.as_bytes())?;
-    output.flush()
 }

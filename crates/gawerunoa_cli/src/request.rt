@@ -4,9 +4,10 @@ use crate::agreed::{Agreed, Family, Function};
 use crate::answer::MOST_CHUNK;
 use crate::command::command;
 use crate::fault::Fault;
+use crate::given::Words;
 use crate::mark::Mark;
-use crate::source::{Given, Source};
-use crate::words::{chunk_size, number, root_of};
+use crate::source::{Given, Listed, Source};
+use crate::words::root_of;
 use clap::ArgMatches;
 use light_questions::agreed::Root;
 use light_questions::agreement::{
@@ -16,6 +17,10 @@ use std::alloc::Global;
 
 /// The greatest size of a chunk that there is, in bytes.
 const MOST: usize = 1 << 59;
+
+/// The most digests that a range proof may have where nothing is said. No tree needs more: it has at most 62 peaks, and a
+/// range at most 62 siblings on either side.
+const MOST_DIGESTS: usize = 186;
 
 /// What is asked for, and how the answer is written.
 #[derive(Clone, Copy)]
@@ -47,6 +52,10 @@ pub enum Asked<'a> {
     },
     /// Whether a proof shows what is claimed.
     Check(Check<'a>),
+    /// The same of each line of a file.
+    Batch(Source<'a>),
+    /// The fields of a proof.
+    Inspect(Inspection<'a>),
 }
 
 /// A snapshot of operations that are read.
@@ -58,6 +67,30 @@ pub struct Snapshot<'a> {
     pub floor: u64,
     /// Where its operations are.
     pub operations: Source<'a>,
+}
+
+/// A proof whose fields are asked for.
+#[derive(Clone, Copy)]
+pub struct Inspection<'a> {
+    /// What is agreed of the snapshot.
+    pub agreed: Agreed,
+    /// What the proof shows.
+    pub shows: Shows,
+    /// Where it is.
+    pub proof: Source<'a>,
+}
+
+/// What a proof shows.
+#[derive(Clone, Copy)]
+pub enum Shows {
+    /// An operation.
+    Operation,
+    /// A range of operations.
+    Range,
+    /// The value of a key.
+    Value,
+    /// That a key has no value.
+    Absence,
 }
 
 /// A claim about a snapshot, and a proof of it.
@@ -90,9 +123,9 @@ pub enum Claimed<'a> {
         /// The location of the first.
         start: u64,
         /// The operations.
-        operations: Source<'a>,
+        operations: Listed<'a>,
         /// The chunks.
-        chunks: Source<'a>,
+        chunks: Listed<'a>,
     },
     /// That a key has a value.
     Value {
@@ -119,24 +152,34 @@ impl<'a> Request<'a> {
             Some(("root", matches)) => Ok(Request {
                 format: Format::of(matches),
                 asked: Asked::Show {
-                    snapshot: Snapshot::of(matches)?,
+                    snapshot: Snapshot::of(Words::Line(matches))?,
                     at: None,
                 },
             }),
             Some(("prove", matches)) => Ok(Request {
                 format: Format::of(matches),
                 asked: Asked::Show {
-                    snapshot: Snapshot::of(matches)?,
-                    at: Some(number_at(matches, "at")?),
+                    snapshot: Snapshot::of(Words::Line(matches))?,
+                    at: Some(Words::Line(matches).number("at")?),
                 },
             }),
             Some(("check", matches)) => match matches.subcommand() {
                 Some((claim, matches)) => Ok(Request {
                     format: Format::of(matches),
-                    asked: Asked::Check(Check::of(claim, matches)?),
+                    asked: Asked::Check(Check::of(claim, Words::Line(matches))?),
                 }),
-                None => Err(Fault::Missing("claim")),
+                None => match matches.get_str("batch") {
+                    Some(file) => Ok(Request {
+                        format: Format::of(matches),
+                        asked: Asked::Batch(Source::named(file)),
+                    }),
+                    None => Err(Fault::Claim),
+                },
             },
+            Some(("inspect", matches)) => Ok(Request {
+                format: Format::of(matches),
+                asked: Asked::Inspect(Inspection::of(Words::Line(matches))?),
+            }),
             _ => Err(Fault::Missing("subcommand")),
         }
     }
@@ -155,57 +198,75 @@ impl Format {
 
 impl<'a> Snapshot<'a> {
     /// Returns the snapshot that the words name.
-    fn of(matches: &ArgMatches<'a>) -> Result<Snapshot<'a>, Fault<'a>> {
+    fn of(words: Words<'_, 'a>) -> Result<Snapshot<'a>, Fault<'a>> {
         Ok(Snapshot {
-            agreed: agreed_of(matches, MOST_CHUNK)?,
-            floor: number_at(matches, "floor")?,
-            operations: Source::named(text_at(matches, "file")?),
+            agreed: agreed_of(words, MOST_CHUNK)?,
+            floor: words.number("floor")?,
+            operations: Source::named(words.text("file")?),
+        })
+    }
+}
+
+impl<'a> Inspection<'a> {
+    /// Returns the proof that the words name, and what it shows.
+    fn of(words: Words<'_, 'a>) -> Result<Inspection<'a>, Fault<'a>> {
+        let shows = match words.text("shows")? {
+            "range" => Shows::Range,
+            "value" => Shows::Value,
+            "absence" => Shows::Absence,
+            _ => Shows::Operation,
+        };
+        Ok(Inspection {
+            agreed: agreed_of(words, MOST)?,
+            shows,
+            proof: Source::named(words.text("file")?),
         })
     }
 }
 
 impl<'a> Check<'a> {
     /// Returns the check of what is called `claim`, and of which the words tell the rest.
-    fn of(claim: &str, matches: &ArgMatches<'a>) -> Result<Check<'a>, Fault<'a>> {
-        let agreed = agreed_of(matches, MOST)?;
-        let root = root_at(matches, agreed.function)?;
+    pub(crate) fn of(claim: &str, words: Words<'_, 'a>) -> Result<Check<'a>, Fault<'a>> {
+        let agreed = agreed_of(words, MOST)?;
+        let root = root_at(words, agreed.function)?;
         let (claim, database) = match claim {
             "operation" => (
                 Claimed::Operation {
-                    at: number_at(matches, "at")?,
-                    operation: given_at(matches, "operation")?,
+                    at: words.number("at")?,
+                    operation: words.given("operation")?,
                 },
                 database_of(&agreed),
             ),
             "range" => (
                 Claimed::Range {
-                    start: number_at(matches, "start")?,
-                    operations: Source::named(text_at(matches, "operations")?),
-                    chunks: Source::named(text_at(matches, "chunks")?),
+                    start: words.number("start")?,
+                    operations: words.listed("operations")?,
+                    chunks: words.listed("chunks")?,
                 },
                 Database {
-                    max_digests: number_at(matches, "max-digests")? as usize,
+                    max_digests: length_at(words, "max-digests", true, MOST_DIGESTS)?,
                     ..database_of(&agreed)
                 },
             ),
             "value" => (
                 Claimed::Value {
-                    key: given_at(matches, "key")?,
-                    value: given_at(matches, "value")?,
+                    key: words.given("key")?,
+                    value: words.given("value")?,
                 },
-                with_keys(matches, database_of(&agreed))?,
+                with_keys(words, database_of(&agreed))?,
             ),
-            _ => (
+            "absence" => (
                 Claimed::Absence {
-                    key: given_at(matches, "key")?,
+                    key: words.given("key")?,
                 },
-                with_values(matches, with_keys(matches, database_of(&agreed))?)?,
+                with_values(words, with_keys(words, database_of(&agreed))?)?,
             ),
+            _ => return Err(Fault::Claim),
         };
         let Ok((database, kind)) = agreed_on(&[database]) else {
             return Err(Fault::Encoding);
         };
-        let proof = given_at(matches, "proof")?;
+        let proof = words.given("proof")?;
         if claim.reads_twice(proof) {
             return Err(Fault::Twice);
         }
@@ -253,33 +314,41 @@ fn database_of(agreed: &Agreed) -> Database {
 }
 
 /// Returns the same with the kind of keys, the lengths of keys and the encoding of values that the words name.
-fn with_keys<'a>(matches: &ArgMatches<'a>, database: Database) -> Result<Database, Fault<'a>> {
-    let keys = match text_at(matches, "keys")? {
+fn with_keys<'a>(words: Words<'_, 'a>, database: Database) -> Result<Database, Fault<'a>> {
+    let keys = match words.text("keys")? {
+        "one-size" => ONE_SIZE,
         "strings" => STRINGS,
-        _ => ONE_SIZE,
+        word => return Err(Fault::Word {
+            option: "keys",
+            word,
+        }),
     };
-    let values = match text_at(matches, "values")? {
+    let values = match words.text("values")? {
         "variable" => VARIABLE,
         "sized" => SIZED,
-        _ => FIXED,
+        "fixed" => FIXED,
+        word => return Err(Fault::Word {
+            option: "values",
+            word,
+        }),
     };
     let strings = keys == STRINGS;
     Ok(Database {
         keys,
         values,
-        min_key_length: length_at(matches, "min-key-length", strings, 0)?,
-        max_key_length: length_at(matches, "max-key-length", strings, usize::MAX)?,
+        min_key_length: length_at(words, "min-key-length", strings, 0)?,
+        max_key_length: length_at(words, "max-key-length", strings, usize::MAX)?,
         ..database
     })
 }
 
 /// Returns the same with the lengths of values that the words name, or with the one size that they have.
-fn with_values<'a>(matches: &ArgMatches<'a>, database: Database) -> Result<Database, Fault<'a>> {
+fn with_values<'a>(words: Words<'_, 'a>, database: Database) -> Result<Database, Fault<'a>> {
     let variable = database.values == VARIABLE;
-    let least = length_at(matches, "min-value-length", variable, 0)?;
-    let most = length_at(matches, "max-value-length", variable, usize::MAX)?;
-    let size = length_at(matches, "value-size", !variable, 0)?;
-    if !variable && !matches.contains_id("value-size") {
+    let least = length_at(words, "min-value-length", variable, 0)?;
+    let most = length_at(words, "max-value-length", variable, usize::MAX)?;
+    let size = length_at(words, "value-size", !variable, 0)?;
+    if !variable && !words.has("value-size") {
         return Err(Fault::Missing("value-size"));
     }
     Ok(Database {
@@ -292,51 +361,44 @@ fn with_values<'a>(matches: &ArgMatches<'a>, database: Database) -> Result<Datab
 /// Returns the length that the word of the option `name` writes, and `usual` where there is none. It may be given where it
 /// is `asked` for alone.
 fn length_at<'a>(
-    matches: &ArgMatches<'a>,
+    words: Words<'_, 'a>,
     name: &'static str,
     asked: bool,
     usual: usize,
 ) -> Result<usize, Fault<'a>> {
-    if !matches.contains_id(name) {
+    if !words.has(name) {
         return Ok(usual);
     }
     if !asked {
         return Err(Fault::Needless(name));
     }
-    Ok(number_at(matches, name)? as usize)
+    Ok(words.number(name)? as usize)
 }
 
 /// Returns what the words name as agreed, with a chunk of at most `most` bytes.
-fn agreed_of<'a>(matches: &ArgMatches<'a>, most: usize) -> Result<Agreed, Fault<'a>> {
-    let family = Family::named(text_at(matches, "family")?);
-    let function = Function::named(text_at(matches, "hash")?);
-    let word = text_at(matches, "chunk")?;
+fn agreed_of<'a>(words: Words<'_, 'a>, most: usize) -> Result<Agreed, Fault<'a>> {
+    let family = words.text("family")?;
+    let hash = if words.has("hash") {
+        words.text("hash")?
+    } else {
+        "sha256"
+    };
     Ok(Agreed {
-        family: family.ok_or(Fault::Missing("family"))?,
-        function: function.ok_or(Fault::Missing("hash"))?,
-        chunk: chunk_size(word, most).ok_or(Fault::Chunk { word, most })?,
+        family: Family::named(family).ok_or(Fault::Word {
+            option: "family",
+            word: family,
+        })?,
+        function: Function::named(hash).ok_or(Fault::Word {
+            option: "hash",
+            word: hash,
+        })?,
+        chunk: words.chunk(most)?,
     })
 }
 
-/// Returns the word of the option `name`.
-fn text_at<'a>(matches: &ArgMatches<'a>, name: &'static str) -> Result<&'a str, Fault<'a>> {
-    matches.get_str(name).ok_or(Fault::Missing(name))
-}
-
-/// Returns what the word of the option `name` gives.
-fn given_at<'a>(matches: &ArgMatches<'a>, name: &'static str) -> Result<Given<'a>, Fault<'a>> {
-    Ok(Given::named(text_at(matches, name)?))
-}
-
-/// Returns the number that the word of the option `name` writes.
-fn number_at<'a>(matches: &ArgMatches<'a>, name: &'static str) -> Result<u64, Fault<'a>> {
-    let word = text_at(matches, name)?;
-    number(word).ok_or(Fault::Number { option: name, word })
-}
-
 /// Returns the root that is trusted, a digest of `function`.
-fn root_at<'a>(matches: &ArgMatches<'a>, function: Function) -> Result<Root, Fault<'a>> {
-    let word = text_at(matches, "root")?;
+fn root_at<'a>(words: Words<'_, 'a>, function: Function) -> Result<Root, Fault<'a>> {
+    let word = words.text("root")?;
     if let Some(root) = root_of(word, function) {
         return Ok(root);
     }

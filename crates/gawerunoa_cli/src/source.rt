@@ -1,5 +1,6 @@
 //! Where bytes come from: a file, standard input, or the command line itself.
 
+use serde_json::Value;
 use std::fmt;
 
 /// A file, or standard input.
@@ -18,6 +19,15 @@ pub enum Given<'a> {
     Digits(&'a str),
     /// In a file, or on standard input.
     In(Source<'a>),
+}
+
+/// Where strings are that are given one by one.
+#[derive(Clone, Copy)]
+pub enum Listed<'a> {
+    /// On the lines of a file, or of standard input.
+    In(Source<'a>),
+    /// In an array, which is the member with this name.
+    Array(&'static str, &'a [Value]),
 }
 
 impl<'a> Source<'a> {
@@ -49,6 +59,16 @@ impl<'a> Given<'a> {
         match self {
             Given::Digits(_) => false,
             Given::In(source) => source.is_standard(),
+        }
+    }
+}
+
+impl Listed<'_> {
+    /// Returns whether they are on standard input.
+    pub(crate) fn is_standard(self) -> bool {
+        match self {
+            Listed::In(source) => source.is_standard(),
+            Listed::Array(..) => false,
         }
     }
 }

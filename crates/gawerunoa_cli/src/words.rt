@@ -30,7 +30,14 @@ pub fn chunk_size(word: &str, most: usize) -> Option<usize>
     ensures { SomeIff result (IsNumber word.now × IsChunkSize (digits_value 10 word.now)
         × (digits_value 10 word.now ≤ most)) (digits_value 10 word.now) }
 {
-    let size = number(word)? as usize;
+    size_of_chunk(number(word)?, most)
+}
+
+/// Returns `number` as the size of a chunk, if it is one of at most `most` bytes: a power of two.
+pub fn size_of_chunk(number: u64, most: usize) -> Option<usize>
+    ensures { SomeIff result (IsChunkSize number × (number ≤ most)) number }
+{
+    let size = number as usize;
     if size > most {
         return None;
     }
