@@ -1,0 +1,37 @@
+-- What a commit puts into the tables, and what a crash leaves of them.
+use Rattle.std.proofs.Common.{◌≡◌, ◌⊎◌, inl, inr, ℕ, ◌≤◌, List, length, map, take, drop, Some, Result, Ok, Err, OnErr, sym, ap, ap₂, ◌∙◌, arith}
+use Rattle.std.proofs.lemmas.List.{drop-map, length-map}
+use Rattle.sqlite.specs.Store.{Ghosts}
+use Rattle.sqlite.specs.Tree.{Trees}
+use Rattle.storage_codec.specs.Digests.{HashFunction}
+use Rattle.storage_current.specs.Snapshots.{Grafting}
+use Rattle.storage_db.specs.Databases.{Database}
+use Rattle.storage_file.specs.declared.journal.Journal.{Journal}
+use Rattle.storage_file.specs.Journals.{IsOf}
+use Rattle.storage_file.specs.Kept.{Commit, Kept, with_commit}
+use Rattle.storage_file.specs.Tables.{Holds}
+use Rattle.storage_stored.specs.Stored.{HoldsLast, IsAhead, IsLastRow, ShowsLast}
+use Rattle.storage_stored.proofs.Lists.{lists_after, within_taken}
+
+pub on_err : {A E P : Type 0} (r : Result A E) → P → OnErr r P
+on_err (Ok a) p = tt
+on_err (Err e) p = p
+
+-- the operations from the end of the lists on
+pub rest_is : {X : Type 0} (f : X → List ℕ) (operations more : List X) (start : ℕ) (all first : List (List ℕ)) → map f operations ≡ all → start ≡ length first
+    → first ≡ take (length first) all → (start ≤ length operations → more ≡ drop start operations) → map f more ≡ drop (length first) all
+rest_is f operations more start all first is at begins rest =
+    let low : start ≤ length operations = omega (arith, within_taken first all begins, ap length is, length-map operations f) in
+    ap (map f) (rest low) ∙ sym (drop-map f start operations) ∙ ap₂ drop at is
+
+module _ (h : HashFunction) (g : Grafting) {K W : Type 0} where
+  module _ (lists : Kept) (d : Database K W) (more : List (List ℕ)) (row : Commit) (on : IsAhead lists d) (rest : more ≡ drop (length lists.operations) d.operations) (is : IsLastRow h g (Some row) d.last) where
+    pub holds_after : (db : Trees) → Holds db (with_commit lists more row) → HoldsLast h g db d.last
+    holds_after db holds = record { lists = with_commit lists more row; holds = holds; are = lists_after h g lists d more row on rest is }
+
+    pub holds_or_after : (db : Trees) → Holds db lists ⊎ Holds db (with_commit lists more row) → Holds db lists ⊎ HoldsLast h g db d.last
+    holds_or_after db (inl before) = inl before
+    holds_or_after db (inr after) = inr (holds_after db after)
+
+    pub shows_after : {S : Type 0} (store : Ghosts S) (journal : Journal S) → IsOf store journal (with_commit lists more row) → ShowsLast h g store journal d.last
+    shows_after store journal shown = record { lists = with_commit lists more row; shown = shown; are = lists_after h g lists d more row on rest is }
