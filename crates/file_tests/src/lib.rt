@@ -4,4 +4,6 @@
 #[cfg(test)]
 mod journals;
 #[cfg(test)]
+mod stored;
+#[cfg(test)]
 mod tables;
