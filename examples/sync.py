@@ -13,12 +13,13 @@ status is 0 if the copy is whole in the end and the two liars, and no others, we
 """
 import argparse
 import itertools
+import socket
 import socketserver
 import sys
+import tempfile
 import threading
 from contextlib import ExitStack
 from pathlib import Path
-from socket import create_connection
 
 HERE = Path(__file__).resolve().parent
 sys.path[:0] = [str(HERE / "verifier"), str(HERE.parent / "tools")]
@@ -33,6 +34,13 @@ MOST_BYTES, MOST_DIGESTS = 64, 128
 def send(stream, message):
     stream.write(len(message).to_bytes(8, "big") + message)
     stream.flush()
+
+
+def connected(at):
+    """A socket that is connected to the one at a path."""
+    it = socket.socket(socket.AF_UNIX)
+    it.connect(str(at))
+    return it
 
 
 def receive(stream, most):
@@ -85,7 +93,7 @@ def ask(asker, peers, told):
     """Asks the peers in turn until all is there, and returns those whose pages were refused. `told` is called after each page."""
     refused, page_size = [], 2**20 + asker.step * (MOST_BYTES + 2)
     with ExitStack() as stack:
-        streams = {name: stack.enter_context(create_connection(at)).makefile("rwb") for name, at in peers.items()}
+        streams = {name: stack.enter_context(connected(at)).makefile("rwb") for name, at in peers.items()}
         for name in itertools.cycle(peers):
             wanted = asker.next()
             if wanted is None or len(refused) == len(peers):
@@ -147,13 +155,13 @@ class Replayer(Peer):
         return self.first
 
 
-def serve(stack, pages, peer):
-    """Serves pages on a port of this machine until the stack is closed, and returns where."""
-    server = stack.enter_context(socketserver.ThreadingTCPServer(("127.0.0.1", 0), peer))
+def serve(stack, pages, peer, at):
+    """Serves pages at the path of a socket until the stack is closed, and returns the path."""
+    server = stack.enter_context(socketserver.ThreadingUnixStreamServer(str(at), peer))
     server.daemon_threads, server.pages = True, pages
     threading.Thread(target=server.serve_forever, daemon=True).start()
     stack.callback(server.shutdown)
-    return server.server_address
+    return at
 
 
 # ---- together
@@ -186,12 +194,15 @@ def main():
     def told(name, taken):
         pages[name] += taken
         done = 40 * len(asker.operations) // given.operations
-        print(f"\r[{'#' * done}{' ' * (40 - done)}] {sum(pages.values())} pages", end="", file=sys.stderr, flush=True)
+        if sys.stderr.isatty():
+            print(f"\r[{'#' * done}{' ' * (40 - done)}] {sum(pages.values())} pages", end="", file=sys.stderr, flush=True)
 
     with ExitStack() as stack:
+        room = Path(stack.enter_context(tempfile.TemporaryDirectory()))
         kinds = zip(pages, (Peer, Forger, Replayer))
-        refused = ask(asker, {name: serve(stack, Pages(snapshot), kind) for name, kind in kinds}, told)
-    print(file=sys.stderr)
+        refused = ask(asker, {name: serve(stack, Pages(snapshot), kind, room / name) for name, kind in kinds}, told)
+    if sys.stderr.isatty():
+        print(file=sys.stderr)
 
     bits = "".join(map(str, asker.bits))
     whole = asker.next() is None and asker.operations == snapshot.operations
