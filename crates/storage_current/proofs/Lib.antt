@@ -46,3 +46,6 @@ mod Serving
 mod SharedChunks
 mod Extending
 mod Growing
+mod PinSites
+mod Pins
+mod PinReads

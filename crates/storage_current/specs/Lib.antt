@@ -28,4 +28,5 @@ pub mod WitnessWire
 pub mod HeldOfViews
 pub mod SharedChunks
 pub mod HashedLengths
+pub mod Pins
 pub mod Laws

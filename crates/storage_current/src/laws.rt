@@ -11,6 +11,7 @@ pub mod equality;
 pub mod extracted;
 pub mod grafted_trees;
 pub mod keys;
+pub mod pins;
 pub mod shared;
 
 use storage_merkle::laws::{own_range_proofs_are_accepted, range_proofs_are_sound};

@@ -16,6 +16,7 @@ ghost use Rattle.storage_bitmap.specs.Chunks.{IsChunkSize};
 mod hasher;
 mod positions;
 mod rebuild;
+mod root;
 mod storage;
 mod tree;
 mod verifier;

@@ -177,7 +177,7 @@ impl<
 
 /// What the combined tree has at a position, as far as it is known without a read of the operations' nodes.
 #[derive(Clone, Copy, Drop)]
-enum Look<D> {
+pub(crate) enum Look<D> {
     /// No node.
     Absent,
     /// A node of the tree over the operations, which has to be read.
@@ -187,7 +187,7 @@ enum Look<D> {
 }
 
 /// Returns what the combined tree of `nodes` nodes has at `position`.
-fn look_up<F: Graftable, H: Hasher, R: Readable<Family = F, Digest = H::Digest>>(
+pub(crate) fn look_up<F: Graftable, H: Hasher, R: Readable<Family = F, Digest = H::Digest>>(
     grafted_tree: &R,
     height: u32,
     nodes: Position<F>,
