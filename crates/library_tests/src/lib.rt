@@ -21,6 +21,8 @@ mod joined;
 #[cfg(test)]
 mod opened;
 #[cfg(test)]
+mod pins;
+#[cfg(test)]
 mod pruned_snapshots;
 #[cfg(test)]
 mod refused;

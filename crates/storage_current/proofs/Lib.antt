@@ -49,3 +49,6 @@ mod Growing
 mod PinSites
 mod Pins
 mod PinReads
+mod PinRoots
+mod PinMeanings
+mod Openings

@@ -29,4 +29,5 @@ pub mod HeldOfViews
 pub mod SharedChunks
 pub mod HashedLengths
 pub mod Pins
+pub mod Openings
 pub mod Laws

@@ -1,17 +1,18 @@
 -- Grafted views of which the first chunks are told by pins alone: the digests of the peaks over them.
-use Rattle.std.specs.Prelude.{◌≡◌, ◌⊎◌, ℕ, ◌+◌, ◌-◌, ◌*◌, ◌/◌, ◌^◌, ◌<◌, ◌≤◌, ◌||◌, Bool, List, [], ◌∷◌, length, map, leb, ltb, if◌then◌else◌, Option, Some, is_some, unwrap_or}
+use Rattle.std.specs.Prelude.{◌≡◌, ◌⊎◌, ℕ, ◌+◌, ◌-◌, ◌*◌, ◌/◌, ◌^◌, ◌<◌, ◌≤◌, ◌||◌, Bool, List, [], ◌∷◌, length, map, leb, ltb, if◌then◌else◌, Option, is_some, option_map, unwrap_or}
 use Rattle.storage_codec.specs.Digests.{HashFunction, IsSized, Cross}
 use Rattle.storage_merkle.specs.declared.merkle.bagging.Bagging.TheVariants.{BackwardFold}
 use Rattle.storage_merkle.specs.Calc.{Site, front, back, node, Calc, Values}
 use Rattle.storage_merkle.specs.Hashing.{leaf_digests}
 use Rattle.storage_merkle.specs.Kept.{at_peaks}
 use Rattle.storage_merkle.specs.RangeProofs.{AreDigests}
-use Rattle.storage_merkle.specs.Shape.{max_leaves}
+use Rattle.storage_merkle.specs.Shape.{Shape, max_leaves, size}
 use Rattle.storage_merkle.specs.Trees.{ungrafted, part, peaks_of, folded, unfolded, bag, root_string, strings_bag}
-use Rattle.storage_current.specs.CombinedViews.{grafted_node}
-use Rattle.storage_current.specs.GraftedTrees.{IsPeak, tree_at}
+use Rattle.storage_current.specs.Combined.{joined}
+use Rattle.storage_current.specs.CombinedViews.{AnswersAreTrue, grafted_node}
+use Rattle.storage_current.specs.GraftedTrees.{IsPeak, KeptChunks, regrafted, tree_at}
 use Rattle.storage_current.specs.NodeLists.{plain_over}
-use Rattle.storage_current.specs.Snapshots.{Grafting, IsGrafting, Snapshot, IsSnapshot, height, view, grafted_root_of, snapshot_strings}
+use Rattle.storage_current.specs.Snapshots.{Grafting, IsGrafting, Snapshot, IsSnapshot, aligned, height, view, view_node, grafted_root_of, snapshot_strings}
 
 -- ---- pins
 
@@ -78,3 +79,34 @@ PinsAreBound =
     h (told_string h g (tree_at g.shape chunks pins grafts) low n i) ≡ grafted_root_of h g s →
     (n ≡ length s.operations) × (pins ≡ chunk_pins h g s chunks)
     ⊎ Cross h (told_strings h g (tree_at g.shape chunks pins grafts) low n i) (snapshot_strings h g s)
+
+-- ---- what trees keep, by the bytes of their digests
+
+-- over chunks, by position
+abbrev pub kept_texts : {D : Type 0} → (D → List ℕ) → Shape → KeptChunks D → ℕ → Option (List ℕ)
+kept_texts bytes_of S t = tree_at S t.pruned (map bytes_of t.pinned) (map bytes_of t.leaves)
+
+-- of the operations' nodes, by first leaf and height
+abbrev pub low_texts : {D : Type 0} → HashFunction → (D → List ℕ) → Shape → (ℕ → Option D) → ℕ → ℕ → List ℕ
+low_texts h bytes_of S below a k = unwrap_or (option_map bytes_of (below (S.position a k))) (h [])
+
+-- what can be had of the view over n operations from both
+abbrev pub had_of_view : {D : Type 0} → (List ℕ → D) → (D → List ℕ) → Grafting → ℕ → KeptChunks D → (ℕ → Option D) → ℕ → Option D
+had_of_view digest bytes_of g n t below = joined g.shape (height g) (size g.shape n)
+    (regrafted digest bytes_of g.shape (height g) (tree_at g.shape t.pruned t.pinned t.leaves)) below
+
+-- What it means that this root is calculated from them: of each snapshot with that grafted root, there are as many operations as in it
+-- and the pins are the view's digests, or two strings cross.
+abbrev pub MeansPins : {D : Type 0} → HashFunction → (D → List ℕ) → Grafting → (n floor : ℕ) → KeptChunks D → (ℕ → Option D)
+    → List ℕ → Type 0
+MeansPins h bytes_of g n floor t below root =
+    (s : Snapshot) → IsSnapshot s → grafted_root_of h g s ≡ root →
+    (n ≡ length s.operations) × (map bytes_of t.pinned ≡ chunk_pins h g s t.pruned)
+    ⊎ Cross h (told_strings h g (kept_texts bytes_of g.shape t) (low_texts h bytes_of g.shape below) n
+    (aligned g.shape n floor (height g))) (snapshot_strings h g s)
+
+-- Where what both keep is a snapshot's, the root is too.
+abbrev pub IsRootOfTrue : {D : Type 0} → HashFunction → (D → List ℕ) → Grafting → (n floor : ℕ) → (ℕ → Option D) → List ℕ → Type 0
+IsRootOfTrue h bytes_of g n floor had root =
+    (s : Snapshot) → IsSnapshot s → n ≡ length s.operations → floor ≡ s.floor
+    → AnswersAreTrue bytes_of g.shape n (view_node h g s) had → root ≡ grafted_root_of h g s

@@ -26,6 +26,7 @@ pub use positions::{
     chunk_aligned_inactive_peaks, exact_inactive, graftable_chunks, grafted_to_ops_pos,
     ops_to_grafted_pos,
 };
+pub use root::grafted_root;
 pub use storage::Storage;
 use storage_codec::digest::{Digest, Hasher};
 pub(crate) use storage_merkle::merkle::family::power;

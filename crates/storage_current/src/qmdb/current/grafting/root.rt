@@ -3,20 +3,19 @@
 //! A tree over chunks that keeps pins in place of its first chunks gives the root of each snapshot whose digests these are. And if it
 //! gives a snapshot's root, its pins are that snapshot's: so whoever has them from a stranger compares the roots.
 
-ghost use Rattle.std.specs.Prelude.{◌≡◌, ◌⊎◌, ℕ, ◌≤◌, List, length, map, option_map, unwrap_or, MatchOption, IfOk, IfSome, Option};
-ghost use Rattle.storage_codec.specs.Digests.{Cross};
-ghost use Rattle.storage_merkle.specs.Hashing.{root_of};
+ghost use Rattle.std.specs.Prelude.{◌≡◌, ◌⊎◌, ℕ, ◌≤◌, List, length, map, option_map, MatchOption, IfOk, IfSome, Option};
 ghost use Rattle.storage_merkle.specs.Shape.{max_leaves, size};
-ghost use Rattle.storage_merkle.specs.Trees.{places, ungrafted};
-ghost use Rattle.storage_merkle.specs.declared.merkle.bagging.Bagging.TheVariants.{BackwardFold};
+ghost use Rattle.storage_merkle.specs.Trees.{places};
 ghost use Rattle.storage_bitmap.specs.Chunks.{IsChunkSize};
 ghost use Rattle.storage_current.specs.Combined.{joined};
-ghost use Rattle.storage_current.specs.GraftedTrees.{regrafted, tree_at};
+ghost use Rattle.storage_current.specs.GraftedTrees.{regrafted};
 ghost use Rattle.storage_current.specs.NodeLists.{ArePeaksHad, ArePeaksTold};
-ghost use Rattle.storage_current.specs.Snapshots.{graftable, grafting_of, height};
+ghost use Rattle.storage_current.specs.Pins.{IsRootOfTrue, MeansPins, had_of_view};
+ghost use Rattle.storage_current.specs.Snapshots.{graftable, grafting_of};
 
+use crate::laws::pins::pins_are_bound;
 use crate::qmdb::current::grafting::storage::{Look, look_up};
-use crate::qmdb::current::grafting::{self, GraftedTree};
+use crate::qmdb::current::grafting::{self, GraftedTree, chunk_aligned_inactive_peaks};
 use std::alloc::Global;
 use storage_codec::NoMemory;
 use storage_codec::digest::Hasher;
@@ -67,8 +66,8 @@ fn had_peaks<
     requires low { 1 ≤ height }
     requires few { leaves ≤ max_leaves }
     ensures { let had = joined F.shape height (size F.shape leaves)
-            (regrafted H.digest_of H.Digest.text F.shape height
-            (R.node grafted_tree.now)) (S.node ops_tree.now) in
+        (regrafted H.digest_of H.Digest.text F.shape height
+        (R.node grafted_tree.now)) (S.node ops_tree.now) in
         IfOk result (λ o. MatchOption o (ArePeaksHad F.shape leaves had → ⊥) (λ peaks.
         ArePeaksHad F.shape leaves had × (length peaks.items ≡ length (F.shape.peaks leaves))
         × ((digest_of : ℕ → ℕ → List ℕ)
@@ -78,10 +77,67 @@ fn had_peaks<
 {
     let mut peaks = Vec::new(alloc);
     for (position, _) in F::peaks(Position::new(F::nodes_over(leaves))) {
-        let Some(digest) = had_digest::<F, H, R, S>(grafted_tree, ops_tree, height, leaves, position) else {
+        let Some(digest) = had_digest::<F, H, R, S>(
+            grafted_tree,
+            ops_tree,
+            height,
+            leaves,
+            position,
+        ) else {
             return Ok(None);
         };
         peaks.push(digest)?;
     }
     Ok(Some(peaks))
+}
+
+/// Returns the root of the grafted view over `leaves` operations with the inactivity floor `floor`, from what `grafted_tree`, over the
+/// graftable chunks, and `ops_tree`, over the operations, keep. `None` if a peak cannot be had from them: it is not kept, or lies
+/// strictly inside a pin.
+///
+/// If it is the grafted root of a snapshot, the pins are that snapshot's, or two different strings of one digest were found.
+pub fn grafted_root<
+    F: Graftable,
+    H: Hasher,
+    S: Readable<Family = F, Digest = H::Digest>,
+    const N: usize,
+>(
+    alloc: Global,
+    grafted_tree: &GraftedTree<F, H::Digest>,
+    ops_tree: &S,
+    leaves: Location<F>,
+    floor: Location<F>,
+) -> Result<Option<H::Digest>, NoMemory>
+    requires size { IsChunkSize N }
+    requires few { leaves ≤ max_leaves }
+    ensures had { let g = grafting_of F.shape N in
+        let had = had_of_view H.digest_of H.Digest.text g leaves grafted_tree.now (S.node ops_tree.now) in
+        IfOk result (λ o. MatchOption o (ArePeaksHad F.shape leaves had → ⊥)
+        (λ _. ArePeaksHad F.shape leaves had)) }
+    ensures own { let g = grafting_of F.shape N in
+        let had = had_of_view H.digest_of H.Digest.text g leaves grafted_tree.now (S.node ops_tree.now) in
+        IfOk result (λ o. IfSome o (λ root.
+        IsRootOfTrue H.hash_of H.Digest.text g leaves floor had (H.Digest.text root))) }
+    ensures bound { (H.Digest.size ≡ 32) ⊎ (H.Digest.size ≡ 64)
+        → let g = grafting_of F.shape N in
+        grafted_tree.now.pruned ≤ graftable g leaves
+        → IfOk result (λ o. IfSome o (λ root. MeansPins H.hash_of H.Digest.text g leaves floor
+        grafted_tree.now (S.node ops_tree.now) (H.Digest.text root))) }
+{
+    pins_are_bound();
+    grafted_tree.is_whole();
+    let height = grafting::height::<N>();
+    let count = leaves.as_u64();
+    let Some(peaks) = had_peaks::<F, H, GraftedTree<F, H::Digest>, S>(
+        alloc,
+        grafted_tree,
+        ops_tree,
+        height,
+        count,
+    )?
+    else {
+        return Ok(None);
+    };
+    let inactive = chunk_aligned_inactive_peaks::<F>(count, floor.as_u64(), height);
+    Ok(Some(qmdb::hasher::<H>().root(leaves, inactive, &peaks)))
 }
