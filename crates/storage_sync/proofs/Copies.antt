@@ -25,7 +25,7 @@ snapshots h g s operations bits ops_root floor copy floor_is =
     ∙ ap (λ (n : ℕ). with_floor s.operations s.bits n) floor_is
 
 -- items stand in a list from a place on
-abbrev Stand : {A : Type 0} → A → List A → ℕ → List A → Type 0
+abbrev pub Stand : {A : Type 0} → A → List A → ℕ → List A → Type 0
 Stand none list start xs = (j : ℕ) → j < length xs → get_or xs j none ≡ get_or list (start + j) none
 
 stand_append : {A : Type 0} (none : A) (list : List A) (start m : ℕ) (xs ys : List A) → length xs ≡ m
@@ -83,15 +83,15 @@ module _ (sound : CurrentProofsAreSound) (d : ℕ) (h : HashFunction) (width : (
       ]
 
   -- all of them
-  record Hold (low high : ℕ) (pages : List Page) : Type 0 where
-    operations : Stand [] s.operations low (operations_of pages)
-    bits : Stand false s.bits low (bits_of g.bytes pages)
-    bit_each : length (bits_of g.bytes pages) ≡ length (operations_of pages)
-    count : low + length (operations_of pages) ≡ high
-    leaves : (n : ℕ) → FirstNames n pages → n ≡ length s.operations
-    root_is : (r : List ℕ) → FirstRoot r pages → r ≡ ops_root_of h g s
+  pub record Hold (low high : ℕ) (pages : List Page) : Type 0 where
+    pub operations : Stand [] s.operations low (operations_of pages)
+    pub bits : Stand false s.bits low (bits_of g.bytes pages)
+    pub bit_each : length (bits_of g.bytes pages) ≡ length (operations_of pages)
+    pub count : low + length (operations_of pages) ≡ high
+    pub leaves : (n : ℕ) → FirstNames n pages → n ≡ length s.operations
+    pub root_is : (r : List ℕ) → FirstRoot r pages → r ≡ ops_root_of h g s
 
-  pages_hold : (low high : ℕ) (pages : List Page) → AreProved h g d root low high pages
+  pub pages_hold : (low high : ℕ) (pages : List Page) → AreProved h g d root low high pages
       → Hold low high pages ⊎ Cross h (hashed_by h g low pages) (snapshot_strings h g s)
   pages_hold low high [] proved = inl (record {
     operations = λ j l. absurd (omega arith);

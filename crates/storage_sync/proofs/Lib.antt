@@ -10,3 +10,4 @@ mod Serving
 mod Joined
 mod Alike
 mod Founded
+mod Floors

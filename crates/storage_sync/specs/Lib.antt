@@ -8,4 +8,5 @@ pub mod Serving
 pub mod Joined
 pub mod Alike
 pub mod Founded
+pub mod Floors
 pub mod Laws

@@ -1,11 +1,13 @@
 //! What holds of pages that are proved: laws over the definitions, each the contract of a function that does nothing.
 
 ghost use Rattle.storage_sync.specs.Alike.{FloorsProveAlike, RootOfNothing, RootsBindSnapshots};
+ghost use Rattle.storage_sync.specs.Floors.{CopiesFromPins, PagesAreTails};
 ghost use Rattle.storage_sync.specs.Joined.{AnswersAreHonest, ServedCopiesAreWhole};
 ghost use Rattle.storage_sync.specs.Pages.{CopiesAreSnapshots, PagesAreCopies};
 ghost use Rattle.storage_sync.specs.Refusals.{HonestPagesAreTaken};
 ghost use Rattle.storage_sync.specs.Runs.{RunsEnd};
 
+use storage_codec::digest::Digest;
 use storage_current::laws::{
     current_proofs_are_sound, own_current_proofs_are_accepted, own_current_proofs_are_read_again,
     own_witnesses_are_accepted, witnesses_are_sound,
@@ -16,6 +18,23 @@ use storage_merkle::laws::roots_bind_their_trees;
 /// snapshot with that root, or two different strings have one digest, one hashed by a check and one for the root.
 pub fn pages_are_copies()
     ensures { PagesAreCopies }
+{
+    current_proofs_are_sound();
+}
+
+/// Pages that are proved against a root, from where a chunk begins on, give together what each snapshot with that root has from there on,
+/// or two such strings have one digest.
+pub fn pages_are_tails()
+    ensures { PagesAreTails }
+{
+    current_proofs_are_sound();
+}
+
+/// An opening that is accepted, pages from where it begins on, and a grafted root that its pins give and its witness has are together a
+/// copy of each snapshot with the opening's root: its operations and bits from there on, and the pins of what is before. Or two different
+/// strings have one digest, one hashed on the way and one for the root.
+pub fn copies_from_pins<D: Digest>()
+    ensures { CopiesFromPins D.text }
 {
     current_proofs_are_sound();
 }
