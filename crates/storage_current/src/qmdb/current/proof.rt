@@ -19,7 +19,6 @@ mod chunk;
 mod codec;
 mod extract;
 mod from_store;
-mod opening;
 pub mod operation;
 mod planned_digests;
 mod slots;

@@ -8,6 +8,7 @@ ghost use Rattle.storage_current.specs.CurrentProofs.{witness_string};
 ghost use Rattle.storage_current.specs.WitnessWire.{MeansWitness, witness_of, witness_with};
 
 mod codec;
+mod opening;
 
 use crate::laws::witnesses_are_sound;
 use crate::qmdb::current::root::canonical_root;
