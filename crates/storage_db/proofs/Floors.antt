@@ -37,7 +37,7 @@ either_least a b = by_bool (nat_lt a b)
 
 module _ {K W : Type 0} where
   -- the least location is that of an entry, or the end
-  least_reached : (P : K × Active W → Type 0) (es : List (K × Active W)) (end : ℕ) → All P es
+  pub least_reached : (P : K × Active W → Type 0) (es : List (K × Active W)) (end : ℕ) → All P es
       → (least_location es end ≡ end) ⊎ ((c : K × Active W) × P c × (c.1.location ≡ least_location es end))
   least_reached P [] end each = inl refl
   least_reached P (c ∷ es) end each =
@@ -88,7 +88,7 @@ module _ {K W : Type 0} where
       first_is_least o room.bits.items place from found es three finds ∙ ap (least_location es) count
 
   -- what holds of what each key finds holds of each entry
-  each_of : {cmp : K → K → Ordering} → IsTotalOrder cmp → (P : Active W → Type 0) (es : List (K × Active W)) → Sorted cmp es
+  pub each_of : {cmp : K → K → Ordering} → IsTotalOrder cmp → (P : Active W → Type 0) (es : List (K × Active W)) → Sorted cmp es
       → ((q : K) (a : Active W) → lookup (is_at (cmp q)) es ≡ Some a → P a) → All (λ (c : K × Active W). P c.1) es
   each_of o P [] sorted holds = λ k d within. absurd (omega (arith, within))
   each_of o P (c ∷ es) sorted holds = All-cons (λ (d : K × Active W). P d.1) c es

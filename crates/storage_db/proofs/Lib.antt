@@ -34,6 +34,9 @@ pub mod Accepted
 pub mod Lists
 pub mod Answered
 pub mod Floors
+pub mod Compacting
+pub mod Again
+pub mod Moving
 pub mod OpeningSame
 pub mod OpeningPaths
 pub mod OpeningReplays

@@ -33,7 +33,7 @@ module _ {K W : Type 0} (e : Keyed K W) (is : IsKeyed e) where
       (active_at e d.entries q)
 
   -- an update of a key to its value changes no value
-  value_relinked : (d : Database K W) (p : K) (w : W) (n : K) → value_at e d.entries p ≡ Some w → (q : K)
+  pub value_relinked : (d : Database K W) (p : K) (w : W) (n : K) → value_at e d.entries p ≡ Some w → (q : K)
       → value_at e (updated e d p w n).entries q ≡ value_at e d.entries q
   value_relinked d p w n at q =
       value_updated d p w n q

@@ -11,4 +11,6 @@ pub mod Ranges
 pub mod Opening
 pub mod Trusted
 pub mod Replays
+pub mod Compacting
+pub mod Again
 pub mod Promises

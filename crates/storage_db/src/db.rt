@@ -1,6 +1,7 @@
 //! An ordered database: a map of keys to values that proves what it has committed.
 
 mod active;
+mod again;
 mod changes;
 mod commit;
 mod encoding;
@@ -15,5 +16,5 @@ mod strings;
 
 pub use encoding::{KeyedEncoding, OrderedCodec};
 pub use error::Error;
-pub use ordered::{OpenError, Ordered, TrustError};
+pub use ordered::{CompactError, OpenError, Ordered, TrustError};
 pub use ranges::Range;

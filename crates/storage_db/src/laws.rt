@@ -3,6 +3,7 @@
 ghost use Rattle.storage_current.specs.Keys.{Keyed, keyed_by};
 ghost use Rattle.storage_current.specs.Snapshots.{grafting_of};
 ghost use Rattle.storage_bitmap.specs.Chunks.{IsChunkSize};
+ghost use Rattle.storage_db.specs.Compacting.{EachCompactionIsKept};
 ghost use Rattle.storage_db.specs.Kept.{IsMade};
 ghost use Rattle.storage_db.specs.Promises.{EachCallIsKept, EachListIsKept, EachProofIsAccepted, EachYesIsTrue};
 
@@ -81,3 +82,12 @@ pub fn each_call_is_kept<
     ensures { let e = keyed_by K.text V.Value.text V.operation_text K.cmp in
         EachCallIsKept e V.Value.view H.hash_of (grafting_of F.shape N) }
 {}
+
+/// Whatever commands were given, those that put the oldest active updates again leave each key its value and the last commit
+/// as it is, and the least location of an active update rises by one at least with each of them. So does the floor that a
+/// commit has then.
+pub fn each_compaction_is_kept<F: Family, K: Key, V: OperationCodec<F, Ordered<K, V>>>()
+    ensures { let e = keyed_by K.text V.Value.text V.operation_text K.cmp in EachCompactionIsKept e }
+{
+    operations_settle_keys::<F, K, V>();
+}

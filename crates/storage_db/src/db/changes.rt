@@ -250,9 +250,13 @@ fn append_commit<
 }
 
 /// Returns where a commit stands; none if there is none.
-fn location_of<F: Graftable, H: Hasher, K: Key, V: OperationCodec<F, Update<K, V>>, const N: usize>(
-    last: &Option<Commit<F, H, K, V, N>>,
-) -> Option<u64>
+pub(crate) fn location_of<
+    F: Graftable,
+    H: Hasher,
+    K: Key,
+    V: OperationCodec<F, Update<K, V>>,
+    const N: usize,
+>(last: &Option<Commit<F, H, K, V, N>>) -> Option<u64>
     ensures { (entries : List (K × Active V.Value))
         → result ≡ place_of (option_map (λ c. with_keys c entries) last.now) }
 {
@@ -263,9 +267,13 @@ fn location_of<F: Graftable, H: Hasher, K: Key, V: OperationCodec<F, Update<K, V
 }
 
 /// Returns the floor of a commit; 0 if there is none.
-fn floor_of<F: Graftable, H: Hasher, K: Key, V: OperationCodec<F, Update<K, V>>, const N: usize>(
-    last: &Option<Commit<F, H, K, V, N>>,
-) -> u64
+pub(crate) fn floor_of<
+    F: Graftable,
+    H: Hasher,
+    K: Key,
+    V: OperationCodec<F, Update<K, V>>,
+    const N: usize,
+>(last: &Option<Commit<F, H, K, V, N>>) -> u64
     ensures { (entries : List (K × Active V.Value))
         → result ≡ floor_of (option_map (λ c. with_keys c entries) last.now) }
 {
@@ -312,7 +320,7 @@ fn appended<T>(before: &Option<T>) -> usize
 }
 
 /// Notes what the last commit had of `key`, if `noting`: the key may change then.
-fn note<K: Key, W: Drop>(
+pub(crate) fn note<K: Key, W: Drop>(
     active: &mut ActiveKeys<K, W>,
     noting: bool,
     key: &K,
@@ -412,7 +420,12 @@ fn remove_active<K: Key, W: Drop>(
 
 /// Appends `bytes`, an update of the active key `key` to its value, which is its active one from now on. There is room,
 /// and after the first commit the key is noted.
-fn renew<K: Key, W: Drop>(log: &mut Log, active: &mut ActiveKeys<K, W>, key: &K, bytes: Vec<u8>)
+pub(crate) fn renew<K: Key, W: Drop>(
+    log: &mut Log,
+    active: &mut ActiveKeys<K, W>,
+    key: &K,
+    bytes: Vec<u8>,
+)
     requires room { HaveRoom 1 (vec_len log.old.operations) (vec_capacity log.old.operations)
         (vec_capacity log.old.bits) }
     requires clear_room { vec_len log.old.cleared < vec_capacity log.old.cleared }

@@ -13,6 +13,7 @@ ghost use Rattle.storage_db.specs.Kept.{IsDone, IsCommandRefused, IsMade, Keeps}
 ghost use Rattle.storage_db.specs.Ranges.{pairs_of, seen_pairs};
 ghost use Rattle.storage_db.specs.Shown.{IsAbsenceProof, IsPage, IsValueProof};
 
+mod compact;
 mod opening;
 mod trusted;
 
@@ -22,6 +23,7 @@ use crate::db::commit::Commit;
 use crate::db::log::Log;
 use crate::db::ranges::{Range, committed_entries_of, entries_of};
 use crate::db::{Error, KeyedEncoding, OrderedCodec};
+pub use compact::CompactError;
 pub use opening::OpenError;
 use std::alloc::Global;
 use std::marker::Model;

@@ -33,7 +33,7 @@ pub(crate) struct Replay<F: Family, K: Key, V: ValueEncoding> {
 }
 
 /// Returns the operation that `bytes` begin with; none if they begin with none. The reader is told `cfg`.
-fn read<F: Family, K: Key, V: OperationCodec<F, Update<K, V>>>(
+pub(crate) fn read<F: Family, K: Key, V: OperationCodec<F, Update<K, V>>>(
     alloc: Global,
     bytes: &[u8],
     cfg: &V::ReadCfg,
