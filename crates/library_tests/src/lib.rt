@@ -7,6 +7,8 @@ mod bounds;
 #[cfg(test)]
 mod commands;
 #[cfg(test)]
+mod compacted;
+#[cfg(test)]
 mod database;
 #[cfg(test)]
 mod db_ranges;

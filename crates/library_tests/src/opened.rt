@@ -14,7 +14,8 @@ pub type Key = FixedBytes<1>;
 
 pub type Database<F> = Ordered<F, Sha256, Key, FixedEncoding<u64>, 1>;
 
-fn key(byte: u8) -> Key {
+/// Returns the key of one byte.
+pub fn key(byte: u8) -> Key {
     FixedBytes { bytes: [byte] }
 }
 
