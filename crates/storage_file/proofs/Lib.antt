@@ -1,6 +1,7 @@
 mod Texts
 mod ListLemmas
 mod RowLemmas
+mod AgreedLemmas
 mod InsertLemmas
 mod InsideLemmas
 mod AddLemmas

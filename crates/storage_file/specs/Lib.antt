@@ -1,3 +1,4 @@
+pub mod Agreed
 pub mod Kept
 pub mod Tables
 pub mod Given

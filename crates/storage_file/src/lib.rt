@@ -2,6 +2,7 @@
 //! file was made.
 #![tactic(auto)]
 
+mod agreed;
 mod agreement;
 mod contents;
 mod error;
@@ -12,6 +13,7 @@ mod rows;
 mod statements;
 mod tables;
 
+pub use agreed::{OwnedAgreement, read_agreement};
 pub use agreement::{Agreement, Commit};
 pub use contents::{Contents, open};
 pub use error::Error;

@@ -15,7 +15,7 @@ use sqlite::{Error as SqlError, ErrorCode, Row};
 use std::alloc::Global;
 
 /// The value of a column.
-fn cell<T: FromSql>(row: &Row, at: usize) -> Result<T, Error>
+pub(crate) fn cell<T: FromSql>(row: &Row, at: usize) -> Result<T, Error>
     requires { at < length row.now }
     ensures ok { IfOk result (T.FromSql.reads_as (column row.now at)) }
     ensures why { IfErr result (λ e. (e ≡ Error.Memory) ⊎ ((e ≡ Error.Corrupted)
@@ -105,7 +105,7 @@ fn says(row: &Row, at: usize, text: &str) -> bool
 }
 
 /// Whether a column has this number.
-fn says_number(row: &Row, at: usize, number: u32) -> bool
+pub(crate) fn says_number(row: &Row, at: usize, number: u32) -> bool
     requires { at < length row.now }
     ensures yes { IsTrue result → column row.now at ≡ Int (pos number) }
     ensures no { column row.now at ≡ Int (pos number) → IsTrue result }
