@@ -42,7 +42,7 @@ impl<const N: usize> Prunable<N> {
     }
 
     /// Returns no bits past `chunks` chunks, all of them pruned. It allocates nothing.
-    pub(crate) fn pruned(alloc: Global, chunks: usize) -> Self
+    pub fn new_with_pruned_chunks(alloc: Global, chunks: usize) -> Self
         requires size { IsChunkSize N }
         requires few { chunks * (8 * N) ≤ max_leaves }
         ensures { result ≡ record { pruned = chunks; bits = [] } }

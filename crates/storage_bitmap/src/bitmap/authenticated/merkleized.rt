@@ -74,7 +74,7 @@ impl<D: Digest, const N: usize> BitMap<D, N, Merkleized<D>> {
             Ok(tree) => tree,
             Err(error) => return Err(error),
         };
-        let bits = Prunable::pruned(alloc, chunks as usize);
+        let bits = Prunable::new_with_pruned_chunks(alloc, chunks as usize);
         let root = root_of_bits(&tree, hasher, &bits);
         Ok(BitMap {
             bits,

@@ -1,6 +1,6 @@
 use Rattle.std.proofs.Common.{refl}
 use Rattle.storage_bitmap.proofs.Bits.{none_packed, none_bits}
-use Rattle.storage_bitmap.proofs.bitmap.prunable.Prunable.pruned.Goals as goal
+use Rattle.storage_bitmap.proofs.bitmap.prunable.Prunable.new_with_pruned_chunks.Goals as goal
 
 pub invariant_of-result : goal.invariant_of-result
 invariant_of-result g c = rw c.new.ensures.items (none_packed g.row.N c.args.chunks c.requires.size c.requires.few)

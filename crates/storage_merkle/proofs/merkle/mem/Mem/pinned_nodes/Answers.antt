@@ -1,5 +1,0 @@
-use Rattle.std.proofs.Common.{rules}
-use Rattle.storage_merkle.proofs.merkle.mem.Mem.pinned_nodes.Goals as goal
-
-pub returns : goal.returns
-returns g c = search rules

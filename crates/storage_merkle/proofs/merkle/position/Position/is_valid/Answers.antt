@@ -1,5 +1,0 @@
-use Rattle.std.proofs.Common.{rules}
-use Rattle.storage_merkle.proofs.merkle.position.Position.is_valid.Goals as goal
-
-pub returns : goal.returns
-returns g c = search rules
