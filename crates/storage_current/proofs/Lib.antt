@@ -52,3 +52,4 @@ mod PinReads
 mod PinRoots
 mod PinMeanings
 mod Openings
+mod Beginnings

@@ -30,4 +30,5 @@ pub mod SharedChunks
 pub mod HashedLengths
 pub mod Pins
 pub mod Openings
+pub mod Beginnings
 pub mod Laws

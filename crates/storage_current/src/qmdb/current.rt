@@ -16,4 +16,4 @@ mod view;
 pub use contiguous::{Contiguous, LogError};
 pub use operation_tree::OperationTree;
 pub use required::{RequiredChunks, required_chunks};
-pub use snapshot::Snapshot;
+pub use snapshot::{Snapshot, chunk_pins};

@@ -10,6 +10,7 @@ ghost use Rattle.storage_current.specs.Snapshots.{IsSnapshot, Snapshot as Snapsh
 ghost use Rattle.storage_current.specs.WitnessWire.{witness_of};
 
 mod extend;
+mod opening;
 mod prune;
 
 use crate::qmdb::current::chunk_tree::append_grafts;
@@ -19,6 +20,7 @@ use crate::qmdb::current::operation_tree::OperationTree;
 use crate::qmdb::current::proof::OpsRootWitness;
 use crate::qmdb::current::roots::Roots;
 use crate::qmdb::current::view::view_digest;
+pub use opening::chunk_pins;
 use std::alloc::Global;
 use std::convert::AsSlice;
 use std::marker::Model;
