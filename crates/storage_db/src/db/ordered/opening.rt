@@ -168,4 +168,16 @@ impl<F: Graftable, H: Hasher, K: Key, V: OrderedCodec<F, K>, const N: usize> Ord
     {
         &self.log.operations
     }
+
+    /// Gives the operations back, as they are written: those of the last commit, and what puts and deletions have appended
+    /// since. Allocates nothing.
+    pub fn into_operations(self) -> Vec<Vec<u8>>
+        ensures { let e = keyed_by K.text V.Value.text V.operation_text K.cmp in
+            (d : Database K V.Value)
+            → Keeps e V.Value.view H.hash_of (grafting_of F.shape N) self d
+            → map (λ v. v.items) result.items ≡ d.operations }
+    {
+        let log = self.log;
+        log.operations
+    }
 }
