@@ -1,6 +1,6 @@
 //! Digests read through a bound, zeros that fill up an encoding, and what an update keeps.
 
-use crate::stops::out_of_memory;
+use crate::stops::some;
 use storage_codec::codec::util::{byte, ensure_zeros, put_zeros};
 use storage_codec::codec::{Error, U64};
 use storage_codec::digest::{Digest, DigestOf, Hasher, Sha256, Sha512};
@@ -19,12 +19,8 @@ fn whole_digest_read(rt: HostRuntime) {
 
 #[test]
 fn zeros_read_where_written(rt: HostRuntime) {
-    let Ok(mut filled) = vec![in rt.alloc(); 7u8] else {
-        out_of_memory(&rt)
-    };
-    if put_zeros(&mut filled, 3).is_err() {
-        out_of_memory(&rt);
-    }
+    let mut filled = some(&rt, vec![in rt.alloc(); 7u8]);
+    some(&rt, put_zeros(&mut filled, 3));
     assert!(rt; filled.as_slice() == [7, 0, 0, 0].as_slice());
 
     let mut left = filled.as_slice();
@@ -43,8 +39,7 @@ fn next_key_kept(rt: HostRuntime) {
         next_key: U64::new(8),
     };
     let kept = <update::Ordered<U64, VariableEncoding<Vec<u8>>> as Update>::cached(|| &update);
-    let Ok(key) = kept else { out_of_memory(&rt) };
-    assert!(rt; key == U64::new(8));
+    assert!(rt; some(&rt, kept) == U64::new(8));
 }
 
 #[test]
@@ -52,5 +47,5 @@ fn nothing_kept(rt: HostRuntime) {
     let value = Vec::new(rt.alloc());
     let update = update::Unordered::<U64, VariableEncoding<Vec<u8>>>(U64::new(7), value);
     let kept = <update::Unordered<U64, VariableEncoding<Vec<u8>>> as Update>::cached(|| &update);
-    let Ok(()) = kept else { out_of_memory(&rt) };
+    some(&rt, kept);
 }

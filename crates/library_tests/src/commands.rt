@@ -3,7 +3,7 @@
 
 use crate::database::{ByNumber, Told, next_number, of_number, see};
 use crate::definitions::strings;
-use crate::stops::out_of_memory;
+use crate::stops::there;
 use std::alloc::Global;
 use std::process::Abort;
 use storage_codec::codec::FixedBytes;
@@ -67,9 +67,7 @@ fn run<D: ByNumber + Drop>(rt: &impl Abort, alloc: Global, root: &str)
         step(rt, alloc, &mut database, draw);
     }
     commit(rt, &mut database);
-    let Some(found) = database.last_root() else {
-        panic!(rt; "no root");
-    };
+    let found = there(rt, database.last_root(), "no root");
     let right = strings(rt, alloc, root);
     assert!(rt; right.len() == 1);
     assert!(rt; found.bytes() == right[0].as_slice());

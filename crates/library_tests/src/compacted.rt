@@ -1,47 +1,56 @@
 //! Databases whose oldest active updates are put again.
 
-use crate::opened::{Database, done, key, tell_alike, two_commits};
-use crate::stops::{out_of_memory, refused};
+use crate::database::{ByNumber, see};
+use crate::database_calls::compact;
+use crate::opened::are_alike;
+use crate::small::{Database, commit, key, put, root, two_commits};
+use crate::stops::some;
 use std::alloc::Global;
 use std::process::Abort;
-use storage_codec::digest::Sha256;
-use storage_db::db::{CompactError, Error};
-use storage_merkle::merkle::{Graftable, Location, mmb, mmr};
-use storage_ops::qmdb::any::FixedEncoding;
+use storage_merkle::merkle::{Graftable, mmb, mmr};
 
 /// Returns how many updates of `database` are put again, at most `count`.
 fn compacted<F: Graftable>(rt: &impl Abort, database: &mut Database<F>, count: u64) -> u64 {
-    match database.compact(count, &()) {
-        Ok(moved) => moved,
-        Err(CompactError::Refused(Error::Memory)) => out_of_memory(rt),
-        Err(error) => refused(rt, &error),
-    }
+    some(rt, compact(database, count, &()))
 }
 
 /// Puts the values that `keys` have again, one after the other.
 fn put_all<F: Graftable>(rt: &impl Abort, database: &mut Database<F>, keys: &[u8]) {
     for byte in keys {
-        done(rt, database.put(key(*byte), u64::from(*byte) * 10));
+        put(rt, database, *byte, u64::from(*byte) * 10);
     }
 }
 
 /// Commits what `database` has, and asserts that the floor is `floor` then.
 fn commit_at<F: Graftable>(rt: &impl Abort, database: &mut Database<F>, floor: u64) {
-    done(rt, database.commit(None));
-    assert!(rt; database.floor() == Some(Location::new(floor)));
+    commit(rt, database, None);
+    assert!(rt; database.last_floor() == Some(floor));
 }
 
 /// Asserts that a proof of the value that `byte` has is accepted.
 fn proves<F: Graftable>(rt: &impl Abort, alloc: Global, database: &Database<F>, byte: u8) {
-    let Some(root) = database.root() else {
-        panic!(rt; "nothing is committed")
-    };
-    let (value, proof) = done(rt, database.prove_value(&key(byte)));
-    assert!(rt; value == u64::from(byte) * 10);
-    match proof.verify::<Sha256, FixedEncoding<u64>>(alloc, key(byte), value, &root) {
-        Ok(yes) => assert!(rt; yes),
-        Err(_) => out_of_memory(rt),
-    }
+    let value = u64::from(byte) * 10;
+    let root = root(rt, database);
+    let told = database.proves_value(alloc, key(byte), Some(&value), &root);
+    see(rt, told, true);
+}
+
+/// Asserts that of at most `count` updates of `one` those of `keys` are put again, as puts of them do it in `other`, and that the floor
+/// of both is `floor` at the next commit.
+fn compact_beside<F: Graftable>(
+    rt: &impl Abort,
+    alloc: Global,
+    one: &mut Database<F>,
+    other: &mut Database<F>,
+    count: u64,
+    keys: &[u8],
+    floor: u64,
+) {
+    assert!(rt; compacted(rt, one, count) == keys.len() as u64);
+    put_all(rt, other, keys);
+    commit_at(rt, one, floor);
+    commit_at(rt, other, floor);
+    are_alike(rt, alloc, one, other);
 }
 
 /// Asserts that the oldest updates are put again, as puts of their keys do it, and that the floor rises:
@@ -56,17 +65,11 @@ fn proves<F: Graftable>(rt: &impl Abort, alloc: Global, database: &Database<F>, 
 fn oldest_put_again<F: Graftable>(rt: &impl Abort, alloc: Global) {
     let mut one = two_commits::<F>(rt, alloc);
     let mut other = two_commits::<F>(rt, alloc);
-    assert!(rt; compacted(rt, &mut one, 3) == 3);
-    put_all(rt, &mut other, &[8, 2, 5]);
-    commit_at(rt, &mut one, 11);
-    commit_at(rt, &mut other, 11);
-    tell_alike(rt, &one, &other);
-    assert!(rt; compacted(rt, &mut one, 9) == 4);
-    put_all(rt, &mut other, &[4, 8, 2, 5]);
-    commit_at(rt, &mut one, 17);
-    commit_at(rt, &mut other, 17);
-    tell_alike(rt, &one, &other);
+    compact_beside(rt, alloc, &mut one, &mut other, 3, &[8, 2, 5], 11);
+    compact_beside(rt, alloc, &mut one, &mut other, 9, &[4, 8, 2, 5], 17);
     proves(rt, alloc, &one, 4);
+    drop(one);
+    drop(other);
 }
 
 #[test]

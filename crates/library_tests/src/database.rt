@@ -2,17 +2,18 @@
 
 ghost use Rattle.storage_bitmap.specs.Chunks.{IsChunkSize};
 
-use crate::stops::out_of_memory;
+use crate::stops::{out_of_memory, some, there};
 use std::alloc::{AllocError, Global};
 use std::process::Abort;
 use storage_codec::codec::FixedBytes;
 use storage_codec::digest::{Digest, Hasher, Sha256, Sha512};
+use storage_current::qmdb::current::ordered::constant::{ExclusionProof, KeyValueProof};
 use storage_db::db::{Error, Ordered, OrderedCodec};
 use storage_merkle::merkle::{Family, Graftable, mmb, mmr};
 use storage_ops::qmdb::any::{FixedEncoding, VariableEncoding};
 use storage_ops::qmdb::operation::Key;
 
-/// A key or a value for each number, and for no other number below 2^32 the same one.
+/// A key or a value for each number, and for no other number below 2^32, or below 256 in one byte, the same one.
 pub trait Numbered: PartialEq + Sized {
     /// Returns that of `number`.
     fn numbered(alloc: Global, number: u64) -> Result<Self, AllocError>;
@@ -21,6 +22,13 @@ pub trait Numbered: PartialEq + Sized {
 impl Numbered for u64 {
     fn numbered(_alloc: Global, number: u64) -> Result<u64, AllocError> {
         Ok(number)
+    }
+}
+
+impl Numbered for FixedBytes<1> {
+    fn numbered(_alloc: Global, number: u64) -> Result<FixedBytes<1>, AllocError> {
+        let [.., last] = number.to_be_bytes();
+        Ok(FixedBytes { bytes: [last] })
     }
 }
 
@@ -62,6 +70,22 @@ impl Told {
         match error {
             Error::Memory => Told::OutOfMemory,
             _ => Told::Refused,
+        }
+    }
+
+    /// What is told where a key is said to have no value, which is right or not.
+    fn of_absence<F: Family>(error: &Error<F>, right: bool) -> Told {
+        match error {
+            Error::Absent => Told::of(right),
+            error => Told::of_error(error),
+        }
+    }
+
+    /// What is told where a key is said to have a value, which is right or not.
+    fn of_presence<F: Family>(error: &Error<F>, right: bool) -> Told {
+        match error {
+            Error::Present => Told::of(right),
+            error => Told::of_error(error),
         }
     }
 }
@@ -222,26 +246,53 @@ where
     ) -> Told {
         match self.prove_value(&key) {
             Ok((found, proof)) => {
-                let is_right = is_same(Some(&found), right);
-                match proof.verify::<H, V>(alloc, key, found, root) {
-                    Ok(yes) => Told::of(yes && is_right),
-                    Err(_) => Told::OutOfMemory,
-                }
+                has_value::<F, H, K, V, N>(alloc, proof, key, found, right, root)
             }
-            Err(Error::Absent) => Told::of(right.is_none()),
-            Err(error) => Told::of_error(&error),
+            Err(error) => {
+                drop(key);
+                Told::of_absence(&error, right.is_none())
+            }
         }
     }
 
     fn proves_absence(&self, alloc: Global, key: &K, is_absent: bool, root: &H::Digest) -> Told {
         match self.prove_absence(key) {
-            Ok(proof) => match proof.verify::<H>(alloc, key, root) {
-                Ok(yes) => Told::of(yes && is_absent),
-                Err(_) => Told::OutOfMemory,
-            },
-            Err(Error::Present) => Told::of(!is_absent),
-            Err(error) => Told::of_error(&error),
+            Ok(proof) => has_no_value::<F, H, K, V, N>(alloc, &proof, key, is_absent, root),
+            Err(error) => Told::of_presence(&error, !is_absent),
         }
+    }
+}
+
+/// Returns whether `value` is `right`, and `proof` is accepted as one that `key` has it.
+fn has_value<F: Graftable, H: Hasher, K: Key, V: OrderedCodec<F, K>, const N: usize>(
+    alloc: Global,
+    proof: KeyValueProof<F, K, H::Digest, N>,
+    key: K,
+    value: V::Value,
+    right: Option<&V::Value>,
+    root: &H::Digest,
+) -> Told
+where
+    V::Value: Numbered,
+{
+    let is_right = is_same(Some(&value), right);
+    match proof.verify::<H, V>(alloc, key, value, root) {
+        Ok(yes) => Told::of(yes && is_right),
+        Err(_) => Told::OutOfMemory,
+    }
+}
+
+/// Returns whether `key` is absent, and `proof` is accepted as one that it is.
+fn has_no_value<F: Graftable, H: Hasher, K: Key, V: OrderedCodec<F, K>, const N: usize>(
+    alloc: Global,
+    proof: &ExclusionProof<F, K, V, H::Digest, N>,
+    key: &K,
+    is_absent: bool,
+    root: &H::Digest,
+) -> Told {
+    match proof.verify::<H>(alloc, key, root) {
+        Ok(yes) => Told::of(yes && is_absent),
+        Err(_) => Told::OutOfMemory,
     }
 }
 
@@ -256,10 +307,7 @@ fn is_same<T: PartialEq>(left: Option<&T>, right: Option<&T>) -> bool {
 
 /// Returns the key or the value of `number`.
 pub fn of_number<T: Numbered>(rt: &impl Abort, alloc: Global, number: u64) -> T {
-    match T::numbered(alloc, number) {
-        Ok(numbered) => numbered,
-        Err(_) => out_of_memory(rt),
-    }
+    some(rt, T::numbered(alloc, number))
 }
 
 /// Returns the value of a number, if there is one.
@@ -270,14 +318,19 @@ fn of_option<T: Numbered>(rt: &impl Abort, alloc: Global, number: Option<u64>) -
     }
 }
 
-/// Ends the test if memory is refused to it, or if `told` is not what is right.
-pub fn see(rt: &impl Abort, told: Told, right: bool) {
+/// Returns whether `told` is yes. Ends the test if memory is refused to it, or what is right.
+pub fn is_yes(rt: &impl Abort, told: Told) -> bool {
     match told {
-        Told::Yes => assert!(rt; right),
-        Told::No => assert!(rt; !right),
+        Told::Yes => true,
+        Told::No => false,
         Told::OutOfMemory => out_of_memory(rt),
         Told::Refused => panic!(rt; "refused"),
     }
+}
+
+/// Ends the test if memory is refused to it, or if `told` is not what is right.
+pub fn see(rt: &impl Abort, told: Told, right: bool) {
+    assert!(rt; is_yes(rt, told) == right);
 }
 
 /// Returns the database has what the map has at the number `key`, now and at the last commit.
@@ -287,6 +340,24 @@ fn compare<D: ByNumber>(rt: &impl Abort, alloc: Global, database: &D, plain: &Pl
     let key = of_number::<D::Key>(rt, alloc, u64::from(key));
     assert!(rt; is_same(database.now(&key), now.as_ref()));
     assert!(rt; is_same(database.then(&key), then.as_ref()));
+}
+
+/// Asserts that two databases tell the same of now and of the last commit, each of the keys of the numbers below sixteen.
+pub fn tell_alike<D: ByNumber>(rt: &impl Abort, alloc: Global, one: &D, other: &D) {
+    assert!(rt; one.count() == other.count());
+    tell_alike_of_the_last(rt, one, other);
+    for number in 0..16u64 {
+        let key = of_number::<D::Key>(rt, alloc, number);
+        assert!(rt; is_same(one.now(&key), other.now(&key)));
+        assert!(rt; is_same(one.then(&key), other.then(&key)));
+    }
+}
+
+/// Asserts that two databases tell the same root, floor and value of the last commit.
+fn tell_alike_of_the_last<D: ByNumber>(rt: &impl Abort, one: &D, other: &D) {
+    assert!(rt; is_same(one.last_root().as_ref(), other.last_root().as_ref()));
+    assert!(rt; is_same(one.last_floor().as_ref(), other.last_floor().as_ref()));
+    assert!(rt; is_same(one.last_value(), other.last_value()));
 }
 
 /// Returns a put or a deletion at the number `key`, as `draw` says: both answer alike.
@@ -347,9 +418,7 @@ fn prove_eight<D: ByNumber>(
 )
     requires { D.is_sized }
 {
-    let Some(root) = database.last_root() else {
-        panic!(rt; "no root");
-    };
+    let root = there(rt, database.last_root(), "no root");
     for step in 0..8u8 {
         prove(
             rt,

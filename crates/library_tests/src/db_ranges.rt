@@ -1,92 +1,89 @@
 //! The ranges of keys that a database tells of, and pages of its log.
 
-use crate::stops::{out_of_memory, refused};
+use crate::database_calls::{self, committed_up_to, from, page};
+use crate::small::{Database, Digest, Key, changed_since, commit, delete, empty, key, put, root};
+use crate::stops::{is_refused, some, there};
 use std::alloc::Global;
 use std::process::Abort;
 use storage_codec::codec::FixedBytes;
 use storage_codec::digest::Sha256;
-use storage_db::db::{Error, Ordered, Range};
-use storage_merkle::merkle::{Family, Graftable, Location, mmb, mmr};
-use storage_ops::qmdb::any::FixedEncoding;
+use storage_current::qmdb::current::proof::RangeProof;
+use storage_db::db::{Error, Range};
+use storage_merkle::merkle::{Graftable, Location, mmb, mmr};
 
-type Key = FixedBytes<1>;
-
-type Digest = FixedBytes<32>;
-
-type Database<F> = Ordered<F, Sha256, Key, FixedEncoding<u64>, 1>;
-
-fn key(byte: u8) -> Key {
-    FixedBytes { bytes: [byte] }
+/// Returns all keys that have a value now, with their values.
+fn all<F: Graftable>(database: &Database<F>) -> Range<'_, Key, u64> {
+    database_calls::all(database)
 }
 
-/// Returns what a database answers, where it refuses nothing.
-fn done<T: Drop, F: Family>(rt: &impl Abort, answer: Result<T, Error<F>>) -> T {
-    match answer {
-        Ok(answer) => answer,
-        Err(Error::Memory) => out_of_memory(rt),
-        Err(error) => refused(rt, &error),
-    }
+/// Returns all keys that had a value at the last commit, with their values; nothing before the first commit.
+fn of_commit<F: Graftable>(database: &Database<F>) -> Option<Range<'_, Key, u64>> {
+    database_calls::committed(database)
 }
 
-/// Returns a database that has committed the keys 2, 4, 6 and 8, each with ten times its byte. Since then 6 has been
-/// deleted, and 5 put.
-fn changed_since<F: Graftable>(rt: &impl Abort, alloc: Global) -> Database<F> {
-    let mut database = Ordered::new(alloc);
-    for byte in [8, 2, 6, 4] {
-        done(rt, database.put(key(byte), u64::from(byte) * 10));
-    }
-    done(rt, database.commit(None));
-    done(rt, database.delete(&key(6)));
-    done(rt, database.put(key(5), 50));
-    database
+/// Returns the same of a database that has a commit.
+fn committed<'a, F: Graftable>(rt: &impl Abort, database: &'a Database<F>) -> Range<'a, Key, u64> {
+    there(rt, of_commit(database), "nothing is committed")
+}
+
+/// Returns the proof of three operations from the location `start` on, or of fewer at the end; those, and the chunks that they touch.
+fn three_from<F: Graftable>(
+    database: &Database<F>,
+    start: u64,
+) -> Result<(RangeProof<F, Digest>, &[Vec<u8>], Vec<[u8; 1]>), Error<F>> {
+    page(database, Location::new(start), 3)
 }
 
 /// Asserts that the range has exactly the keys of `bytes`, in this order, each with ten times its byte.
 fn has_keys(rt: &impl Abort, mut range: Range<'_, Key, u64>, bytes: &[u8]) {
     for byte in bytes {
-        let Some((key, value)) = range.next() else {
-            panic!(rt; "too few keys");
-        };
+        let (key, value) = there(rt, range.next(), "too few keys");
         assert!(rt; key.bytes == [*byte]);
         assert!(rt; *value == u64::from(*byte) * 10);
     }
     assert!(rt; range.next().is_none());
 }
 
-fn ranges<F: Graftable>(rt: &impl Abort, alloc: Global) {
-    let database = changed_since::<F>(rt, alloc);
-    has_keys(rt, database.range(..), &[2, 4, 5, 8]);
-    has_keys(rt, database.range(key(3)..), &[4, 5, 8]);
-    let Some(all) = database.range_committed(..) else {
-        panic!(rt; "nothing is committed");
-    };
-    has_keys(rt, all, &[2, 4, 6, 8]);
-    let Some(some) = database.range_committed(..=key(6)) else {
-        panic!(rt; "nothing is committed");
-    };
-    has_keys(rt, some, &[2, 4, 6]);
-    let mut range = database.range(..);
-    let Some((last, _)) = range.next_back() else {
-        panic!(rt; "no last key");
-    };
-    assert!(rt; last.bytes == [8]);
-    assert!(rt; Database::<F>::new(alloc).range_committed(..).is_none());
+/// Asserts that the last key of the range is that of `byte`.
+fn ends_with(rt: &impl Abort, mut range: Range<'_, Key, u64>, byte: u8) {
+    let (last, _) = there(rt, range.next_back(), "no last key");
+    assert!(rt; last.bytes == [byte]);
 }
 
-/// Returns all keys that had a value at the last commit, with their values.
-fn committed<'a, F: Graftable>(rt: &impl Abort, database: &'a Database<F>) -> Range<'a, Key, u64> {
-    match database.range_committed(..) {
-        Some(range) => range,
-        None => panic!(rt; "nothing is committed"),
-    }
+/// Asserts that the keys of now and of the last commit are told in their order, and of no commit none.
+fn ranges<F: Graftable>(rt: &impl Abort, alloc: Global) {
+    let database = changed_since::<F>(rt, alloc);
+    tells_now(rt, &database);
+    tells_of_commit(rt, &database);
+    drop(database);
+    tells_of_none::<F>(rt, alloc);
+}
+
+/// Asserts that a database tells of no commit before the first.
+fn tells_of_none<F: Graftable>(rt: &impl Abort, alloc: Global) {
+    let database = empty::<F>(alloc);
+    assert!(rt; of_commit(&database).is_none());
+    drop(database);
+}
+
+/// Asserts which keys have a value now.
+fn tells_now<F: Graftable>(rt: &impl Abort, database: &Database<F>) {
+    has_keys(rt, all(database), &[2, 4, 5, 8]);
+    has_keys(rt, from(database, key(3)), &[4, 5, 8]);
+    ends_with(rt, all(database), 8);
+}
+
+/// Asserts which keys had a value at the last commit.
+fn tells_of_commit<F: Graftable>(rt: &impl Abort, database: &Database<F>) {
+    has_keys(rt, committed(rt, database), &[2, 4, 6, 8]);
+    let up_to_six = committed_up_to(database, key(6));
+    has_keys(rt, there(rt, up_to_six, "nothing is committed"), &[2, 4, 6]);
 }
 
 /// Asserts that the range has exactly these keys with these values, from its end.
 fn has_from_the_back(rt: &impl Abort, mut range: Range<'_, Key, u64>, entries: &[(u8, u64)]) {
     for (byte, number) in entries {
-        let Some((key, value)) = range.next_back() else {
-            panic!(rt; "too few keys");
-        };
+        let (key, value) = there(rt, range.next_back(), "too few keys");
         assert!(rt; key.bytes == [*byte]);
         assert!(rt; *value == *number);
     }
@@ -97,14 +94,14 @@ fn has_from_the_back(rt: &impl Abort, mut range: Range<'_, Key, u64>, entries: &
 /// Gives each key its value.
 fn put_all<F: Graftable>(rt: &impl Abort, database: &mut Database<F>, entries: &[(u8, u64)]) {
     for (byte, number) in entries {
-        done(rt, database.put(key(*byte), *number));
+        put(rt, database, *byte, *number);
     }
 }
 
 /// Takes the keys out, each of which has a value.
 fn delete_all<F: Graftable>(rt: &impl Abort, database: &mut Database<F>, bytes: &[u8]) {
     for byte in bytes {
-        assert!(rt; done(rt, database.delete(&key(*byte))));
+        assert!(rt; delete(rt, database, *byte));
     }
 }
 
@@ -115,25 +112,37 @@ fn has_between(rt: &impl Abort, mut range: Range<'_, Key, u64>, entries: &[(u8, 
     has_from_the_back(rt, range, entries);
 }
 
+/// Asserts that the last commit has exactly these keys with these values, from the end.
+fn has_committed<F: Graftable>(rt: &impl Abort, database: &Database<F>, entries: &[(u8, u64)]) {
+    has_from_the_back(rt, committed(rt, database), entries);
+}
+
 /// Asserts that the keys of a commit are told from both ends, whatever has changed since, until the next commit.
 fn committed_from_the_back<F: Graftable>(rt: &impl Abort, alloc: Global) {
     let mut database = changed_since::<F>(rt, alloc);
-    delete_all(rt, &mut database, &[2]);
-    put_all(rt, &mut database, &[(8, 88), (9, 90), (2, 21)]);
-    has_from_the_back(
-        rt,
-        committed(rt, &database),
-        &[(8, 80), (6, 60), (4, 40), (2, 20)],
-    );
-    has_between(rt, committed(rt, &database), &[(6, 60), (4, 40)]);
-    done(rt, database.commit(None));
+    change_and_commit(rt, &mut database);
+    empty_and_commit(rt, &mut database);
+    drop(database);
+}
+
+/// Changes each key of a commit, and asserts that it tells of the same keys until the next.
+fn change_and_commit<F: Graftable>(rt: &impl Abort, database: &mut Database<F>) {
+    delete_all(rt, database, &[2]);
+    put_all(rt, database, &[(8, 88), (9, 90), (2, 21)]);
+    has_committed(rt, database, &[(8, 80), (6, 60), (4, 40), (2, 20)]);
+    has_between(rt, committed(rt, database), &[(6, 60), (4, 40)]);
+    commit(rt, database, None);
+}
+
+/// Takes out each key of the commit after that, and asserts that it tells of the same keys until the next, which has none.
+fn empty_and_commit<F: Graftable>(rt: &impl Abort, database: &mut Database<F>) {
     let now = [(9, 90), (8, 88), (5, 50), (4, 40), (2, 21)];
-    has_from_the_back(rt, committed(rt, &database), &now);
-    delete_all(rt, &mut database, &[4, 9, 2, 8, 5]);
-    has_from_the_back(rt, database.range(..), &[]);
-    has_from_the_back(rt, committed(rt, &database), &now);
-    done(rt, database.commit(None));
-    has_from_the_back(rt, committed(rt, &database), &[]);
+    has_committed(rt, database, &now);
+    delete_all(rt, database, &[4, 9, 2, 8, 5]);
+    has_from_the_back(rt, all(database), &[]);
+    has_committed(rt, database, &now);
+    commit(rt, database, None);
+    has_committed(rt, database, &[]);
 }
 
 /// Returns operations of eighteen bytes each as a proof takes them: written without their length.
@@ -145,9 +154,7 @@ fn raw(rt: &impl Abort, alloc: Global, operations: &[Vec<u8>]) -> Vec<FixedBytes
         for (byte, written) in bytes.iter_mut().zip(operation) {
             *byte = *written;
         }
-        if strings.push(FixedBytes { bytes }).is_err() {
-            out_of_memory(rt)
-        }
+        some(rt, strings.push(FixedBytes { bytes }));
     }
     strings
 }
@@ -161,39 +168,29 @@ fn has_page<F: Graftable>(
     start: u64,
     count: usize,
 ) {
-    match database.range_proof(Location::new(start), 3) {
-        Ok((proof, operations, chunks)) => {
-            assert!(rt; operations.len() == count);
-            let strings = raw(rt, alloc, operations);
-            let start = Location::new(start);
-            match proof.verify::<Sha256, _, 1>(alloc, start, &strings, &chunks, root) {
-                Ok(yes) => assert!(rt; yes),
-                Err(_) => out_of_memory(rt),
-            }
-        }
-        Err(Error::Memory) => out_of_memory(rt),
-        Err(error) => refused(rt, &error),
-    }
+    let (proof, operations, chunks) = some(rt, three_from(database, start));
+    assert!(rt; operations.len() == count);
+    let strings = raw(rt, alloc, operations);
+    let start = Location::new(start);
+    let yes = proof.verify::<Sha256, _, 1>(alloc, start, &strings, &chunks, root);
+    assert!(rt; some(rt, yes));
 }
 
 /// Asserts that no operation of the last commit is at `location`.
 fn has_no_page<F: Graftable>(rt: &impl Abort, database: &Database<F>, location: u64) {
-    match database.range_proof(Location::new(location), 3) {
-        Ok(_) => panic!(rt; "a page behind the last commit"),
-        Err(error) => assert!(rt; error == Error::RangeOutOfBounds(Location::new(location))),
-    }
+    let why = Error::RangeOutOfBounds(Location::new(location));
+    is_refused(rt, &three_from(database, location), &why);
 }
 
 /// Asserts that the log up to the commit at location 7 is told page by page, and nothing behind it.
 fn pages<F: Graftable>(rt: &impl Abort, alloc: Global) {
     let database = changed_since::<F>(rt, alloc);
-    let Some(root) = database.root() else {
-        panic!(rt; "no root");
-    };
+    let root = root(rt, &database);
     has_page(rt, alloc, &database, &root, 0, 3);
     has_page(rt, alloc, &database, &root, 3, 3);
     has_page(rt, alloc, &database, &root, 6, 2);
     has_no_page(rt, &database, 8);
+    drop(database);
 }
 
 #[test]

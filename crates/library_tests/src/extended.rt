@@ -1,15 +1,17 @@
 //! A snapshot that grows, beside the plain program of the definitions over the whole.
 
 use crate::definitions::strings;
-use crate::stops::{out_of_memory, refused};
+use crate::snapshots::{self, made, root_of};
+use crate::stops::{done, some};
 use reference::shape::Digits;
 use reference::snapshot::{Snapshot as Whole, canonical_root};
 use std::alloc::Global;
 use std::process::Abort;
 use storage_bitmap::bitmap::Prunable;
-use storage_codec::digest::Sha256;
+use storage_codec::digest::{DigestOf, Sha256};
 use storage_current::qmdb::current::Snapshot;
 use storage_merkle::merkle::{Graftable, Location, mmb, mmr};
+use storage_ops::qmdb::Error;
 
 /// Nineteen operations.
 const OPERATIONS: &str = "00,01,0202,03,04,05,060606,07,08,09,0a,,0c,0d,0e,0f,10,11,12";
@@ -20,42 +22,69 @@ const BITS: [bool; 19] = [
     true, false, true, true, true,
 ];
 
-/// Extends a snapshot of the first eleven operations, in chunks of eight, by the other eight, and compares its root. A refused
-/// extension is made again.
-fn extend<F: Graftable + Digits>(rt: &impl Abort, alloc: Global) {
-    let operations = strings(rt, alloc, OPERATIONS);
-    assert!(rt; operations.len() == 19);
-    let (first, rest) = operations.as_slice().split_at(11);
+/// Returns the snapshot of the first eleven operations, in chunks of eight.
+fn first_eleven<F: Graftable>(
+    rt: &impl Abort,
+    alloc: Global,
+    operations: &[Vec<u8>],
+) -> Snapshot<F, Sha256, 1> {
     let mut bits = Prunable::<1>::new(alloc);
     let early = [
         true, true, false, true, true, false, false, true, false, true, true,
     ];
-    if bits.append(&early).is_err() {
-        out_of_memory(rt)
-    }
-    let made = Snapshot::<F, Sha256, 1>::new(alloc, first, bits, Location::new(1));
-    let Ok(mut snapshot) = made else {
-        out_of_memory(rt)
-    };
+    some(rt, bits.append(&early));
+    made(rt, alloc, operations, bits, 1)
+}
+
+/// Extends that snapshot by the other eight.
+fn extend_once<F: Graftable>(
+    alloc: Global,
+    snapshot: &mut Snapshot<F, Sha256, 1>,
+    operations: &[Vec<u8>],
+) -> Result<(), Error<F>> {
     let late = [true, false, false, true, false, true, true, true];
     let clear = [Location::new(9), Location::new(0)];
-    let floor = Location::new(9);
-    let mut grown = snapshot.extend(alloc, rest, &late, &clear, floor);
-    if grown.is_err() {
-        grown = snapshot.extend(alloc, rest, &late, &clear, floor);
-    }
-    if let Err(refusal) = grown {
-        refused(rt, &refusal)
-    }
+    snapshots::extend(alloc, snapshot, operations, &late, &clear, 9)
+}
+
+/// Returns the canonical root of all nineteen by the definitions.
+fn root_of_whole<F: Graftable + Digits>(
+    rt: &impl Abort,
+    alloc: Global,
+    operations: &[Vec<u8>],
+) -> DigestOf<Sha256> {
     let whole = Whole {
-        operations: operations.as_slice(),
+        operations,
         bits: &BITS,
         floor: 9,
         chunk_size: 1,
     };
-    let root = canonical_root::<F, Sha256, Vec<u8>>(alloc, &whole);
-    let Ok(root) = root else { out_of_memory(rt) };
-    assert!(rt; snapshot.root() == root);
+    some(rt, canonical_root::<F, Sha256, Vec<u8>>(alloc, &whole))
+}
+
+/// Extends a snapshot of the first eleven operations by the other eight, and compares its root.
+fn extend<F: Graftable + Digits>(rt: &impl Abort, alloc: Global) {
+    let operations = strings(rt, alloc, OPERATIONS);
+    assert!(rt; operations.len() == 19);
+    let (first, rest) = operations.as_slice().split_at(11);
+    let mut snapshot = first_eleven::<F>(rt, alloc, first);
+    extend_and_again(rt, alloc, &mut snapshot, rest);
+    assert!(rt; root_of(&snapshot) == root_of_whole::<F>(rt, alloc, &operations));
+    drop(snapshot);
+}
+
+/// Extends that snapshot by `rest`. A refused extension is made again.
+fn extend_and_again<F: Graftable>(
+    rt: &impl Abort,
+    alloc: Global,
+    snapshot: &mut Snapshot<F, Sha256, 1>,
+    rest: &[Vec<u8>],
+) {
+    let mut grown = extend_once(alloc, snapshot, rest);
+    if grown.is_err() {
+        grown = extend_once(alloc, snapshot, rest);
+    }
+    done(rt, &grown);
 }
 
 #[test]

@@ -2,7 +2,7 @@
 
 ghost use Rattle.std.specs.Prelude.{◌<◌, ◌≤◌};
 
-use crate::stops::{out_of_memory, refused};
+use crate::stops::{done, some};
 use std::process::Abort;
 use storage_codec::codec::FixedBytes;
 use storage_codec::digest::{Hasher, Sha256};
@@ -38,12 +38,11 @@ fn prune_once<F: Graftable, H: Hasher>(
 fn prune(rt: &impl Abort, tree: &mut Tree, chunks: u64)
     requires { chunks ≤ 1000 }
 {
-    if prune_once::<mmb::Family, Sha256>(tree, HEIGHT, chunks).is_ok() {
-        return;
+    let mut pruned = prune_once::<mmb::Family, Sha256>(tree, HEIGHT, chunks);
+    if pruned.is_err() {
+        pruned = prune_once::<mmb::Family, Sha256>(tree, HEIGHT, chunks);
     }
-    if let Err(refusal) = prune_once::<mmb::Family, Sha256>(tree, HEIGHT, chunks) {
-        refused(rt, &refusal);
-    }
+    done(rt, &pruned);
 }
 
 /// Appends the leaf whose digest is `digest` to `tree`, a tree in memory over chunks, and then gives the leaves of `updates` their
@@ -115,28 +114,19 @@ fn grafted_pruning_made_again(rt: HostRuntime) {
     let [first, second, four] = nodes_over_chunks();
     let [third, fourth, fifth] = [Some(leaf(3)), Some(leaf(4)), Some(leaf(5))];
 
-    let Ok(leaves) = Vec::from_slice(rt.alloc(), &[1, 2, 3, 4, 5].map(leaf)) else {
-        out_of_memory(&rt)
-    };
-    let mut tree = Tree::new(rt.alloc(), leaves);
-    prune(&rt, &mut tree, 2);
-    let kept = [None, None, Some(first), third, fourth, None, fifth, None];
-    assert!(rt; has_nodes(&tree, &kept));
-    prune(&rt, &mut tree, 4);
-    let kept = [
-        None,
-        None,
-        Some(first),
-        None,
-        None,
-        Some(second),
-        fifth,
-        None,
+    let leaves = Vec::from_slice(rt.alloc(), &[1, 2, 3, 4, 5].map(leaf));
+    let mut tree = Tree::new(rt.alloc(), some(&rt, leaves));
+    let (first, second, four) = (Some(first), Some(second), Some(four));
+    let prunings = [
+        (2, [None, None, first, third, fourth, None, fifth, None]),
+        (4, [None, None, first, None, None, second, fifth, None]),
+        (5, [None, None, None, None, None, None, fifth, four]),
     ];
-    assert!(rt; has_nodes(&tree, &kept));
-    prune(&rt, &mut tree, 5);
-    let kept = [None, None, None, None, None, None, fifth, Some(four)];
-    assert!(rt; has_nodes(&tree, &kept));
+    for (chunks, kept) in prunings {
+        assert!(rt; chunks <= 1000);
+        prune(&rt, &mut tree, chunks);
+        assert!(rt; has_nodes(&tree, &kept));
+    }
     assert!(rt; tree.leaves() == Location::new(5));
 }
 
@@ -146,9 +136,7 @@ const HUGE: u64 = 1 << 60;
 #[test]
 fn pruned_already(rt: HostRuntime) {
     let made = Tree::init(rt.alloc(), HUGE, &[leaf(6); 60], Vec::new(rt.alloc()));
-    let Ok(mut tree) = made else {
-        out_of_memory(&rt)
-    };
+    let mut tree = some(&rt, made);
     prune(&rt, &mut tree, 5);
     assert!(rt; tree.pruned_chunks() == HUGE);
     assert!(rt; tree.leaves() == Location::new(HUGE));
@@ -157,15 +145,19 @@ fn pruned_already(rt: HostRuntime) {
 #[test]
 fn no_leaves_updated(rt: HostRuntime) {
     let made = Mem::<mmb::Family, _>::init(rt.alloc(), Location::new(HUGE), &[leaf(6); 60]);
-    let Ok(mut tree) = made else {
-        out_of_memory(&rt)
-    };
+    let mut tree = some(&rt, made);
     let hasher = GraftedHasher::new(Standard::<Sha256>::new(Bagging::BackwardFold), HEIGHT);
-    if let Err(refusal) = tree.update_leaves(&hasher, &[]) {
-        refused(&rt, &refusal);
-    }
+    done(&rt, &tree.update_leaves(&hasher, &[]));
     assert!(rt; tree.leaves() == Location::new(HUGE));
     assert!(rt; tree.pinned_nodes() == [leaf(6); 60].as_slice());
+}
+
+/// Appends a leaf to `tree`, which gets the digest `digest` then.
+fn append_and_update(rt: &impl Abort, tree: &mut Mem<mmb::Family, Digest>, digest: Digest) {
+    assert!(rt; tree.leaves().as_u64() < 1000);
+    let updates = [(tree.leaves(), digest)];
+    let grown = append::<mmb::Family, Sha256>(tree, HEIGHT, leaf(9), &updates);
+    done(rt, &grown);
 }
 
 #[test]
@@ -173,11 +165,7 @@ fn chunks_appended(rt: HostRuntime) {
     let [first, second, four] = nodes_over_chunks();
     let mut tree = Mem::new(rt.alloc());
     for byte in [1, 2, 3, 4, 5] {
-        assert!(rt; tree.leaves().as_u64() < 1000);
-        let updates = [(tree.leaves(), leaf(byte))];
-        if let Err(refusal) = append::<mmb::Family, Sha256>(&mut tree, HEIGHT, leaf(9), &updates) {
-            refused(&rt, &refusal);
-        }
+        append_and_update(&rt, &mut tree, leaf(byte));
     }
     assert!(rt; tree.get_node(Position::new(2)) == Some(first));
     assert!(rt; tree.get_node(Position::new(5)) == Some(second));

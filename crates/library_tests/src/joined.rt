@@ -16,11 +16,14 @@ ghost use Rattle.storage_current.specs.Snapshots.{Holds, IsServed, IsSnapshot, S
 ghost use Rattle.library_tests.specs.Joined.{AreOtherParts};
 
 use crate::grafted::{HEIGHT, append};
-use crate::stops::{out_of_memory, refused};
+use crate::snapshots::{
+    FLOOR, node_at, operations, ops_root_of, range_proof, root_of, snapshot_of, tree_over,
+};
+use crate::stops::{done, some, there};
 use std::alloc::Global;
 use std::ops::Range;
 use std::process::Abort;
-use storage_bitmap::bitmap::{self, Prunable, Readable as _};
+use storage_bitmap::bitmap::{self, Prunable};
 use storage_codec::codec::FixedBytes;
 use storage_codec::digest::{Hasher, Sha256};
 use storage_current::laws::combined::{
@@ -33,10 +36,8 @@ use storage_current::laws::grafted_trees::{
 use storage_current::qmdb::current::grafting::{self, GraftedTree};
 use storage_current::qmdb::current::proof::{RangeProof, RangeProofSpec};
 use storage_current::qmdb::current::{self, Contiguous};
-use storage_merkle::merkle::hasher::Standard;
 use storage_merkle::merkle::{
-    self, Bagging, Graftable, Location, MAX_LEAVES, Mem, Position, RangePlan, Readable,
-    Storage as _, mmr,
+    self, Graftable, Location, Mem, Position, Readable, Storage as _, mmr,
 };
 
 type Digest = FixedBytes<32>;
@@ -483,38 +484,6 @@ fn any_planned_node_from<
     both.get_node(position)
 }
 
-/// The inactivity floor of the snapshot that is tried.
-const FLOOR: u64 = 17;
-
-/// Returns the operations of the snapshot that is tried: three complete chunks of them, and three more.
-fn operations() -> [[u8; 1]; 27] {
-    [
-        0, 1, 2, 3, 4, 5, 6, 7, 8, 9, 10, 11, 12, 13, 14, 15, 16, 17, 18, 19, 20, 21, 22, 23, 24,
-        25, 26,
-    ]
-    .map(|byte| [byte])
-}
-
-/// Returns the snapshot of `operations`, of which every third is active.
-fn snapshot_of(
-    rt: &impl Abort,
-    alloc: Global,
-    operations: &[[u8; 1]],
-) -> current::Snapshot<mmr::Family, Sha256, 1> {
-    let mut bits = Prunable::new(alloc);
-    for _ in operations {
-        assert!(rt; bits.len() < MAX_LEAVES);
-        let bit = bits.len() % 3 == 0;
-        if bits.push(bit).is_err() {
-            out_of_memory(rt);
-        }
-    }
-    match current::Snapshot::new(alloc, operations, bits, Location::new(FLOOR)) {
-        Ok(snapshot) => snapshot,
-        Err(refusal) => refused(rt, &refusal),
-    }
-}
-
 /// Returns the tree in memory over the chunks of `snapshot` that are grafted at `positions`.
 fn tree_over_chunks(
     rt: &impl Abort,
@@ -524,27 +493,50 @@ fn tree_over_chunks(
 ) -> Mem<mmr::Family, Digest> {
     let mut tree = Mem::new(alloc);
     for position in positions {
-        let Some(digest) = snapshot.get_node(Position::new(*position)) else {
-            panic!(rt; "no node")
-        };
+        let digest = node_at(rt, snapshot, *position);
         assert!(rt; tree.leaves().as_u64() < 1000);
-        if let Err(refusal) = append::<mmr::Family, Sha256>(&mut tree, HEIGHT, digest, &[]) {
-            refused(rt, &refusal);
-        }
+        let grown = append::<mmr::Family, Sha256>(&mut tree, HEIGHT, digest, &[]);
+        done(rt, &grown);
     }
     tree
 }
 
-/// Returns the tree in memory over `operations`.
-fn tree_over(rt: &impl Abort, alloc: Global, operations: &[[u8; 1]]) -> Mem<mmr::Family, Digest> {
-    let hasher = Standard::<Sha256>::new(Bagging::BackwardFold);
-    let mut tree = Mem::new(alloc);
-    for operation in operations {
-        if let Err(refusal) = tree.add(&hasher, operation) {
-            refused(rt, &refusal);
-        }
-    }
-    tree
+/// Returns the proof of the operations at the locations of `range` from `chunks` and `tree`.
+fn proof_from_trees(
+    rt: &impl Abort,
+    alloc: Global,
+    snapshot: &current::Snapshot<mmr::Family, Sha256, 1>,
+    chunks: &Mem<mmr::Family, Digest>,
+    tree: &mut Mem<mmr::Family, Digest>,
+    range: Range<Location<mmr::Family>>,
+) -> RangeProof<mmr::Family, Digest> {
+    let served = proof_from_memory::<mmr::Family, Sha256, _, Prunable<1>, 1>(
+        alloc,
+        snapshot.status(),
+        chunks,
+        tree,
+        Location::new(FLOOR),
+        range,
+        ops_root_of(snapshot),
+    );
+    there(rt, served, "error: Memory")
+}
+
+/// Returns whether a client accepts that `proof` is of `operations`, from the location `start` on, with `bits`, the chunks that it
+/// touches.
+fn is_accepted(
+    rt: &impl Abort,
+    alloc: Global,
+    proof: &RangeProof<mmr::Family, Digest>,
+    start: Location<mmr::Family>,
+    operations: &[[u8; 1]],
+    bits: &[[u8; 1]],
+    root: Digest,
+) -> bool {
+    let checked = proof.verify_encoded::<Sha256, [u8; 1], [u8; 1]>(
+        alloc, start, operations, bits, 1, &root,
+    );
+    some(rt, checked)
 }
 
 /// Asserts that the proof of `operations`, from the location `start` on, is the same from `chunks` and `tree` as from `snapshot`, and
@@ -559,81 +551,54 @@ fn assert_proof(
     operations: &[[u8; 1]],
     bits: &[[u8; 1]],
 ) {
-    let (status, ops_root) = (snapshot.status(), snapshot.ops_root());
-    let floor = Location::new(FLOOR);
     let end = Location::new(start.saturating_add(operations.len() as u64));
     let start = Location::new(start);
-    let plan = match RangePlan::new(alloc, tree.leaves(), start..end) {
-        Ok(plan) => plan,
-        Err(refusal) => refused(rt, &refusal),
-    };
-    let own = match RangeProof::build::<Sha256, Prunable<1>, _, 1>(
-        alloc,
-        status,
-        plan,
-        |position| snapshot.get_node(position),
-        floor,
-        ops_root,
-    ) {
-        Ok(own) => own,
-        Err(refusal) => refused(rt, &refusal),
-    };
-    let Some(proof) = proof_from_memory::<mmr::Family, Sha256, _, Prunable<1>, 1>(
-        alloc,
-        status,
-        chunks,
-        tree,
-        floor,
-        start..end,
-        ops_root,
-    ) else {
-        out_of_memory(rt)
-    };
+    let own = range_proof(rt, alloc, snapshot, start..end);
+    let proof = proof_from_trees(rt, alloc, snapshot, chunks, tree, start..end);
     assert!(rt; proof == own);
-    let root = snapshot.root();
-    let Ok(yes) = proof.verify_encoded::<Sha256, [u8; 1], [u8; 1]>(
-        alloc, start, operations, bits, 1, &root,
-    ) else {
-        out_of_memory(rt)
-    };
-    assert!(rt; yes);
+    assert!(rt;
+        is_accepted(
+            rt,
+            alloc,
+            &proof,
+            start,
+            operations,
+            bits,
+            root_of(snapshot)
+        )
+    );
+}
+
+/// Three ranges of the operations, and the chunks that each touches.
+const RANGES: [(usize, usize, &[[u8; 1]]); 3] = [
+    (0, 1, &[[0x49]]),
+    (17, 20, &[[0x24]]),
+    (5, 26, &[[0x49], [0x92], [0x24], [0x01]]),
+];
+
+/// Asserts the same of each of these ranges.
+fn assert_proofs(
+    rt: &impl Abort,
+    alloc: Global,
+    snapshot: &current::Snapshot<mmr::Family, Sha256, 1>,
+    chunks: &Mem<mmr::Family, Digest>,
+    tree: &mut Mem<mmr::Family, Digest>,
+) {
+    let operations = operations();
+    for (start, end, bits) in RANGES {
+        let range = there(rt, operations.get(start..end), "too few operations");
+        assert_proof(rt, alloc, snapshot, chunks, tree, start as u64, range, bits);
+    }
 }
 
 // the positions of the nodes over eight operations, and the bits of each chunk, are worked by hand
 #[test]
 fn proofs_of_a_snapshot(rt: HostRuntime) {
-    let operations = operations();
-    let snapshot = snapshot_of(&rt, rt.alloc(), &operations);
+    let snapshot = snapshot_of::<mmr::Family>(&rt, rt.alloc(), 3);
     let chunks = tree_over_chunks(&rt, rt.alloc(), &snapshot, &[14, 29, 45]);
-    let mut tree = tree_over(&rt, rt.alloc(), &operations);
-    assert_proof(
-        &rt,
-        rt.alloc(),
-        &snapshot,
-        &chunks,
-        &mut tree,
-        0,
-        &operations[..1],
-        &[[0x49]],
-    );
-    assert_proof(
-        &rt,
-        rt.alloc(),
-        &snapshot,
-        &chunks,
-        &mut tree,
-        17,
-        &operations[17..20],
-        &[[0x24]],
-    );
-    assert_proof(
-        &rt,
-        rt.alloc(),
-        &snapshot,
-        &chunks,
-        &mut tree,
-        5,
-        &operations[5..26],
-        &[[0x49], [0x92], [0x24], [0x01]],
-    );
+    let mut tree = tree_over(&rt, rt.alloc(), &operations());
+    assert_proofs(&rt, rt.alloc(), &snapshot, &chunks, &mut tree);
+    drop(snapshot);
+    drop(chunks);
+    drop(tree);
 }

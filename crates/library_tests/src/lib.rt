@@ -11,6 +11,8 @@ mod compacted;
 #[cfg(test)]
 mod database;
 #[cfg(test)]
+mod database_calls;
+#[cfg(test)]
 mod db_ranges;
 #[cfg(test)]
 mod definitions;
@@ -29,10 +31,18 @@ mod pruned_snapshots;
 #[cfg(test)]
 mod refused;
 #[cfg(test)]
+mod small;
+#[cfg(test)]
+mod snapshots;
+#[cfg(test)]
 mod stops;
+#[cfg(test)]
+mod sync_calls;
 #[cfg(test)]
 mod sync_copies;
 #[cfg(test)]
 mod sync_keyed;
+#[cfg(test)]
+mod sync_opened;
 #[cfg(test)]
 mod sync_served;

@@ -1,135 +1,127 @@
 //! Databases that are opened again from their operations, and lists that are refused.
 
-use crate::database::next_number;
-use crate::stops::{out_of_memory, refused};
+use crate::database::{ByNumber, next_number, tell_alike};
+use crate::database_calls::open;
+use crate::small::{Database, commit, delete, empty, get, log, put, two_commits};
+use crate::stops::{self, some, there};
 use std::alloc::Global;
 use std::process::Abort;
-use storage_codec::codec::FixedBytes;
-use storage_codec::digest::Sha256;
-use storage_db::db::{Error, OpenError, Ordered};
-use storage_merkle::merkle::{Family, Graftable, Location, mmb, mmr};
-use storage_ops::qmdb::any::FixedEncoding;
-
-pub type Key = FixedBytes<1>;
-
-pub type Database<F> = Ordered<F, Sha256, Key, FixedEncoding<u64>, 1>;
-
-/// Returns the key of one byte.
-pub fn key(byte: u8) -> Key {
-    FixedBytes { bytes: [byte] }
-}
-
-/// Returns what a database answers, where it refuses nothing.
-pub fn done<T: Drop, F: Family>(rt: &impl Abort, answer: Result<T, Error<F>>) -> T {
-    match answer {
-        Ok(answer) => answer,
-        Err(Error::Memory) => out_of_memory(rt),
-        Err(error) => refused(rt, &error),
-    }
-}
-
-/// Returns a database of two commits:
-///
-/// ```text
-/// put 8 80   0  update 8 -> 80, next 8        commit       7  commit, floor 2
-/// put 2 20   1  update 2 -> 20, next 8        delete 6     8  delete 6
-///            2  update 8 -> 80, next 2                     9  update 4 -> 40, next 8
-/// put 6 60   3  update 6 -> 60, next 8        put 5 50    10  update 5 -> 50, next 8
-///            4  update 2 -> 20, next 6                    11  update 4 -> 40, next 5
-/// put 4 40   5  update 4 -> 40, next 6        commit      12  commit, floor 2
-///            6  update 2 -> 20, next 4
-/// ```
-pub fn two_commits<F: Graftable>(rt: &impl Abort, alloc: Global) -> Database<F> {
-    let mut database = Ordered::new(alloc);
-    for byte in [8, 2, 6, 4] {
-        done(rt, database.put(key(byte), u64::from(byte) * 10));
-    }
-    done(rt, database.commit(None));
-    done(rt, database.delete(&key(6)));
-    done(rt, database.put(key(5), 50));
-    done(rt, database.commit(Some(3)));
-    database
-}
+use storage_db::db::OpenError;
+use storage_merkle::merkle::{Graftable, Location, mmb, mmr};
 
 /// Returns copies of `operations`.
 pub fn copies(rt: &impl Abort, alloc: Global, operations: &[Vec<u8>]) -> Vec<Vec<u8>> {
     let mut all = Vec::new(alloc);
     for operation in operations {
-        let Ok(copy) = operation.clone() else {
-            out_of_memory(rt)
-        };
-        if all.push(copy).is_err() {
-            out_of_memory(rt)
-        }
+        let copy = some(rt, operation.clone());
+        some(rt, all.push(copy));
     }
     all
 }
 
+/// Returns copies of the operations of a database of two commits.
+fn of_two_commits<F: Graftable>(rt: &impl Abort, alloc: Global) -> Vec<Vec<u8>> {
+    let database = two_commits::<F>(rt, alloc);
+    let operations = copies(rt, alloc, log(&database));
+    drop(database);
+    operations
+}
+
+/// Returns copies of the first `count` of `operations`.
+pub fn first_of(
+    rt: &impl Abort,
+    alloc: Global,
+    operations: &[Vec<u8>],
+    count: usize,
+) -> Vec<Vec<u8>> {
+    let first = operations.get(..count);
+    copies(rt, alloc, there(rt, first, "too few operations"))
+}
+
 /// Returns the database of `operations`.
 fn opened<F: Graftable>(rt: &impl Abort, alloc: Global, operations: Vec<Vec<u8>>) -> Database<F> {
-    match Database::open(alloc, operations, &()) {
-        Ok(database) => database,
-        Err(OpenError::Memory) => out_of_memory(rt),
-        Err(error) => refused(rt, &error),
-    }
+    some(rt, open(alloc, operations, &()))
+}
+
+/// Returns `database`, opened again from copies of its operations.
+fn reopened<F: Graftable>(rt: &impl Abort, alloc: Global, database: &Database<F>) -> Database<F> {
+    opened(rt, alloc, copies(rt, alloc, log(database)))
 }
 
 /// Asserts that `operations` are refused as no log at `place`.
 fn is_refused<F: Graftable>(rt: &impl Abort, alloc: Global, operations: Vec<Vec<u8>>, place: u64) {
-    match Database::<F>::open(alloc, operations, &()) {
-        Ok(_) => panic!(rt; "opened"),
-        Err(OpenError::Memory) => out_of_memory(rt),
-        Err(error) => assert!(rt; error == OpenError::NotALog(Location::new(place))),
-    }
+    let why = OpenError::NotALog(Location::new(place));
+    let opened: Result<Database<F>, OpenError<F>> = open(alloc, operations, &());
+    stops::is_refused(rt, &opened, &why);
+    drop(opened);
 }
 
-/// Asserts that two databases tell the same of now and of the last commit.
-pub fn tell_alike<F: Graftable>(rt: &impl Abort, one: &Database<F>, other: &Database<F>) {
-    assert!(rt; one.operations() == other.operations());
-    assert!(rt; one.root() == other.root());
-    assert!(rt; one.floor() == other.floor());
-    assert!(rt; one.metadata().copied() == other.metadata().copied());
-    assert!(rt; one.len() == other.len());
-    for byte in 0..16u8 {
-        assert!(rt; one.get(&key(byte)).copied() == other.get(&key(byte)).copied());
-        let committed = one.get_committed(&key(byte)).copied();
-        assert!(rt; committed == other.get_committed(&key(byte)).copied());
-    }
+/// Asserts that two databases have the same operations, and tell the same of now and of the last commit.
+pub fn are_alike<F: Graftable>(
+    rt: &impl Abort,
+    alloc: Global,
+    one: &Database<F>,
+    other: &Database<F>,
+) {
+    assert!(rt; log(one) == log(other));
+    tell_alike(rt, alloc, one, other);
 }
 
 /// Changes a database after its second commit, and commits.
 fn go_on<F: Graftable>(rt: &impl Abort, database: &mut Database<F>) {
-    done(rt, database.put(key(7), 70));
-    done(rt, database.delete(&key(8)));
-    done(rt, database.commit(None));
+    put(rt, database, 7, 70);
+    assert!(rt; delete(rt, database, 8));
+    commit(rt, database, None);
 }
 
 /// Asserts that a database is opened again as it was, and goes on as it would have.
 fn again<F: Graftable>(rt: &impl Abort, alloc: Global) {
     let mut one = two_commits::<F>(rt, alloc);
-    let operations = copies(rt, alloc, one.operations());
-    let mut other = opened::<F>(rt, alloc, operations);
-    tell_alike(rt, &one, &other);
-    go_on(rt, &mut one);
-    go_on(rt, &mut other);
-    tell_alike(rt, &one, &other);
+    let mut other = reopened(rt, alloc, &one);
+    are_alike(rt, alloc, &one, &other);
+    go_on_alike(rt, alloc, &mut one, &mut other);
+    drop(one);
+    drop(other);
+}
+
+/// Changes two databases, and asserts that they tell the same then.
+fn go_on_alike<F: Graftable>(
+    rt: &impl Abort,
+    alloc: Global,
+    one: &mut Database<F>,
+    other: &mut Database<F>,
+) {
+    go_on(rt, one);
+    go_on(rt, other);
+    are_alike(rt, alloc, one, other);
 }
 
 /// Asserts that the first operations are opened up to a commit, and are refused elsewhere at their end.
 fn up_to_a_commit<F: Graftable>(rt: &impl Abort, alloc: Global) {
-    let database = two_commits::<F>(rt, alloc);
+    let operations = of_two_commits::<F>(rt, alloc);
     for count in 1..13usize {
-        let Some(first) = database.operations().get(..count) else {
-            panic!(rt; "too few operations");
-        };
-        let operations = copies(rt, alloc, first);
+        let first = first_of(rt, alloc, &operations, count);
         if count == 8 {
-            let first = opened::<F>(rt, alloc, operations);
-            assert!(rt; first.get(&key(6)).copied() == Some(60));
+            has_six::<F>(rt, alloc, first);
         } else {
-            is_refused::<F>(rt, alloc, operations, count as u64);
+            is_refused::<F>(rt, alloc, first, count as u64);
         }
     }
+}
+
+/// Asserts that in the database of `operations` the key 6 has a value.
+fn has_six<F: Graftable>(rt: &impl Abort, alloc: Global, operations: Vec<Vec<u8>>) {
+    let database = opened::<F>(rt, alloc, operations);
+    assert!(rt; get(&database, 6) == Some(60));
+    drop(database);
+}
+
+/// Sets the byte `index` of the operation at `at`, which is another, to `byte`.
+fn set(rt: &impl Abort, operations: &mut [Vec<u8>], at: usize, index: usize, byte: u8) {
+    let operation = there(rt, operations.get_mut(at), "no operation");
+    let old = there(rt, operation.get_mut(index), "no byte");
+    assert!(rt; *old != byte);
+    *old = byte;
 }
 
 /// Asserts that the operations are refused at `place` once the byte `index` of the one at `at` is `byte`.
@@ -141,18 +133,8 @@ fn changed<F: Graftable>(
     byte: u8,
     place: u64,
 ) {
-    let database = two_commits::<F>(rt, alloc);
-    let mut operations = copies(rt, alloc, database.operations());
-    match operations.get_mut(at) {
-        Some(operation) => match operation.get_mut(index) {
-            Some(old) => {
-                assert!(rt; *old != byte);
-                *old = byte;
-            }
-            None => panic!(rt; "no byte"),
-        },
-        None => panic!(rt; "no operation"),
-    }
+    let mut operations = of_two_commits::<F>(rt, alloc);
+    set(rt, &mut operations, at, index, byte);
     is_refused::<F>(rt, alloc, operations, place);
 }
 
@@ -170,42 +152,66 @@ fn one_byte<F: Graftable>(rt: &impl Abort, alloc: Global) {
 
 /// Asserts that operations out of their order are refused, and ones with a byte more or less.
 fn order_and_length<F: Graftable>(rt: &impl Abort, alloc: Global) {
-    let database = two_commits::<F>(rt, alloc);
-    let mut swapped = copies(rt, alloc, database.operations());
+    let operations = of_two_commits::<F>(rt, alloc);
+    is_refused::<F>(rt, alloc, swapped(rt, alloc, &operations), 1);
+    is_refused::<F>(rt, alloc, longer(rt, alloc, &operations), 12);
+    is_refused::<F>(rt, alloc, shorter(rt, alloc, &operations), 5);
+}
+
+/// Returns `operations`, of which the second and the third are swapped.
+fn swapped(rt: &impl Abort, alloc: Global, operations: &[Vec<u8>]) -> Vec<Vec<u8>> {
+    let mut swapped = copies(rt, alloc, operations);
     assert!(rt; swapped.len() == 13);
     swapped.swap(1, 2);
-    is_refused::<F>(rt, alloc, swapped, 1);
-    let mut longer = copies(rt, alloc, database.operations());
+    swapped
+}
+
+/// Returns `operations`, the last one with a byte more.
+fn longer(rt: &impl Abort, alloc: Global, operations: &[Vec<u8>]) -> Vec<Vec<u8>> {
+    let mut longer = copies(rt, alloc, operations);
     assert!(rt; longer.len() == 13);
-    if longer[12].push(0).is_err() {
-        out_of_memory(rt)
-    }
-    is_refused::<F>(rt, alloc, longer, 12);
-    let mut shorter = copies(rt, alloc, database.operations());
+    some(rt, longer[12].push(0));
+    longer
+}
+
+/// Returns `operations`, the sixth one with a byte less.
+fn shorter(rt: &impl Abort, alloc: Global, operations: &[Vec<u8>]) -> Vec<Vec<u8>> {
+    let mut shorter = copies(rt, alloc, operations);
     assert!(rt; shorter.len() == 13);
     assert!(rt; shorter[5].pop().is_some());
-    is_refused::<F>(rt, alloc, shorter, 5);
+    shorter
 }
 
 /// Asserts that a database of many commands is opened again as it was.
 fn many<F: Graftable>(rt: &impl Abort, alloc: Global) {
-    let mut one = Database::<F>::new(alloc);
+    let mut one = empty::<F>(alloc);
+    do_many(rt, &mut one);
+    let other = reopened(rt, alloc, &one);
+    are_alike(rt, alloc, &one, &other);
+    drop(one);
+    drop(other);
+}
+
+/// Gives `database` 400 commands and commits.
+fn do_many<F: Graftable>(rt: &impl Abort, database: &mut Database<F>) {
     let mut draw = 61;
     for _ in 0..400u64 {
         draw = next_number(draw);
-        let [first, second, ..] = draw.to_be_bytes();
-        match second % 16 {
-            0 => done(rt, one.commit(Some(draw))),
-            1..6 => {
-                done(rt, one.delete(&key(first % 16)));
-            }
-            _ => done(rt, one.put(key(first % 16), draw)),
-        }
+        step(rt, database, draw);
     }
-    done(rt, one.commit(None));
-    let operations = copies(rt, alloc, one.operations());
-    let other = opened::<F>(rt, alloc, operations);
-    tell_alike(rt, &one, &other);
+    commit(rt, database, None);
+}
+
+/// Does what the number `draw` says with one of sixteen keys.
+fn step<F: Graftable>(rt: &impl Abort, database: &mut Database<F>, draw: u64) {
+    let [first, second, ..] = draw.to_be_bytes();
+    match second % 16 {
+        0 => commit(rt, database, Some(draw)),
+        1..6 => {
+            delete(rt, database, first % 16);
+        }
+        _ => put(rt, database, first % 16, draw),
+    }
 }
 
 #[test]
@@ -240,6 +246,7 @@ fn opened_after_many_commands(rt: HostRuntime) {
 #[test]
 fn opened_empty(rt: HostRuntime) {
     let database = opened::<mmr::Family>(&rt, rt.alloc(), Vec::new(rt.alloc()));
-    assert!(&rt; database.root().is_none());
-    assert!(&rt; database.operations().is_empty());
+    assert!(rt; database.last_root().is_none());
+    assert!(rt; log(&database).is_empty());
+    drop(database);
 }

@@ -5,7 +5,7 @@
 ghost use Rattle.std.specs.Prelude.{◌+◌, ◌≤◌};
 ghost use Rattle.storage_merkle.specs.Shape.{max_leaves};
 
-use crate::stops::{out_of_memory, refused};
+use crate::stops::{done, out_of_memory, some};
 use std::alloc::Global;
 use std::process::Abort;
 use storage_bitmap::bitmap::authenticated::{
@@ -30,8 +30,8 @@ fn push_made_again(rt: HostRuntime) {
     for byte in last {
         assert!(rt; bits.len() < MAX_LEAVES);
         let bit = bits.len() % 3 == 0;
-        if bits.push(bit).is_err() && bits.push(bit).is_err() {
-            out_of_memory(&rt);
+        if bits.push(bit).is_err() {
+            some(&rt, bits.push(bit));
         }
         assert!(rt; bits.last_chunk() == Some(&[byte]));
     }
@@ -55,8 +55,8 @@ fn append_made_again(rt: HostRuntime) {
     for (part, last) in parts {
         assert!(rt; bits.len() <= 8);
         assert!(rt; part.len() <= 10);
-        if bits.append(part).is_err() && bits.append(part).is_err() {
-            out_of_memory(&rt);
+        if bits.append(part).is_err() {
+            some(&rt, bits.append(part));
         }
         assert!(rt; bits.last_chunk() == Some(&[last]));
     }
@@ -68,11 +68,8 @@ fn push_all(rt: &impl Abort, bitmap: &mut UnmerkleizedBitMap<Digest, 1>, digits:
     for digit in digits {
         let bit = *digit == b'1';
         assert!(rt; bitmap.len() < MAX_LEAVES);
-        if bitmap.push(bit).is_ok() {
-            continue;
-        }
-        if let Err(refusal) = bitmap.push(bit) {
-            refused(rt, &refusal);
+        if bitmap.push(bit).is_err() {
+            done(rt, &bitmap.push(bit));
         }
     }
 }
@@ -80,11 +77,8 @@ fn push_all(rt: &impl Abort, bitmap: &mut UnmerkleizedBitMap<Digest, 1>, digits:
 /// Sets the bit number `bit` of `bitmap` to `value`.
 fn set(rt: &impl Abort, bitmap: &mut UnmerkleizedBitMap<Digest, 1>, bit: u64, value: bool) {
     assert!(rt; bitmap.pruned_bits() <= bit && bit < bitmap.len());
-    if bitmap.set_bit(bit, value).is_ok() {
-        return;
-    }
-    if let Err(refusal) = bitmap.set_bit(bit, value) {
-        refused(rt, &refusal);
+    if bitmap.set_bit(bit, value).is_err() {
+        done(rt, &bitmap.set_bit(bit, value));
     }
 }
 
@@ -102,10 +96,7 @@ fn grown(
     for (bit, value) in changes {
         set(rt, &mut bitmap, *bit, *value);
     }
-    match bitmap.merkleize(hasher) {
-        Ok(bitmap) => bitmap,
-        Err(refusal) => refused(rt, &refusal),
-    }
+    some(rt, bitmap.merkleize(hasher))
 }
 
 /// Returns a bitmap of 31 bits, of which some were changed.
@@ -118,10 +109,7 @@ fn thirty_one_bits(
         pruned_chunks: 0,
         pinned: Vec::new(alloc),
     };
-    let bitmap = match BitMap::init(alloc, hasher, none) {
-        Ok(bitmap) => bitmap,
-        Err(refusal) => refused(rt, &refusal),
-    };
+    let bitmap = some(rt, BitMap::init(alloc, hasher, none));
     let bitmap = grown(rt, bitmap, hasher, b"0100000001", &[]);
     let bitmap = grown(rt, bitmap, hasher, b"011011", &[(11, true), (14, false)]);
     grown(rt, bitmap, hasher, b"010111100000011", &[(12, false)])
@@ -130,11 +118,8 @@ fn thirty_one_bits(
 /// Forgets the chunks of `bitmap` below that of the bit number `bit`.
 fn prune(rt: &impl Abort, bitmap: &mut MerkleizedBitMap<Digest, 1>, bit: u64) {
     assert!(rt; bit <= bitmap.len());
-    if bitmap.prune_to_bit(bit).is_ok() {
-        return;
-    }
-    if let Err(refusal) = bitmap.prune_to_bit(bit) {
-        refused(rt, &refusal);
+    if bitmap.prune_to_bit(bit).is_err() {
+        done(rt, &bitmap.prune_to_bit(bit));
     }
 }
 
@@ -156,6 +141,7 @@ fn bitmap_calls_made_again(rt: HostRuntime) {
     assert!(rt; bitmap.size().as_u64() == 4);
     assert!(rt; bitmap.last_chunk() == (&[0x60], 7));
     assert!(rt; bitmap.root() == root);
+    drop(bitmap);
 }
 
 /// Appends the leaf of `element` to `tree`.
@@ -165,11 +151,8 @@ fn add(
     hasher: &Standard<Sha256>,
     element: &[u8],
 ) {
-    if tree.add(hasher, element).is_ok() {
-        return;
-    }
-    if let Err(refusal) = tree.add(hasher, element) {
-        refused(rt, &refusal);
+    if tree.add(hasher, element).is_err() {
+        done(rt, &tree.add(hasher, element));
     }
 }
 
@@ -180,21 +163,15 @@ fn update(
     hasher: &Standard<Sha256>,
     updates: &[(Location<mmb::Family>, Digest)],
 ) {
-    if tree.update_leaves(hasher, updates).is_ok() {
-        return;
-    }
-    if let Err(refusal) = tree.update_leaves(hasher, updates) {
-        refused(rt, &refusal);
+    if tree.update_leaves(hasher, updates).is_err() {
+        done(rt, &tree.update_leaves(hasher, updates));
     }
 }
 
 /// Forgets the leaves of `tree` below `location`.
 fn forget(rt: &impl Abort, tree: &mut Mem<mmb::Family, Digest>, location: u64) {
-    if tree.prune(Location::new(location)).is_ok() {
-        return;
-    }
-    if let Err(refusal) = tree.prune(Location::new(location)) {
-        refused(rt, &refusal);
+    if tree.prune(Location::new(location)).is_err() {
+        done(rt, &tree.prune(Location::new(location)));
     }
 }
 
@@ -221,25 +198,61 @@ fn append_two(
     }
 }
 
+/// The elements of a tree.
+const ELEMENTS: [&[u8]; 14] = [
+    &[0x8e, 0x1c, 0x71],
+    &[0xf1, 0x21],
+    &[0x7d, 0x7c],
+    &[0x79],
+    &[0xe1],
+    &[],
+    &[0xc3, 0xbd],
+    &[0x2f, 0xdb, 0xff],
+    &[0x81],
+    &[0xa3, 0x49],
+    &[],
+    &[0x8d, 0x6d],
+    &[],
+    &[],
+];
+
+/// Returns the tree over them whose first leaf gets the digest `leaf` then, and which has forgotten nine leaves.
+fn updated_tree(
+    rt: &impl Abort,
+    alloc: Global,
+    hasher: &Standard<Sha256>,
+    leaf: Digest,
+) -> Mem<mmb::Family, Digest> {
+    let mut tree = Mem::new(alloc);
+    for element in ELEMENTS {
+        add(rt, &mut tree, hasher, element);
+    }
+    update(rt, &mut tree, hasher, &[(Location::new(0), leaf)]);
+    assert!(rt; tree.get_node(Position::new(0)) == Some(leaf));
+    forget(rt, &mut tree, 9);
+    assert!(rt; tree.leaves() == Location::new(14));
+    assert!(rt; tree.get_node(Position::new(0)).is_none());
+    tree
+}
+
+/// Returns the tree over them whose first leaf is appended with the digest `leaf`, within the room for two.
+fn appended_tree(
+    rt: &impl Abort,
+    alloc: Global,
+    hasher: &Standard<Sha256>,
+    leaf: Digest,
+) -> Mem<mmb::Family, Digest> {
+    let mut tree = Mem::new(alloc);
+    append_two(rt, &mut tree, hasher, leaf, ELEMENTS[1]);
+    for element in &ELEMENTS[2..] {
+        add(rt, &mut tree, hasher, *element);
+    }
+    tree
+}
+
 // what is expected is from an independent program over the whole list of leaves
 #[test]
 fn tree_calls_made_again(rt: HostRuntime) {
-    let elements: [&[u8]; 14] = [
-        &[0x8e, 0x1c, 0x71],
-        &[0xf1, 0x21],
-        &[0x7d, 0x7c],
-        &[0x79],
-        &[0xe1],
-        &[],
-        &[0xc3, 0xbd],
-        &[0x2f, 0xdb, 0xff],
-        &[0x81],
-        &[0xa3, 0x49],
-        &[],
-        &[0x8d, 0x6d],
-        &[],
-        &[],
-    ];
     let leaf = FixedBytes {
         bytes: [
             0x76, 0xd2, 0x34, 0x9d, 0xf3, 0x55, 0x0b, 0x8d, 0x91, 0x5f, 0x81, 0xf9, 0x40, 0xc5,
@@ -255,23 +268,12 @@ fn tree_calls_made_again(rt: HostRuntime) {
         ],
     };
     let hasher = Standard::<Sha256>::new(Bagging::ForwardFold);
-    let mut tree = Mem::new(rt.alloc());
-    for element in elements {
-        add(&rt, &mut tree, &hasher, element);
-    }
-    update(&rt, &mut tree, &hasher, &[(Location::new(0), leaf)]);
-    assert!(rt; tree.get_node(Position::new(0)) == Some(leaf));
-    forget(&rt, &mut tree, 9);
-    assert!(rt; tree.leaves() == Location::new(14));
-    assert!(rt; tree.get_node(Position::new(0)).is_none());
+    let tree = updated_tree(&rt, rt.alloc(), &hasher, leaf);
     assert!(rt; tree.root(&hasher, 0) == Ok(root));
-
-    let mut other = Mem::new(rt.alloc());
-    append_two(&rt, &mut other, &hasher, leaf, elements[1]);
-    for element in &elements[2..] {
-        add(&rt, &mut other, &hasher, *element);
-    }
+    drop(tree);
+    let other = appended_tree(&rt, rt.alloc(), &hasher, leaf);
     assert!(rt; other.root(&hasher, 0) == Ok(root));
+    drop(other);
 }
 
 /// Writes `bytes` behind the seven in `written`.
@@ -281,9 +283,7 @@ fn write(rt: &impl Abort, bytes: &Vec<u8>, written: &mut Vec<u8>, whole: &[u8]) 
     }
     assert!(rt; !written.is_empty() && whole.starts_with(written));
     written.truncate(1);
-    if bytes.write(written).is_err() {
-        out_of_memory(rt);
-    }
+    some(rt, bytes.write(written));
 }
 
 #[test]
@@ -291,12 +291,8 @@ fn write_made_again(rt: HostRuntime) {
     let mut whole = [9; 42];
     whole[0] = 7;
     whole[1] = 40;
-    let Ok(bytes) = vec![in rt.alloc(); 9u8; 40] else {
-        out_of_memory(&rt)
-    };
-    let Ok(mut written) = vec![in rt.alloc(); 7u8] else {
-        out_of_memory(&rt)
-    };
+    let bytes = some(&rt, vec![in rt.alloc(); 9u8; 40]);
+    let mut written = some(&rt, vec![in rt.alloc(); 7u8]);
     write(&rt, &bytes, &mut written, &whole);
     assert!(rt; written.as_slice() == whole.as_slice());
 }

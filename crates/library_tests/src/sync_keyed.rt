@@ -1,16 +1,17 @@
 //! A keyed database from strangers: a copy of one is taken page by page, and opened by the root alone.
 
-use crate::opened::{Database, copies, done, tell_alike, two_commits};
-use crate::stops::{out_of_memory, refused};
-use crate::sync_copies::some;
+use crate::database_calls::{open_trusted, page};
+use crate::opened::{are_alike, copies, first_of};
+use crate::small::{Database, Digest, log, root, two_commits};
+use crate::stops::{self, some, there};
+use crate::sync_calls::{begin, finish, take, wanted};
 use bytes::Bytes;
 use std::alloc::Global;
 use std::process::Abort;
 use storage_codec::codec::Encode;
-use storage_codec::digest::{DigestOf, Sha256};
 use storage_db::db::{OpenError, TrustError};
 use storage_merkle::merkle::{Graftable, Location, mmb, mmr};
-use storage_sync::sync::{Limits, Page, Request, Sync};
+use storage_sync::sync::{Limits, Page, Request};
 
 /// One chunk a page.
 const LIMITS: Limits = Limits {
@@ -18,6 +19,16 @@ const LIMITS: Limits = Limits {
     max_operation_len: 18,
     max_digests: 16,
 };
+
+/// Returns copies of `chunks`.
+fn shared(rt: &impl Abort, alloc: Global, chunks: &[[u8; 1]]) -> Vec<Bytes> {
+    let mut all = Vec::new(alloc);
+    for chunk in chunks {
+        let copy = some(rt, Bytes::copy_from_slice(alloc, chunk.as_slice()));
+        some(rt, all.push(copy));
+    }
+    all
+}
 
 /// Returns the page of the log of `database` that answers `request`, as it is written.
 fn page_of<F: Graftable>(
@@ -27,20 +38,14 @@ fn page_of<F: Graftable>(
     request: Request<F>,
 ) -> Vec<u8> {
     assert!(rt; request.max_ops > 0);
-    let answer = database.range_proof(request.start_loc, request.max_ops);
-    let (proof, operations, touched) = done(rt, answer);
-    let operations = copies(rt, alloc, operations);
-    let mut chunks = Vec::new(alloc);
-    for chunk in &touched {
-        let chunk = some(rt, Bytes::copy_from_slice(alloc, chunk.as_slice()));
-        some(rt, chunks.push(chunk));
-    }
-    let page = Page {
+    let answer = page(database, request.start_loc, request.max_ops);
+    let (proof, operations, touched) = some(rt, answer);
+    let message = Page {
         proof,
-        operations,
-        chunks,
+        operations: copies(rt, alloc, operations),
+        chunks: shared(rt, alloc, &touched),
     };
-    some(rt, page.encode(alloc))
+    some(rt, message.encode(alloc))
 }
 
 /// Returns the operations of a copy of `database`, which has two chunks of them, by the root of its last commit.
@@ -48,22 +53,24 @@ fn copy_of<F: Graftable>(
     rt: &impl Abort,
     alloc: Global,
     database: &Database<F>,
-    root: DigestOf<Sha256>,
+    root: Digest,
 ) -> Vec<Vec<u8>> {
-    let Some(mut sync) = Sync::<F, Sha256, 1>::new(alloc, root, LIMITS) else {
-        panic!(rt; "the limits admit a chunk")
-    };
+    let mut sync = begin::<F, 1>(rt, alloc, root, LIMITS);
     for _ in 0..2 {
-        let Some(request) = sync.next() else {
-            panic!(rt; "nothing is wanted")
-        };
+        let request = there(rt, wanted(&sync), "nothing is wanted");
         let page = page_of(rt, alloc, database, request);
-        some(rt, sync.take(alloc, &page));
+        take(rt, alloc, &mut sync, &page);
     }
-    match sync.done() {
-        Ok(copy) => copy.operations,
-        Err(_) => panic!(rt; "not done"),
-    }
+    finish(rt, sync).operations
+}
+
+/// Opens the database of `operations` by the root of its last commit.
+fn opened<F: Graftable>(
+    alloc: Global,
+    operations: Vec<Vec<u8>>,
+    root: &Digest,
+) -> Result<Database<F>, TrustError<F>> {
+    open_trusted(alloc, operations, root, &())
 }
 
 /// Asserts that the first `count` operations are not opened by `root`, for the reason `why`.
@@ -72,43 +79,37 @@ fn is_refused<F: Graftable>(
     alloc: Global,
     database: &Database<F>,
     count: usize,
-    root: &DigestOf<Sha256>,
+    root: &Digest,
     why: TrustError<F>,
 ) {
-    let Some(first) = database.operations().get(..count) else {
-        panic!(rt; "too few operations")
-    };
-    match Database::<F>::open_trusted(alloc, copies(rt, alloc, first), root, &()) {
-        Ok(_) => panic!(rt; "opened"),
-        Err(TrustError::Open(OpenError::Memory)) => out_of_memory(rt),
-        Err(error) => assert!(rt; error == why),
-    }
+    let first = first_of(rt, alloc, log(database), count);
+    stops::is_refused(rt, &opened(alloc, first, root), &why);
 }
 
 /// Opens the copy of a database by its root, and asserts that both tell the same; that fewer operations are not opened by
 /// that root, those up to the first commit because of their root.
 fn opened_by_root<F: Graftable>(rt: &impl Abort, alloc: Global) {
     let database = two_commits::<F>(rt, alloc);
-    let Some(root) = database.root() else {
-        panic!(rt; "nothing is committed")
-    };
+    let root = root(rt, &database);
     let operations = copy_of(rt, alloc, &database, root);
-    match Database::<F>::open_trusted(alloc, operations, &root, &()) {
-        Ok(opened) => tell_alike(rt, &database, &opened),
-        Err(TrustError::Open(OpenError::Memory)) => out_of_memory(rt),
-        Err(error) => refused(rt, &error),
-    }
-    is_refused(rt, alloc, &database, 0, &root, TrustError::OtherRoot);
-    is_refused(rt, alloc, &database, 8, &root, TrustError::OtherRoot);
+    let copy = some(rt, opened(alloc, operations, &root));
+    are_alike(rt, alloc, &database, &copy);
+    fewer_are_refused(rt, alloc, &database, &root);
+    drop(database);
+    drop(copy);
+}
+
+/// Asserts that fewer operations of `database` are not opened by `root`.
+fn fewer_are_refused<F: Graftable>(
+    rt: &impl Abort,
+    alloc: Global,
+    database: &Database<F>,
+    root: &Digest,
+) {
+    is_refused(rt, alloc, database, 0, root, TrustError::OtherRoot);
+    is_refused(rt, alloc, database, 8, root, TrustError::OtherRoot);
     let unfinished = OpenError::NotALog(Location::new(12));
-    is_refused(
-        rt,
-        alloc,
-        &database,
-        12,
-        &root,
-        TrustError::Open(unfinished),
-    );
+    is_refused(rt, alloc, database, 12, root, TrustError::Open(unfinished));
 }
 
 #[test]

@@ -1,5 +1,5 @@
 -- Snapshots with one canonical root are alike, or two strings cross.
-use Rattle.std.proofs.Common.{◌≡◌, ◌⊎◌, ℕ, ◌+◌, ◌*◌, ◌/◌, ◌%◌, ◌<◌, ◌≤◌, ◌^◌, Bool, List, [], ◌∷◌, ◌++◌, length, Option, Some, None, inl, inr, refl, sym, ap, ap₂, subst, ◌∙◌, arith}
+use Rattle.std.proofs.Common.{◌≡◌, ◌⊎◌, ℕ, ◌%◌, ◌<◌, ◌^◌, Bool, List, [], ◌∷◌, ◌++◌, length, Option, Some, None, inl, inr, refl, sym, ap, ap₂, subst, ◌∙◌, arith}
 use Rattle.std.specs.List.{Contains}
 use Rattle.std.specs.Prelude.{option_map, option_to_list}
 use Rattle.std.proofs.lemmas.List.Elements.{Contains-append_left, Contains-append_right}
@@ -10,11 +10,11 @@ use Rattle.storage_merkle.specs.Laws.Calc.{cross_wider}
 use Rattle.storage_merkle.specs.RangeProofs.{own_proof}
 use Rattle.storage_merkle.specs.Shape.{Laws}
 use Rattle.storage_merkle.specs.Soundness.{RootsBindTheirTrees}
-use Rattle.storage_merkle.specs.Trees.{Layout, Content, listed, tree_root, tree_strings, ungrafted}
+use Rattle.storage_merkle.specs.Trees.{listed, tree_root, tree_strings, ungrafted}
 use Rattle.storage_current.specs.CurrentProofs.{IsSlot, counted, witness_string}
 use Rattle.storage_current.specs.CurrentSoundness.{OwnWitnessesAreAccepted, WitnessesAreSound}
 use Rattle.storage_current.specs.Laws.Grafting.{aligned-le, exact-le}
-use Rattle.storage_current.specs.Snapshots.{Grafting, RangeProof, Snapshot, IsSnapshot, Witness, aligned_of, canonical_root, content, counted_slot, exact_of, grafted_root_of, height, ops_root_of, own_range_proof, own_witness, partial_of, pending_of, slot, snapshot_string, snapshot_strings, view}
+use Rattle.storage_current.specs.Snapshots.{Grafting, Snapshot, IsSnapshot, Witness, aligned_of, canonical_root, content, counted_slot, exact_of, grafted_root_of, height, ops_root_of, own_witness, partial_of, pending_of, slot, snapshot_string, snapshot_strings, view}
 use Rattle.storage_sync.specs.Alike.{AreAlike, ProveAlike, nothing}
 use Rattle.storage_sync.specs.Pages.{IsCopy, with_floor}
 

@@ -1,5 +1,5 @@
 -- A copy that begins at a location is a snapshot's, or two strings cross.
-use Rattle.std.proofs.Common.{◌≡◌, ◌⊎◌, ℕ, ◌+◌, ◌-◌, ◌/◌, ◌^◌, ◌<◌, ◌≤◌, ◌++◌, Bool, false, List, [], length, map, drop, get_or, get_or-drop, length-drop, Option, inl, inr, sym, ap, ◌∙◌, arith}
+use Rattle.std.proofs.Common.{◌≡◌, ◌⊎◌, ℕ, ◌+◌, ◌++◌, false, List, [], length, drop, get_or-drop, length-drop, inl, inr, sym, ap, ◌∙◌, arith}
 use Rattle.std.proofs.lemmas.List.{ext_get_or}
 use Rattle.std.proofs.lemmas.List.Elements.{Contains-append_left, Contains-append_right}
 use Rattle.storage_codec.specs.Digests.{HashFunction, IsSized, Cross}
@@ -9,7 +9,7 @@ use Rattle.storage_current.specs.CurrentSoundness.{CurrentProofsAreSound}
 use Rattle.storage_current.specs.Openings.{opening_strings}
 use Rattle.storage_current.specs.Pins.{chunk_pins, kept_texts, low_texts, told_strings}
 use Rattle.storage_current.specs.Snapshots.{Grafting, Snapshot, IsSnapshot, Witness, aligned, canonical_root, height, ops_root_of, snapshot_strings}
-use Rattle.storage_sync.specs.Floors.{CopiesFromPins, IsTail, PagesAreTails}
+use Rattle.storage_sync.specs.Floors.{CopiesFromPins, IsTail, PagesAreTails, TailsAreCopies}
 use Rattle.storage_sync.specs.Pages.{AreProved, FirstNames, FirstRoot, Page, bits_of, hashed_by, operations_of}
 use Rattle.storage_sync.proofs.Copies.{Stand, pages_hold}
 
@@ -45,6 +45,13 @@ module _ (sound : CurrentProofsAreSound) (d : ℕ) (h : HashFunction) (width : (
 pub tails : CurrentProofsAreSound → PagesAreTails
 tails sound d h width sized g laws root begin leaves ops_root pages named rooted proved s snapshot same =
     tail_of sound d h width sized g laws root begin leaves pages named proved s snapshot same ops_root (inl rooted)
+
+pub copies_of_all : TailsAreCopies
+copies_of_all h g s operations bits ops_root tail = record {
+  operations_are = tail.operations_are;
+  bits_are = tail.bits_are;
+  ops_root_is = tail.ops_root_is;
+}
 
 pub copies_from : {D : Type 0} (text : D → List ℕ) → CurrentProofsAreSound → CopiesFromPins text
 copies_from text sound d h width sized g laws root begin leaves floor ops_root w proof first pins opened pages named proved t below

@@ -1,5 +1,5 @@
 -- What a server answers to what a copy wants is taken, until all is there.
-use Rattle.std.proofs.Common.{◌≡◌, ◌⊎◌, ℕ, suc, ◌+◌, ◌-◌, ◌*◌, ◌/◌, ◌%◌, ◌<◌, ◌≤◌, ◌^◌, Bool, List, [], ◌∷◌, ◌++◌, length, Some, None, inl, inr, refl, sym, ap, subst, ◌∙◌, arith, length-append}
+use Rattle.std.proofs.Common.{◌≡◌, ◌⊎◌, ℕ, suc, ◌+◌, ◌-◌, ◌*◌, ◌/◌, ◌%◌, ◌<◌, ◌≤◌, ◌^◌, Bool, List, [], ◌∷◌, ◌++◌, length, Some, inl, inr, refl, sym, ap, subst, ◌∙◌, arith, length-append}
 use Rattle.std.proofs.lemmas.Bool.{cases_lt}
 use Rattle.std.proofs.Math.Nat.{add-mul-mod_self_right, div-mul-le_self, mul-div_cancel}
 use Rattle.storage_codec.specs.Digests.{HashFunction, IsSized}
@@ -15,7 +15,7 @@ use Rattle.storage_sync.specs.Messages.{Request, page_at, page_text}
 use Rattle.storage_sync.specs.Pages.{Page}
 use Rattle.storage_sync.specs.Refusals.{IsHonest}
 use Rattle.storage_sync.specs.Serving.{HasPage, IsAnswer, answer_count, page_count}
-use Rattle.storage_sync.specs.Syncs.{Taken, IsAt, IsTaken, IsWhole, MayHave, after, leaves_with, step}
+use Rattle.storage_sync.specs.Syncs.{Taken, IsAt, IsTaken, IsWhole, MayHave, after, leaves_with, place, step}
 use Rattle.storage_sync.proofs.Bits.{some_bytes}
 use Rattle.storage_sync.proofs.Own.{all_leaves, read}
 use Rattle.storage_sync.proofs.Serving.{all_left, count_left, whole_chunks}
@@ -36,10 +36,11 @@ step_whole n limits some =
     let pos : 0 < b = omega arith in
     ap (λ (q : ℕ). q * b) (mul-div_cancel (limits.max_ops / b) pos)
 
-pub wanted_page : (n leaves : ℕ) (t : Taken) (r : Request) → IsChunkSize n → 8 * n ≤ t.limits.max_ops → IsAt n (length t.operations) t.leaves
-    → MayHave t leaves → (IsWhole t → ⊥) → r.start ≡ length t.operations → r.max_ops ≡ step n t.limits → HasPage n leaves 0 0 r
-wanted_page n leaves t r size room at may unfinished start_is most_is =
-    let left = left_at n (length t.operations) leaves t.leaves at may unfinished in
+pub wanted_page : (n leaves : ℕ) (t : Taken) (r : Request) → IsChunkSize n → 8 * n ≤ t.limits.max_ops → t.begin % (8 * n) ≡ 0
+    → IsAt n t.begin (place t) t.leaves → MayHave t leaves → (IsWhole t → ⊥) → r.start ≡ place t → r.max_ops ≡ step n t.limits
+    → HasPage n leaves 0 0 r
+wanted_page n leaves t r size room start at may unfinished start_is most_is =
+    let left = left_at n t.begin (place t) leaves t.leaves start at may unfinished in
     let chunk : 0 < step n t.limits / (8 * n) * (8 * n) =
     omega (arith, some_step n t.limits.max_ops size room, step_whole n t.limits (some_bytes n size)) in
     record {
@@ -72,7 +73,7 @@ pub honest : (h : HashFunction) (g : Grafting) (there : Bool) (s : Snapshot) (t 
     → IsAnswer h g s (wanted g.bytes t) page → IsWithin t.limits page → IsHonest h g there s t (page_text there page)
 honest h g there s t page may answer limits =
     let n = g.bytes in
-    let start = length t.operations in
+    let start = place t in
     let leaves = length s.operations in
     record {
       snapshot = may.snapshot;
@@ -102,7 +103,7 @@ module _ (accepted : OwnCurrentProofsAreAccepted) (again : OwnCurrentProofsAreRe
     pub may : MayBeOf h g s between
     pub limits_are : between.limits ≡ old.limits
     pub named : between.leaves ≡ Some (length s.operations)
-    pub grown : length between.operations ≡ length old.operations + answer_count g.bytes (length s.operations) (wanted g.bytes old)
+    pub grown : place between ≡ place old + answer_count g.bytes (length s.operations) (wanted g.bytes old)
 
   next : (old between : Taken) (bytes : List ℕ) (page : Page) → MayBeOf h g s old → old.limits.max_digests < 2 ^ 64
       → IsAnswer h g s (wanted g.bytes old) page → IsWithin old.limits page → bytes ≡ page_text there page
@@ -119,8 +120,7 @@ module _ (accepted : OwnCurrentProofsAreAccepted) (again : OwnCurrentProofsAreRe
       let all : leaves_with old page ≡ length s.operations =
       all_leaves accepted again d h sized g grafting there prompt old small s text fair old.leaves may.leaves_are in
       let named : between.leaves ≡ Some (length s.operations) = ap (λ (t : Taken). t.leaves) now ∙ ap Some all in
-      let grown : length between.operations ≡ length (old.operations ++ page.operations) =
-      ap (λ (t : Taken). length t.operations) now in
+      let grown : place between ≡ old.begin + length (old.operations ++ page.operations) = ap place now in
       record {
         may = record {
           snapshot = may.snapshot;
@@ -129,52 +129,54 @@ module _ (accepted : OwnCurrentProofsAreAccepted) (again : OwnCurrentProofsAreRe
         };
         limits_are = ap (λ (t : Taken). t.limits) now;
         named = named;
-        grown = grown ∙ length-append old.operations page.operations
-            ∙ ap (λ (k : ℕ). length old.operations + k) answer.count;
+        grown =
+            let sum : old.begin + length (old.operations ++ page.operations) ≡ place old + length page.operations =
+            omega (arith, length-append old.operations page.operations) in
+            grown ∙ sum ∙ ap (λ (k : ℕ). place old + k) answer.count;
       }
 
   -- either all that are left are taken, or as many as are wanted
-  moved : (old between : Taken) → IsNext old between → length old.operations < length s.operations
-      → (length between.operations ≡ length s.operations)
-      ⊎ (length between.operations ≡ length old.operations + step g.bytes old.limits)
+  moved : (old between : Taken) → IsNext old between → place old < length s.operations
+      → (place between ≡ length s.operations)
+      ⊎ (place between ≡ place old + step g.bytes old.limits)
   moved old between is less =
       let n = g.bytes in
-      let left : ℕ = length s.operations - length old.operations in
+      let left : ℕ = length s.operations - place old in
       let most : ℕ = step n old.limits in
       elim (cases_lt most left) [
-        | inl more ↦ inr (is.grown ∙ ap (λ (k : ℕ). length old.operations + k)
+        | inl more ↦ inr (is.grown ∙ ap (λ (k : ℕ). place old + k)
             (whole_chunks n left most more ∙ step_whole n old.limits (some_bytes n grafting.size)))
         | inr few ↦ inl (let all = all_left n left most few in let grown = is.grown in omega (arith, all, grown, less))
       ]
 
-  within : (old between : Taken) → IsNext old between → length old.operations < length s.operations
-      → length between.operations ≤ length s.operations
+  within : (old between : Taken) → IsNext old between → place old < length s.operations
+      → place between ≤ length s.operations
   within old between is less =
       let grown = is.grown in
-      let few = count_left g.bytes (length s.operations - length old.operations) (step g.bytes old.limits) in
+      let few = count_left g.bytes (length s.operations - place old) (step g.bytes old.limits) in
       omega (arith, grown, few, less)
 
   pub all_taken : (bytes : List ℕ) (more : List (List ℕ)) (old new : Taken) → MayBeOf h g s old → old.limits.max_digests < 2 ^ 64
       → IsServedRun h g s there d (bytes ∷ more) old new
-      → length s.operations ≤ length old.operations + length (bytes ∷ more) * step g.bytes old.limits → IsWhole new
+      → length s.operations ≤ place old + length (bytes ∷ more) * step g.bytes old.limits → IsWhole new
   all_taken bytes [] old new may small (between, page, answer, limits, is, taken, same) enough =
       let now = next old between bytes page may small answer limits is taken in
-      let less : length old.operations < length s.operations = answer.begins.within in
+      let less : place old < length s.operations = answer.begins.within in
       let upto = within old between now less in
-      let all : length s.operations ≡ length between.operations = elim (moved old between now less) [
+      let all : length s.operations ≡ place between = elim (moved old between now less) [
         | inl whole ↦ sym whole
         | inr step_more ↦ omega (arith, step_more, upto, enough)
       ] in
       subst IsWhole (sym same) (now.named ∙ ap Some all)
   all_taken bytes (following ∷ more) old new may small (between, page, answer, limits, is, taken, run) enough =
       let now = next old between bytes page may small answer limits is taken in
-      let less : length old.operations < length s.operations = answer.begins.within in
+      let less : place old < length s.operations = answer.begins.within in
       let st : ℕ = step g.bytes old.limits in
       let rest : ℕ = length (following ∷ more) in
       let one : suc rest * st ≡ rest * st + st = grind arith in
       let same : rest * step g.bytes between.limits ≡ rest * st =
       ap (λ (l : Limits). rest * step g.bytes l) now.limits_are in
-      let left : length s.operations ≤ length between.operations + rest * step g.bytes between.limits =
+      let left : length s.operations ≤ place between + rest * step g.bytes between.limits =
       elim (moved old between now less) [
         | inl whole ↦ omega (arith, whole)
         | inr step_more ↦ omega (arith, step_more, same, one, enough)

@@ -1,13 +1,13 @@
 -- What is kept once a page is taken, and what it is worth once all pages are there.
 use Rattle.std.proofs.Common.{◌≡◌, ◌⊎◌, ℕ, ◌+◌, ◌*◌, ◌%◌, ◌<◌, ◌≤◌, Bool, List, [], ◌∷◌, ◌++◌, length, Option, Some, None, Ok, inl, inr, refl, sym, ap, subst, ◌∙◌, arith, append-nil, append_assoc, length-append}
 use Rattle.std.specs.Option.{unwrap_or}
-use Rattle.std.proofs.Math.Nat.{zero-mod}
 use Rattle.storage_codec.specs.Digests.{HashFunction, IsSized}
 use Rattle.storage_codec.specs.Codec.{whole}
 use Rattle.storage_merkle.specs.Shape.{Laws}
 use Rattle.storage_current.specs.Snapshots.{Grafting}
-use Rattle.storage_sync.specs.Pages.{Page, chunk_bits, page_bits, operations_of, bits_of, FirstNames, FirstRoot, IsProved, AreProved, PagesAreCopies}
-use Rattle.storage_sync.specs.Syncs.{Taken, IsWhole, IsAsked, leaves_with, ops_root_with, after, IsAt, IsKept, IsTaken, IsPromised}
+use Rattle.storage_sync.specs.Pages.{Page, chunk_bits, page_bits, operations_of, bits_of, FirstNames, FirstRoot, IsProved, AreProved}
+use Rattle.storage_sync.specs.Floors.{PagesAreTails}
+use Rattle.storage_sync.specs.Syncs.{Taken, IsWhole, IsAsked, leaves_with, ops_root_with, after, IsAt, IsKept, IsTaken, IsPromised, place}
 use Rattle.storage_sync.specs.Messages.{page_at}
 
 -- what pages give, and one page more
@@ -64,10 +64,10 @@ asked_alike n t a b x y e f asked =
     subst (λ (k : ℕ). IsAsked n t k y) e (subst (λ (k : ℕ). IsAsked n t a k) f asked)
 
 -- where the next page begins a chunk begins
-pub boundary_of : (n kept leaves count : ℕ) (o : Option ℕ) → IsAt n kept o → 0 < count → kept + count ≤ unwrap_or o leaves
-    → kept % (8 * n) ≡ 0
-boundary_of n kept leaves count None at some within = ap (λ (k : ℕ). k % (8 * n)) at ∙ zero-mod (8 * n)
-boundary_of n kept leaves count (Some all) at some within = elim at.2 [
+pub boundary_of : (n begin next leaves count : ℕ) (o : Option ℕ) → begin % (8 * n) ≡ 0 → IsAt n begin next o → 0 < count
+    → next + count ≤ unwrap_or o leaves → next % (8 * n) ≡ 0
+boundary_of n begin next leaves count None start at some within = ap (λ (k : ℕ). k % (8 * n)) at ∙ start
+boundary_of n begin next leaves count (Some all) start at some within = elim at.2 [
   | inl boundary ↦ boundary
   | inr whole ↦ absurd (omega arith)
 ]
@@ -82,12 +82,14 @@ module _ (h : HashFunction) (g : Grafting) (d : ℕ) where
   proved_more root low kept (q ∷ qs) p all one =
       (all.0, proved_more root (low + length q.operations) kept qs p all.1 one)
 
-  pub kept_more : (t : Taken) (p : Page) (pages : List Page) → IsProved h g d t.root (length t.operations) p
-      → IsKept h g d t pages → IsKept h g d (after g.bytes t p) (pages ++ p ∷ [])
+  pub kept_more : (t : Taken) (p : Page) (pages : List Page) → IsProved h g d t.root (place t) p → IsKept h g d t pages
+      → IsKept h g d (after g.bytes t p) (pages ++ p ∷ [])
   kept_more t p pages proved kept = record {
-    proved = subst (λ (x : ℕ). AreProved h g d t.root 0 x (pages ++ p ∷ []))
-        (sym (length-append t.operations p.operations))
-        (proved_more t.root 0 (length t.operations) pages p kept.proved proved);
+    proved =
+        let sum : place t + length p.operations ≡ t.begin + length (t.operations ++ p.operations) =
+        omega (arith, length-append t.operations p.operations) in
+        subst (λ (x : ℕ). AreProved h g d t.root t.begin x (pages ++ p ∷ [])) sum
+        (proved_more t.root t.begin (place t) pages p kept.proved proved);
     named = λ leaves e. names_more t.leaves pages p leaves kept.named kept.unnamed e;
     unnamed = λ e. absurd (none_is (Some (leaves_with t p)) (leaves_with t p) e refl);
     rooted = λ r e. roots_more t.ops_root pages p r kept.rooted kept.unrooted e;
@@ -96,15 +98,15 @@ module _ (h : HashFunction) (g : Grafting) (d : ℕ) where
     bits_are = ap (λ xs. xs ++ page_bits g.bytes p) kept.bits_are ∙ sym (bits_more g.bytes pages p);
   }
 
-  pub promised : PagesAreCopies → (d ≡ 32) ⊎ (d ≡ 64) → IsSized d h → Laws g.shape → (t : Taken) → IsWhole t
+  pub promised : PagesAreTails → (d ≡ 32) ⊎ (d ≡ 64) → IsSized d h → Laws g.shape → (t : Taken) → IsWhole t
       → (pages : List Page) → IsKept h g d t pages → IsPromised h g t pages
-  promised copies width sized laws t whole pages kept = λ ops_root known s snapshot same.
-      elim (copies d h width sized g laws t.root (length t.operations) ops_root pages (kept.named (length t.operations) whole)
+  promised tails width sized laws t whole pages kept = λ ops_root known s snapshot same.
+      elim (tails d h width sized g laws t.root t.begin (place t) ops_root pages (kept.named (place t) whole)
       (kept.rooted ops_root known) kept.proved s snapshot same) [
-        | inl copy ↦ inl (record {
-          operations_are = kept.operations_are ∙ copy.operations_are;
-          bits_are = kept.bits_are ∙ copy.bits_are;
-          ops_root_is = copy.ops_root_is;
+        | inl tail ↦ inl (record {
+          operations_are = kept.operations_are ∙ tail.operations_are;
+          bits_are = kept.bits_are ∙ tail.bits_are;
+          ops_root_is = tail.ops_root_is;
         })
         | inr crossed ↦ inr crossed
       ]
@@ -112,7 +114,7 @@ module _ (h : HashFunction) (g : Grafting) (d : ℕ) where
 -- a page that was read, may come next and is proved is taken, where what it gives is kept
 pub taken_as : (h : HashFunction) (g : Grafting) (there : Bool) (d : ℕ) (old new : Taken) (bytes : List ℕ) (page : Page)
     (leaves count : ℕ) (ops_root : List ℕ) → whole (page_at there d g.bytes old.limits bytes) ≡ Ok (page, [])
-    → leaves ≡ leaves_with old page → ops_root ≡ ops_root_with old page → length page.operations ≡ count → IsAsked g.bytes old leaves count → IsProved h g d old.root (length old.operations) page
+    → leaves ≡ leaves_with old page → ops_root ≡ ops_root_with old page → length page.operations ≡ count → IsAsked g.bytes old leaves count → IsProved h g d old.root (place old) page
     → new ≡ record old {
       leaves = Some leaves;
       ops_root = Some ops_root;

@@ -7,6 +7,7 @@ mod Own
 mod Ending
 mod Locations
 mod Serving
+mod Opened
 mod Joined
 mod Alike
 mod Founded

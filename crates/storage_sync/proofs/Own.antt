@@ -16,7 +16,7 @@ use Rattle.storage_current.specs.OwnWire.{IsPrompt, OwnCurrentProofsAreReadAgain
 use Rattle.storage_sync.specs.Pages.{Page}
 use Rattle.storage_sync.specs.Messages.{page_at, page_text, AreAdmitted}
 use Rattle.storage_sync.specs.Laws.Pages.{again_with}
-use Rattle.storage_sync.specs.Syncs.{Taken, IsAsked, leaves_with}
+use Rattle.storage_sync.specs.Syncs.{Taken, IsAsked, leaves_with, place}
 use Rattle.storage_sync.specs.Refusals.{IsNoPage, IsUnread, IsUnproved, IsRefused, IsHonest}
 use Rattle.storage_sync.specs.declared.sync.refusal.Refusal.{Refusal}
 use Rattle.storage_sync.specs.declared.sync.refusal.Refusal.TheVariants.{NotAPage, TooMuch, NotAsked, NotProved, Memory}
@@ -61,7 +61,7 @@ module _ (accepted : OwnCurrentProofsAreAccepted) (again : OwnCurrentProofsAreRe
   page = honest.page
 
   abbrev start : ℕ
-  start = length t.operations
+  start = place t
 
   abbrev own : RangeProof
   own = own_range_proof h g s start (start + length page.operations)

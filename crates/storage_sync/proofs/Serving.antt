@@ -1,14 +1,13 @@
 -- Pages that are served: how many operations they have, and that nothing is missing for them.
-use Rattle.std.proofs.Common.{◌≡◌, ◌≢◌, ◌⊎◌, ℕ, zero, suc, ◌+◌, ◌-◌, ◌*◌, ◌/◌, ◌%◌, ◌<◌, ◌≤◌, ◌^◌, ltb, cond, Bool, List, [], ◌∷◌, length, map, drop, get_or, Option, Some, None, inl, inr, refl, sym, ap, subst, ◌∙◌, arith}
+use Rattle.std.proofs.Common.{◌≡◌, ℕ, zero, suc, ◌+◌, ◌-◌, ◌*◌, ◌/◌, ◌<◌, ◌≤◌, ◌^◌, cond, Bool, List, [], ◌∷◌, length, map, drop, get_or, Option, Some, None, inl, inr, refl, sym, ap, subst, ◌∙◌, arith}
 use Rattle.std.specs.Global.{Vec}
 use Rattle.std.specs.List.{Contains, range_with_len}
 use Rattle.std.specs.Prelude.{MatchOption, Result, Ok, Err, IfOk}
 use Rattle.std.proofs.lemmas.Bool.{cases_lt, le-ltb, lt-ltb}
-use Rattle.std.proofs.lemmas.List.{drop-drop, length-drop, length-map}
+use Rattle.std.proofs.lemmas.List.{drop-drop, length-drop}
 use Rattle.std.proofs.lemmas.List.FromFn.{length-map-range_with_len, get_or-map-range_with_len}
 use Rattle.std.proofs.Math.Nat.{add-mul, div-mul-le_self, min-eq_left, mul-le-mul_right}
 use Rattle.storage_codec.specs.Digests.{HashFunction}
-use Rattle.storage_merkle.specs.Nodes.{IsNode}
 use Rattle.storage_merkle.specs.Plans.{GreatestNodesArePlanned, IsFirstAbsent, PlanOf, planned}
 use Rattle.storage_merkle.specs.RangeProofs.{StandAt}
 use Rattle.storage_merkle.specs.Shape.{Laws, size}
@@ -17,13 +16,12 @@ use Rattle.storage_ops.specs.declared.qmdb.error.Error.{Error}
 use Rattle.storage_ops.specs.declared.qmdb.error.Error.TheVariants as fault
 use Rattle.storage_current.specs.BuiltProofs.{AreBitsOf, ArePartsOf, IsNotBuilt}
 use Rattle.storage_current.specs.KeptSnapshots.{KeptSnapshot, pruned_operations}
-use Rattle.storage_current.specs.Laws.Grafting.{Height, chunk_height}
+use Rattle.storage_current.specs.Laws.Grafting.{chunk_height}
 use Rattle.storage_current.specs.Laws.Retained.{planned_retained, told_true}
 use Rattle.storage_current.specs.NodeLists.{told_by}
 use Rattle.storage_current.specs.Served.{Counts, MayFailWithin}
-use Rattle.storage_current.specs.Snapshots.{Grafting, Snapshot, RangeProof, first_chunk, graftable, height, last_chunk, own_range_proof, view_node}
+use Rattle.storage_current.specs.Snapshots.{Grafting, Snapshot, RangeProof, first_chunk, height, own_range_proof, view_node}
 use Rattle.storage_sync.specs.Messages.{Request}
-use Rattle.storage_sync.specs.Pages.{Page}
 use Rattle.storage_sync.specs.Serving.{AreNeverAbsent, HasNoPage, HasPage, IsAnswer, IsFailedRead, IsLogFault, IsLogOf, IsServed, IsUnanswered, IsUnmade, answer_count, page_count}
 use Rattle.storage_sync.specs.declared.sync.unanswered.Unanswered.{Unanswered}
 use Rattle.storage_sync.specs.declared.sync.unanswered.Unanswered.TheVariants.{OutOfBounds, NotAtChunk, Pruned, TooFew, Corrupted, Log, Memory}
@@ -175,7 +173,7 @@ counts_made x y before after c = record {
 
 -- ---- operations of a log
 
-same_texts : (text : Vec ℕ → List ℕ) → ((v : Vec ℕ) → text v ≡ v.items) → (vs : List (Vec ℕ))
+pub same_texts : (text : Vec ℕ → List ℕ) → ((v : Vec ℕ) → text v ≡ v.items) → (vs : List (Vec ℕ))
     → map (λ v. v.items) vs ≡ map text vs
 same_texts text same [] = refl
 same_texts text same (v ∷ vs) =

@@ -1,13 +1,14 @@
 -- What holds of what is kept, and what may come next.
-use Rattle.std.proofs.Common.{◌≡◌, ◌⊎◌, ◌↔◌, ◌==◌, IsTrue, eqb-true, eq-eqb, ℕ, ◌+◌, ◌-◌, ◌*◌, ◌/◌, ◌%◌, ◌<◌, ◌≤◌, min, Bool, true, List, [], ◌∷◌, ◌++◌, length, get_or, Option, Some, None, Result, inl, inr, refl, sym, ap, subst, ◌∙◌, arith, length-append}
+use Rattle.std.proofs.Common.{◌≡◌, ◌⊎◌, ◌↔◌, ◌==◌, IsTrue, eqb-true, eq-eqb, ℕ, ◌+◌, ◌-◌, ◌*◌, ◌/◌, ◌%◌, ◌<◌, ◌≤◌, min, Bool, true, List, [], ◌∷◌, ◌++◌, length, map, get_or, Option, Some, None, Result, inl, inr, refl, sym, ap, subst, ◌∙◌, arith, length-append}
 use Rattle.std.specs.Prelude.{option_map}
-use Rattle.std.specs.Option.{unwrap_or, is_some}
+use Rattle.std.specs.Global.{Vec}
+use Rattle.std.specs.Option.{IfSome, MatchOption, unwrap_or, is_some}
 use Rattle.std.specs.Bool.{if◌then◌else◌}
 use Rattle.std.specs.Result.{IfOk, is_ok}
 use Rattle.std.proofs.lemmas.Bool.{cases_lt}
 use Rattle.std.proofs.lemmas.Nat.{le-div}
 use Rattle.std.proofs.lemmas.List.FromFn.{length-map-range_with_len, map-range_with_len_more}
-use Rattle.std.proofs.Math.Nat.{zero-mod, zero-add, zero-mul, add-mul-mod_self_right, mul-le-mul_right, min-eq_left, min-eq_right, min-le_left, min-le_right, le-min}
+use Rattle.std.proofs.Math.Nat.{zero-add, zero-mod, div-mul-le_self, mod-eq-sub-div-mul, add-mul-mod_self_right, mul-le-mul_right, min-eq_left, min-eq_right, min-le_left, min-le_right, le-min}
 use Rattle.storage_codec.specs.Digests.{HashFunction}
 use Rattle.storage_merkle.specs.Shape.{max_leaves}
 use Rattle.storage_bitmap.specs.Chunks.{IsChunkSize, Retained, bit_count}
@@ -16,7 +17,7 @@ use Rattle.storage_current.specs.Snapshots.{Grafting, RangeProof}
 use Rattle.storage_current.specs.CurrentProofs.{IsCurrent}
 use Rattle.storage_sync.specs.declared.sync.limits.Limits.{Limits}
 use Rattle.storage_sync.specs.Pages.{chunk_bits}
-use Rattle.storage_sync.specs.Syncs.{Taken, IsWhole, IsAsked, MayHave, IsAt, IsConsistent, step}
+use Rattle.storage_sync.specs.Syncs.{CanStart, Taken, IsWhole, IsAsked, MayHave, IsAt, IsConsistent, place, step}
 use Rattle.storage_sync.proofs.Bits.{some_bytes}
 use Rattle.storage_sync.proofs.Kept.{some_is, none_is}
 
@@ -61,10 +62,11 @@ root_seen : {D : Type 0} (text : D → List ℕ) (o : Option D) (d : D)
 root_seen text None d = refl
 root_seen text (Some x) d = refl
 
-abbrev seen : List ℕ → Limits → ℕ → List ℕ → List (List ℕ) → List Bool → Taken
-seen root limits leaves ops_root operations bits = record {
+abbrev seen : List ℕ → Limits → (begin leaves : ℕ) → List ℕ → List (List ℕ) → List Bool → Taken
+seen root limits begin leaves ops_root operations bits = record {
   root = root;
   limits = limits;
+  begin = begin;
   leaves = Some leaves;
   ops_root = Some ops_root;
   operations = operations;
@@ -72,25 +74,26 @@ seen root limits leaves ops_root operations bits = record {
 }
 
 -- what is seen once a page is kept
-pub seen_kept : {D : Type 0} (text : D → List ℕ) (was : Option D) (d first : D) (root : List ℕ) (limits : Limits) (leaves : ℕ)
-    (old : Option ℕ) (all operations added : List (List ℕ)) (now bits more : List Bool) → first ≡ unwrap_or was d
+pub seen_kept : {D : Type 0} (text : D → List ℕ) (was : Option D) (d first : D) (root : List ℕ) (limits : Limits)
+    (begin leaves : ℕ) (old : Option ℕ) (all operations added : List (List ℕ)) (now bits more : List Bool) → first ≡ unwrap_or was d
     → all ≡ operations ++ added → now ≡ bits ++ more → (t : Taken) → record {
       root = root;
       limits = limits;
+      begin = begin;
       leaves = old;
       ops_root = option_map text was;
       operations = operations;
       bits = bits;
-    } ≡ t → seen root limits leaves (text first) all now ≡ record t {
+    } ≡ t → seen root limits begin leaves (text first) all now ≡ record t {
       leaves = Some leaves;
       ops_root = Some (unwrap_or t.ops_root (text d));
       operations = t.operations ++ added;
       bits = t.bits ++ more;
     }
-seen_kept text was d first root limits leaves old all operations added now bits more first_is all_are now_are t view =
-    ap (λ (r : List ℕ). seen root limits leaves r all now) (ap text first_is ∙ root_seen text was d)
-    ∙ ap (λ (xs : List (List ℕ)). seen root limits leaves (unwrap_or (option_map text was) (text d)) xs now) all_are
-    ∙ ap (λ (bs : List Bool). seen root limits leaves (unwrap_or (option_map text was) (text d)) (operations ++ added) bs)
+seen_kept text was d first root limits begin leaves old all operations added now bits more first_is all_are now_are t view =
+    ap (λ (r : List ℕ). seen root limits begin leaves r all now) (ap text first_is ∙ root_seen text was d)
+    ∙ ap (λ (xs : List (List ℕ)). seen root limits begin leaves (unwrap_or (option_map text was) (text d)) xs now) all_are
+    ∙ ap (λ (bs : List Bool). seen root limits begin leaves (unwrap_or (option_map text was) (text d)) (operations ++ added) bs)
     now_are
     ∙ ap (λ (s : Taken). record s {
       leaves = Some leaves;
@@ -101,39 +104,40 @@ seen_kept text was d first root limits leaves old all operations added now bits 
 
 -- ---- once a page is kept
 
-pub few_leaves : (n kept : ℕ) (o : Option ℕ) (leaves : ℕ) → IsAt n kept o → leaves ≤ max_leaves
+pub few_leaves : (n begin next : ℕ) (o : Option ℕ) (leaves : ℕ) → IsAt n begin next o → leaves ≤ max_leaves
     → unwrap_or o leaves ≤ max_leaves
-few_leaves n kept None leaves at few = few
-few_leaves n kept (Some all) leaves at few = at.1
+few_leaves n begin next None leaves at few = few
+few_leaves n begin next (Some all) leaves at few = at.1
 
 pub consistent_after : (n : ℕ) (limits : Limits) (o : Option ℕ) (rooted : Bool) (kept count leaves after : ℕ) (t : Taken) (old new : Retained)
-    (bits : List Bool) → IsConsistent n limits o rooted kept old → IsAsked n t leaves count → length t.operations ≡ kept
-    → leaves ≤ max_leaves → length bits ≡ count → new ≡ record old { bits = old.bits ++ bits } → after ≡ kept + count
-    → IsConsistent n limits (Some leaves) true after new
+    (bits : List Bool) → IsConsistent n limits o rooted kept old → IsAsked n t leaves count
+    → place t ≡ old.pruned * (8 * n) + kept → leaves ≤ max_leaves → length bits ≡ count
+    → new ≡ record old { bits = old.bits ++ bits } → after ≡ kept + count → IsConsistent n limits (Some leaves) true after new
 consistent_after n limits o rooted kept count leaves after t old new bits was asked here few more new_is after_is =
-    let sum : length t.operations + count ≡ after = omega arith in
+    let start : ℕ = old.pruned * (8 * n) in
+    let sum : place t + count ≡ start + after = omega (arith, here, after_is) in
     let within = asked.within in
     let each = was.bit_each in
     let all = length-append old.bits bits in
-    let bit_each : length (old.bits ++ bits) ≡ after = omega arith in
+    let bit_each : length (old.bits ++ bits) ≡ after = omega (arith, all, each, more, after_is) in
+    let same : new.pruned * (8 * n) ≡ start = ap (λ (r : Retained). r.pruned * (8 * n)) new_is in
+    let at : IsAt n start (start + after) (Some leaves) = (
+      omega (arith, within, sum),
+      few,
+      subst (λ (k : ℕ). (k % (8 * n) ≡ 0) ⊎ (k ≡ leaves)) sum asked.ends,
+    ) in
     record {
       size = was.size;
       room = was.room;
-      unpruned = ap (λ (r : Retained). r.pruned) new_is ∙ was.unpruned;
+      few = subst (λ (k : ℕ). k ≤ max_leaves) (sym same) was.few;
       bit_each = ap (λ (r : Retained). length r.bits) new_is ∙ bit_each;
-      at = (
-        omega arith,
-        few,
-        subst (λ (k : ℕ). (k % (8 * n) ≡ 0) ⊎ (k ≡ leaves)) sum asked.ends,
-      );
+      at = subst (λ (k : ℕ). IsAt n k (k + after) (Some leaves)) (sym same) at;
       root = refl;
     }
 
-pub room_for : (n : ℕ) (r : Retained) (kept count leaves : ℕ) (bits : List Bool) → r.pruned ≡ 0 → length r.bits ≡ kept
-    → length bits ≡ count → kept + count ≤ leaves → leaves ≤ max_leaves → bit_count n r + length bits ≤ max_leaves
-room_for n r kept count leaves bits unpruned each new within few =
-    let none : r.pruned * (8 * n) ≡ 0 = ap (λ (k : ℕ). k * (8 * n)) unpruned ∙ zero-mul (8 * n) in
-    omega arith
+pub room_for : (n : ℕ) (r : Retained) (kept count leaves : ℕ) (bits : List Bool) → length r.bits ≡ kept → length bits ≡ count
+    → r.pruned * (8 * n) + kept + count ≤ leaves → leaves ≤ max_leaves → bit_count n r + length bits ≤ max_leaves
+room_for n r kept count leaves bits each new within few = omega arith
 
 -- what a call that succeeds leaves
 pub when_ok : {A E X : Type 0} (r : Result A E) (x y z : X) → is_ok r ≡ true → z ≡ (if is_ok r then x else y) → z ≡ x
@@ -149,19 +153,19 @@ some_step n most size room =
     omega arith
 
 -- while not all is there some are left, and a chunk begins
-pub left_at : (n kept leaves : ℕ) (o : Option ℕ) → IsAt n kept o → ((o ≡ None) × (0 < leaves)) ⊎ (o ≡ Some leaves)
-    → (o ≡ Some kept → ⊥) → (kept < leaves) × (kept % (8 * n) ≡ 0)
-left_at n kept leaves None at (inl first) unfinished =
-    (omega (arith, first.1), ap (λ (k : ℕ). k % (8 * n)) at ∙ zero-mod (8 * n))
-left_at n kept leaves None at (inr known) unfinished = absurd (none_is None leaves refl known)
-left_at n kept leaves (Some all) at (inl first) unfinished = absurd (none_is (Some all) all first.0 refl)
-left_at n kept leaves (Some all) at (inr known) unfinished =
+pub left_at : (n begin next leaves : ℕ) (o : Option ℕ) → begin % (8 * n) ≡ 0 → IsAt n begin next o
+    → ((o ≡ None) × (begin < leaves)) ⊎ (o ≡ Some leaves) → (o ≡ Some next → ⊥) → (next < leaves) × (next % (8 * n) ≡ 0)
+left_at n begin next leaves None start at (inl first) unfinished =
+    (omega (arith, first.1, at), ap (λ (k : ℕ). k % (8 * n)) at ∙ start)
+left_at n begin next leaves None start at (inr known) unfinished = absurd (none_is None leaves refl known)
+left_at n begin next leaves (Some all) start at (inl first) unfinished = absurd (none_is (Some all) all first.0 refl)
+left_at n begin next leaves (Some all) start at (inr known) unfinished =
     let all_is : all ≡ leaves = some_is all leaves known in
     elim at.2 [
       | inr whole ↦ absurd (unfinished (ap Some (sym whole)))
-      | inl boundary ↦ elim (cases_lt kept all) [
+      | inl boundary ↦ elim (cases_lt next all) [
         | inl less ↦ (omega arith, boundary)
-        | inr more ↦ absurd (unfinished (ap Some (let e : all ≡ kept = omega (arith, at.0) in e)))
+        | inr more ↦ absurd (unfinished (ap Some (let e : all ≡ next = omega (arith, at.0) in e)))
       ]
     ]
 
@@ -174,20 +178,52 @@ ends_at b q kept leaves less boundary = elim (cases_lt (q * b) (leaves - kept)) 
   | inr all ↦ inr (ap (λ (m : ℕ). kept + m) (min-eq_right all) ∙ (let h : kept + (leaves - kept) ≡ leaves = omega arith in h))
 ]
 
-pub wanted_asked : (n leaves : ℕ) (t : Taken) → IsChunkSize n → 8 * n ≤ t.limits.max_ops → IsAt n (length t.operations) t.leaves
-    → MayHave t leaves → (IsWhole t → ⊥) → IsAsked n t leaves (min (step n t.limits) (leaves - length t.operations))
-wanted_asked n leaves t size room at may unfinished =
-    let left = left_at n (length t.operations) leaves t.leaves at may unfinished in
+pub wanted_asked : (n leaves : ℕ) (t : Taken) → IsChunkSize n → 8 * n ≤ t.limits.max_ops → t.begin % (8 * n) ≡ 0
+    → IsAt n t.begin (place t) t.leaves → MayHave t leaves → (IsWhole t → ⊥)
+    → IsAsked n t leaves (min (step n t.limits) (leaves - place t))
+wanted_asked n leaves t size room start at may unfinished =
+    let left = left_at n t.begin (place t) leaves t.leaves start at may unfinished in
     let some = some_step n t.limits.max_ops size room in
     let less = left.0 in
-    let few = min-le_left (step n t.limits) (leaves - length t.operations) in
-    let within = min-le_right (step n t.limits) (leaves - length t.operations) in
+    let few = min-le_left (step n t.limits) (leaves - place t) in
+    let within = min-le_right (step n t.limits) (leaves - place t) in
     record {
       some = le-min (omega arith) (omega arith);
       few = few;
       within = omega arith;
-      ends = ends_at (8 * n) (t.limits.max_ops / (8 * n)) (length t.operations) leaves less left.1;
+      ends = ends_at (8 * n) (t.limits.max_ops / (8 * n)) (place t) leaves less left.1;
     }
+
+-- ---- where a copy begins
+
+-- the chunks before a location where a chunk begins
+pub chunks_before : (n begin : ℕ) → begin % (8 * n) ≡ 0 → begin / (8 * n) * (8 * n) ≡ begin
+chunks_before n begin boundary = omega (arith, boundary, mod-eq-sub-div-mul begin (8 * n), div-mul-le_self begin (8 * n))
+
+-- a copy that begins with the first operation wants room for a chunk alone
+pub from_first : {S : Type 0} (o : Option S) (n : ℕ) (limits : Limits) (first : ℕ) (P : ℕ → S → Type 0) → first ≡ 0
+    → MatchOption o (CanStart n limits first → ⊥) (λ s. CanStart n limits first × P first s)
+    → MatchOption o (limits.max_ops < 8 * n) (λ s. (8 * n ≤ limits.max_ops) × P 0 s)
+from_first None n limits first P is none = elim (cases_lt limits.max_ops (8 * n)) [
+  | inl less ↦ less
+  | inr room ↦ absurd (none (record {
+    room = room;
+    boundary = ap (λ (k : ℕ). k % (8 * n)) is ∙ zero-mod (8 * n);
+    few = omega (arith, is);
+  }))
+]
+from_first (Some s) n limits first P is both = (both.0.room, subst (λ (k : ℕ). P k s) is both.1)
+
+-- nor more, where its opening is accepted
+pub begun_accepted : {S : Type 0} (o : Option S) (A C : Type 0) (Q : S → Type 0) → A → MatchOption o (C → ⊥) (λ s. C × Q s)
+    → MatchOption o (A × C → ⊥) (λ s. A × C × Q s)
+begun_accepted None A C Q a none = λ both. none both.1
+begun_accepted (Some s) A C Q a is = (a, is.0, is.1)
+
+-- what holds holds where there is a value
+pub where_some : {S : Type 0} (o : Option S) (M : Type 0) → M → IfSome o (λ _. M)
+where_some None M m = tt
+where_some (Some s) M m = m
 
 -- ---- whether all is there
 
@@ -209,6 +245,13 @@ said_alike h g proof a b xs ys cs ds r s answer e f k l said =
     (subst (λ (x : List (List ℕ)). IfOk answer (λ yes. IsTrue yes ↔ IsCurrent h g proof a x ds s)) f
     (subst (λ (x : List (List ℕ)). IfOk answer (λ yes. IsTrue yes ↔ IsCurrent h g proof a xs x s)) k
     (subst (λ (x : List ℕ). IfOk answer (λ yes. IsTrue yes ↔ IsCurrent h g proof a xs cs x)) l said)))
+
+-- and of what an opening holds
+pub said_of_opening : {D : Type 0} (text : D → List ℕ) (P : List (List ℕ) → List (List ℕ) → Type 0) (vs ws : List (Vec ℕ)) (ps qs : List D)
+    → vs ≡ ws → ps ≡ qs → P (map (λ v. v.items) vs) (map text ps) → P (map (λ v. v.items) ws) (map text qs)
+said_of_opening text P vs ws ps qs e f said =
+    subst (λ (x : List (Vec ℕ)). P (map (λ v. v.items) x) (map text qs)) e
+    (subst (λ x. P (map (λ v. v.items) vs) (map text x)) f said)
 
 -- ---- what is known once all is there
 

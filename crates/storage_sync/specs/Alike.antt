@@ -1,5 +1,5 @@
 -- What snapshots with one canonical root have in common, whatever their floors.
-use Rattle.std.specs.Prelude.{◌≡◌, ◌⊎◌, ℕ, ◌<◌, Bool, List, [], length}
+use Rattle.std.specs.Prelude.{◌≡◌, ◌⊎◌, ℕ, ◌<◌, [], length}
 use Rattle.storage_codec.specs.Digests.{HashFunction, IsSized, Cross}
 use Rattle.storage_merkle.specs.Shape.{Laws}
 use Rattle.storage_current.specs.Snapshots.{Grafting, Snapshot, IsSnapshot, aligned_of, canonical_root, exact_of, ops_root_of, own_range_proof, own_witness, snapshot_strings}

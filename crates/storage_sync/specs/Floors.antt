@@ -7,7 +7,7 @@ use Rattle.storage_current.specs.GraftedTrees.{KeptChunks}
 use Rattle.storage_current.specs.Openings.{MeansOpening, opening_strings}
 use Rattle.storage_current.specs.Pins.{MeansPins, chunk_pins, kept_texts, low_texts, operation_pins, told_strings}
 use Rattle.storage_current.specs.Snapshots.{Grafting, Snapshot, IsSnapshot, Witness, aligned, canonical_root, height, ops_root_of, snapshot_strings}
-use Rattle.storage_sync.specs.Pages.{AreProved, FirstNames, FirstRoot, Page, bits_of, hashed_by, operations_of}
+use Rattle.storage_sync.specs.Pages.{AreProved, FirstNames, FirstRoot, IsCopy, Page, bits_of, hashed_by, operations_of}
 
 -- a snapshot's operations from a location on, and their bits, with its operations root
 pub record IsTail (h : HashFunction) (g : Grafting) (s : Snapshot) (begin : ℕ) (operations : List (List ℕ)) (bits : List Bool)
@@ -15,6 +15,12 @@ pub record IsTail (h : HashFunction) (g : Grafting) (s : Snapshot) (begin : ℕ)
   pub operations_are : operations ≡ drop begin s.operations
   pub bits_are : bits ≡ drop begin s.bits
   pub ops_root_is : ops_root ≡ ops_root_of h g s
+
+-- From the first operation on it is a copy.
+abbrev pub TailsAreCopies : Type 0
+TailsAreCopies =
+    (h : HashFunction) (g : Grafting) (s : Snapshot) (operations : List (List ℕ)) (bits : List Bool) (ops_root : List ℕ)
+    → IsTail h g s 0 operations bits ops_root → IsCopy h g s operations bits ops_root
 
 -- Pages that are proved against a root, of the operations from a location on of as many as the first one names, give together what each
 -- snapshot with that root has from there on, or a string that one of their checks hashed and a different one of the root's calculation

@@ -8,11 +8,11 @@ use Rattle.storage_sync.specs.Messages.{Request, AreShort, page_text}
 use Rattle.storage_sync.specs.Pages.{Page}
 use Rattle.storage_sync.specs.Refusals.{IsHonest}
 use Rattle.storage_sync.specs.Serving.{IsAnswer}
-use Rattle.storage_sync.specs.Syncs.{Taken, IsTaken, IsWhole, step}
+use Rattle.storage_sync.specs.Syncs.{Taken, IsTaken, IsWhole, place, step}
 
 -- what a copy wants next, of chunks of n bytes
 abbrev pub wanted : ℕ → Taken → Request
-wanted n t = record { start = length t.operations; max_ops = step n t.limits }
+wanted n t = record { start = place t; max_ops = step n t.limits }
 
 -- a page is within limits
 pub record IsWithin (limits : Limits) (p : Page) : Type 0 where
@@ -45,4 +45,4 @@ ServedCopiesAreWhole =
     (d : ℕ) (h : HashFunction) → IsSized d h → (g : Grafting) → IsGrafting g → (has_pending : Bool)
     → IsPrompt has_pending g.shape → (s : Snapshot) (bytes : List ℕ) (more : List (List ℕ)) (old new : Taken)
     → MayBeOf h g s old → old.limits.max_digests < 2 ^ 64 → IsServedRun h g s has_pending d (bytes ∷ more) old new
-    → length s.operations ≤ length old.operations + length (bytes ∷ more) * step g.bytes old.limits → IsWhole new
+    → length s.operations ≤ place old + length (bytes ∷ more) * step g.bytes old.limits → IsWhole new

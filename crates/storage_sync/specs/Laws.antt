@@ -1,3 +1,4 @@
 pub mod Requests
 pub mod Lists
 pub mod Pages
+pub mod Openings

@@ -9,4 +9,6 @@ pub mod Joined
 pub mod Alike
 pub mod Founded
 pub mod Floors
+pub mod Openings
+pub mod Beginnings
 pub mod Laws

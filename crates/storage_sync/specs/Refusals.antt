@@ -8,7 +8,7 @@ use Rattle.storage_current.specs.CurrentProofs.{IsCurrent}
 use Rattle.storage_current.specs.OwnWire.{IsPrompt}
 use Rattle.storage_sync.specs.Messages.{AreShort, page_text, page_at}
 use Rattle.storage_sync.specs.Pages.{Page}
-use Rattle.storage_sync.specs.Syncs.{Taken, IsAsked, leaves_with}
+use Rattle.storage_sync.specs.Syncs.{Taken, IsAsked, leaves_with, place}
 use Rattle.storage_sync.specs.declared.sync.refusal.Refusal.{Refusal}
 use Rattle.storage_sync.specs.declared.sync.refusal.Refusal.TheVariants.{NotAPage, TooMuch, NotAsked, NotProved, Memory}
 
@@ -33,7 +33,7 @@ module _ (h : HashFunction) (g : Grafting) where
   IsUnproved t p TooMuch = ⊥
   IsUnproved t p NotAsked = IsAsked g.bytes t (leaves_with t p) (length p.operations) → ⊥
   IsUnproved t p NotProved = IsAsked g.bytes t (leaves_with t p) (length p.operations)
-      × (IsCurrent h g p.proof (length t.operations) p.operations p.chunks t.root → ⊥)
+      × (IsCurrent h g p.proof (place t) p.operations p.chunks t.root → ⊥)
   IsUnproved t p Memory = Unit {0}
 
   -- why bytes are not taken: the first reason that holds, else want of memory
@@ -53,7 +53,7 @@ module _ (h : HashFunction) (g : Grafting) where
     pub root_is : t.root ≡ canonical_root h g s
     pub leaves_are : (t.leaves ≡ None) ⊎ (t.leaves ≡ Some (length s.operations))
     pub page : Page
-    pub own : IsOwnPage s (length t.operations) page
+    pub own : IsOwnPage s (place t) page
     pub asked : IsAsked g.bytes t (length s.operations) (length page.operations)
     pub few : length page.proof.range.digests ≤ t.limits.max_digests
     pub short : AreShort t.limits.max_operation_len page.operations

@@ -2,7 +2,7 @@
 use Rattle.std.specs.Prelude.{◌≡◌, ℕ, ◌+◌, ◌≤◌, Bool, List, [], ◌∷◌, length, Some}
 use Rattle.storage_codec.specs.Digests.{HashFunction}
 use Rattle.storage_current.specs.Snapshots.{Grafting}
-use Rattle.storage_sync.specs.Syncs.{Taken, IsTaken}
+use Rattle.storage_sync.specs.Syncs.{Taken, IsTaken, place}
 
 -- these pages, as they are written, are taken one after another
 abbrev pub IsRun : HashFunction → Grafting → Bool → ℕ → List (List ℕ) → Taken → Taken → Type 0
@@ -15,4 +15,4 @@ abbrev pub RunsEnd : Type 0
 RunsEnd =
     (h : HashFunction) (g : Grafting) (has_pending : Bool) (d : ℕ) (bytes : List ℕ) (more : List (List ℕ)) (old new : Taken)
     → IsRun h g has_pending d (bytes ∷ more) old new → (leaves : ℕ) → new.leaves ≡ Some leaves
-    → length old.operations + length (bytes ∷ more) ≤ leaves
+    → place old + length (bytes ∷ more) ≤ leaves

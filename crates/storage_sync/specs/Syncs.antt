@@ -7,21 +7,39 @@ use Rattle.storage_bitmap.specs.Chunks.{IsChunkSize, Retained}
 use Rattle.storage_current.specs.Snapshots.{Grafting, Snapshot, IsSnapshot, canonical_root, snapshot_strings}
 use Rattle.storage_sync.specs.declared.sync.limits.Limits.{Limits}
 use Rattle.storage_sync.specs.Messages.{page_at}
-use Rattle.storage_sync.specs.Pages.{Page, page_bits, operations_of, bits_of, FirstNames, FirstRoot, IsProved, AreProved, hashed_by, IsCopy}
+use Rattle.storage_sync.specs.Floors.{IsTail}
+use Rattle.storage_sync.specs.Pages.{Page, page_bits, operations_of, bits_of, FirstNames, FirstRoot, IsProved, AreProved, hashed_by}
 
--- the root that is trusted, the limits of a page, the number of all operations and the operations root once they are known, and the
--- first operations with their bits
+-- the root that is trusted, the limits of a page, where the copy begins, the number of all operations and the operations root once they
+-- are known, and the first operations from where it begins with their bits
 pub record Taken : Type 0 where
   pub root : List ℕ
   pub limits : Limits
+  pub begin : ℕ
   pub leaves : Option ℕ
   pub ops_root : Option (List ℕ)
   pub operations : List (List ℕ)
   pub bits : List Bool
 
--- all operations are there
+-- nothing yet of what is to come from a location on
+abbrev pub nothing_yet : List ℕ → Limits → ℕ → Taken
+nothing_yet root limits begin = record {
+  root = root;
+  limits = limits;
+  begin = begin;
+  leaves = None;
+  ops_root = None;
+  operations = [];
+  bits = [];
+}
+
+-- where the next operation stands
+abbrev pub place : Taken → ℕ
+place t = t.begin + length t.operations
+
+-- all operations from where the copy begins are there
 abbrev pub IsWhole : Taken → Type 0
-IsWhole t = t.leaves ≡ Some (length t.operations)
+IsWhole t = t.leaves ≡ Some (place t)
 
 -- how many operations a page may have: those of the most whole chunks of n bytes that the limits admit
 abbrev pub step : ℕ → Limits → ℕ
@@ -35,16 +53,22 @@ leaves_with t p = unwrap_or t.leaves p.proof.range.leaves
 abbrev pub ops_root_with : Taken → Page → List ℕ
 ops_root_with t p = unwrap_or t.ops_root p.proof.ops_root
 
+-- a copy may begin at a location: a chunk begins there, and the limits admit a chunk's operations
+pub record CanStart (n : ℕ) (limits : Limits) (begin : ℕ) : Type 0 where
+  pub room : 8 * n ≤ limits.max_ops
+  pub boundary : begin % (8 * n) ≡ 0
+  pub few : begin ≤ max_leaves
+
 -- so many operations may come next, of so many in all: some, no more than are wanted or left, and the last of them ends a chunk or all
 pub record IsAsked (n : ℕ) (t : Taken) (leaves count : ℕ) : Type 0 where
   pub some : 0 < count
   pub few : count ≤ step n t.limits
-  pub within : length t.operations + count ≤ leaves
-  pub ends : ((length t.operations + count) % (8 * n) ≡ 0) ⊎ (length t.operations + count ≡ leaves)
+  pub within : place t + count ≤ leaves
+  pub ends : ((place t + count) % (8 * n) ≡ 0) ⊎ (place t + count ≡ leaves)
 
 -- so many operations there may be in all
 abbrev pub MayHave : Taken → ℕ → Type 0
-MayHave t leaves = ((t.leaves ≡ None) × (0 < leaves)) ⊎ (t.leaves ≡ Some leaves)
+MayHave t leaves = ((t.leaves ≡ None) × (t.begin < leaves)) ⊎ (t.leaves ≡ Some leaves)
 
 -- what there is once a page is taken
 abbrev pub after : ℕ → Taken → Page → Taken
@@ -57,27 +81,28 @@ after n t p = record t {
 
 -- ---- what holds all along
 
--- the first so many operations end where a chunk ends, or are all
-abbrev pub IsAt : (n kept : ℕ) → Option ℕ → Type 0
-IsAt n kept None = kept ≡ 0
-IsAt n kept (Some leaves) = (kept ≤ leaves) × (leaves ≤ max_leaves) × ((kept % (8 * n) ≡ 0) ⊎ (kept ≡ leaves))
+-- the next operation is the first one, or one where a chunk begins, or there is none
+abbrev pub IsAt : (n begin next : ℕ) → Option ℕ → Type 0
+IsAt n begin next None = next ≡ begin
+IsAt n begin next (Some leaves) = (next ≤ leaves) × (leaves ≤ max_leaves) × ((next % (8 * n) ≡ 0) ⊎ (next ≡ leaves))
 
+-- the chunks before the first operation are those that are pruned
 pub record IsConsistent (n : ℕ) (limits : Limits) (leaves : Option ℕ) (rooted : Bool) (kept : ℕ) (status : Retained)
     : Type 0 where
   pub size : IsChunkSize n
   pub room : 8 * n ≤ limits.max_ops
-  pub unpruned : status.pruned ≡ 0
+  pub few : status.pruned * (8 * n) ≤ max_leaves
   pub bit_each : length status.bits ≡ kept
-  pub at : IsAt n kept leaves
+  pub at : IsAt n (status.pruned * (8 * n)) (status.pruned * (8 * n) + kept) leaves
   -- the operations root is known just where the number of all operations is
   pub root : rooted ≡ is_some leaves
 
 -- ---- what it is worth, for digests of d bytes
 
 module _ (h : HashFunction) (g : Grafting) where
-  -- what is kept is what these pages give, each of which is proved, of the first operations
+  -- what is kept is what these pages give, each of which is proved, of the first operations from where the copy begins
   pub record IsKept (d : ℕ) (t : Taken) (pages : List Page) : Type 0 where
-    pub proved : AreProved h g d t.root 0 (length t.operations) pages
+    pub proved : AreProved h g d t.root t.begin (place t) pages
     pub named : (leaves : ℕ) → t.leaves ≡ Some leaves → FirstNames leaves pages
     pub unnamed : t.leaves ≡ None → pages ≡ []
     pub rooted : (ops_root : List ℕ) → t.ops_root ≡ Some ops_root → FirstRoot ops_root pages
@@ -90,13 +115,13 @@ module _ (h : HashFunction) (g : Grafting) where
     pub page : Page
     pub read : whole (page_at has_pending d g.bytes old.limits bytes) ≡ Ok (page, [])
     pub asked : IsAsked g.bytes old (leaves_with old page) (length page.operations)
-    pub proved : IsProved h g d old.root (length old.operations) page
+    pub proved : IsProved h g d old.root (place old) page
     pub new_is : new ≡ after g.bytes old page
     pub kept : (pages : List Page) → IsKept d old pages → IsKept d new (pages ++ page ∷ [])
 
-  -- what is kept is a copy of each snapshot with the root, or a string that the checks of these pages hashed and a different one of the
-  -- root's calculation have one digest
+  -- what is kept is what each snapshot with the root has from there on, or a string that the checks of these pages hashed and a different
+  -- one of the root's calculation have one digest
   abbrev pub IsPromised : Taken → List Page → Type 0
   IsPromised t pages = (ops_root : List ℕ) → t.ops_root ≡ Some ops_root → (s : Snapshot) → IsSnapshot s →
       canonical_root h g s ≡ t.root →
-      IsCopy h g s t.operations t.bits ops_root ⊎ Cross h (hashed_by h g 0 pages) (snapshot_strings h g s)
+      IsTail h g s t.begin t.operations t.bits ops_root ⊎ Cross h (hashed_by h g t.begin pages) (snapshot_strings h g s)

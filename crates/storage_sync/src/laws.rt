@@ -1,8 +1,9 @@
 //! What holds of pages that are proved: laws over the definitions, each the contract of a function that does nothing.
 
 ghost use Rattle.storage_sync.specs.Alike.{FloorsProveAlike, RootOfNothing, RootsBindSnapshots};
-ghost use Rattle.storage_sync.specs.Floors.{CopiesFromPins, PagesAreTails};
+ghost use Rattle.storage_sync.specs.Floors.{CopiesFromPins, PagesAreTails, TailsAreCopies};
 ghost use Rattle.storage_sync.specs.Joined.{AnswersAreHonest, ServedCopiesAreWhole};
+ghost use Rattle.storage_sync.specs.Openings.{OpeningsAreReadAgain, OpeningsAreWrittenSo};
 ghost use Rattle.storage_sync.specs.Pages.{CopiesAreSnapshots, PagesAreCopies};
 ghost use Rattle.storage_sync.specs.Refusals.{HonestPagesAreTaken};
 ghost use Rattle.storage_sync.specs.Runs.{RunsEnd};
@@ -13,6 +14,7 @@ use storage_current::laws::{
     own_witnesses_are_accepted, witnesses_are_sound,
 };
 use storage_merkle::laws::roots_bind_their_trees;
+use storage_merkle::merkle::Graftable;
 
 /// Pages that are proved against a root, of as many operations as the first one names, give together the operations and bits of each
 /// snapshot with that root, or two different strings have one digest, one hashed by a check and one for the root.
@@ -29,6 +31,11 @@ pub fn pages_are_tails()
 {
     current_proofs_are_sound();
 }
+
+/// What a snapshot has from its first operation on is a copy of it.
+pub fn tails_are_copies()
+    ensures { TailsAreCopies }
+{}
 
 /// An opening that is accepted, pages from where it begins on, and a grafted root that its pins give and its witness has are together a
 /// copy of each snapshot with the opening's root: its operations and bits from there on, and the pins of what is before. Or two different
@@ -96,3 +103,13 @@ pub fn floors_prove_alike()
 {
     roots_bind_snapshots();
 }
+
+/// What an opening is written as is read again within limits that admit it, whatever follows it.
+pub fn openings_are_read_again<F: Graftable, D: Digest>()
+    ensures { OpeningsAreReadAgain F D.text F.has_pending D.size }
+{}
+
+/// What is read as an opening was written so, byte for byte.
+pub fn openings_are_written_so()
+    ensures { OpeningsAreWrittenSo }
+{}

@@ -4,7 +4,9 @@ mod ask;
 mod bits;
 mod limits;
 mod lists;
+mod opening;
 mod page;
+mod pins;
 mod refusal;
 mod replica;
 mod request;
@@ -14,6 +16,7 @@ mod unfounded;
 
 pub use ask::Sync;
 pub use limits::Limits;
+pub use opening::Opening;
 pub use page::Page;
 pub use refusal::Refusal;
 pub use replica::Replica;

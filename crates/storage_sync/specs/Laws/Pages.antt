@@ -23,12 +23,12 @@ pub held_page : {F D : Type 0} (text : D → List ℕ) (d : ℕ) → ((x : D) �
     → HasDigests d (page_of text p).proof
 held_page text d sized p = held_digests text d sized p.proof
 
-short_again : (most : ℕ) (xs : List (List ℕ)) → AreShort most xs → AreAgain vector_text (vector_at 0 most) xs
+pub short_again : (most : ℕ) (xs : List (List ℕ)) → AreShort most xs → AreAgain vector_text (vector_at 0 most) xs
 short_again most [] are = tt
 short_again most (x ∷ xs) are =
     (λ rest. vector_again 0 most x rest (are.0.0, omega arith, are.0.1), short_again most xs are.1)
 
-sized_again : (n : ℕ) (xs : List (List ℕ)) → AreDigests n xs → AreAgain as_is (front_at n) xs
+pub sized_again : (n : ℕ) (xs : List (List ℕ)) → AreDigests n xs → AreAgain as_is (front_at n) xs
 sized_again n [] are = tt
 sized_again n (x ∷ xs) are = (λ rest. front_again n x rest are.0, sized_again n xs are.1)
 

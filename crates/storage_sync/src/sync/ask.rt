@@ -1,36 +1,38 @@
 //! The one who asks: a copy of a snapshot that grows page by page.
 
-ghost use Rattle.std.specs.Prelude.{◌≡◌, ◌≢◌, ◌⊎◌, ℕ, ◌+◌, ◌-◌, ◌*◌, ◌/◌, ◌%◌, ◌^◌, ◌<◌, ◌≤◌, ◌↔◌, List, [], ◌∷◌, ◌++◌, length, map, min, unwrap_or, None, Some, Ok, IfOk, IfErr, IfSome, IsTrue, MatchOption, MatchResult, OnOk, OnErr};
+ghost use Rattle.std.specs.Prelude.{◌≡◌, ◌≢◌, ◌⊎◌, ℕ, ◌+◌, ◌-◌, ◌*◌, ◌/◌, ◌%◌, ◌^◌, ◌<◌, ◌≤◌, ◌↔◌, List, [], ◌∷◌, ◌++◌, length, map, min, unwrap_or, Some, Ok, IfOk, IfErr, IfSome, IsTrue, MatchOption, MatchResult, OnOk, OnErr};
 ghost use Rattle.storage_merkle.specs.Shape.{max_leaves};
 ghost use Rattle.storage_bitmap.specs.Chunks.{IsChunkSize};
 ghost use Rattle.storage_codec.specs.Codec.{Answer, MayFail};
 ghost use Rattle.storage_current.specs.CurrentProofs.{IsCurrent};
+ghost use Rattle.storage_current.specs.Openings.{MeansOpening};
 ghost use Rattle.storage_current.specs.Snapshots.{IsSnapshot, Snapshot as SnapshotOf, canonical_root, grafting_of, ops_root_of, snapshot_strings};
 ghost use Rattle.storage_current.specs.KeptSnapshots.{StandsForSnapshot};
 ghost use Rattle.storage_codec.specs.Digests.{Cross};
 ghost use Rattle.storage_sync.specs.Alike.{nothing};
-ghost use Rattle.storage_sync.specs.Held.{page_of};
+ghost use Rattle.storage_sync.specs.Held.{opening_of, page_of};
+ghost use Rattle.storage_sync.specs.Openings.{IsAcceptedOpening};
 ghost use Rattle.storage_sync.specs.Pages.{IsCopy, IsProved, Page as PageOf};
 ghost use Rattle.storage_sync.specs.Refusals.{IsHonest, IsRefused, IsUnproved, IsUnread};
 ghost use Rattle.storage_sync.specs.Messages.{request_of};
 ghost use Rattle.storage_sync.specs.Serving.{HasPage};
-ghost use Rattle.storage_sync.specs.Syncs.{IsAsked, IsKept, IsPromised, IsTaken, IsWhole, MayHave, leaves_with, step};
+ghost use Rattle.storage_sync.specs.Syncs.{CanStart, IsAsked, IsKept, IsPromised, IsTaken, IsWhole, MayHave, leaves_with, nothing_yet, place, step};
 
-use crate::laws::{honest_pages_are_taken, pages_are_copies, root_of_nothing};
+use crate::laws::{honest_pages_are_taken, pages_are_tails, root_of_nothing};
 use crate::sync::bits::bits_of;
-use crate::sync::{Limits, Page, Refusal, Replica, Request};
+use crate::sync::{Limits, Opening, Page, Refusal, Replica, Request};
 use bytes::Bytes;
 use std::alloc::Global;
 use std::marker::Model;
-use storage_bitmap::bitmap::Prunable;
+use storage_bitmap::bitmap::{Prunable, Readable};
 use storage_codec::NoMemory;
 use storage_codec::codec::{Decode, Error};
 use storage_codec::digest::Hasher;
 use storage_current::qmdb::current::Snapshot;
 use storage_merkle::merkle::{Graftable, Location};
 
-/// A copy of a snapshot that is being taken from peers that are not trusted. It keeps the operations and bits that are proved so
-/// far.
+/// A copy of a snapshot, or of what it has from an operation on, that is being taken from peers that are not trusted. It keeps the
+/// operations and bits that are proved so far.
 #[derive(Drop)]
 pub struct Sync<F: Graftable, H: Hasher, const N: usize> {
     root: H::Digest,
@@ -42,7 +44,7 @@ pub struct Sync<F: Graftable, H: Hasher, const N: usize> {
 }
 
 impl<F: Graftable, H: Hasher, const N: usize> Model for Sync<F, H, N> {
-    ghost use Rattle.std.specs.Prelude.{map, length, is_some, option_map};
+    ghost use Rattle.std.specs.Prelude.{◌*◌, map, length, is_some, option_map};
     ghost use Rattle.storage_sync.specs.Syncs.{IsConsistent, Taken};
 
     ghost Value = { Taken };
@@ -50,6 +52,7 @@ impl<F: Graftable, H: Hasher, const N: usize> Model for Sync<F, H, N> {
     ghost view = { λ s. record {
       root = H.Digest.text s.root;
       limits = s.limits;
+      begin = s.status.pruned * (8 * N);
       leaves = s.leaves;
       ops_root = option_map H.Digest.text s.ops_root;
       operations = map (λ o. o.items) s.operations.items;
@@ -66,28 +69,74 @@ impl<F: Graftable, H: Hasher, const N: usize> Sync<F, H, N> {
     pub fn new(alloc: Global, root: H::Digest, limits: Limits) -> Option<Self>
         requires { IsChunkSize N }
         ensures begun { MatchOption result (limits.max_ops < 8 * N) (λ s. (8 * N ≤ limits.max_ops)
-            × (s ≡ record {
-              root = H.Digest.text root;
-              limits = limits;
-              leaves = None;
-              ops_root = None;
-              operations = [];
-              bits = [];
-            })) }
+            × (s ≡ nothing_yet (H.Digest.text root) limits 0)) }
         ensures kept { let g = grafting_of F.shape N in
             IfSome result (λ s. IsKept H.hash_of g H.Digest.size s []) }
     {
-        if limits.max_ops < 8 * N as u64 {
+        Self::starting_at(alloc, root, limits, Location::new(0))
+    }
+
+    /// Nothing yet of what the snapshots with the canonical root `root` have from the location `begin` on; `limits` bound each
+    /// page. None where they admit fewer operations than a chunk has bits, no chunk begins at `begin`, or it is past `MAX_LEAVES`.
+    /// Allocates nothing.
+    pub fn starting_at(
+        alloc: Global,
+        root: H::Digest,
+        limits: Limits,
+        begin: Location<F>,
+    ) -> Option<Self>
+        requires { IsChunkSize N }
+        ensures begun { MatchOption result (CanStart N limits begin → ⊥) (λ s.
+            CanStart N limits begin × (s ≡ nothing_yet (H.Digest.text root) limits begin)) }
+        ensures kept { let g = grafting_of F.shape N in
+            IfSome result (λ s. IsKept H.hash_of g H.Digest.size s []) }
+    {
+        let bits = 8 * N as u64;
+        let start = begin.as_u64();
+        if limits.max_ops < bits || start % bits != 0 || !begin.is_valid() {
             return None;
         }
+        let chunks = (start / bits) as usize;
         Some(Sync {
             root,
             limits,
             leaves: None,
             ops_root: None,
             operations: Vec::new(alloc),
-            status: Prunable::new(alloc),
+            status: Prunable::new_with_pruned_chunks(alloc, chunks),
         })
+    }
+
+    /// Nothing yet of what the snapshots with the canonical root `root` have from where `opening` begins, if it is accepted
+    /// ([`Opening::is_accepted`]). None where it is not, or where `limits` admit fewer operations than a chunk has bits.
+    ///
+    /// # Errors
+    ///
+    /// `NoMemory` if memory runs out.
+    pub fn from_opening(
+        alloc: Global,
+        root: H::Digest,
+        limits: Limits,
+        opening: &Opening<F, H::Digest>,
+    ) -> Result<Option<Self>, NoMemory>
+        requires { IsChunkSize N }
+        ensures begun { let g = grafting_of F.shape N in
+            let o = opening_of H.Digest.text opening.now in
+            IfOk result (λ found. MatchOption found
+            (IsAcceptedOpening H.hash_of g o (H.Digest.text root) × CanStart N limits o.begin → ⊥)
+            (λ s. IsAcceptedOpening H.hash_of g o (H.Digest.text root)
+            × CanStart N limits o.begin × (s ≡ nothing_yet (H.Digest.text root) limits o.begin))) }
+        ensures meaning { 0 < H.Digest.size → let o = opening_of H.Digest.text opening.now in
+            IfOk result (λ found. IfSome found (λ _. MeansOpening H.hash_of F.shape o.witness o.ops_root
+            o.proof o.begin o.operations o.pins (H.Digest.text root))) }
+        ensures kept { let g = grafting_of F.shape N in
+            IfOk result (λ found. IfSome found (λ s. IsKept H.hash_of g H.Digest.size s [])) }
+    {
+        let accepted = opening.is_accepted::<H, N>(alloc, &root)?;
+        if !accepted {
+            return Ok(None);
+        }
+        Ok(Self::starting_at(alloc, root, limits, opening.begin))
     }
 
     /// Returns the snapshot of no operations if `root` is its canonical root; else none. No page of it is ever accepted, so
@@ -129,13 +178,13 @@ impl<F: Graftable, H: Hasher, const N: usize> Sync<F, H, N> {
     /// Returns what is wanted next; none once all is there. Allocates nothing.
     pub fn next(&self) -> Option<Request<F>>
         ensures value { MatchOption result (IsWhole self.now) (λ request. (IsWhole self.now → ⊥)
-            × (request.start_loc ≡ length self.now.operations)
+            × (request.start_loc ≡ place self.now)
             × (request.max_ops ≡ step N self.now.limits)) }
 
         // However many operations there are in all, as many as are wanted and left may come.
         ensures answerable { IfSome result (λ request. (leaves : ℕ) → MayHave self.now leaves
             → IsAsked N self.now leaves
-            (min request.max_ops (leaves - length self.now.operations))) }
+            (min request.max_ops (leaves - place self.now))) }
 
         // And whoever has them all has a page for it.
         ensures served { IfSome result (λ request. (leaves : ℕ) → MayHave self.now leaves
@@ -145,7 +194,7 @@ impl<F: Graftable, H: Hasher, const N: usize> Sync<F, H, N> {
             return None;
         }
         Some(Request {
-            start_loc: Location::new(self.operations.len() as u64),
+            start_loc: Location::new(self.status.len()),
             max_ops: self.step(),
         })
     }
@@ -187,11 +236,12 @@ impl<F: Graftable, H: Hasher, const N: usize> Sync<F, H, N> {
         }
     }
 
-    /// Returns the copy, once all is there; else what there is of it. Allocates nothing.
+    /// Returns the copy, once all is there; else what there is of it. The chunks before its first operation are pruned.
+    /// Allocates nothing.
     pub fn done(self) -> Result<Replica<H::Digest, N>, Self>
         ensures exact { MatchResult result (λ copy. IsWhole self
             × (map (λ o. o.items) copy.operations.items ≡ self.operations)
-            × (copy.status ≡ record { pruned = 0; bits = self.bits })
+            × (copy.status.pruned * (8 * N) ≡ self.begin) × (copy.status.bits ≡ self.bits)
             × (self.ops_root ≡ Some (H.Digest.text copy.ops_root)))
             (λ s. (IsWhole self → ⊥) × (s ≡ self)) }
         ensures promise { (H.Digest.size ≡ 32) ⊎ (H.Digest.size ≡ 64)
@@ -199,7 +249,7 @@ impl<F: Graftable, H: Hasher, const N: usize> Sync<F, H, N> {
             OnOk result ((pages : List PageOf) → IsKept H.hash_of g H.Digest.size self pages
             → IsPromised H.hash_of g self pages) }
     {
-        pages_are_copies();
+        pages_are_tails();
         if !self.is_whole() {
             return Err(self);
         }
@@ -221,7 +271,7 @@ impl<F: Graftable, H: Hasher, const N: usize> Sync<F, H, N> {
         ensures { IsTrue result ↔ IsWhole self.now }
     {
         match self.leaves {
-            Some(leaves) => leaves.as_u64() == self.operations.len() as u64,
+            Some(leaves) => leaves.as_u64() == self.status.len(),
             None => false,
         }
     }
@@ -240,7 +290,7 @@ impl<F: Graftable, H: Hasher, const N: usize> Sync<F, H, N> {
     fn is_asked(&self, leaves: u64, count: u64) -> bool
         ensures { IsTrue result ↔ IsAsked N self.now leaves count }
     {
-        let start = self.operations.len() as u64;
+        let start = self.status.len();
         if count == 0 || count > self.step() || start > leaves || count > leaves - start {
             return false;
         }
@@ -261,7 +311,7 @@ impl<F: Graftable, H: Hasher, const N: usize> Sync<F, H, N> {
         ensures few { IfOk result (λ leaves. leaves ≤ max_leaves) }
         ensures proved { let g = grafting_of F.shape N in
             OnOk result (IsProved H.hash_of g H.Digest.size self.now.root
-            (length self.now.operations) (page_of H.Digest.text page.now)) }
+            (place self.now) (page_of H.Digest.text page.now)) }
         ensures why { let g = grafting_of F.shape N in
             IfErr result (IsUnproved H.hash_of g self.now (page_of H.Digest.text page.now)) }
     {
@@ -281,10 +331,10 @@ impl<F: Graftable, H: Hasher, const N: usize> Sync<F, H, N> {
         ensures { let g = grafting_of F.shape N in
             let p = page_of H.Digest.text page.now in
             IfOk result (λ yes. IsTrue yes
-            ↔ IsCurrent H.hash_of g p.proof (length self.now.operations)
+            ↔ IsCurrent H.hash_of g p.proof (place self.now)
             p.operations p.chunks self.now.root) }
     {
-        let start = Location::new(self.operations.len() as u64);
+        let start = Location::new(self.status.len());
         page.proof.verify_encoded::<H, Vec<u8>, Bytes>(
             alloc,
             start,

@@ -88,7 +88,7 @@ pub(crate) fn chunks_size(chunks: &[Bytes]) -> Option<u64>
 
 /// Reads a number of items, at most `most`, from the front of `buf`.
 #[tactic(auto, using(storage_codec::specs::Laws::Parts::ends_then))]
-fn read_count<B: Buf>(alloc: Global, buf: &mut B, most: u64) -> Result<u64, Error>
+pub(crate) fn read_count<B: Buf>(alloc: Global, buf: &mut B, most: u64) -> Result<u64, Error>
     ensures gives { Gives (λ n. n) result (B.unread buf.new) (count_at most (B.unread buf.old)) }
     ensures ends { IsEnding (B.unread buf.old) (B.unread buf.new) }
 {

@@ -1,8 +1,12 @@
-//! The one who serves: pages of a snapshot, from it and from a log of its operations.
+//! The one who serves: pages and openings of a snapshot, from it and from a log of its operations.
 //!
 //! ```text
-//! snapshot --> the range proof, the chunks of bits      of the operations from where the request begins
-//! log      --> the operations                           to where all end, else to where the last whole chunk does
+//! page
+//!   snapshot --> the range proof, the chunks of bits    of the operations from where the request begins
+//!   log      --> the operations                         to where all end, else to where the last whole chunk does
+//! opening
+//!   snapshot --> the witness of the operations root, the plain proof of the operation there, the pins of what is before
+//!   log      --> that operation
 //! ```
 
 ghost use Rattle.std.specs.Prelude.{◌≡◌, ℕ, ◌+◌, ◌-◌, ◌*◌, ◌/◌, ◌%◌, ◌^◌, ◌<◌, ◌≤◌, length, IfOk, IfErr, OnOk};
@@ -13,6 +17,7 @@ ghost use Rattle.storage_sync.specs.Held.{page_of};
 ghost use Rattle.storage_sync.specs.Messages.{request_of};
 ghost use Rattle.storage_sync.specs.Serving.{HasAnswer, HasNoPage, HasPage, IsAnswer, IsLogFault, IsLogOf, IsServed, IsUnanswered, answer_count};
 
+mod opening;
 mod operations;
 mod proof;
 
@@ -25,7 +30,7 @@ use storage_codec::digest::Hasher;
 use storage_current::qmdb::current::{Contiguous, Snapshot};
 use storage_merkle::merkle::{Graftable, Location};
 
-/// A snapshot in memory, which may be pruned, from which pages are served.
+/// A snapshot in memory, which may be pruned, from which pages and openings are served.
 #[derive(Drop)]
 pub struct Server<F: Graftable, H: Hasher, const N: usize> {
     /// The snapshot.
