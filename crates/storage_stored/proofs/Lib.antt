@@ -1,3 +1,8 @@
 mod Lists
 mod LastRows
 mod Storing
+mod Commands
+mod Refused
+mod Opened
+mod Back
+mod Compacted

@@ -59,7 +59,7 @@ module _ (h : HashFunction) (g : Grafting) {K W : Type 0} where
     row = subst (λ r. IsLastRow h g r d.last) (sym (last_pushed lists.commits row)) is;
   }
 
-  operations_of : (last : Option (Committed K W)) (operations : List (List ℕ)) → MatchOption last (operations ≡ []) (λ c. c.snapshot.operations ≡ operations) → operations ≡ committed_operations last
+  pub operations_of : (last : Option (Committed K W)) (operations : List (List ℕ)) → MatchOption last (operations ≡ []) (λ c. c.snapshot.operations ≡ operations) → operations ≡ committed_operations last
   operations_of None operations is = is
   operations_of (Some c) operations is = sym is
 

@@ -1,1 +1,4 @@
+pub mod Refusals
 pub mod Stored
+pub mod Opened
+pub mod Compacted

@@ -1,15 +1,23 @@
-//! What a file keeps of an ordered database: each commit, with the operations since the one before it and its root, stored
-//! in one transaction; and whether what is read of a file is that of a database.
+//! An ordered database whose commits outlive the program: each is stored with the operations since the one before it and its
+//! root, in one transaction of a connection of `sqlite`.
 //!
 //! ```text
-//! Ordered::commit  -->  store_commit  -->  the tables  -->  Journal::open  -->  Ordered::open  -->  is_stored
+//! Stored::put, delete, compact  -->  the database in memory
+//! Stored::commit                -->  the database in memory, then store_commit  -->  the tables
+//! Stored::open                  -->  the tables  -->  Journal::open  -->  Ordered::open  -->  is_stored
 //! ```
 #![tactic(auto)]
 
+mod commits;
+mod compacting;
 mod error;
 pub mod laws;
+mod opening;
 mod rows;
 mod store;
+mod stored;
 
+pub use compacting::CompactError;
 pub use error::Error;
 pub use store::{is_stored, store_commit};
+pub use stored::Stored;

@@ -45,7 +45,7 @@ fn location_of<F: Graftable, H: Hasher, K: Key, V: OrderedCodec<F, K>, const N: 
 pub(crate) fn row_of<F: Graftable, H: Hasher, K: Key, V: OrderedCodec<F, K>, const N: usize>(
     alloc: Global,
     database: &Ordered<F, H, K, V, N>,
-) -> Result<Commit, Error>
+) -> Result<Commit, Error<F>>
     ensures { let e = keyed_by K.text V.Value.text V.operation_text K.cmp in
         let g = grafting_of F.shape N in
         (d : Database K V.Value) → Keeps e V.Value.view H.hash_of g database.now d → IsCommitted d

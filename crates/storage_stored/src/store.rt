@@ -27,7 +27,7 @@ use storage_ops::qmdb::operation::Key;
 ///
 /// # Errors
 ///
-/// The first of: `NotCommitted` before the first commit; `File` with what the journal refuses or fails at; `Memory`.
+/// The first of: `NotCommitted` before the first commit; `Store` with what the connection refuses or fails at; `Memory`.
 pub fn store_commit<
     F: Graftable,
     H: Hasher,
@@ -35,7 +35,11 @@ pub fn store_commit<
     V: OrderedCodec<F, K>,
     const N: usize,
     S: Alter,
->(alloc: Global, journal: &mut Journal<S>, database: &Ordered<F, H, K, V, N>) -> Result<(), Error>
+>(
+    alloc: Global,
+    journal: &mut Journal<S>,
+    database: &Ordered<F, H, K, V, N>,
+) -> Result<(), Error<F>>
     ensures stored { let e = keyed_by K.text V.Value.text V.operation_text K.cmp in
         let g = grafting_of F.shape N in
         IsClean S.Store journal.new → (lists : _) → IsOf S.Store journal.old lists
