@@ -2,7 +2,19 @@
 #![tactic(auto)]
 
 #[cfg(test)]
+mod agreed;
+#[cfg(test)]
+mod commands;
+#[cfg(test)]
+mod databases;
+#[cfg(test)]
+mod files;
+#[cfg(test)]
 mod journals;
+#[cfg(test)]
+mod kept;
+#[cfg(test)]
+mod load;
 #[cfg(test)]
 mod stored;
 #[cfg(test)]

@@ -1,11 +1,9 @@
 //! The commits of a database, stored in memory and in a file, and opened again.
 
-use crate::tables::commit_at;
-use sqlite::{Alter, Connection, Error as SqlError, ErrorCode, FileStore};
-use sqlite_disk::Disk;
+use crate::files::{Work, comes_back};
+use crate::tables::{commit_at, execute, in_memory};
+use sqlite::{Alter, Connection, Error as SqlError, ErrorCode, MemStore};
 use std::alloc::Global;
-use std::fs;
-use std::process::Abort;
 use std::test::Fail;
 use storage_codec::codec::FixedBytes;
 use storage_codec::digest::Sha256;
@@ -13,11 +11,16 @@ use storage_db::db::Ordered;
 use storage_file::{Agreement, Contents, Error as FileError, Journal};
 use storage_merkle::merkle::mmr;
 use storage_ops::qmdb::any::FixedEncoding;
-use storage_stored::{Error, is_stored, store_commit};
+use storage_stored::{is_stored, store_commit};
 
 type Key = FixedBytes<4>;
 
 type Database = Ordered<mmr::Family, Sha256, Key, FixedEncoding<u64>, 1>;
+
+type Error = storage_stored::Error<mmr::Family>;
+
+/// What a database answers: the root of its last commit, how many keys there are, values of now and of the last commit.
+type Answers = (Option<FixedBytes<32>>, usize, [Option<u64>; 4]);
 
 const AGREEMENT: Agreement<'static> = Agreement {
     family: "mmr",
@@ -59,19 +62,51 @@ fn open<S: Alter + Drop>(
     Ok((journal, database, stored))
 }
 
+/// Puts a value.
+fn put(database: &mut Database, number: u8, value: u64) -> Result<(), Fail> {
+    database.put(key(number), value)?;
+    Ok(())
+}
+
+/// Commits what has been put and deleted.
+fn commit(database: &mut Database, metadata: Option<u64>) -> Result<(), Fail> {
+    database.commit(metadata)?;
+    Ok(())
+}
+
+/// Stores the last commit.
+fn store<S: Alter>(
+    alloc: Global,
+    journal: &mut Journal<S>,
+    database: &Database,
+) -> Result<(), Error> {
+    store_commit(alloc, journal, database)
+}
+
 /// Makes the first commit, of two keys.
 fn first_commit(database: &mut Database) -> Result<(), Fail> {
-    database.put(key(5), 7)?;
-    database.put(key(9), 8)?;
-    database.commit(Some(1))?;
-    Ok(())
+    put(database, 5, 7)?;
+    put(database, 9, 8)?;
+    commit(database, Some(1))
 }
 
 /// Makes the second commit, of one key that is taken out and one that is new.
 fn second_commit(database: &mut Database) -> Result<(), Fail> {
     database.delete(&key(9))?;
-    database.put(key(2), 3)?;
-    database.commit(None)?;
+    put(database, 2, 3)?;
+    commit(database, None)
+}
+
+/// Makes both commits, and stores each.
+fn store_both<S: Alter>(
+    alloc: Global,
+    journal: &mut Journal<S>,
+    database: &mut Database,
+) -> Result<(), Fail> {
+    first_commit(database)?;
+    store(alloc, journal, database)?;
+    second_commit(database)?;
+    store(alloc, journal, database)?;
     Ok(())
 }
 
@@ -81,61 +116,114 @@ fn filled<S: Alter + Drop>(
     conn: Connection<S>,
 ) -> Result<(Journal<S>, Database), Fail> {
     let (mut journal, mut database, _) = open(alloc, conn)?;
-    first_commit(&mut database)?;
-    store_commit(alloc, &mut journal, &database)?;
-    second_commit(&mut database)?;
-    store_commit(alloc, &mut journal, &database)?;
+    store_both(alloc, &mut journal, &mut database)?;
     Ok((journal, database))
 }
 
-/// Asserts that a connection keeps both commits, and nothing that was put since.
-fn has_both<S: Alter + Drop>(
-    rt: &impl Abort,
+/// A connection that keeps both commits.
+fn filled_connection(alloc: Global) -> Result<Connection<MemStore>, Fail> {
+    let (journal, _) = filled(alloc, in_memory(alloc)?)?;
+    Ok(journal.into_connection())
+}
+
+/// Returns the value of the key of `number`.
+fn value(database: &Database, number: u8) -> Option<u64> {
+    database.get(&key(number)).copied()
+}
+
+/// Returns the value that it had at the last commit.
+fn committed(database: &Database, number: u8) -> Option<u64> {
+    database.get_committed(&key(number)).copied()
+}
+
+/// Returns what a database answers.
+fn answers(database: &Database) -> Answers {
+    let values = [
+        value(database, 2),
+        value(database, 4),
+        committed(database, 5),
+        committed(database, 9),
+    ];
+    (database.root(), database.len(), values)
+}
+
+/// Returns whether these are the answers of the database of both commits, to which nothing was put since.
+fn are_of_both(alloc: Global, found: &Answers) -> Result<bool, Fail> {
+    let mut database = Database::new(alloc);
+    first_commit(&mut database)?;
+    second_commit(&mut database)?;
+    Ok(*found == (database.root(), 2, [Some(3), None, Some(7), None]))
+}
+
+/// Returns what the database that a connection keeps answers, and whether its last commit is the one that is stored.
+fn kept_answers<S: Alter + Drop>(
     alloc: Global,
     conn: Connection<S>,
-) -> Result<(), Fail> {
-    let (_, database, stored) = open(alloc, conn)?;
-    assert!(rt; stored);
-    let mut wanted = Database::new(alloc);
-    first_commit(&mut wanted)?;
-    second_commit(&mut wanted)?;
-    assert_eq!(rt; database.root(), wanted.root());
-    assert_eq!(rt; database.len(), 2);
-    assert_eq!(rt; database.get(&key(2)), Some(&3));
-    assert_eq!(rt; database.get(&key(4)), None);
-    assert_eq!(rt; database.get_committed(&key(5)), Some(&7));
-    assert_eq!(rt; database.get_committed(&key(9)), None);
-    Ok(())
+) -> Result<(Journal<S>, Answers, bool), Fail> {
+    let (journal, database, stored) = open(alloc, conn)?;
+    Ok((journal, answers(&database), stored))
+}
+
+/// Stores both commits in an empty database.
+pub(crate) fn fill_all<S: Alter + Drop>(
+    alloc: Global,
+    conn: Connection<S>,
+) -> Result<(Journal<S>, bool), Fail> {
+    let (journal, _) = filled(alloc, conn)?;
+    Ok((journal, true))
+}
+
+/// Tells whether a connection keeps both commits, and nothing that was put since.
+pub(crate) fn read_all<S: Alter + Drop>(
+    alloc: Global,
+    conn: Connection<S>,
+) -> Result<(Journal<S>, bool), Fail> {
+    let (journal, found, stored) = kept_answers(alloc, conn)?;
+    let is_both = stored && are_of_both(alloc, &found)?;
+    Ok((journal, is_both))
+}
+
+/// The same of a connection to memory.
+fn has_both(alloc: Global, conn: Connection<MemStore>) -> Result<bool, Fail> {
+    let (_, is_both) = read_all(alloc, conn)?;
+    Ok(is_both)
 }
 
 #[test]
 fn stored_commits_come_back(rt: HostRuntime) -> Result<(), Fail> {
     let alloc = rt.alloc();
-    let (journal, mut database) = filled(alloc, Connection::open_in_memory(alloc)?)?;
-    database.put(key(4), 4)?;
-    has_both(&rt, alloc, journal.into_connection())
+    let (journal, mut database) = filled(alloc, in_memory(alloc)?)?;
+    put(&mut database, 4, 4)?;
+    assert!(rt; has_both(alloc, journal.into_connection())?);
+    Ok(())
+}
+
+/// Puts to the empty database, and tries to store a commit. Returns whether it was as it is stored before, and what the try came to.
+fn stored_without_commit(alloc: Global) -> Result<(bool, Result<(), Error>), Fail> {
+    let (mut journal, mut database, stored) = open(alloc, in_memory(alloc)?)?;
+    put(&mut database, 5, 7)?;
+    Ok((stored, store(alloc, &mut journal, &database)))
+}
+
+/// Returns whether a row is that of the last commit of the empty database.
+fn is_of_nothing(alloc: Global) -> Result<bool, Fail> {
+    let commits = vec![in alloc; commit_at(alloc, 0, 0, b"root")?]?;
+    Ok(is_stored(&commits, &Database::new(alloc)))
 }
 
 #[test]
 fn nothing_is_stored_of_no_commit(rt: HostRuntime) -> Result<(), Fail> {
-    let alloc = rt.alloc();
-    let (mut journal, mut database, stored) = open(alloc, Connection::open_in_memory(alloc)?)?;
+    let (stored, refused) = stored_without_commit(rt.alloc())?;
     assert!(rt; stored);
-    database.put(key(5), 7)?;
-    assert_eq!(rt;
-        store_commit(alloc, &mut journal, &database),
-        Err(Error::NotCommitted)
-    );
-    let commits = vec![in alloc; commit_at(alloc, 0, 0, b"root")?]?;
-    assert!(rt; !is_stored(&commits, &Database::new(alloc)));
+    assert_eq!(rt; refused, Err(Error::NotCommitted));
+    assert!(rt; !is_of_nothing(rt.alloc())?);
     Ok(())
 }
 
 /// Whether the last commit is still the one that is stored, after a statement.
 fn stored_after(alloc: Global, statement: &str) -> Result<bool, Fail> {
-    let (journal, _) = filled(alloc, Connection::open_in_memory(alloc)?)?;
-    let mut conn = journal.into_connection();
-    conn.execute(statement, &[])?;
+    let mut conn = filled_connection(alloc)?;
+    execute(&mut conn, statement)?;
     let (_, _, stored) = open(alloc, conn)?;
     Ok(stored)
 }
@@ -156,49 +244,36 @@ fn another_last_row_is_told(rt: HostRuntime) -> Result<(), Fail> {
     Ok(())
 }
 
+/// Makes a third commit, and tries to store it.
+fn store_third(
+    alloc: Global,
+    conn: Connection<MemStore>,
+) -> Result<(Journal<MemStore>, Result<(), Error>), Fail> {
+    let (mut journal, mut database, _) = open(alloc, conn)?;
+    put(&mut database, 4, 4)?;
+    commit(&mut database, None)?;
+    let refused = store(alloc, &mut journal, &database);
+    Ok((journal, refused))
+}
+
 #[test]
 fn a_refused_commit_leaves_the_one_before(rt: HostRuntime) -> Result<(), Fail> {
     let alloc = rt.alloc();
-    let (journal, _) = filled(alloc, Connection::open_in_memory(alloc)?)?;
-    let mut conn = journal.into_connection();
+    let mut conn = filled_connection(alloc)?;
     // no commit is stored within another's transaction
-    conn.execute("BEGIN", &[])?;
-    let (mut journal, mut database, _) = open(alloc, conn)?;
-    database.put(key(4), 4)?;
-    database.commit(None)?;
-    let refused = FileError::Store(SqlError::SqliteFailure(ErrorCode::TransactionState));
-    assert_eq!(rt;
-        store_commit(alloc, &mut journal, &database),
-        Err(Error::File(refused))
-    );
+    execute(&mut conn, "BEGIN")?;
+    let (journal, refused) = store_third(alloc, conn)?;
+    let within = SqlError::SqliteFailure(ErrorCode::TransactionState);
+    assert_eq!(rt; refused, Err(Error::Store(within)));
     let mut conn = journal.into_connection();
-    conn.execute("ROLLBACK", &[])?;
-    has_both(&rt, alloc, conn)
-}
-
-/// Stores both commits in empty files, and closes them.
-fn fill_and_close<D: Disk + Drop>(
-    alloc: Global,
-    conn: Connection<FileStore<D>>,
-) -> Result<(), Fail> {
-    let (journal, _) = filled(alloc, conn)?;
-    match journal.close() {
-        Ok(_) => Ok(()),
-        Err((error, store)) => {
-            drop(store.close());
-            Err(error.into())
-        }
-    }
+    execute(&mut conn, "ROLLBACK")?;
+    assert!(rt; has_both(alloc, conn)?);
+    Ok(())
 }
 
 #[test]
 fn stored_commits_come_back_from_a_file(rt: HostRuntime) -> Result<(), Fail> {
-    let alloc = rt.alloc();
-    let _ = fs::remove_dir_all(&rt, "stored_test");
-    fs::create_dir(&rt, "stored_test")?;
-    let path = "stored_test/a.db";
-    fill_and_close(alloc, Connection::open(&rt, path)?)?;
-    has_both(&rt, alloc, Connection::open(&rt, path)?)?;
-    fs::remove_dir_all(&rt, "stored_test")?;
+    let folder = "stored_test";
+    assert!(rt; comes_back(&rt, folder, Work::FillCommits, Work::ReadCommits)?);
     Ok(())
 }

@@ -1,11 +1,15 @@
-//! Each call once on its happy path, each refusal, and a file that is closed and opened again.
+//! Each call once on its happy path, each refusal, and a file that is closed and opened again. The calls stand in functions of their
+//! own, without a contract, so that a test which makes several has none of their clauses to carry.
 
-use sqlite::{Connection, Constraint, Error as SqlError, ErrorCode};
+use crate::files::{Work, comes_back};
+use crate::journals;
+use sqlite::{Alter, Connection, Constraint, Error as SqlError, ErrorCode, MemStore};
 use sqlite_resolve::CompileError;
 use std::alloc::{AllocError, Global};
-use std::fs;
 use std::test::Fail;
-use storage_file::{Agreement, Commit, Contents, Counts, Error, append, create, is_blank, open};
+use storage_file::{
+    Agreement, Commit, Contents, Counts, Error, Journal, append, create, is_blank, open,
+};
 
 /// What the tests agree on.
 pub(crate) const AGREEMENT: Agreement<'static> = Agreement {
@@ -19,6 +23,12 @@ pub(crate) const AGREEMENT: Agreement<'static> = Agreement {
 const NONE: Counts = Counts {
     operations: 0,
     commits: 0,
+};
+
+/// How much `written` has.
+pub(crate) const WRITTEN: Counts = Counts {
+    operations: 3,
+    commits: 2,
 };
 
 /// A commit with a root of its own.
@@ -35,82 +45,126 @@ pub(crate) fn commit_at(
     })
 }
 
-/// Makes the tables, and adds two commits: one of two operations, and one of a third.
-fn fill<S: sqlite::Alter>(alloc: Global, conn: &mut Connection<S>) -> Result<Counts, Error> {
-    create(conn, &AGREEMENT)?;
+/// Two operations and their commit, and a third one and its own.
+pub(crate) fn written(alloc: Global) -> Result<Contents, Error> {
     let put = Vec::from_slice(alloc, b"put")?;
-    let first = vec![in alloc; put, Vec::new(alloc)]?;
-    let counts = append(conn, NONE, &first, &commit_at(alloc, 1, 0, b"root of two")?)?;
-    let second = vec![in alloc; Vec::from_slice(alloc, b"third")?]?;
-    append(
-        conn,
-        counts,
-        &second,
-        &commit_at(alloc, 2, 1, b"root of three")?,
-    )
+    let third = Vec::from_slice(alloc, b"third")?;
+    let first_commit = commit_at(alloc, 1, 0, b"root of two")?;
+    let second_commit = commit_at(alloc, 2, 1, b"root of three")?;
+    Ok(Contents {
+        operations: vec![in alloc; put, Vec::new(alloc), third]?,
+        commits: vec![in alloc; first_commit, second_commit]?,
+    })
 }
 
-/// Returns whether these are the lists that `fill` writes.
-fn are_filled(contents: &Contents) -> bool {
-    let Contents {
-        operations,
-        commits,
-    } = contents;
-    operations.len() == 3
-        && operations[0].as_slice() == b"put".as_slice()
-        && operations[1].is_empty()
-        && operations[2].as_slice() == b"third".as_slice()
-        && commits.len() == 2
-        && commits[0].location == 1
-        && commits[0].floor == 0
-        && commits[0].root.as_slice() == b"root of two".as_slice()
-        && commits[1].location == 2
-        && commits[1].floor == 1
-        && commits[1].root.as_slice() == b"root of three".as_slice()
+/// Makes the tables.
+fn make<S: Alter>(conn: &mut Connection<S>) -> Result<(), Error> {
+    create(conn, &AGREEMENT)
+}
+
+/// Adds a commit of `operations` to lists of these lengths.
+fn add<S: Alter>(
+    conn: &mut Connection<S>,
+    counts: Counts,
+    operations: &[Vec<u8>],
+    commit: &Commit,
+) -> Result<Counts, Error> {
+    append(conn, counts, operations, commit)
+}
+
+/// Reads the lists.
+fn read<S: Alter>(
+    alloc: Global,
+    conn: &mut Connection<S>,
+    agreement: &Agreement<'_>,
+) -> Result<Contents, Error> {
+    open(alloc, conn, agreement)
+}
+
+/// Runs a statement.
+pub(crate) fn execute<S: Alter>(conn: &mut Connection<S>, statement: &str) -> Result<(), SqlError> {
+    conn.execute(statement, &[])?;
+    Ok(())
+}
+
+/// Makes the tables, and adds both commits of `written`.
+fn fill<S: Alter>(alloc: Global, conn: &mut Connection<S>) -> Result<Counts, Error> {
+    make(conn)?;
+    let contents = written(alloc)?;
+    let (before, after) = contents
+        .operations
+        .split_at(2.min(contents.operations.len()));
+    match contents.commits.as_slice() {
+        [first, second] => {
+            let counts = add(conn, NONE, before, first)?;
+            add(conn, counts, after, second)
+        }
+        _ => Ok(NONE),
+    }
+}
+
+/// Returns an empty database in memory.
+pub(crate) fn in_memory(alloc: Global) -> Result<Connection<MemStore>, AllocError> {
+    Connection::open_in_memory(alloc)
+}
+
+/// Returns a database in memory that `fill` has filled.
+fn filled(alloc: Global) -> Result<Connection<MemStore>, Error> {
+    let mut conn = in_memory(alloc)?;
+    fill(alloc, &mut conn)?;
+    Ok(conn)
+}
+
+/// Returns whether the lists are those of `written`.
+fn is_filled<S: Alter>(alloc: Global, conn: &mut Connection<S>) -> Result<bool, Error> {
+    Ok(read(alloc, conn, &AGREEMENT)? == written(alloc)?)
 }
 
 #[test]
 fn lists_come_back(rt: HostRuntime) -> Result<(), Fail> {
-    let mut conn = Connection::open_in_memory(rt.alloc())?;
+    let mut conn = in_memory(rt.alloc())?;
     assert!(rt; is_blank(&conn));
-    let counts = fill(rt.alloc(), &mut conn)?;
+    assert_eq!(rt; fill(rt.alloc(), &mut conn)?, WRITTEN);
     assert!(rt; !is_blank(&conn));
-    assert_eq!(rt;
-        counts,
-        Counts {
-            operations: 3,
-            commits: 2
-        }
-    );
-    assert!(rt; are_filled(&open(rt.alloc(), &mut conn, &AGREEMENT)?));
+    assert!(rt; is_filled(rt.alloc(), &mut conn)?);
     Ok(())
+}
+
+/// Adds a fourth operation and its commit to the lists.
+fn add_fourth(
+    alloc: Global,
+    conn: &mut Connection<MemStore>,
+    counts: Counts,
+    floor: u64,
+) -> Result<Counts, Error> {
+    let operations = vec![in alloc; Vec::from_slice(alloc, b"fourth")?]?;
+    add(
+        conn,
+        counts,
+        &operations,
+        &commit_at(alloc, 3, floor, b"root")?,
+    )
 }
 
 #[test]
 fn refusals_leave_the_lists(rt: HostRuntime) -> Result<(), Fail> {
-    let alloc = rt.alloc();
-    let mut conn = Connection::open_in_memory(alloc)?;
-    let counts = fill(alloc, &mut conn)?;
-    let more = vec![in alloc; Vec::from_slice(alloc, b"fourth")?]?;
-    let large = commit_at(alloc, 3, 1 << 63, b"root")?;
-    assert_eq!(rt; append(&mut conn, counts, &more, &large), Err(Error::Full));
-    let commit = commit_at(alloc, 3, 1, b"root")?;
+    let mut conn = filled(rt.alloc())?;
+    let large = add_fourth(rt.alloc(), &mut conn, WRITTEN, 1 << 63);
+    assert_eq!(rt; large, Err(Error::Full));
+    assert!(rt; is_filled(rt.alloc(), &mut conn)?);
     let taken = ErrorCode::ConstraintViolation(Constraint::PrimaryKey);
-    assert_eq!(rt;
-        append(&mut conn, NONE, &more, &commit),
-        Err(Error::Store(SqlError::SqliteFailure(taken)))
-    );
-    assert!(rt; are_filled(&open(alloc, &mut conn, &AGREEMENT)?));
+    let again = add_fourth(rt.alloc(), &mut conn, NONE, 1);
+    assert_eq!(rt; again, Err(Error::Store(SqlError::SqliteFailure(taken))));
+    assert!(rt; is_filled(rt.alloc(), &mut conn)?);
     let taken = SqlError::SqlInputError(CompileError::Exists);
-    assert_eq!(rt; create(&mut conn, &AGREEMENT), Err(Error::Store(taken)));
-    assert!(rt; are_filled(&open(alloc, &mut conn, &AGREEMENT)?));
+    assert_eq!(rt; make(&mut conn), Err(Error::Store(taken)));
+    assert!(rt; is_filled(rt.alloc(), &mut conn)?);
     Ok(())
 }
 
 #[test]
 fn another_agreement_is_foreign(rt: HostRuntime) -> Result<(), Fail> {
-    let mut conn = Connection::open_in_memory(rt.alloc())?;
-    fill(rt.alloc(), &mut conn)?;
+    let mut conn = filled(rt.alloc())?;
     let others = [
         Agreement {
             family: "mmb",
@@ -134,21 +188,20 @@ fn another_agreement_is_foreign(rt: HostRuntime) -> Result<(), Fail> {
         },
     ];
     for other in &others {
-        let refused = open(rt.alloc(), &mut conn, other);
+        let refused = read(rt.alloc(), &mut conn, other);
         assert_eq!(rt; refused.err(), Some(Error::Foreign));
     }
-    conn.execute("UPDATE agreed SET version = 2", &[])?;
-    let refused = open(rt.alloc(), &mut conn, &AGREEMENT);
+    execute(&mut conn, "UPDATE agreed SET version = 2")?;
+    let refused = read(rt.alloc(), &mut conn, &AGREEMENT);
     assert_eq!(rt; refused.err(), Some(Error::Foreign));
     Ok(())
 }
 
 /// What opening is refused for after a statement.
-fn refused_after(rt: &HostRuntime, statement: &str) -> Result<Option<Error>, Fail> {
-    let mut conn = Connection::open_in_memory(rt.alloc())?;
-    fill(rt.alloc(), &mut conn)?;
-    conn.execute(statement, &[])?;
-    Ok(open(rt.alloc(), &mut conn, &AGREEMENT).err())
+fn refused_after(alloc: Global, statement: &str) -> Result<Option<Error>, Error> {
+    let mut conn = filled(alloc)?;
+    execute(&mut conn, statement)?;
+    Ok(read(alloc, &mut conn, &AGREEMENT).err())
 }
 
 #[test]
@@ -161,26 +214,41 @@ fn other_rows_are_corrupted(rt: HostRuntime) -> Result<(), Fail> {
         "UPDATE commits SET floor = -1 WHERE number = 1",
     ];
     for statement in statements {
-        assert_eq!(rt; refused_after(&rt, statement)?, Some(Error::Corrupted));
+        assert_eq!(rt;
+            refused_after(rt.alloc(), statement)?,
+            Some(Error::Corrupted)
+        );
     }
     Ok(())
 }
 
-fn write_file(rt: &HostRuntime, path: &str) -> Result<(), Error> {
-    let mut conn = Connection::open(rt, path)?;
-    fill(rt.alloc(), &mut conn)?;
-    conn.close()?;
-    Ok(())
+/// Opens the journal over the tables of a database.
+fn journal_over<S: Alter + Drop>(alloc: Global, conn: Connection<S>) -> Result<Journal<S>, Error> {
+    let (journal, _) = journals::open(alloc, conn, &AGREEMENT)?;
+    Ok(journal)
+}
+
+/// Fills the tables of an empty database, and tells that it has what `written` has.
+pub(crate) fn fill_all<S: Alter + Drop>(
+    alloc: Global,
+    mut conn: Connection<S>,
+) -> Result<(Journal<S>, bool), Error> {
+    let counts = fill(alloc, &mut conn)?;
+    Ok((journal_over(alloc, conn)?, counts == WRITTEN))
+}
+
+/// Tells whether the tables of a database have what `written` has.
+pub(crate) fn read_all<S: Alter + Drop>(
+    alloc: Global,
+    mut conn: Connection<S>,
+) -> Result<(Journal<S>, bool), Error> {
+    let is_filled = is_filled(alloc, &mut conn)?;
+    Ok((journal_over(alloc, conn)?, is_filled))
 }
 
 #[test]
 fn a_file_is_opened_again(rt: HostRuntime) -> Result<(), Fail> {
-    let _ = fs::remove_dir_all(&rt, "storage_file_test");
-    fs::create_dir(&rt, "storage_file_test")?;
-    write_file(&rt, "storage_file_test/a.db")?;
-    let mut conn = Connection::open(&rt, "storage_file_test/a.db")?;
-    assert!(rt; are_filled(&open(rt.alloc(), &mut conn, &AGREEMENT)?));
-    conn.close()?;
-    fs::remove_dir_all(&rt, "storage_file_test")?;
+    let folder = "storage_file_test";
+    assert!(rt; comes_back(&rt, folder, Work::FillTables, Work::ReadTables)?);
     Ok(())
 }
