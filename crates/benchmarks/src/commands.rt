@@ -9,32 +9,42 @@
 
 ghost use Rattle.storage_bitmap.specs.Chunks.{IsChunkSize};
 
+use crate::calls::{absence_proof, commit, delete, put, root, value_proof};
 use crate::columns::{Fault, number};
 use commonware_storage::codec::{Encode, FixedBytes};
-use commonware_storage::db::{Error, Ordered};
+use commonware_storage::db::Ordered;
 use commonware_storage::digest::{Digest, Hasher, Sha256, Sha512};
 use commonware_storage::merkle::{Graftable, mmb, mmr};
 use commonware_storage::qmdb::any::FixedEncoding;
 use std::alloc::Global;
 
-type Database<F, H, const N: usize> = Ordered<F, H, FixedBytes<4>, FixedEncoding<u64>, N>;
+type Key = FixedBytes<4>;
+
+type Database<F, H, const N: usize> = Ordered<F, H, Key, FixedEncoding<u64>, N>;
 
 /// Returns the bytes of the proof of `key` at the last commit: of its value, or else that it had none.
 fn proof_of<F: Graftable, H: Hasher, const N: usize>(
     alloc: Global,
     database: &Database<F, H, N>,
-    key: &FixedBytes<4>,
+    key: &Key,
 ) -> Result<Vec<u8>, Fault>
     requires { IsChunkSize N }
 {
-    match database.prove_value(key) {
-        Ok((_, proof)) => Ok(proof.encode(alloc)?),
-        Err(Error::Absent) => match database.prove_absence(key) {
-            Ok(proof) => Ok(proof.encode(alloc)?),
-            Err(error) => Err(Fault::of_database(&error)),
-        },
-        Err(error) => Err(Fault::of_database(&error)),
+    match value_proof(database, key)? {
+        Some((_, proof)) => Ok(proof.encode(alloc)?),
+        None => absence_bytes(alloc, database, key),
     }
+}
+
+/// Returns the bytes of the proof that `key` had no value at the last commit.
+fn absence_bytes<F: Graftable, H: Hasher, const N: usize>(
+    alloc: Global,
+    database: &Database<F, H, N>,
+    key: &Key,
+) -> Result<Vec<u8>, Fault>
+    requires { IsChunkSize N }
+{
+    Ok(absence_proof(database, key)?.encode(alloc)?)
 }
 
 /// Returns the digest of `answer`, `root` and `proof` joined.
@@ -46,12 +56,12 @@ fn joined<H: Hasher>(answer: &H::Digest, root: &H::Digest, proof: &[u8]) -> H::D
 fn asked<F: Graftable, H: Hasher, const N: usize>(
     alloc: Global,
     database: &Database<F, H, N>,
-    key: &FixedBytes<4>,
+    key: &Key,
     answer: H::Digest,
 ) -> Result<H::Digest, Fault>
     requires { IsChunkSize N }
 {
-    let Some(root) = database.root() else {
+    let Some(root) = root(database) else {
         return Ok(answer);
     };
     let proof = proof_of(alloc, database, key)?;
@@ -72,22 +82,16 @@ fn step<F: Graftable, H: Hasher, const N: usize>(
     let key = FixedBytes {
         bytes: [0, 0, 0, first & last],
     };
-    let done = match what % 64 {
-        0 => match database.commit(None) {
-            Ok(()) => return asked(alloc, database, &key, answer),
-            Err(error) => Err(error),
-        },
+    match what % 64 {
+        0 => {
+            commit(database)?;
+            return asked(alloc, database, &key, answer);
+        }
         1 => return asked(alloc, database, &key, answer),
-        2..21 => match database.delete(&key) {
-            Ok(_) => Ok(()),
-            Err(error) => Err(error),
-        },
-        _ => database.put(key, draw),
-    };
-    match done {
-        Ok(()) => Ok(answer),
-        Err(error) => Err(Fault::of_database(&error)),
+        2..21 => delete(database, &key)?,
+        _ => put(database, key, draw)?,
     }
+    Ok(answer)
 }
 
 /// Gives `database` so many commands over the keys up to `last`, which `draw` settles, and returns the digest of all that it answers.
@@ -110,11 +114,19 @@ fn answered<F: Graftable, H: Hasher, const N: usize>(
     Ok(answer)
 }
 
-/// Returns the line to print for `words`: how many keys and commands there are, and the number that settles them. They are given to
-/// `database`, a new one.
-fn run<F: Graftable, H: Hasher, const N: usize>(
+/// Returns the last one of so many keys.
+fn last_of(keys: u64) -> Result<u8, Fault> {
+    match u8::try_from(keys.wrapping_sub(1)) {
+        Ok(last) => Ok(last),
+        Err(_) => Err(Fault::Malformed),
+    }
+}
+
+/// Returns the digest in hexadecimal of what `database` answers for `words`: how many keys and commands there are, and the number that
+/// settles them.
+fn told<F: Graftable, H: Hasher, const N: usize>(
     alloc: Global,
-    mut database: Database<F, H, N>,
+    database: &mut Database<F, H, N>,
     words: &[&str],
 ) -> Result<String, Fault>
     requires { IsChunkSize N }
@@ -122,23 +134,44 @@ fn run<F: Graftable, H: Hasher, const N: usize>(
     let [keys, count, seed] = words else {
         return Err(Fault::Malformed);
     };
-    let (keys, count, seed) = (number(*keys)?, number(*count)?, number(*seed)?);
-    let Ok(last) = u8::try_from(keys.wrapping_sub(1)) else {
-        return Err(Fault::Malformed);
-    };
-    let answer = answered(alloc, &mut database, last, count, seed)?;
+    let last = last_of(number(*keys)?)?;
+    let answer = answered(alloc, database, last, number(*count)?, number(*seed)?)?;
     Ok(hex::encode(alloc, answer.bytes())?)
+}
+
+/// Returns the line to print for `words`, which are for `database`, a new one.
+fn run<F: Graftable, H: Hasher, const N: usize>(
+    alloc: Global,
+    mut database: Database<F, H, N>,
+    words: &[&str],
+) -> Result<String, Fault>
+    requires { IsChunkSize N }
+{
+    let line = told(alloc, &mut database, words);
+    drop(database);
+    line
 }
 
 /// Returns the line to print for `words`: the digest function, if it is not SHA-256, the family, and what `run` takes.
 pub fn reply(alloc: Global, words: &[&str]) -> Result<String, Fault> {
     match words {
-        ["sha512", "mmr", words @ ..] => {
-            run(alloc, Database::<mmr::Family, Sha512, 1>::new(alloc), words)
-        }
-        ["sha512", "mmb", words @ ..] => {
-            run(alloc, Database::<mmb::Family, Sha512, 1>::new(alloc), words)
-        }
+        ["sha512", words @ ..] => of_long_digests(alloc, words),
+        words => of_short_digests(alloc, words),
+    }
+}
+
+/// Returns the line to print for `words`, of a database under SHA-512.
+fn of_long_digests(alloc: Global, words: &[&str]) -> Result<String, Fault> {
+    match words {
+        ["mmr", words @ ..] => run(alloc, Database::<mmr::Family, Sha512, 1>::new(alloc), words),
+        ["mmb", words @ ..] => run(alloc, Database::<mmb::Family, Sha512, 1>::new(alloc), words),
+        _ => Err(Fault::Malformed),
+    }
+}
+
+/// Returns the line to print for `words`, of a database under SHA-256.
+fn of_short_digests(alloc: Global, words: &[&str]) -> Result<String, Fault> {
+    match words {
         ["mmr", words @ ..] => run(alloc, Database::<mmr::Family, Sha256, 1>::new(alloc), words),
         ["mmb", words @ ..] => run(alloc, Database::<mmb::Family, Sha256, 1>::new(alloc), words),
         _ => Err(Fault::Malformed),

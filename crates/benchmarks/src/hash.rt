@@ -30,14 +30,19 @@ fn hashed<H: Hasher>(
     Ok(digest)
 }
 
+/// Returns the two numbers of a pair.
+fn numbers(pair: &[&str]) -> Result<(u64, u64), Fault> {
+    match pair {
+        [count, length] => Ok((number(*count)?, number(*length)?)),
+        _ => Err(Fault::Malformed),
+    }
+}
+
 /// Returns the last digest of all `pairs`, in hexadecimal.
 fn report<H: Hasher>(alloc: Global, pairs: &[&str]) -> Result<String, Fault> {
     let mut digest = H::fill(0);
     for pair in pairs.chunks(2) {
-        let [count, length] = pair else {
-            return Err(Fault::Malformed);
-        };
-        let (count, length) = (number(*count)?, number(*length)?);
+        let (count, length) = numbers(pair)?;
         digest = hashed::<H>(alloc, digest, count, length as usize)?;
     }
     Ok(hex::encode(alloc, digest.bytes())?)

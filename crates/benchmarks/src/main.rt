@@ -4,6 +4,7 @@
 #![tactic(auto)]
 
 mod bitmap;
+mod calls;
 mod cases;
 mod columns;
 mod commands;
@@ -18,16 +19,18 @@ use std::io::{self, BufRead, BufReader, BufWriter, ErrorKind, Write};
 
 /// Returns what the work of `words` answers.
 fn answer(alloc: Global, words: &[&str]) -> Result<String, Fault> {
-    match words {
-        ["hash", words @ ..] => hash::reply(alloc, words),
-        ["bitmap", words @ ..] => bitmap::reply(alloc, words),
-        ["snapshot", words @ ..] => snapshot::reply(alloc, words),
-        ["database", words @ ..] => database::reply(alloc, words),
-        ["commands", words @ ..] => commands::reply(alloc, words),
-        [work @ ("extend" | "prove"), words @ ..] => extended::reply(alloc, *work, words),
-        ["check", words @ ..] => cases::check(alloc, words),
-        [row, words @ ..] => cases::reply(alloc, *row, words),
-        [] => Err(Fault::Malformed),
+    let [work, words @ ..] = words else {
+        return Err(Fault::Malformed);
+    };
+    match *work {
+        "hash" => hash::reply(alloc, words),
+        "bitmap" => bitmap::reply(alloc, words),
+        "snapshot" => snapshot::reply(alloc, words),
+        "database" => database::reply(alloc, words),
+        "commands" => commands::reply(alloc, words),
+        "extend" | "prove" => extended::reply(alloc, *work, words),
+        "check" => cases::check(alloc, words),
+        row => cases::reply(alloc, row, words),
     }
 }
 

@@ -44,6 +44,14 @@ fn bits(alloc: Global, count: u64) -> Result<Prunable<32>, Fault> {
     Ok(bits)
 }
 
+/// Returns the plan of a proof of the operation at `location` of `leaves`.
+fn plan(alloc: Global, leaves: u64, location: u64) -> Result<ElementPlan<Family>, Fault> {
+    match ElementPlan::new(alloc, Location::new(leaves), Location::new(location)) {
+        Ok(plan) => Ok(plan),
+        Err(_) => Err(Fault::Malformed),
+    }
+}
+
 /// Returns the snapshot's proof of the operation at `location`, in hexadecimal.
 fn proof(
     alloc: Global,
@@ -51,10 +59,7 @@ fn proof(
     floor: u64,
     location: u64,
 ) -> Result<String, Fault> {
-    let leaves = Location::new(snapshot.status().len());
-    let Ok(plan) = ElementPlan::new(alloc, leaves, Location::new(location)) else {
-        return Err(Fault::Malformed);
-    };
+    let plan = plan(alloc, snapshot.status().len(), location)?;
     let proof = OperationProof::build::<Sha512, Prunable<32>, _>(
         alloc,
         snapshot.status(),

@@ -54,22 +54,31 @@ fn longer<F: Graftable, H: Hasher>(
     Ok(tally)
 }
 
+/// Returns the text of an answer, and of what was accepted where a byte is altered, where they are cut short, and where there is a
+/// byte more.
+fn told(
+    alloc: Global,
+    yes: bool,
+    altered: Tally,
+    cut: Tally,
+    longer: Tally,
+) -> Result<String, Fault> {
+    let answer = if yes { "yes" } else { "no" };
+    Ok(format!(in alloc;
+        "{answer}; accepted are {} of {} with a byte altered, {} of {} cut short, {} of {} with a byte more",
+        altered.accepted, altered.tried, cut.accepted, cut.tried, longer.accepted, longer.tried
+    )?)
+}
+
 /// Returns what is answered for `bytes` as they are, and how many of the altered ones are accepted.
 pub fn report<F: Graftable, H: Hasher>(
     alloc: Global,
     case: &Case<H::Digest>,
     bytes: &mut Vec<u8>,
 ) -> Result<String, Fault> {
-    let answer = if case.accepts::<F, H>(alloc, bytes)? {
-        "yes"
-    } else {
-        "no"
-    };
+    let yes = case.accepts::<F, H>(alloc, bytes)?;
     let altered = altered::<F, H>(alloc, case, bytes)?;
     let cut = cut::<F, H>(alloc, case, bytes)?;
     let longer = longer::<F, H>(alloc, case, bytes)?;
-    Ok(format!(in alloc;
-        "{answer}; accepted are {} of {} with a byte altered, {} of {} cut short, {} of {} with a byte more",
-        altered.accepted, altered.tried, cut.accepted, cut.tried, longer.accepted, longer.tried
-    )?)
+    told(alloc, yes, altered, cut, longer)
 }

@@ -48,24 +48,40 @@ impl<D: Digest> Claim<D> {
     /// Reads `columns`, those between the family and the bytes, for the kind of bytes `kind`.
     fn parse(alloc: Global, kind: &str, columns: &[&str]) -> Result<Self, Fault> {
         match (kind, columns) {
-            ("proof", [size, location, operation]) => {
-                let place = Place::parse(*size, *location)?;
-                Ok(Claim::Proof(place, bytes(alloc, *operation)?))
-            }
-            ("operation", [size, location, proof]) => {
-                let place = Place::parse(*size, *location)?;
-                Ok(Claim::Operation(place, bytes(alloc, *proof)?))
+            ("proof" | "operation", [size, location, column]) => {
+                Self::at(alloc, kind, *size, *location, *column)
             }
             ("witness", [ops_root]) => Ok(Claim::Witness(digest(alloc, *ops_root)?)),
-            ("value", [size, key, value]) => {
-                let (size, value) = (number(*size)? as usize, number(*value)?);
-                Ok(Claim::Value(size, key_of(*key)?, value))
-            }
-            ("absence", [size, key]) => {
-                Ok(Claim::Absence(number(*size)? as usize, key_of(*key)?))
-            }
+            ("value", [size, key, value]) => Self::of_value(*size, *key, *value),
+            ("absence", [size, key]) => Self::of_absence(*size, *key),
             _ => Err(Fault::Malformed),
         }
+    }
+
+    /// Reads the proof of an operation at a place, or an operation: that which `kind` does not name is in `column`.
+    fn at(
+        alloc: Global,
+        kind: &str,
+        size: &str,
+        location: &str,
+        column: &str,
+    ) -> Result<Self, Fault> {
+        let place = Place::parse(size, location)?;
+        let bytes = bytes(alloc, column)?;
+        match kind {
+            "proof" => Ok(Claim::Proof(place, bytes)),
+            _ => Ok(Claim::Operation(place, bytes)),
+        }
+    }
+
+    /// Reads that a key has a value.
+    fn of_value(size: &str, key: &str, value: &str) -> Result<Self, Fault> {
+        Ok(Claim::Value(number(size)? as usize, key_of(key)?, number(value)?))
+    }
+
+    /// Reads that a key has no value.
+    fn of_absence(size: &str, key: &str) -> Result<Self, Fault> {
+        Ok(Claim::Absence(number(size)? as usize, key_of(key)?))
     }
 }
 
@@ -114,31 +130,16 @@ impl<D: Digest> Case<D> {
         let root = &self.root;
         match &self.claim {
             Claim::Proof(place, operation) => {
-                let loc = Location::<F>::new(place.location);
-                check_operation::<F, H>(alloc, bytes, place.chunk_size, loc, operation, root)
+                has_operation::<F, H>(alloc, bytes, *place, operation, root)
             }
             Claim::Operation(place, proof) => {
-                let loc = Location::<F>::new(place.location);
-                check_operation::<F, H>(alloc, proof, place.chunk_size, loc, bytes, root)
+                has_operation::<F, H>(alloc, proof, *place, bytes, root)
             }
             Claim::Witness(ops_root) => witnessed::<F, H>(alloc, bytes, ops_root, root),
-            Claim::Value(size, key, value) => check_value::<F, H, Key, FixedEncoding<u64>>(
-                alloc,
-                bytes,
-                *size,
-                &(),
-                *key,
-                *value,
-                root,
-            ),
-            Claim::Absence(size, key) => check_absence::<F, H, Key, FixedEncoding<u64>>(
-                alloc,
-                bytes,
-                *size,
-                &((), ()),
-                key,
-                root,
-            ),
+            Claim::Value(size, key, value) => {
+                has_value::<F, H>(alloc, bytes, *size, *key, *value, root)
+            }
+            Claim::Absence(size, key) => has_no_value::<F, H>(alloc, bytes, *size, key, root),
         }
     }
 }
@@ -149,6 +150,41 @@ fn key_of(column: &str) -> Result<Key, Fault> {
         Ok(bytes) => Ok(Key { bytes }),
         Err(_) => Err(Fault::Malformed),
     }
+}
+
+/// Returns whether `proof` is one of an operation at a place in the snapshot with the root `root`.
+fn has_operation<F: Graftable, H: Hasher>(
+    alloc: Global,
+    proof: &[u8],
+    place: Place,
+    operation: &[u8],
+    root: &H::Digest,
+) -> Result<bool, NoMemory> {
+    let loc = Location::<F>::new(place.location);
+    check_operation::<F, H>(alloc, proof, place.chunk_size, loc, operation, root)
+}
+
+/// Returns whether `proof`, over a chunk of that size, is one that a key has a value there.
+fn has_value<F: Graftable, H: Hasher>(
+    alloc: Global,
+    proof: &[u8],
+    size: usize,
+    key: Key,
+    value: u64,
+    root: &H::Digest,
+) -> Result<bool, NoMemory> {
+    check_value::<F, H, Key, FixedEncoding<u64>>(alloc, proof, size, &(), key, value, root)
+}
+
+/// Returns whether `proof`, over a chunk of that size, is one that a key has no value there.
+fn has_no_value<F: Graftable, H: Hasher>(
+    alloc: Global,
+    proof: &[u8],
+    size: usize,
+    key: &Key,
+    root: &H::Digest,
+) -> Result<bool, NoMemory> {
+    check_absence::<F, H, Key, FixedEncoding<u64>>(alloc, proof, size, &((), ()), key, root)
 }
 
 /// Returns whether `bytes` are a witness that the snapshot with the root `root` has that operations root.
