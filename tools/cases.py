@@ -303,8 +303,7 @@ def check(program=None):
 
 
 # The worked rows whose cases over SHA-256 are cases over SHA-512 too, since no digest is given in them; of the sweeps, these lengths.
-AS_THEY_ARE = ("parts", "served", "combined_views", "combined_ranges", "each_operation", "each_range", "bit_proofs",
-               "bitmaps_read", "bitmaps_served")
+AS_THEY_ARE = ("combined_views", "combined_ranges", "each_operation", "each_range", "bitmaps", "bitmaps_read", "bitmaps_served")
 SWEPT = {"each_operation": (1, 7, 8, 9, 11, 16, 17, 18, 32, 33), "each_range": (1, 7, 8, 9, 11, 17)}
 
 
@@ -530,6 +529,16 @@ def firsts(column):
     return "none" if column == "-" else ",".join(part.split(":")[0] for part in column.split(","))
 
 
+def runs(family, chunk, floor, location, operations, root, ops_root, grafted_root, witness, proof, answer):
+    """The runs of `root` and of `prove`, and of `check` on what `prove` wrote: words, input, status and outputs."""
+    parts = [it.split(":") for it in operations.split(",")]
+    lines = "".join(f"{bit} {operation}\n" for bit, operation in parts)
+    yield ["root", family, chunk, floor], lines, "0", root, "-"
+    yield ["prove", family, chunk, floor, location], lines, "0", f"{root}_{proof}", "-"
+    claim = f"{parts[int(location)][1]}\n{proof}\n"
+    yield ["check", family, chunk, root, location], claim, "01"[answer == "no"], answer, "-"
+
+
 def cases(lists):
     """All cases: the name of the list, the columns that are given, the columns that are asked for."""
     for given, asked in lists.cut("varints", 1):
@@ -566,9 +575,8 @@ def cases(lists):
         # the first column is a label
         yield "golden", columns[1:8], columns[8:]
     for columns in lists.rows("program"):
-        # `root` and `prove` write the root, and `check` is asked about what `prove` wrote
-        root, _, _, _, proof, answer = columns[5:]
-        yield "program", columns[:5], [root, root, proof, answer]
+        for words, lines, *asked in runs(*columns):
+            yield "runs", [",".join(words), lines.encode().hex()], asked
     for given, asked in lists.cut("program_checks", 7):
         yield "program_checks", given, asked
     for given, asked in lists.cut("db", 3):
@@ -604,10 +612,6 @@ def cases(lists):
         yield "multi_checks", given, asked
     for given, asked in lists.cut("extracted", 8):
         yield "extracted", given, asked
-    for *given, root, asked in lists.rows("extracted"):
-        # an accepted proof gives the root that is trusted; one whose counts do not fit gives none
-        if asked != "E9":
-            yield "recomputed", given, [asked] if asked == "E8" else [root, asked]
     for family, chunk, _, bits, floor, operations, location, pruned, grafted, absent, answer in lists.rows("combined"):
         # the stage says how the tree over chunks was made, which the answer does not depend on
         yield "combined", [family, chunk, floor, bits, operations, location, pruned, grafted, absent], [answer]

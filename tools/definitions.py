@@ -404,18 +404,6 @@ def plain_operations(digests, family, leaves, inactive, proof, start, operations
     return verdict(Check(tree, "backward", int(leaves), int(inactive), strings(proof), int(start)).root == root)
 
 
-def parts(digests, family, direction, inactive, elements, start, end):
-    """The store of a range gives the own proof of each part."""
-    count = int(end) - int(start)
-    return f"{count * (count + 1) // 2} {count * (count + 1) // 2}"
-
-
-def served(digests, family, direction, elements, positions):
-    tree = Tree(digests, family_of(family), strings(elements))
-    nodes = tree.family.nodes(tree.leaves)
-    return told([tree.node(at(nodes, it)) for it in numbers(positions)])
-
-
 def built(digests, family, direction, leaves, location, inactive, nodes):
     family, leaves, location = family_of(family), int(leaves), int(location)
     given = dict(it.split("=") for it in nodes.split("/")) if nodes != "-" else {}
@@ -678,12 +666,6 @@ def each_range(digests, family, size, floor, bits, operations):
     return str(len(bits) * (len(bits) + 1) // 2)
 
 
-def bit_proofs(digests, direction, size, bits, bit):
-    bits, bit = Bits(digests, direction, int(size), bits), int(bit)
-    length = len(bits.bits)
-    return f"{bits.root.hex()} {told(bits.proof(bit)) if bit < length else f'E7({bit},{length})'}"
-
-
 def bits_after(calls, width):
     """The bits after calls on a bitmap, and how many chunks of them are pruned."""
     bits, pruned = "", 0
@@ -695,8 +677,32 @@ def bits_after(calls, width):
             place, value = rest.split(":")
             bits = bits[: int(place)] + value + bits[int(place) + 1 :]
         elif verb == "x":
-            pruned = int(rest) // width
+            pruned = max(pruned, int(rest) // width)
+        elif verb == "r":
+            bits = bits[: pruned * width]
+        elif verb == "init" and rest == "0:-":
+            bits, pruned = "", 0
     return bits, pruned
+
+
+def kept_nodes(leaves, pruned):
+    """The nodes of a bitmap's tree that stand at positions, but for those that are gone with pruned chunks."""
+    pins = MMR.peaks(pruned)
+    return {position: it for position, it in MMR.nodes(leaves).items() if position >= MMR.size(pruned) or it in pins}
+
+
+def bitmaps(digests, direction, size, calls, places):
+    width = 8 * int(size)
+    bits, pruned = bits_after(calls, width)
+    whole, left = Bits(digests, direction, int(size), bits), len(bits) - width * pruned
+    last = (whole.chunks[-1], (left - 1) % width + 1) if left else (bytes(int(size)), 0)
+    tree, kept = whole.tree, kept_nodes(whole.complete, pruned)
+    slashed = lambda them: told(them).replace(",", "/").replace("none", "-")
+    proved = lambda bit: f"{len(bits)}:{slashed(whole.proof(bit))}:{whole.chunks[bit // width].hex()}"
+    proofs = [f"{it}:{proved(it) if it < len(bits) else f'E7({it},{len(bits)})'}" for it in numbers(places)]
+    nodes = [f"{it}:{told([tree.node(kept[it]) if it in kept else None])}" for it in range(MMR.size(tree.leaves))]
+    state = f"{last[0].hex()} {last[1]} {whole.root.hex()} {pruned}:{slashed([tree.node(it) for it in MMR.peaks(pruned)])}"
+    return f"{len(bits)} {width * pruned} {MMR.size(tree.leaves)} {state} {','.join(proofs) or '-'} {','.join(nodes) or '-'}"
 
 
 def bitmaps_read(digests, direction, size, calls, places):
@@ -710,8 +716,7 @@ def bitmaps_read(digests, direction, size, calls, places):
 def bitmaps_served(digests, direction, size, calls, positions):
     bits, pruned = bits_after(calls, 8 * int(size))
     tree = Bits(digests, direction, int(size), bits).tree
-    kept = {position: it for position, it in MMR.nodes(tree.leaves).items() if position >= MMR.size(pruned) or it in MMR.peaks(pruned)}
-    places = numbers(positions)
+    kept, places = kept_nodes(tree.leaves, pruned), numbers(positions)
     one_by_one = told([tree.node(kept[it]) if it in kept else None for it in places])
     try:
         at_once = told([tree.node(at(kept, it)) for it in places])
@@ -725,8 +730,8 @@ CHECKS = {it.__name__: it for it in (
     program_checks, operation_checks, both_chunks, ranges_checks, key_values, exclusions, golden_keys,
 )}
 LISTS = {it.__name__: it for it in (
-    element_checks, plain_operations, parts, served, built, mem_init, verifiers, key_proofs, operation_checks, slots,
-    slots_read, filled, combined_views, combined_ranges, each_operation, each_range, bit_proofs, bitmaps_read, bitmaps_served,
+    element_checks, plain_operations, built, mem_init, verifiers, key_proofs, operation_checks, slots, slots_read,
+    filled, combined_views, combined_ranges, each_operation, each_range, bitmaps, bitmaps_read, bitmaps_served,
 )}
 ANSWERED = CHECKS | LISTS
 

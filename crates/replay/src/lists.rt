@@ -12,8 +12,8 @@ use commonware_storage::merkle::{Graftable, mmb, mmr};
 use replay_columns::columns::Fault;
 use replay_snapshots::lists;
 use replay_trees::{
-    asked, bitmaps, both_chunks, checks, codecs, extracted, grafted_trees, key_proofs, mems,
-    operations, own, places, stores, trees, values, verifiers, witnesses,
+    bitmaps, both_chunks, checks, codecs, extracted, grafted_trees, key_proofs, mems, operations,
+    places, stores, trees, values, verifiers, witnesses,
 };
 use std::alloc::Global;
 
@@ -45,35 +45,53 @@ where
     requires small { D ≤ 64 }
 {
     match list {
-        "asked" | "equal" | "valued" => asked::answer(alloc, list, columns, out),
-        "bit_proofs" | "bitmaps" | "bitmaps_checks" | "bitmaps_init" | "bitmaps_read" => {
-            bitmaps::answer::<H, D>(alloc, list, columns, out)
-        }
-        "bitmaps_served" | "bitmaps_stages" | "bitmaps_verified" => {
-            bitmaps::answer::<H, D>(alloc, list, columns, out)
+        "bitmaps"
+        | "bitmaps_checks"
+        | "bitmaps_init"
+        | "bitmaps_read"
+        | "bitmaps_served"
+        | "bitmaps_verified" => bitmaps::answer::<H, D>(alloc, list, columns, out),
+        "combined"
+        | "combined_asked"
+        | "combined_marks"
+        | "combined_ranges"
+        | "combined_reads"
+        | "combined_views"
+        | "each_operation"
+        | "each_range"
+        | "exclusions"
+        | "fetched_ranges"
+        | "golden"
+        | "golden_keys"
+        | "key_values"
+        | "keyed"
+        | "operation_checks"
+        | "ranges"
+        | "ranges_checks"
+        | "texts" => lists::answer::<H, D>(alloc, list, columns, out),
+        _ => of_values::<H>(alloc, list, columns, out),
+    }
+}
+
+/// Returns the answer of a list on values, operations or the program, or of another one.
+fn of_values<H: Hasher>(
+    alloc: Global,
+    list: &str,
+    columns: &[&str],
+    out: &mut String,
+) -> Result<(), Fault> {
+    match list {
+        "asked" | "equal" | "operations" | "valued" | "written" => {
+            operations::answer(alloc, list, columns, out)
         }
         "cuts" => values::cuts(alloc, columns, out),
         "db" => program::db(alloc, columns, out),
         "errors" => errors::errors(alloc, columns, out),
         "filled" => codecs::filled::<H>(alloc, columns, out),
         "golden_hash" => codecs::golden_hash::<H>(alloc, columns, out),
-        "operations" | "written" => operations::answer(alloc, list, columns, out),
-        "program" => program::program(alloc, columns, out),
         "runs" => program::runs(alloc, columns, out),
         "values" => values::values(alloc, columns, out),
         "varints" => codecs::varints(alloc, columns, out),
-        "golden" | "ranges" | "ranges_checks" | "each_operation" | "each_range" => {
-            lists::answer::<H, D>(alloc, list, columns, out)
-        }
-        "combined" | "combined_asked" | "combined_reads" | "combined_views" => {
-            lists::answer::<H, D>(alloc, list, columns, out)
-        }
-        "combined_marks" | "combined_ranges" | "fetched_ranges" | "keyed" | "exclusions" => {
-            lists::answer::<H, D>(alloc, list, columns, out)
-        }
-        "golden_keys" | "key_values" | "operation_checks" | "texts" => {
-            lists::answer::<H, D>(alloc, list, columns, out)
-        }
         _ => by_family::<H>(alloc, list, columns, out),
     }
 }
@@ -124,7 +142,7 @@ fn of_proofs<F: Graftable, H: Hasher>(
 ) -> Result<(), Fault> {
     match list {
         "both_chunks" => both_chunks::both_chunks::<F, H>(alloc, columns, out),
-        "built" => own::built::<F, H>(alloc, columns, out),
+        "built" => stores::built::<F, H>(alloc, columns, out),
         "element_checks" => checks::element_checks::<F, H>(alloc, columns, out),
         "extracted" => extracted::extracted::<F, H>(alloc, columns, out),
         "grafted_trees" => grafted_trees::grafted_trees::<F, H>(alloc, columns, out),
@@ -132,13 +150,10 @@ fn of_proofs<F: Graftable, H: Hasher>(
         "mem_init" => mems::mem_init::<F, H>(alloc, columns, out),
         "mems" => mems::mems::<F, H>(alloc, columns, out),
         "multi_checks" => checks::multi_checks::<F, H>(alloc, columns, out),
-        "parts" => own::parts::<F, H>(alloc, columns, out),
         "pinned_checks" => checks::pinned_checks::<F, H>(alloc, columns, out),
         "plain_checks" => checks::plain_checks::<F, H>(alloc, columns, out),
         "plain_operations" => checks::plain_operations::<F, H>(alloc, columns, out),
         "program_checks" => program::program_checks::<F, H>(alloc, columns, out),
-        "recomputed" => extracted::recomputed::<F, H>(alloc, columns, out),
-        "served" => own::served::<F, H>(alloc, columns, out),
         "slots" => places::slots::<F, H>(alloc, columns, out),
         "slots_read" => places::slots_read::<F, H>(alloc, columns, out),
         "stores" => stores::stores::<F, H>(alloc, columns, out),

@@ -85,14 +85,17 @@ impl<A: Answer, B: Answer> Answer for At<A, B> {
     }
 }
 
-/// A text with `_` for each blank.
+/// A text with `_` for each blank, and between lines.
 #[derive(Drop)]
 pub struct Unblanked<'a>(pub &'a str);
 
 impl Answer for Unblanked<'_> {
     fn tell(&self, out: &mut String) -> Result<(), Fault> {
         for character in self.0.chars() {
-            out.push(if character == ' ' { '_' } else { character })?;
+            out.push(match character {
+                ' ' | '\n' => '_',
+                character => character,
+            })?;
         }
         Ok(())
     }

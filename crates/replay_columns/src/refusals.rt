@@ -41,28 +41,49 @@ impl Answer for codec::Error {
     }
 }
 
+/// Returns the name of a refusal of a call over trees.
+fn name_of<F: Family>(error: &merkle::Error<F>) -> &'static str {
+    match error {
+        merkle::Error::Empty => "E1",
+        merkle::Error::RangeOutOfBounds(_) => "E2",
+        merkle::Error::LocationOverflow(_) => "E3",
+        merkle::Error::ElementPruned(_) => "E4",
+        merkle::Error::MissingNode(_) => "E5",
+        merkle::Error::DataCorrupted(_) => "E6",
+        merkle::Error::BitOutOfBounds(_, _) => "E7",
+        merkle::Error::InvalidProof => "E8",
+        merkle::Error::RootMismatch => "E9",
+        merkle::Error::DuplicateLocation(_) => "E10",
+        merkle::Error::UnsortedLocation(_) => "E11",
+        merkle::Error::CompressedDigest(_) => "E12",
+        merkle::Error::Source(_) => "E13",
+        merkle::Error::Memory => "E14",
+    }
+}
+
+/// Returns the number that goes with a refusal of a call over trees, if there is one.
+fn number_of<F: Family>(error: &merkle::Error<F>) -> Option<u64> {
+    match error {
+        merkle::Error::RangeOutOfBounds(location) => Some(location.as_u64()),
+        merkle::Error::LocationOverflow(location) => Some(location.as_u64()),
+        merkle::Error::DuplicateLocation(location) => Some(location.as_u64()),
+        merkle::Error::UnsortedLocation(location) => Some(location.as_u64()),
+        merkle::Error::ElementPruned(position) => Some(position.as_u64()),
+        merkle::Error::MissingNode(position) => Some(position.as_u64()),
+        merkle::Error::CompressedDigest(position) => Some(position.as_u64()),
+        merkle::Error::Source(fault) => Some(u64::from(*fault)),
+        _ => None,
+    }
+}
+
 /// The name of a refusal of a call over trees.
 impl<F: Family> Answer for merkle::Error<F> {
     fn tell(&self, out: &mut String) -> Result<(), Fault> {
-        let (name, number) = match self {
-            merkle::Error::Empty => ("E1", None),
-            merkle::Error::RangeOutOfBounds(location) => ("E2", Some(location.as_u64())),
-            merkle::Error::LocationOverflow(location) => ("E3", Some(location.as_u64())),
-            merkle::Error::ElementPruned(position) => ("E4", Some(position.as_u64())),
-            merkle::Error::MissingNode(position) => ("E5", Some(position.as_u64())),
-            merkle::Error::DataCorrupted(_) => ("E6", None),
-            merkle::Error::BitOutOfBounds(bit, length) => {
-                return Ok(write!(out, "E7({bit},{length})")?);
-            }
-            merkle::Error::InvalidProof => ("E8", None),
-            merkle::Error::RootMismatch => ("E9", None),
-            merkle::Error::DuplicateLocation(location) => ("E10", Some(location.as_u64())),
-            merkle::Error::UnsortedLocation(location) => ("E11", Some(location.as_u64())),
-            merkle::Error::CompressedDigest(position) => ("E12", Some(position.as_u64())),
-            merkle::Error::Source(fault) => ("E13", Some(u64::from(*fault))),
-            merkle::Error::Memory => return Err(Fault::Memory),
-        };
-        tell_numbered(out, name, number)
+        match self {
+            merkle::Error::BitOutOfBounds(bit, length) => Ok(write!(out, "E7({bit},{length})")?),
+            merkle::Error::Memory => Err(Fault::Memory),
+            error => tell_numbered(out, name_of(error), number_of(error)),
+        }
     }
 }
 

@@ -15,9 +15,7 @@ use commonware_storage::laws::keys::{
 };
 use commonware_storage::laws::ranges::built_ranges_are_accepted;
 use commonware_storage::light::MAX_DIGESTS;
-use commonware_storage::merkle::{
-    Countable, ElementPlan, Graftable, Location, Position, RangePlan,
-};
+use commonware_storage::merkle::{ElementPlan, Graftable, Location, Position, RangePlan};
 use commonware_storage::qmdb::any::FixedEncoding;
 use commonware_storage::qmdb::any::operation::Ordered;
 use commonware_storage::qmdb::current::ordered::constant::{ExclusionProof, KeyValueProof};
@@ -124,7 +122,7 @@ impl<F: Graftable, H: Hasher, const N: usize> Kept<F, H, N> {
     }
 }
 
-impl<F: Graftable + Countable, H: Hasher, const N: usize> Asked for Kept<F, H, N> {
+impl<F: Graftable, H: Hasher, const N: usize> Asked for Kept<F, H, N> {
     fn count(&self) -> u64 {
         self.operations.len() as u64
     }
@@ -152,15 +150,16 @@ impl<F: Graftable + Countable, H: Hasher, const N: usize> Asked for Kept<F, H, N
         };
         let plan = or_fault(ElementPlan::<F>::new(alloc, Location::new(self.count()), at))?;
         let nodes = self.nodes.as_slice();
+        let snapshot = &self.snapshot;
         match built_proofs_are_accepted::<F, H, Prunable<N>, _, N>(
             alloc,
-            self.snapshot.status(),
+            snapshot.status(),
             plan,
             |position| digest_at(nodes, position),
             Location::new(self.floor),
-            self.snapshot.ops_root(),
+            snapshot.ops_root(),
             operation.as_slice(),
-            &self.snapshot.root(),
+            &snapshot.root(),
         ) {
             Ok(yes) => Ok(yes),
             Err(error) => Err(error.fault()),
@@ -178,17 +177,18 @@ impl<F: Graftable + Countable, H: Hasher, const N: usize> Asked for Kept<F, H, N
         let chunks = arrays_lent(alloc, chunks)?;
         let plan = or_fault(RangePlan::<F>::new(alloc, leaves, range))?;
         let nodes = self.nodes.as_slice();
+        let snapshot = &self.snapshot;
         match built_ranges_are_accepted::<F, H, Prunable<N>, _, N>(
             alloc,
-            self.snapshot.status(),
+            snapshot.status(),
             plan,
             |position| digest_at(nodes, position),
             Location::new(self.floor),
-            self.snapshot.ops_root(),
+            snapshot.ops_root(),
             MAX_DIGESTS,
             &operations,
             &chunks,
-            &self.snapshot.root(),
+            &snapshot.root(),
         ) {
             Ok(yes) => Ok(yes),
             Err(error) => Err(error.fault()),
@@ -243,7 +243,7 @@ impl<F: Graftable + Countable, H: Hasher, const N: usize> Asked for Kept<F, H, N
 }
 
 /// Returns the snapshot's proof of the operation at a location.
-fn operation_proof<F: Graftable + Countable, H: Hasher, const N: usize>(
+fn operation_proof<F: Graftable, H: Hasher, const N: usize>(
     alloc: Global,
     kept: &Kept<F, H, N>,
     location: u64,
@@ -252,13 +252,14 @@ fn operation_proof<F: Graftable + Countable, H: Hasher, const N: usize>(
     nodes.extend_from_slice(&kept.nodes)?;
     let size = kept.nodes.len() as u64;
     let mut store = Faulty::new(nodes, size, NONE, ALWAYS, STORE_FAULT);
+    let snapshot = &kept.snapshot;
     or_fault(OperationProof::new::<H, Prunable<N>, Faulty<H::Digest>>(
         alloc,
-        kept.snapshot.status(),
+        snapshot.status(),
         &mut store,
         Location::new(kept.floor),
         Location::new(location),
-        kept.snapshot.ops_root(),
+        snapshot.ops_root(),
     ))
 }
 

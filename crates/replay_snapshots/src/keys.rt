@@ -28,18 +28,32 @@ pub fn answer<F: Graftable, H: Hasher>(
     columns: &[&str],
     out: &mut String,
 ) -> Result<(), Fault> {
-    let (kind, columns, value) = match (list, columns) {
+    match (list, columns) {
         ("key_values", [kind, proof, key, value, root, _]) => {
-            (*kind, [*proof, *key, *root], Some(bytes(alloc, *value)?))
+            let value = Some(bytes(alloc, *value)?);
+            tell_shown::<F, H>(alloc, *kind, chunk_size, &[*proof, *key, *root], value, out)
         }
-        ("exclusions", [kind, proof, key, root, _]) => (*kind, [*proof, *key, *root], None),
+        ("exclusions", [kind, proof, key, root, _]) => {
+            tell_shown::<F, H>(alloc, *kind, chunk_size, &[*proof, *key, *root], None, out)
+        }
         ("golden_keys", [root, key, value, proof]) => {
-            let value = encoded_number(alloc, *value)?;
-            ("ordered-fixed/fixed4/u64", [*proof, *key, *root], value)
+            let (kind, value) = ("ordered-fixed/fixed4/u64", encoded_number(alloc, *value)?);
+            tell_shown::<F, H>(alloc, kind, chunk_size, &[*proof, *key, *root], value, out)
         }
-        _ => return Err(Fault::Malformed),
-    };
-    let (proof, key, Hex(root)): (Vec<u8>, Vec<u8>, Hex<H::Digest>) = parse(alloc, &columns)?;
+        _ => Err(Fault::Malformed),
+    }
+}
+
+/// `proof key root`: adds whether the proof is accepted, for keys and values of a type.
+fn tell_shown<F: Graftable, H: Hasher>(
+    alloc: Global,
+    kind: &str,
+    chunk_size: usize,
+    columns: &[&str],
+    value: Option<Vec<u8>>,
+    out: &mut String,
+) -> Result<(), Fault> {
+    let (proof, key, Hex(root)): (Vec<u8>, Vec<u8>, Hex<H::Digest>) = parse(alloc, columns)?;
     let given = Given {
         proof,
         chunk_size,

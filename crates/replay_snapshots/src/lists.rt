@@ -7,7 +7,7 @@ use crate::kept::{Asked, Kept};
 use crate::{checks, keys, snapshots, stores};
 use commonware_storage::codec::FixedBytes;
 use commonware_storage::digest::{Digest, Hasher};
-use commonware_storage::merkle::{Countable, Graftable, mmb, mmr};
+use commonware_storage::merkle::{Graftable, mmb, mmr};
 use replay_columns::columns::{Fault, List, number, parse};
 use std::alloc::Global;
 
@@ -33,7 +33,7 @@ where
     }
 }
 
-fn over<F: Graftable + Countable, H: Hasher<Digest = FixedBytes<D>>, const D: usize>(
+fn over<F: Graftable, H: Hasher<Digest = FixedBytes<D>>, const D: usize>(
     alloc: Global,
     list: &str,
     chunk_size: &str,
@@ -79,12 +79,12 @@ fn of_bytes<F: Graftable, H: Hasher>(
 
 /// Returns the answer of a list on a snapshot, whose next columns are its floor, its activity bits as digits and its
 /// operations.
-fn of_snapshot<
-    F: Graftable + Countable,
-    H: Hasher<Digest = FixedBytes<D>>,
-    const D: usize,
-    const N: usize,
->(alloc: Global, list: &str, columns: &[&str], out: &mut String) -> Result<(), Fault>
+fn of_snapshot<F: Graftable, H: Hasher<Digest = FixedBytes<D>>, const D: usize, const N: usize>(
+    alloc: Global,
+    list: &str,
+    columns: &[&str],
+    out: &mut String,
+) -> Result<(), Fault>
 where
     FixedBytes<D>: Digest,
     requires chunk { IsChunkSize N }

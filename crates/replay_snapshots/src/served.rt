@@ -10,7 +10,7 @@ use crate::trees::{grafted_tree, operations_nodes, status_of};
 use commonware_storage::bitmap::{Prunable, Readable as _};
 use commonware_storage::codec::Encode;
 use commonware_storage::digest::Hasher;
-use commonware_storage::merkle::{self, Countable, Graftable, Location, Position, Storage as _};
+use commonware_storage::merkle::{self, Graftable, Location, Position, Storage as _};
 use commonware_storage::qmdb::current::Contiguous as _;
 use commonware_storage::qmdb::current::grafting::{self, Storage};
 use commonware_storage::qmdb::current::proof::constant::OperationProof;
@@ -23,7 +23,7 @@ use std::alloc::Global;
 const MANY: u64 = 1000;
 
 /// Adds what is told where the store has the digests of the grafted view.
-pub fn from_view<F: Graftable + Countable, H: Hasher, const N: usize>(
+pub fn from_view<F: Graftable, H: Hasher, const N: usize>(
     alloc: Global,
     kept: &Kept<F, H, N>,
     call: &Call,
@@ -56,7 +56,7 @@ pub fn from_view<F: Graftable + Countable, H: Hasher, const N: usize>(
 
 /// Adds what is told where the store is a tree over the chunks, of which the first `pruned` are pruned or which has
 /// no nodes, and one over the operations.
-pub fn from_trees<F: Graftable + Countable, H: Hasher, const N: usize>(
+pub fn from_trees<F: Graftable, H: Hasher, const N: usize>(
     alloc: Global,
     kept: &Kept<F, H, N>,
     call: &Call,
@@ -91,12 +91,7 @@ pub fn from_trees<F: Graftable + Countable, H: Hasher, const N: usize>(
 
 /// Adds what a store tells of a snapshot with these bits, this floor, this root of its operations and these nodes; how
 /// often the log failed.
-fn tell_served<
-    F: Graftable + Countable,
-    H: Hasher,
-    S: merkle::Storage<F, Digest = H::Digest>,
-    const N: usize,
->(
+fn tell_served<F: Graftable, H: Hasher, S: merkle::Storage<F, Digest = H::Digest>, const N: usize>(
     alloc: Global,
     call: &Call,
     left: Left,
@@ -175,7 +170,7 @@ fn is_answered<F: Graftable, S: merkle::Storage<F>>(
 
 /// Adds the proof of the operation at a location from a store, or the refusal.
 fn tell_operation<
-    F: Graftable + Countable,
+    F: Graftable,
     H: Hasher,
     S: merkle::Storage<F, Digest = H::Digest>,
     const N: usize,
@@ -205,12 +200,7 @@ fn tell_operation<
 }
 
 /// Adds the proof of the operations from `range.0` to before `range.1` from a store, or the refusal.
-fn tell_range<
-    F: Graftable + Countable,
-    H: Hasher,
-    S: merkle::Storage<F, Digest = H::Digest>,
-    const N: usize,
->(
+fn tell_range<F: Graftable, H: Hasher, S: merkle::Storage<F, Digest = H::Digest>, const N: usize>(
     alloc: Global,
     status: &Prunable<N>,
     store: &mut S,
@@ -237,7 +227,7 @@ fn tell_range<
 /// Adds the proof of at most `range.1` operations from `range.0` on from a store, with these from a log and their
 /// chunks, or the refusal.
 fn tell_operations<
-    F: Graftable + Countable,
+    F: Graftable,
     H: Hasher,
     S: merkle::Storage<F, Digest = H::Digest>,
     const N: usize,

@@ -4,35 +4,14 @@ use crate::spelling::{Parse, Spell};
 use replay_columns::answers::{Answer, Lent};
 use replay_columns::columns::Fault;
 use std::alloc::Global;
-use storage_codec::codec::{FixedBytes, U64};
 use storage_merkle::merkle::mmr;
-use storage_ops::qmdb::any::operation::update::{Ordered, Unordered};
 use storage_ops::qmdb::any::operation::{Operation, Update};
-use storage_ops::qmdb::any::value::{FixedEncoding, VariableEncoding};
 use storage_ops::qmdb::operation::{Committable, Floored, Key, Operation as _};
 
-/// `type operation` for `asked`: what it is, its key, its floor, and the key that it gives up; `-` for none. `type operation operation`
-/// for `equal`: whether a copy of the first is equal to the second. `type update` for `valued`: the value that the key gets, as it is
-/// lent and as it is given up.
-pub fn answer(alloc: Global, list: &str, columns: &[&str], out: &mut String) -> Result<(), Fault> {
-    let [kind, columns @ ..] = columns else {
-        return Err(Fault::Malformed);
-    };
-    match *kind {
-        "ordered-variable/fixed4/vec:0:8" => {
-            over::<Ordered<FixedBytes<4>, VariableEncoding<Vec<u8>>>>(alloc, list, columns, out)
-        }
-        "ordered-variable/u64/vec:0:8" => {
-            over::<Ordered<U64, VariableEncoding<Vec<u8>>>>(alloc, list, columns, out)
-        }
-        "unordered-fixed/fixed4/u64" => {
-            over::<Unordered<FixedBytes<4>, FixedEncoding<u64>>>(alloc, list, columns, out)
-        }
-        _ => Err(Fault::Malformed),
-    }
-}
-
-fn over<S: Update + Spell + PartialEq>(
+/// `operation` for `asked`: what it is, its key, its floor, and the key that it gives up; `-` for none. `operation operation` for
+/// `equal`: whether a copy of the first is equal to the second. `update` for `valued`: the value that the key gets, as it is lent
+/// and as it is given up.
+pub fn answer<S: Update + Spell + PartialEq>(
     alloc: Global,
     list: &str,
     columns: &[&str],
@@ -42,30 +21,37 @@ where
     S::Key: Parse,
     S::Value: Spell + PartialEq,
 {
-    let [text, others @ ..] = columns else {
-        return Err(Fault::Malformed);
-    };
-    let operation = Operation::<mmr::Family, S>::parse(alloc, *text)?;
-    match (list, others) {
-        ("asked", []) => {
-            tell_asked(&operation, out)?;
-            bytes_of(operation.into_key().as_ref()).tell(out)
-        }
-        ("valued", []) => tell_value(operation, out),
-        ("equal", [other]) => { (operation.clone()? == Operation::parse(alloc, *other)?).tell(out) }
+    match (list, columns) {
+        ("asked", [text]) => tell_asked::<S>(alloc, *text, out),
+        ("valued", [text]) => tell_value::<S>(alloc, *text, out),
+        ("equal", [text, other]) => tell_equal::<S>(alloc, *text, *other, out),
         _ => Err(Fault::Malformed),
     }
 }
 
-/// Adds the value of an update, as it is lent and as it is given up.
-fn tell_value<S: Update>(
-    operation: Operation<mmr::Family, S>,
+/// Adds whether a copy of an operation is equal to another one.
+fn tell_equal<S: Update + Spell + PartialEq>(
+    alloc: Global,
+    text: &str,
+    other: &str,
     out: &mut String,
 ) -> Result<(), Fault>
 where
+    S::Key: Parse,
+    S::Value: Spell + PartialEq,
+{
+    let other = Operation::<mmr::Family, S>::parse(alloc, other)?;
+    let copy = Operation::<mmr::Family, S>::parse(alloc, text)?.clone()?;
+    (copy == other).tell(out)
+}
+
+/// Adds the value of an update, as it is lent and as it is given up.
+fn tell_value<S: Update + Spell>(alloc: Global, text: &str, out: &mut String) -> Result<(), Fault>
+where
+    S::Key: Parse,
     S::Value: Spell,
 {
-    let Operation::Update(update) = operation else {
+    let Operation::Update(update) = Operation::<mmr::Family, S>::parse(alloc, text)? else {
         return Err(Fault::Malformed);
     };
     update.value().spell(out)?;
@@ -88,8 +74,19 @@ fn kind_of<S: Update>(operation: &Operation<mmr::Family, S>) -> Result<&'static 
     }
 }
 
+/// Adds what an operation is, its key, its floor, and the key that it gives up; `-` for none.
+fn tell_asked<S: Update + Spell>(alloc: Global, text: &str, out: &mut String) -> Result<(), Fault>
+where
+    S::Key: Parse,
+    S::Value: Spell,
+{
+    let operation = Operation::<mmr::Family, S>::parse(alloc, text)?;
+    tell_lent(&operation, out)?;
+    bytes_of(operation.into_key().as_ref()).tell(out)
+}
+
 /// Adds what an operation is, its key and its floor, `-` for none, and a blank.
-fn tell_asked<S: Update>(
+fn tell_lent<S: Update>(
     operation: &Operation<mmr::Family, S>,
     out: &mut String,
 ) -> Result<(), Fault> {

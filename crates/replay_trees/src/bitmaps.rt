@@ -9,9 +9,9 @@ mod read;
 mod told;
 mod verified;
 
-use histories::{after, called, restored, tell_note};
-use replay_columns::answers::{Answer, At, or_word};
-use replay_columns::columns::{Digests, Fault, Hex, Label, number, parse};
+use histories::after;
+use replay_columns::answers::{Answer, At};
+use replay_columns::columns::{Digests, Fault, Hex, Label, parse};
 use std::alloc::Global;
 use storage_bitmap::bitmap::authenticated::{BitMap, MerkleizedBitMap, PrunedState};
 use storage_codec::codec::FixedBytes;
@@ -58,11 +58,6 @@ where
     match (list, columns) {
         ("bitmaps_checks", _) => bitmaps_checks::<H, N>(alloc, hasher, columns, out),
         ("bitmaps_init", _) => bitmaps_init::<H, D, N>(alloc, hasher, columns, out),
-        ("bitmaps_stages", [calls]) => bitmaps_stages::<H, D, N>(alloc, hasher, *calls, out),
-        ("bit_proofs", [digits, bit]) => {
-            let calls = format!(in alloc; "d,p:{},m", *digits)?;
-            of_bitmap::<H, D, N>(alloc, hasher, list, calls.as_str(), *bit, out)
-        }
         (_, [calls, asked]) => of_bitmap::<H, D, N>(alloc, hasher, list, *calls, *asked, out),
         _ => Err(Fault::Malformed),
     }
@@ -84,55 +79,28 @@ where
 {
     let mut bitmap = after::<H, D, N>(alloc, hasher, calls)?;
     match list {
-        "bitmaps" => told::bitmaps(alloc, hasher, &bitmap, asked, out),
-        "bit_proofs" => bit_proofs(hasher, &bitmap, asked, out),
         "bitmaps_read" => read::bitmaps_read(alloc, bitmap, asked, out),
-        "bitmaps_served" => read::bitmaps_served(alloc, &mut bitmap, asked, out),
-        "bitmaps_verified" => verified::bitmaps_verified(alloc, hasher, &bitmap, asked, out),
-        _ => Err(Fault::Malformed),
+        _ => of_grown(alloc, hasher, list, &mut bitmap, asked, out),
     }
 }
 
-/// `calls`: what stands after each call that leaves the bitmap with its root: how many bits it has and how many of them are
-/// pruned, how many nodes, its last chunk and how many bits that has, how many digests are kept of the pruned chunks, and which
-/// of the roots so far it has, in the order in which they came.
-fn bitmaps_stages<H: Hasher<Digest = FixedBytes<D>>, const D: usize, const N: usize>(
+/// Adds the answer of a list that leaves the bitmap as it is.
+fn of_grown<H: Hasher, const N: usize>(
     alloc: Global,
     hasher: &Standard<H>,
-    calls: &str,
-    out: &mut String,
-) -> Result<(), Fault>
-where
-    FixedBytes<D>: Digest,
-    requires chunk { IsChunkSize N }
-    requires small { D ≤ 64 }
-{
-    let start = out.len();
-    let mut roots = Vec::new(alloc);
-    let mut stage = restored::<H, N>(alloc, hasher, "0:-")?;
-    for call in calls.split(',') {
-        stage = called(alloc, hasher, stage, call)?;
-        tell_note(&stage, &mut roots, start, out)?;
-    }
-    or_word(out, start, "none")
-}
-
-/// `bits bit`: the root of these bits, and the digests of their proof of one of them, or the refusal.
-fn bit_proofs<H: Hasher, const N: usize>(
-    hasher: &Standard<H>,
-    bitmap: &MerkleizedBitMap<H::Digest, N>,
+    list: &str,
+    bitmap: &mut MerkleizedBitMap<H::Digest, N>,
     asked: &str,
     out: &mut String,
-) -> Result<(), Fault> {
-    let bit = number(asked)?;
-    if bit < bitmap.pruned_bits() {
-        return Err(Fault::Malformed);
+) -> Result<(), Fault>
+    requires { IsChunkSize N }
+{
+    match list {
+        "bitmaps" => told::bitmaps(alloc, hasher, bitmap, asked, out),
+        "bitmaps_served" => read::bitmaps_served(alloc, bitmap, asked, out),
+        "bitmaps_verified" => verified::bitmaps_verified(alloc, hasher, bitmap, asked, out),
+        _ => Err(Fault::Malformed),
     }
-    let digests = match bitmap.proof(hasher, bit) {
-        Ok((proof, _)) => Ok(Digests(proof.digests)),
-        Err(error) => Err(error),
-    };
-    (Hex(bitmap.root()), digests).tell(out)
 }
 
 /// `leaves inactive digests chunk bit root label`: whether the proof is accepted. The label says how the case was made.

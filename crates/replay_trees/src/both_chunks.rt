@@ -69,16 +69,38 @@ fn operation_shown<F: Graftable, H: Hasher>(
     root: &H::Digest,
 ) -> Result<bool, Fault> {
     let operation = bytes(alloc, operation)?;
-    let one = match read::<Operation<F, H, [u8; 1]>, _>(alloc, proof, proof, &128)? {
-        Ok(proof) => Ok(proof.verify_encoded::<H>(alloc, &operation, root)?),
-        Err(refusal) => Err(refusal),
-    };
+    let one = shown_by_array::<F, H>(alloc, proof, &operation, root)?;
+    same(
+        one,
+        shown_by_shared::<F, H>(alloc, proof, &operation, root)?,
+    )
+}
+
+/// Returns whether a proof that is read over a chunk that is an array shows an operation, or why it is none.
+fn shown_by_array<F: Graftable, H: Hasher>(
+    alloc: Global,
+    proof: &[u8],
+    operation: &[u8],
+    root: &H::Digest,
+) -> Result<Result<bool, Error>, Fault> {
+    match read::<Operation<F, H, [u8; 1]>, _>(alloc, proof, proof, &128)? {
+        Ok(proof) => Ok(Ok(proof.verify_encoded::<H>(alloc, operation, root)?)),
+        Err(refusal) => Ok(Err(refusal)),
+    }
+}
+
+/// Returns the same of a proof that is read over a chunk that is shared bytes.
+fn shown_by_shared<F: Graftable, H: Hasher>(
+    alloc: Global,
+    proof: &[u8],
+    operation: &[u8],
+    root: &H::Digest,
+) -> Result<Result<bool, Error>, Fault> {
     let buffer = Bytes::copy_from_slice(alloc, proof)?;
-    let other = match read::<Operation<F, H, Bytes>, _>(alloc, buffer, proof, &(1, 128))? {
-        Ok(proof) => Ok(proof.verify_encoded::<H>(alloc, &operation, root)?),
-        Err(refusal) => Err(refusal),
-    };
-    same(one, other)
+    match read::<Operation<F, H, Bytes>, _>(alloc, buffer, proof, &(1, 128))? {
+        Ok(proof) => Ok(Ok(proof.verify_encoded::<H>(alloc, operation, root)?)),
+        Err(refusal) => Ok(Err(refusal)),
+    }
 }
 
 fn range_shown<F: Graftable, H: Hasher>(
@@ -91,12 +113,23 @@ fn range_shown<F: Graftable, H: Hasher>(
         return Ok(false);
     };
     let parts: Vec<&str> = claim.split('/').collect(alloc)?;
-    let (start, operations, arrays): (Location<F>, List<Unframed>, List<[u8; 1]>) = parse(
+    let (start, operations, chunks): (Location<F>, List<Unframed>, List<[u8; 1]>) = parse(
         alloc, &parts,
     )?;
-    let (operations, arrays) = (&operations.0, &arrays.0);
-    let yes = proof.verify::<H, _, 1>(alloc, start, operations, arrays, root)?;
-    let shared = cut_chunks(alloc, arrays)?;
+    range_shown_by_both::<F, H>(alloc, &proof, start, &operations.0, &chunks.0, root)
+}
+
+/// Returns whether a range proof shows operations and chunks, both as arrays and as shared bytes.
+fn range_shown_by_both<F: Graftable, H: Hasher>(
+    alloc: Global,
+    proof: &RangeProof<F, H::Digest>,
+    start: Location<F>,
+    operations: &[Unframed],
+    chunks: &[[u8; 1]],
+    root: &H::Digest,
+) -> Result<bool, Fault> {
+    let yes = proof.verify::<H, _, 1>(alloc, start, operations, chunks, root)?;
+    let shared = cut_chunks(alloc, chunks)?;
     let other = proof.verify_with_chunk_size::<H, _, Bytes>(
         alloc, start, operations, &shared, 1, root,
     )?;

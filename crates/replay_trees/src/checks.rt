@@ -4,7 +4,7 @@
 use crate::claims::Claim;
 use crate::counting::Counting;
 use replay_columns::answers::Answer;
-use replay_columns::columns::{Digests, Fault, Hex, Label, halves, parse};
+use replay_columns::columns::{Column, Digests, Fault, Hex, Label, halves, parse};
 use replay_columns::unframed::Unframed;
 use std::alloc::Global;
 use std::cell::Cell;
@@ -112,14 +112,30 @@ fn operations_shown<F: Family, H: Hasher>(
     claims: &str,
     root: &H::Digest,
 ) -> Result<bool, Fault> {
-    let mut operations: Vec<(Location<F>, Unframed)> = Vec::new(alloc);
-    if claims != "none" {
-        for claim in claims.split(',') {
-            let (location, operation) = halves(claim, ':')?;
-            operations.push(parse(alloc, &[location, operation])?)?;
-        }
-    }
+    let operations: Vec<(Location<F>, Unframed)> = claimed(alloc, claims, false)?;
     Ok(verify_multi_proof::<H, F, _>(alloc, proof, &operations, root)?)
+}
+
+/// Returns what is claimed: of each location and what stands there, the one or the other first.
+fn claimed<T: Column>(
+    alloc: Global,
+    claims: &str,
+    is_element_first: bool,
+) -> Result<Vec<T>, Fault> {
+    let mut claimed = Vec::new(alloc);
+    if claims == "none" {
+        return Ok(claimed);
+    }
+    for claim in claims.split(',') {
+        let (location, element) = halves(claim, ':')?;
+        let (first, second) = if is_element_first {
+            (element, location)
+        } else {
+            (location, element)
+        };
+        claimed.push(parse(alloc, &[first, second])?)?;
+    }
+    Ok(claimed)
 }
 
 /// Returns whether a proof is accepted for claims of elements.
@@ -130,12 +146,6 @@ fn elements_shown<F: Family, H: Hasher>(
     claims: &str,
     root: &H::Digest,
 ) -> Result<bool, Fault> {
-    let mut elements: Vec<(Vec<u8>, Location<F>)> = Vec::new(alloc);
-    if claims != "none" {
-        for claim in claims.split(',') {
-            let (location, element) = halves(claim, ':')?;
-            elements.push(parse(alloc, &[element, location])?)?;
-        }
-    }
+    let elements: Vec<(Vec<u8>, Location<F>)> = claimed(alloc, claims, true)?;
     Ok(proof.verify_multi_inclusion(alloc, hasher, &elements, root)?)
 }

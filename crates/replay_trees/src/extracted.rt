@@ -1,10 +1,10 @@
-//! Lists on the digests that a check hands out, and on the root and the digests that a proof gives whatever root is trusted.
+//! Lists on the digests that a check hands out.
 
 ghost use Rattle.storage_bitmap.specs.Chunks.{IsChunkSize};
 
 use crate::claims::{Claim, Placed};
 use replay_columns::answers::Answer;
-use replay_columns::columns::{Fault, Hex, List, Refusal as _, parse};
+use replay_columns::columns::{Fault, Hex, List, parse};
 use replay_columns::unframed::Unframed;
 use std::alloc::Global;
 use storage_codec::codec::Decode;
@@ -12,7 +12,7 @@ use storage_codec::digest::Hasher;
 use storage_current::qmdb::current;
 use storage_current::qmdb::current::proof::RangeProof;
 use storage_merkle::merkle::hasher::Standard;
-use storage_merkle::merkle::{Bagging, Error, Family, Graftable, LentProof, Location};
+use storage_merkle::merkle::{Bagging, Family, Graftable, Location};
 use storage_ops::qmdb::verify::verify_proof_and_extract_digests;
 
 /// `bagging leaves inactive digests start elements root`: the digests that the check hands out, each with its position, or the
@@ -66,53 +66,4 @@ pub fn ranges_extracted<F: Graftable, H: Hasher, const N: usize>(
         }
         Err(error) => error.tell(out),
     }
-}
-
-/// `bagging leaves inactive digests start elements`: the root that the proof gives with these elements, by each call that
-/// computes it, and the digests that are read or computed on the way, each with its position; or the refusal.
-pub fn recomputed<F: Family, H: Hasher>(
-    alloc: Global,
-    columns: &[&str],
-    out: &mut String,
-) -> Result<(), Fault> {
-    let (bagging, claim): (Bagging, Claim<F, H::Digest>) = parse(alloc, columns)?;
-    let hasher = Standard::<H>::new(bagging);
-    let root = root_of(alloc, &hasher, &claim)?;
-    let (proof, items, start) = (&claim.proof, &claim.items, claim.start);
-    match proof.recompute_digests(alloc, &hasher, items, start)? {
-        Some((own, digests)) => {
-            if root != Some(own) {
-                return Err(Fault::Differs);
-            }
-            (Hex(own), Placed(digests)).tell(out)
-        }
-        None if root.is_none() => Error::<F>::InvalidProof.tell(out),
-        None => Err(Fault::Differs),
-    }
-}
-
-/// Returns the root that a proof gives, and that the same proof gives with its digests lent; none if the proof is
-/// refused.
-fn root_of<F: Family, H: Hasher>(
-    alloc: Global,
-    hasher: &Standard<H>,
-    claim: &Claim<F, H::Digest>,
-) -> Result<Option<H::Digest>, Fault> {
-    let (proof, items, start) = (&claim.proof, &claim.items, claim.start);
-    let lent = LentProof {
-        leaves: proof.leaves,
-        inactive_peaks: proof.inactive_peaks,
-        digests: &proof.digests,
-    };
-    let root = proof.recompute_root(alloc, hasher, items, start)?;
-    let again = lent.recompute_root(alloc, hasher, items, start)?;
-    let told = match proof.reconstruct_root(alloc, hasher, items, start) {
-        Ok(root) => Some(root),
-        Err(Error::InvalidProof) => None,
-        Err(error) => return Err(error.fault()),
-    };
-    if again != root || told != root {
-        return Err(Fault::Differs);
-    }
-    Ok(root)
 }

@@ -2,15 +2,14 @@
 
 ghost use Rattle.std.specs.Prelude.{◌≤◌};
 
-use crate::mems::tell_nodes;
 use replay_columns::answers::{Answer, At, or_word, tell_next};
-use replay_columns::columns::{Digests, Fault, List, parse};
+use replay_columns::columns::{Digests, Fault, Hex, List, parse};
 use std::alloc::Global;
 use storage_codec::digest::Hasher;
 use storage_current::laws::combined::nodes_over_chunks_are_taken;
 use storage_current::qmdb::current::grafting::{GraftedHasher, GraftedTree};
 use storage_merkle::merkle::hasher::Standard;
-use storage_merkle::merkle::{Bagging, Graftable};
+use storage_merkle::merkle::{Bagging, Graftable, Position, Readable};
 
 /// More chunks than a case has.
 const MANY: u64 = 1000;
@@ -87,4 +86,14 @@ fn pruned<F: Graftable, H: Hasher>(
         Ok(()) => Ok(()),
         Err(error) => tell_next(out, start, ',', &At(place, error)),
     }
+}
+
+/// Adds the digests at so many positions.
+fn tell_nodes<T: Readable>(tree: &T, count: u64, out: &mut String) -> Result<(), Fault> {
+    let start = out.len();
+    for place in 0..count {
+        let digest = tree.get_node(Position::new(place)).map(Hex);
+        tell_next(out, start, ',', &At(place, digest))?;
+    }
+    or_word(out, start, "none")
 }

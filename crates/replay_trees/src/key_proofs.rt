@@ -48,15 +48,42 @@ pub fn key_proofs<F: Graftable, H: Hasher>(
     };
     let (most, input): (usize, Vec<u8>) = parse(alloc, columns)?;
     if *reader == "array" {
-        return match *claim {
-            "value" => tell_read::<Value<F, H::Digest, [u8; 1]>>(alloc, &input, &(most, ()), out),
-            _ => tell_read::<Absence<F, H::Digest, [u8; 1]>>(alloc, &input, &(most, (), ()), out),
-        };
+        return tell_of_array::<F, H::Digest>(alloc, *claim, most, &input, out);
     }
-    let size = (number(*reader)? as usize, most);
-    match *claim {
-        "value" => tell_read::<Value<F, H::Digest, Bytes>>(alloc, &input, &(size, ()), out),
-        _ => tell_read::<Absence<F, H::Digest, Bytes>>(alloc, &input, &(size, (), ()), out),
+    tell_of_shared::<F, H::Digest>(
+        alloc,
+        *claim,
+        (number(*reader)? as usize, most),
+        &input,
+        out,
+    )
+}
+
+fn tell_of_array<F: Graftable, D: Digest>(
+    alloc: Global,
+    claim: &str,
+    most: usize,
+    input: &[u8],
+    out: &mut String,
+) -> Result<(), Fault> {
+    if claim == "value" {
+        tell_read::<Value<F, D, [u8; 1]>>(alloc, input, &(most, ()), out)
+    } else {
+        tell_read::<Absence<F, D, [u8; 1]>>(alloc, input, &(most, (), ()), out)
+    }
+}
+
+fn tell_of_shared<F: Graftable, D: Digest>(
+    alloc: Global,
+    claim: &str,
+    size: (usize, usize),
+    input: &[u8],
+    out: &mut String,
+) -> Result<(), Fault> {
+    if claim == "value" {
+        tell_read::<Value<F, D, Bytes>>(alloc, input, &(size, ()), out)
+    } else {
+        tell_read::<Absence<F, D, Bytes>>(alloc, input, &(size, (), ()), out)
     }
 }
 

@@ -1,7 +1,7 @@
 //! Lists of `replay` on encodings, bitmaps, trees and proofs of trees: for each list a function that answers the columns of a case.
 #![tactic(auto)]
 
-pub mod asked;
+mod asked;
 pub mod bitmaps;
 pub mod both_chunks;
 pub mod checks;
@@ -13,7 +13,6 @@ pub mod grafted_trees;
 pub mod key_proofs;
 pub mod mems;
 pub mod operations;
-pub mod own;
 pub mod places;
 pub mod spelling;
 pub mod stores;

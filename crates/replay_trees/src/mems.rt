@@ -2,13 +2,13 @@
 
 use replay_columns::answers::{Answer, At, or_word, tell_next};
 use replay_columns::columns::{
-    Digests, Fault, Hex, List, bytes, digests_between, halves, number, parse, placed,
+    Digests, Fault, Hex, List, bytes, digests_between, halves, number, or_fault, parse, placed,
 };
 use std::alloc::Global;
 use storage_codec::digest::{Digest, Hasher};
 use storage_merkle::merkle::hasher::Standard;
 use storage_merkle::merkle::mem::Mem;
-use storage_merkle::merkle::{Bagging, Family, Location, Position, Readable};
+use storage_merkle::merkle::{Bagging, Family, Location, Position, Storage};
 
 /// `bagging boundary digests`: how many nodes the tree has whose leaves before the boundary are forgotten, its root, and what
 /// adding a leaf of no bytes answers; or the refusal.
@@ -56,7 +56,7 @@ pub fn mems<F: Family, H: Hasher>(
     let hasher = Standard::<H>::new(bagging);
     let mut tree = Mem::<F, _>::new(alloc);
     tell_refusals(alloc, &hasher, &mut tree, &calls.0, out)?;
-    tell_grown(&hasher, &tree, out)
+    tell_grown(&hasher, &mut tree, out)
 }
 
 /// Makes calls, and adds the places of the refused ones and their refusals.
@@ -130,22 +130,26 @@ fn taken<F: Family, D: Digest>(
 /// and at the next two.
 fn tell_grown<F: Family, H: Hasher>(
     hasher: &Standard<H>,
-    tree: &Mem<F, H::Digest>,
+    tree: &mut Mem<F, H::Digest>,
     out: &mut String,
 ) -> Result<(), Fault> {
     let (leaves, size) = (tree.leaves(), tree.size());
     write!(out, " {leaves} {size} ")?;
     tell_roots(hasher, tree, out)?;
     out.push(' ')?;
-    tell_nodes(tree, size.as_u64().saturating_add(2), out)
+    tell_served(tree, size.as_u64().saturating_add(2), out)
 }
 
-/// Adds the digests at so many positions.
-pub fn tell_nodes<T: Readable>(tree: &T, count: u64, out: &mut String) -> Result<(), Fault> {
+/// Adds the digests at so many positions, as the tree serves them.
+fn tell_served<F: Family, D: Digest>(
+    tree: &mut Mem<F, D>,
+    count: u64,
+    out: &mut String,
+) -> Result<(), Fault> {
     let start = out.len();
     for place in 0..count {
-        let digest = tree.get_node(Position::new(place)).map(Hex);
-        tell_next(out, start, ',', &At(place, digest))?;
+        let node = or_fault(Storage::<F>::get_node(tree, Position::new(place)))?;
+        tell_next(out, start, ',', &At(place, node.map(Hex)))?;
     }
     or_word(out, start, "none")
 }

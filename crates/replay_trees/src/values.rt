@@ -5,7 +5,7 @@ use replay_columns::answers::tell_bytes;
 use replay_columns::columns::{Fault, array, bytes, number, parse};
 use std::alloc::Global;
 use storage_codec::codec::{
-    Buf, Codec, Decode, Encode, EncodeSize, Error, FixedBytes, RangeCfg, Read, U64, UInt,
+    Buf, Decode, Encode, EncodeSize, Error, FixedBytes, RangeCfg, Read, U64, UInt,
 };
 
 /// `type value`: its bytes, and whether it is read again from them as a slice and as shared bytes.
@@ -15,16 +15,18 @@ pub fn values(alloc: Global, columns: &[&str], out: &mut String) -> Result<(), F
     };
     let value = *value;
     match *kind {
-        "bool" => through(alloc, &(value == "true"), &(), out),
-        "u64" => through(alloc, &number(value)?, &(), out),
-        "varint" => through(alloc, &UInt(number(value)?), &(), out),
-        "key" => through(alloc, &U64::new(number(value)?), &(), out),
-        "fixed4" => through(alloc, &fixed(value)?, &(), out),
-        "optional" => through(alloc, &Some(fixed(value)?), &(), out),
-        "two" => {
-            let value = bytes(alloc, value)?;
-            through(alloc, &value, &(RangeCfg { min: 2, max: 2 }, ()), out)
-        }
+        "bool" => through(alloc, value == "true", (), out),
+        "u64" => through(alloc, number(value)?, (), out),
+        "varint" => through(alloc, UInt(number(value)?), (), out),
+        "key" => through(alloc, U64::new(number(value)?), (), out),
+        "fixed4" => through(alloc, fixed(value)?, (), out),
+        "optional" => through(alloc, Some(fixed(value)?), (), out),
+        "two" => through(
+            alloc,
+            bytes(alloc, value)?,
+            (RangeCfg { min: 2, max: 2 }, ()),
+            out,
+        ),
         _ => Err(Fault::Malformed),
     }
 }
@@ -36,7 +38,20 @@ fn fixed(text: &str) -> Result<FixedBytes<4>, Fault> {
     })
 }
 
-fn through<T: Codec + EncodeSize + PartialEq + Drop>(
+fn through<T: Read + EncodeSize + PartialEq>(
+    alloc: Global,
+    value: T,
+    cfg: T::Cfg,
+    out: &mut String,
+) -> Result<(), Fault>
+where
+    T::Cfg: Drop,
+{
+    tell_through(alloc, &value, &cfg, out)
+}
+
+/// Adds the bytes of a value, and whether it is read again from them as a slice and as shared bytes.
+fn tell_through<T: Read + EncodeSize + PartialEq>(
     alloc: Global,
     value: &T,
     cfg: &T::Cfg,
@@ -51,7 +66,7 @@ fn through<T: Codec + EncodeSize + PartialEq + Drop>(
 }
 
 /// Returns whether the bytes are this value.
-fn is_read<T: Read + PartialEq + Drop, B: Buf>(
+fn is_read<T: Read + PartialEq, B: Buf>(
     alloc: Global,
     buf: B,
     cfg: &T::Cfg,

@@ -3,7 +3,6 @@
 ghost use Rattle.std.specs.Prelude.{◌≤◌};
 ghost use Rattle.storage_bitmap.specs.Chunks.{IsChunkSize};
 
-use replay_columns::answers::{At, tell_next};
 use replay_columns::columns::{Fault, Refusal as _, digests_between, halves, number, or_fault};
 use std::alloc::Global;
 use storage_bitmap::bitmap::authenticated::{
@@ -16,7 +15,7 @@ use storage_merkle::merkle::hasher::Standard;
 
 /// A bitmap between two calls.
 #[derive(Drop)]
-pub enum Stage<D: Digest, const N: usize> {
+enum Stage<D: Digest, const N: usize> {
     Merkleized(MerkleizedBitMap<D, N>),
     Unmerkleized(UnmerkleizedBitMap<D, N>),
 }
@@ -43,7 +42,7 @@ where
 }
 
 /// Returns what a bitmap is after a call.
-pub fn called<H: Hasher, const N: usize>(
+fn called<H: Hasher, const N: usize>(
     alloc: Global,
     hasher: &Standard<H>,
     stage: Stage<H::Digest, N>,
@@ -71,20 +70,32 @@ fn merkleized<H: Hasher, const N: usize>(
 {
     match verb {
         "d" => Ok(Stage::Unmerkleized(bitmap.into_dirty())),
-        "r" => begun(alloc, hasher, or_fault(bitmap.write_pruned())?),
-        "x" => pruned(bitmap, number(rest)?),
+        "r" => begun_again(alloc, hasher, &bitmap),
+        "x" => pruned(bitmap, rest),
         "init" => restored(alloc, hasher, rest),
         _ => Err(Fault::Malformed),
     }
 }
 
+/// Returns the bitmap of what this one hands out.
+fn begun_again<H: Hasher, const N: usize>(
+    alloc: Global,
+    hasher: &Standard<H>,
+    bitmap: &MerkleizedBitMap<H::Digest, N>,
+) -> Result<Stage<H::Digest, N>, Fault>
+    requires { IsChunkSize N }
+{
+    begun(alloc, hasher, or_fault(bitmap.write_pruned())?)
+}
+
 /// Returns the bitmap, pruned up to a bit.
 fn pruned<D: Digest, const N: usize>(
     mut bitmap: MerkleizedBitMap<D, N>,
-    bit: u64,
+    bit: &str,
 ) -> Result<Stage<D, N>, Fault>
     requires { IsChunkSize N }
 {
+    let bit = number(bit)?;
     if bit > bitmap.len() {
         return Err(Fault::Malformed);
     }
@@ -95,7 +106,7 @@ fn pruned<D: Digest, const N: usize>(
 }
 
 /// Returns the bitmap of `COUNT:DIGESTS`: that many chunks, all of them pruned, of which these digests are kept.
-pub fn restored<H: Hasher, const N: usize>(
+fn restored<H: Hasher, const N: usize>(
     alloc: Global,
     hasher: &Standard<H>,
     parts: &str,
@@ -121,7 +132,7 @@ fn begun<H: Hasher, const N: usize>(
     Ok(Stage::Merkleized(or_fault(BitMap::init(alloc, hasher, state))?))
 }
 
-/// Returns the bitmap after a call: `p:BITS` appends bits, `s:BIT:VALUE` changes a bit, and `m` hashes what changed.
+/// Returns the bitmap after a call: `m` hashes what changed, and other calls are changes.
 fn unmerkleized<H: Hasher, const N: usize>(
     hasher: &Standard<H>,
     mut bitmap: UnmerkleizedBitMap<H::Digest, N>,
@@ -130,13 +141,26 @@ fn unmerkleized<H: Hasher, const N: usize>(
 ) -> Result<Stage<H::Digest, N>, Fault>
     requires { IsChunkSize N }
 {
-    match verb {
-        "p" => push(&mut bitmap, rest)?,
-        "s" => set(&mut bitmap, rest)?,
-        "m" => return Ok(Stage::Merkleized(or_fault(bitmap.merkleize(hasher))?)),
-        _ => return Err(Fault::Malformed),
+    if verb == "m" {
+        return Ok(Stage::Merkleized(or_fault(bitmap.merkleize(hasher))?));
     }
+    change(&mut bitmap, verb, rest)?;
     Ok(Stage::Unmerkleized(bitmap))
+}
+
+/// Makes a change: `p:BITS` appends bits, and `s:BIT:VALUE` changes a bit.
+fn change<D: Digest, const N: usize>(
+    bitmap: &mut UnmerkleizedBitMap<D, N>,
+    verb: &str,
+    rest: &str,
+) -> Result<(), Fault>
+    requires { IsChunkSize N }
+{
+    match verb {
+        "p" => push(bitmap, rest),
+        "s" => set(bitmap, rest),
+        _ => Err(Fault::Malformed),
+    }
 }
 
 /// Appends a bit for each digit.
@@ -173,36 +197,4 @@ fn set<D: Digest, const N: usize>(
         Ok(()) => Ok(()),
         Err(error) => Err(error.fault()),
     }
-}
-
-/// Adds what stands after a call, where the bitmap has its root, behind a comma where something stands behind the first
-/// `start` bytes.
-pub fn tell_note<D: Digest, const N: usize>(
-    stage: &Stage<D, N>,
-    roots: &mut Vec<D>,
-    start: usize,
-    out: &mut String,
-) -> Result<(), Fault> {
-    let Stage::Merkleized(bitmap) = stage else {
-        return Ok(());
-    };
-    let place = place_of(roots, bitmap.root())?;
-    let kept = or_fault(bitmap.write_pruned())?.pinned.len();
-    let (chunk, count) = bitmap.last_chunk();
-    let last = At(At(*chunk, count), At(kept, place));
-    let lengths = At(bitmap.len(), At(bitmap.pruned_bits(), bitmap.size()));
-    tell_next(out, start, ',', &At(lengths, last))
-}
-
-/// Returns the place of a root among the roots, to which it is added if it is new.
-fn place_of<D: Digest>(roots: &mut Vec<D>, root: D) -> Result<u64, Fault> {
-    let mut place: u64 = 0;
-    for known in roots.as_slice() {
-        if *known == root {
-            return Ok(place);
-        }
-        place = place.saturating_add(1);
-    }
-    roots.push(root)?;
-    Ok(place)
 }

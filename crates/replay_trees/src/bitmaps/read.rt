@@ -20,19 +20,25 @@ pub fn bitmaps_read<D: Digest, const N: usize>(
 ) -> Result<(), Fault>
     requires { IsChunkSize N }
 {
-    let bits: List<u64> = parse(alloc, &[bits])?;
-    MerkleizedBitMap::<D, N>::chunk_size_bits().tell(out)?;
-    out.push(' ')?;
-    tell_bits(&bitmap, &bits.0, out)?;
-    out.push(' ')?;
+    tell_bits(alloc, &bitmap, bits, out)?;
+    compare_chunks(alloc, &bitmap.into_dirty(), out.as_str())
+}
+
+/// Compares the chunks of a bitmap that is opened to changes with those that are told at the end of a text.
+fn compare_chunks<D: Digest, const N: usize>(
+    alloc: Global,
+    opened: &UnmerkleizedBitMap<D, N>,
+    out: &str,
+) -> Result<(), Fault>
+    requires { IsChunkSize N }
+{
     let mut chunks = String::new(alloc);
-    tell_chunks::<N, MerkleizedBitMap<D, N>>(&bitmap, &mut chunks)?;
-    let mut opened = String::new(alloc);
-    tell_chunks::<N, UnmerkleizedBitMap<D, N>>(&bitmap.into_dirty(), &mut opened)?;
-    if opened.as_str() != chunks.as_str() {
-        return Err(Fault::Differs);
+    tell_chunks::<N, UnmerkleizedBitMap<D, N>>(opened, &mut chunks)?;
+    if out.ends_with(chunks.as_str()) {
+        Ok(())
+    } else {
+        Err(Fault::Differs)
     }
-    Ok(out.push_str(chunks.as_str())?)
 }
 
 /// Adds how many bits there are, how many chunks of them are pruned, and those that are left.
@@ -49,28 +55,46 @@ fn tell_chunks<const N: usize, R: Readable<N>>(bits: &R, out: &mut String) -> Re
     or_word(out, start, "none")
 }
 
-/// Adds bits with their values, as their chunks have them, and their chunks.
+/// Adds how many bits a chunk has, bits with their values, as their chunks have them, and their chunks, and what is read by the
+/// chunk.
 fn tell_bits<D: Digest, const N: usize>(
+    alloc: Global,
     bitmap: &MerkleizedBitMap<D, N>,
-    bits: &[u64],
+    bits: &str,
     out: &mut String,
 ) -> Result<(), Fault>
     requires { IsChunkSize N }
 {
+    let bits: List<u64> = parse(alloc, &[bits])?;
+    write!(out, "{} ", MerkleizedBitMap::<D, N>::chunk_size_bits())?;
     let start = out.len();
-    for bit in bits {
-        let bit = *bit;
-        if bit < bitmap.pruned_bits() || bit >= bitmap.len() {
-            return Err(Fault::Malformed);
-        }
-        let chunk = bitmap.get_chunk_containing(bit);
-        let value = MerkleizedBitMap::<D, N>::get_bit_from_chunk(chunk, bit);
-        if bitmap.get_bit(bit) != value {
-            return Err(Fault::Differs);
-        }
-        tell_next(out, start, ',', &At(bit, At(u64::from(value), *chunk)))?;
+    for bit in &bits.0 {
+        tell_bit(bitmap, *bit, start, out)?;
     }
-    or_word(out, start, "none")
+    or_word(out, start, "none")?;
+    out.push(' ')?;
+    tell_chunks::<N, MerkleizedBitMap<D, N>>(bitmap, out)
+}
+
+/// Adds a bit with its value, as its chunk has it, and its chunk, behind a comma where something stands behind the first
+/// `start` bytes.
+fn tell_bit<D: Digest, const N: usize>(
+    bitmap: &MerkleizedBitMap<D, N>,
+    bit: u64,
+    start: usize,
+    out: &mut String,
+) -> Result<(), Fault>
+    requires { IsChunkSize N }
+{
+    if bit < bitmap.pruned_bits() || bit >= bitmap.len() {
+        return Err(Fault::Malformed);
+    }
+    let chunk = bitmap.get_chunk_containing(bit);
+    let value = MerkleizedBitMap::<D, N>::get_bit_from_chunk(chunk, bit);
+    if bitmap.get_bit(bit) != value {
+        return Err(Fault::Differs);
+    }
+    tell_next(out, start, ',', &At(bit, At(u64::from(value), *chunk)))
 }
 
 /// `calls positions`: of the bitmap after the calls, as a store of the nodes of its tree, how many nodes it has, the digests at
@@ -84,13 +108,22 @@ pub fn bitmaps_served<D: Digest, const N: usize>(
     let positions: List<Position<mmr::Family>> = parse(alloc, &[positions])?;
     Storage::<mmr::Family>::size(bitmap).tell(out)?;
     out.push(' ')?;
-    let start = out.len();
-    for position in &positions.0 {
-        let node = or_fault(Storage::<mmr::Family>::get_node(bitmap, *position))?;
-        tell_next(out, start, ',', &node.map(Hex))?;
-    }
-    or_word(out, start, "none")?;
+    tell_each(bitmap, &positions.0, out)?;
     out.push(' ')?;
     let digests = Storage::<mmr::Family>::get_nodes(bitmap, alloc, &positions.0);
     digests.map(Digests).tell(out)
+}
+
+/// Adds the digests at positions, a dash for none.
+fn tell_each<D: Digest, const N: usize>(
+    bitmap: &mut MerkleizedBitMap<D, N>,
+    positions: &[Position<mmr::Family>],
+    out: &mut String,
+) -> Result<(), Fault> {
+    let start = out.len();
+    for position in positions {
+        let node = or_fault(Storage::<mmr::Family>::get_node(bitmap, *position))?;
+        tell_next(out, start, ',', &node.map(Hex))?;
+    }
+    or_word(out, start, "none")
 }

@@ -17,35 +17,45 @@ pub fn bitmaps<H: Hasher, const N: usize>(
     asked: &str,
     out: &mut String,
 ) -> Result<(), Fault> {
-    let bits: List<u64> = parse(alloc, &[asked])?;
+    tell_state(bitmap, out)?;
+    out.push(' ')?;
+    tell_proofs(alloc, hasher, bitmap, asked, out)?;
+    out.push(' ')?;
+    tell_nodes(bitmap, out)
+}
+
+/// Adds how many bits, pruned bits and nodes there are, the last chunk and how many bits that has, the root, and what is kept of
+/// the pruned chunks.
+fn tell_state<D: Digest, const N: usize>(
+    bitmap: &MerkleizedBitMap<D, N>,
+    out: &mut String,
+) -> Result<(), Fault> {
     let lengths = (bitmap.len(), bitmap.pruned_bits(), bitmap.size());
     let (chunk, count) = bitmap.last_chunk();
     let last = (*chunk, count, Hex(bitmap.root()));
     let state = or_fault(bitmap.write_pruned())?;
     let kept = At(state.pruned_chunks, Slashed(&state.pinned));
-    (lengths, last, kept).tell(out)?;
-    out.push(' ')?;
-    tell_proofs(hasher, bitmap, &bits.0, out)?;
-    out.push(' ')?;
-    tell_nodes(bitmap, out)
+    (lengths, last, kept).tell(out)
 }
 
 /// Adds the proofs of bits: each bit with the number of leaves, the digests, and the bit's chunk.
 fn tell_proofs<H: Hasher, const N: usize>(
+    alloc: Global,
     hasher: &Standard<H>,
     bitmap: &MerkleizedBitMap<H::Digest, N>,
-    bits: &[u64],
+    asked: &str,
     out: &mut String,
 ) -> Result<(), Fault> {
+    let bits: List<u64> = parse(alloc, &[asked])?;
     let start = out.len();
-    for bit in bits {
+    for bit in &bits.0 {
         tell_proof(hasher, bitmap, *bit, start, out)?;
     }
     or_word(out, start, "-")
 }
 
-/// Adds a bit, the number of leaves and the digests of its proof, and its chunk, behind a comma where something stands
-/// behind the first `start` bytes.
+/// Adds a bit, the number of leaves and the digests of its proof, and its chunk, or the refusal, behind a comma where
+/// something stands behind the first `start` bytes.
 fn tell_proof<H: Hasher, const N: usize>(
     hasher: &Standard<H>,
     bitmap: &MerkleizedBitMap<H::Digest, N>,
@@ -56,7 +66,11 @@ fn tell_proof<H: Hasher, const N: usize>(
     if bit < bitmap.pruned_bits() {
         return Err(Fault::Malformed);
     }
-    let (proof, chunk) = or_fault(bitmap.proof(hasher, bit))?;
+    let proved = match bitmap.proof(hasher, bit) {
+        Ok(proved) => proved,
+        Err(error) => return tell_next(out, start, ',', &At(bit, error)),
+    };
+    let (proof, chunk) = proved;
     let proof = At(proof.leaves, At(Slashed(&proof.digests), chunk));
     tell_next(out, start, ',', &At(bit, proof))
 }
