@@ -1,7 +1,7 @@
 #!/usr/bin/env python3
 """Takes a copy of a snapshot from three peers, over sockets of this machine: one is honest, and two lie.
 
-    examples/sync.py [OPERATIONS] [--family mmr|mmb] [--chunk BYTES] [--page CHUNKS]
+    examples/sync.py [OPERATIONS] [--family mmr|mmb] [--chunk BYTES] [--page CHUNKS] [--program PATH]
 
 The asker trusts the canonical root and nothing else. It asks the peers in turn for the page that it wants next, and checks each page by
 `verifier/verifier.py`. It keeps the operations and bits of a page that is proved, and nothing of one that is refused: its peer is told by
@@ -10,14 +10,21 @@ written; here a message goes over a socket behind its length, eight bytes, the h
 
 Each liar begins with an honest page. Then the forger sets and clears bits of activity, and the replayer sends its first page again. The
 status is 0 if the copy is whole in the end and the two liars, and no others, were found out.
+
+With --program the asker is `gawerunoa sync ask`, the honest peer `gawerunoa sync serve`, and the liars lie on what another one serves. PATH
+is the program. It asks by named pipes, which are joined to the sockets here.
 """
 import argparse
 import itertools
+import os
+import shutil
 import socket
 import socketserver
+import subprocess
 import sys
 import tempfile
 import threading
+import time
 from contextlib import ExitStack
 from pathlib import Path
 
@@ -167,11 +174,104 @@ def serve(stack, pages, peer, at):
 # ---- together
 
 
+def rows_of(count):
+    """So many operations, their locations in eight bytes, and a digit for each, of which each third is set."""
+    return [it.to_bytes(8, "big") for it in range(count)], "".join("1" if it % 3 == 0 else "0" for it in range(count))
+
+
+def floor_of(count):
+    """The floor of a snapshot of so many operations: the last tenth is past it."""
+    return count * 9 // 10
+
+
 def snapshot_of(family, chunk_size, count):
-    """A snapshot whose operations are their locations in eight bytes, of which each third is active; the last tenth is past its floor."""
-    operations = [it.to_bytes(8, "big") for it in range(count)]
-    bits = "".join("1" if it % 3 == 0 else "0" for it in range(count))
-    return definitions.Snapshot(definitions.Digests("sha256"), family, operations, bits, count * 9 // 10, chunk_size)
+    return definitions.Snapshot(definitions.Digests("sha256"), family, *rows_of(count), floor_of(count), chunk_size)
+
+
+# ---- with the program
+
+
+class Served:
+    """The pages that `gawerunoa sync serve` gives."""
+
+    def __init__(self, command):
+        self.command, self.process = command, None
+
+    def page(self, start, max_ops):
+        if self.process is None:
+            self.process = subprocess.Popen(self.command, stdin=subprocess.PIPE, stdout=subprocess.PIPE)
+        send(self.process.stdin, varint(start) + varint(max_ops))
+        return receive(self.process.stdout, 2**40)
+
+    def close(self):
+        if self.process is not None:
+            self.process.communicate()
+
+
+class Program(socketserver.BaseRequestHandler):
+    """Answers requests by the program, which has the socket as its input and output."""
+
+    def handle(self):
+        subprocess.run(self.server.pages.command, stdin=self.request, stdout=self.request, check=True)
+
+
+def join(room, name, at):
+    """Joins a peer's two named pipes, which are made, to its socket."""
+    pipes = [room / f"{name}.{end}" for end in ("requests", "pages")]
+    for it in pipes:
+        os.mkfifo(it)
+
+    def carry():
+        with connected(at) as there, pipes[0].open("rb", buffering=0) as requests, pipes[1].open("wb", buffering=0) as pages:
+            answers = there.makefile("rb", buffering=0)
+
+            def back():
+                try:
+                    shutil.copyfileobj(answers, pages)
+                except BrokenPipeError:
+                    pass  # the peer is asked no more
+
+            returns = threading.Thread(target=back, daemon=True)
+            returns.start()
+            shutil.copyfileobj(requests, there.makefile("wb", buffering=0))
+            there.shutdown(socket.SHUT_WR)
+            returns.join()
+
+    threading.Thread(target=carry, daemon=True).start()
+    return f"{name}.requests,{name}.pages"
+
+
+def lines_of(count):
+    """The lines of the operations, as the program reads and writes them."""
+    return "".join(f"{bit} {it.hex()}\n" for it, bit in zip(*rows_of(count)))
+
+
+def by_program(given):
+    """Takes a copy by the program, and returns the root, how many pages of each peer were taken, whose were refused, and whether it is whole."""
+    words = ["--family", given.family, "--chunk", str(given.chunk)]
+    floor, program = ["--floor", str(floor_of(given.operations))], str(given.program.resolve())
+    with ExitStack() as stack:
+        room = Path(stack.enter_context(tempfile.TemporaryDirectory()))
+        text = lines_of(given.operations)
+        (room / "operations").write_text(text)
+        run = lambda *words: subprocess.run([program, *words], cwd=room, stdout=subprocess.PIPE, text=True, check=True).stdout
+        root = run("root", *words, *floor, "operations").split()[1]
+        peers = []
+        for name, kind in KINDS.items():
+            pages = Served([program, "sync", "serve", *words, *floor, str(room / "operations")])
+            stack.callback(pages.close)
+            peers += ["--peer", join(room, name, serve(stack, pages, Program if kind is Peer else kind, room / name))]
+        began = time.monotonic()
+        told = run("sync", "ask", *words, *floor, "--root", root, "--max-operations", str(8 * given.chunk * given.page), *peers, "copy")
+        print(f"the program took {time.monotonic() - began:.1f} seconds")
+        is_whole = (room / "copy").read_text() == text and run("root", *words, *floor, "copy") == f"root: {root}\n"
+    lines = [it.replace(".pages", "").split(": ") for it in told.splitlines()]
+    pages = {it[1]: int(it[2].split()[0]) for it in lines if it[0] == "peer"}
+    refused = {it[1]: int(it[2].split()[1]) - 1 for it in lines if it[0] == "refused"}
+    return root, {**pages, **refused}, [*refused], is_whole
+
+
+KINDS = {"honest": Peer, "forger": Forger, "replayer": Replayer}
 
 
 def options():
@@ -180,16 +280,16 @@ def options():
     parser.add_argument("--family", choices=["mmr", "mmb"], default="mmb")
     parser.add_argument("--chunk", type=int, default=32, metavar="BYTES", help="of a chunk: a power of two")
     parser.add_argument("--page", type=int, default=1, metavar="CHUNKS", help="of a page, at most")
+    parser.add_argument("--program", type=Path, metavar="PATH", help="the program gawerunoa, which asks and serves")
     return parser.parse_args()
 
 
-def main():
-    """Take a copy from the peers, and say what became of it."""
-    given = options()
+def by_python(given):
+    """The same, by what stands here."""
     family = definitions.family_of(given.family)
     snapshot = snapshot_of(family, given.chunk, given.operations)
     asker = Asker(Database(given.family, "sha256", given.chunk, *3 * [None]), snapshot.root, 8 * given.chunk * given.page)
-    pages = dict.fromkeys(["honest", "forger", "replayer"], 0)
+    pages = dict.fromkeys(KINDS, 0)
 
     def told(name, taken):
         pages[name] += taken
@@ -199,18 +299,25 @@ def main():
 
     with ExitStack() as stack:
         room = Path(stack.enter_context(tempfile.TemporaryDirectory()))
-        kinds = zip(pages, (Peer, Forger, Replayer))
-        refused = ask(asker, {name: serve(stack, Pages(snapshot), kind, room / name) for name, kind in kinds}, told)
+        served = {name: serve(stack, Pages(snapshot), kind, room / name) for name, kind in KINDS.items()}
+        refused = ask(asker, served, told)
     if sys.stderr.isatty():
         print(file=sys.stderr)
 
     bits = "".join(map(str, asker.bits))
-    whole = asker.next() is None and asker.operations == snapshot.operations
-    whole = whole and definitions.Snapshot(snapshot.digests, family, asker.operations, bits, snapshot.floor, given.chunk).root == asker.root
+    is_whole = asker.next() is None and asker.operations == snapshot.operations
+    again = definitions.Snapshot(snapshot.digests, family, asker.operations, bits, snapshot.floor, given.chunk)
+    return asker.root.hex(), pages, refused, is_whole and again.root == asker.root
+
+
+def main():
+    """Take a copy from the peers, and say what became of it."""
+    given = options()
+    root, pages, refused, is_whole = (by_program if given.program else by_python)(given)
     for name, count in pages.items():
         print(f"{name}: {count} pages taken{', then one refused' if name in refused else ''}")
-    print(f"the copy is {'whole' if whole else 'not whole'}: {len(asker.operations)} operations, root {asker.root.hex()}")
-    return int(not whole or sorted(refused) != ["forger", "replayer"])
+    print(f"the copy is {'whole' if is_whole else 'not whole'}: {given.operations} operations, root {root}")
+    return int(not is_whole or sorted(refused) != ["forger", "replayer"])
 
 
 if __name__ == "__main__":

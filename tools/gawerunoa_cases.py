@@ -4,7 +4,7 @@
     tools/gawerunoa_cases.py [PROGRAM]
 
 PROGRAM is crates/gawerunoa/out/gawerunoa, which `rt ci` leaves, if none is named. Where that is not there, the program is compiled with
-run-time checks and no proof, which takes a minute and wants gcc.
+run-time checks and no proof, which takes some minutes and wants gcc.
 
 crates/gawerunoa/cases.json has what is typed and what is said: the words behind the program's name as a shell takes them, standard input,
 files with their texts, the exit status, and the text on standard output for a status of 0 or 1, else on standard error. Of what is said of
@@ -14,12 +14,14 @@ shell's redirection of the run. A byte above 127 in a text stands for itself.
 Then roots and proofs of snapshots of both families and both digest functions, over each size of a chunk, are computed from the definitions
 by tools/definitions.py. The program must print the same, say yes to the proofs of active operations and of ranges, and no to those of others,
 to a proof with a byte changed, to another root and to another location. So it is with the values and the absences of databases of each kind of
-keys and each encoding of values, where every answer is the definitions'. Proofs are taken apart, lines have ten megabytes, and pipes are closed.
+keys and each encoding of values, where every answer is the definitions'. Proofs are taken apart, the strings that their checks hash are
+hashed (tools/path_cases.py), copies are taken from peers (tools/copy_cases.py), lines have ten megabytes, and pipes are closed.
 Then all these checks are the lines of one file, and crates/gawerunoa/gawerunoa.1 must be the page that tools/manual.py makes of the help.
 
 The last line is 'N runs, M of them wrong'; the status is 1 where M is not 0.
 """
 import json
+import os
 import pathlib
 import random
 import shlex
@@ -29,10 +31,11 @@ import tempfile
 
 import definitions
 import manual
-from c_library import called
+import unproved
+from copy_cases import copies
 from key_questions import KINDS, Database, question
+from path_cases import path
 from tries import Try
-from unproved import SECTIONS, X86
 
 ROOT = pathlib.Path(__file__).resolve().parent.parent
 CRATE = "gawerunoa"
@@ -42,15 +45,6 @@ SECONDS = 60
 # Behind these the usage stands, which is the same for all mistakes of a subcommand.
 USAGE = ("\n\nUsage: ", "\n\nFor more information, try ")
 SIZES = [2**it for it in range(13)]
-
-
-def unproved(work):
-    """The program with run-time checks, in a folder."""
-    tool, path = Try(), work / CRATE
-    clang, module = tool.kit / "toolchain/bin/clang", tool.module_of(CRATE, work / "made")
-    called(clang, *X86, *SECTIONS, "-O1", "-c", "-x", "ir", module, "-o", work / "program.o")
-    called("gcc", "-pie", work / "program.o", tool.kit / "c/libos_c.a", tool.kit / "c/liblibc_c.a", "-o", path)
-    return path
 
 
 # the options whose members are numbers, and those whose members are arrays
@@ -139,6 +133,7 @@ def shown(program, name, snapshot, bits, at):
     answer = (0, f"root: {root}\nproof: {proof}\n", "")
     asked = ["prove", *words, "--floor", floor, "--at", str(at), "operations.txt"]
     program.see(f"prove {words}", program.ended(asked, "", {"operations.txt": text}), answer)
+    path(program, snapshot, "operation", snapshot.operation_proof(at), snapshot.operations[at])
     operation, active = snapshot.operations[at].hex(), bits[at] == "1"
 
     def check(what, yes, root=root, at=at, operation=operation, proof=proof):
@@ -286,11 +281,14 @@ def fields(program, hashes, seed=11):
             value, update = held.value_proof(key), held.absence_proof(b"")
             taken(program, snapshot, "operation", shown, snapshot.operation_proof(location))
             taken(program, snapshot, "range", shown[2:], snapshot.range_part(location, location + 1))
-            taken(program, snapshot, "value", [*shown, ("next key", held.key(held.own[key][1]))], value)
+            after = held.key(held.own[key][1])
+            taken(program, snapshot, "value", [*shown, ("next key", after)], value)
+            path(program, snapshot, "value", value, snapshot.operations[location], after)
             last = max(held.own)
             shown = [*start, *fields_of(snapshot, held.place[last])]
             rest = update[sum(len(it) for _, it in shown) :]
             taken(program, snapshot, "absence", [*shown, ("update or value", rest)], update)
+            path(program, snapshot, "absence", update, snapshot.operations[held.place[last]], rest)
 
 
 def fields_of(snapshot, location):
@@ -311,7 +309,7 @@ def fields_of(snapshot, location):
 def taken(program, snapshot, shows, right, proof):
     words = ["--family", snapshot.family.name, "--hash", snapshot.digests.name, "--chunk", str(snapshot.size), "--shows", shows]
     status, output, errors = program.ended(["inspect", *words, "--json", "-"], proof.hex())
-    told = [json.loads(it) for it in output.splitlines()]
+    told = [fields for it in output.splitlines() if "field" in (fields := json.loads(it))]
     offsets = [sum(len(it) for _, it in right[:place]) for place in range(len(right))]
     right = [{"offset": at, "bytes": it.hex(), "field": name} for at, (name, it) in zip(offsets, right)]
     program.see(f"inspect {words}", (status, [{name: it[name] for name in right[0]} for it in told], errors), (0, right, ""))
@@ -336,21 +334,27 @@ def hardships(program):
     ending = program.ended(["inspect", *words, "-"], "00" * ten)
     program.see("a long proof", (ending[0], ending[1]), (3, ""))
     for asked, given in (["root", *words, "--floor", "0", "-"], text), (["check", "--batch", "-"], "{}\n" * 9), (["--help"], ""):
-        run = subprocess.Popen([program.path, *asked], stdin=subprocess.PIPE, stdout=subprocess.PIPE, stderr=subprocess.PIPE)
-        run.stdout.close()
-        _, errors = run.communicate(given.encode(), timeout=SECONDS)
-        program.see(f"{asked[0]} into a closed pipe", (run.returncode, errors), (3, b"error: standard output: Broken pipe (os error 32)\n"))
+        # nobody reads before the program begins: a short text would else be written in time
+        reader, writer = os.pipe()
+        os.close(reader)
+        with open(writer, "wb") as output:
+            run = subprocess.run([program.path, *asked], input=given.encode(), stdout=output, stderr=subprocess.PIPE, timeout=SECONDS)
+        program.see(f"{asked[0]} into a closed pipe", (run.returncode, run.stderr), (3, b"error: standard output: Broken pipe (os error 32)\n"))
 
 
 def main():
     with tempfile.TemporaryDirectory() as work:
         path = pathlib.Path(sys.argv[1] if sys.argv[1:] else ROOT / f"crates/{CRATE}/out/{CRATE}").resolve()
-        program = Program(path if sys.argv[1:] or path.is_file() else unproved(pathlib.Path(work)))
+        if not sys.argv[1:] and not path.is_file():
+            path = pathlib.Path(work, CRATE)
+            unproved.program(Try(), CRATE, pathlib.Path(work, "made"), path)
+        program = Program(path)
         for case in json.loads(CASES.read_text()):
             typed(program, case)
         snapshots(program, ["sha256", "sha512"])
         databases(program, ["sha256", "sha512"])
         fields(program, ["sha256", "sha512"])
+        copies(program, ["sha256", "sha512"], [1, 32])
         hardships(program)
         batches(program)
         program.see("the page of the manual", manual.page(program.path), PAGE.read_text())

@@ -151,8 +151,8 @@ def is_want_of_question(ending):
 
 
 def questions(shim, tree):
-    """Proofs and checks of `gawerunoa`, over both families and two chunk sizes, which its cases compare with the definitions, and its help; and
-    checks of keys over each kind of a database."""
+    """Proofs, checks and copies of `gawerunoa`, over both families and two chunk sizes, which its cases compare with the definitions, and its
+    help; and checks of keys over each kind of a database."""
     program = built(tree, "gawerunoa")
     asked = [(["--help"], "")]
     for family, size in itertools.product(("mmr", "mmb"), ("1", "32")):
@@ -163,10 +163,24 @@ def questions(shim, tree):
         asked += [(words, OPERATIONS), (check, f"{shown['proof']}\n"), ([*check, "--floor"], "")]
         line = {"check": "operation", "family": family, "chunk": int(size), "at": 7, "operation": "ab" * 8, **shown}
         asked += [(["check", "--batch", "-"], json.dumps(line)), (["check", "--batch", "-", "--json"], json.dumps(line | {"hash": "sha1"}))]
+        asked += copied(program, shim.parent, shape, shown["root"])
+        asked += [(["inspect", *shape, "--svg", os.devnull, "-"], shown["proof"])]
     asked += key_questions()
     for words, given in asked:
         right = ended(shim, [program, *words], given)[:3]
         yield Case(" ".join(words), [program, *words], given, right, is_want_of_question)
+
+
+def copied(program, room, shape, root):
+    """The words and the input of who serves a page, and of who asks two peers, of which one sends none."""
+    operations, pages = room / "operations", room / f"{'-'.join(shape[1::2])}.pages"
+    operations.write_text(OPERATIONS)
+    words, request = ["sync", "serve", *shape, "--floor", "0", str(operations)], "\0" * 7 + "\2\0\x7f"
+    pages.write_bytes(subprocess.run([program, *words], input=request.encode(), capture_output=True, check=True).stdout)
+    yield words, request
+    peers = ["--peer", f"{os.devnull},{os.devnull}", "--peer", f"{os.devnull},{pages}"]
+    for copy in ("-", os.devnull):
+        yield ["sync", "ask", *shape, "--root", root, "--floor", "0", *peers, copy], ""
 
 
 def key_questions():

@@ -6,15 +6,16 @@ use crate::answer::{Answer, checked, print};
 use crate::fault::Fault;
 use crate::given::Words;
 use crate::lines::{READ_AT_ONCE, advance};
+use crate::mistake::{Mistake, NO_OBJECT};
 use crate::request::{Check, Format};
 use crate::source::Source;
 use serde_json::Value;
-use std::alloc::Global;
+use std::alloc::{AllocError, Global};
 use std::io::{BufReader, Read, Write};
 use std::rt::Files;
 
 /// The names that members may have.
-static NAMES: [&str; 20] = [
+static NAMES: [&str; 21] = [
     "check",
     "family",
     "hash",
@@ -35,6 +36,7 @@ static NAMES: [&str; 20] = [
     "max-value-length",
     "key",
     "value",
+    "proof",
 ];
 
 /// Answers the questions on the lines of `input`, which is `source`: a line is an object with the words of a check. Writes
@@ -78,32 +80,40 @@ fn answer_to_line<R: Files>(
     number: u64,
     line: &[u8],
     format: Format,
-) -> Result<Answer, Fault<'static>> {
+) -> Result<Answer, AllocError> {
     let value = match Value::from_slice(alloc, line) {
         Ok(value) => value,
-        Err(error) if error.is_memory() => return Err(Fault::Memory),
+        Err(error) if error.is_memory() => return Err(AllocError),
         Err(error) => return at_fault(alloc, source, number, &Fault::Json(error), format),
     };
-    let nothing: &[u8] = &[];
-    match check_of(&value) {
-        Ok(check) => match checked(alloc, files, &check, format, nothing) {
-            Ok(answer) => Ok(answer),
-            Err(Fault::Memory) => Err(Fault::Memory),
-            Err(fault) => at_fault(alloc, source, number, &fault, format),
-        },
+    match answer_to(alloc, files, &value, format) {
+        Ok(answer) => Ok(answer),
+        Err(Fault::Memory) => Err(AllocError),
         Err(fault) => at_fault(alloc, source, number, &fault, format),
     }
 }
 
+/// Returns the answer to the question that an object of JSON asks.
+fn answer_to<'a, R: Files>(
+    alloc: Global,
+    files: &R,
+    value: &'a Value,
+    format: Format,
+) -> Result<Answer, Fault<'a>> {
+    let nothing: &[u8] = &[];
+    let check = check_of(value)?;
+    checked(alloc, files, &check, format, nothing)
+}
+
 /// Returns the check that an object of JSON asks for.
-fn check_of<'a>(value: &'a Value) -> Result<Check<'a>, Fault<'a>> {
+fn check_of<'a>(value: &'a Value) -> Result<Check<'a>, Mistake<'a>> {
     let Some(members) = value.as_object() else {
-        return Err(Fault::Object);
+        return Err(Mistake::Other(NO_OBJECT));
     };
     for (name, _) in members {
         let name = name.as_str();
-        if name != "proof" && !NAMES.as_slice().contains(&name) {
-            return Err(Fault::Unknown(name));
+        if !NAMES.as_slice().contains(&name) {
+            return Err(Mistake::Unknown(name));
         }
     }
     let words = Words::Members(value);
@@ -117,7 +127,7 @@ fn at_fault(
     number: u64,
     fault: &Fault<'_>,
     format: Format,
-) -> Result<Answer, Fault<'static>> {
+) -> Result<Answer, AllocError> {
     let says = format!(in alloc; "{source}: line {number}: {fault}")?;
     let text = match format {
         Format::Text => format!(in alloc; "error: {says}\n")?,

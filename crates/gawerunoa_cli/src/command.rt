@@ -1,6 +1,9 @@
 //! The command line: its subcommands and options, and what `--help` says of them.
 
+mod copies;
+
 use clap::{Arg, ArgAction, Command};
+use copies::sync;
 use std::alloc::{AllocError, Global};
 
 /// A subcommand.
@@ -42,6 +45,8 @@ enum Form {
     UsualAmong(&'static str, &'static [&'static str]),
     /// A value, which may be left out.
     Free,
+    /// A value, which may be left out, and may be given again.
+    Many,
     /// Nothing.
     Flag,
     /// The value stands without a name.
@@ -223,6 +228,13 @@ const SHOWS: Parameter = Parameter {
     form: Form::UsualAmong("operation", &["operation", "range", "value", "absence"]),
 };
 
+const SVG: Parameter = Parameter {
+    name: "svg",
+    value: "OUT",
+    help: "Draws the path from what is claimed up to the root into a file",
+    form: Form::Free,
+};
+
 const PROOF_FILE: Parameter = Parameter {
     name: "file",
     value: "FILE",
@@ -251,11 +263,15 @@ Example:
   printf '1 ab\\n' | gawerunoa prove --family mmr --chunk 1 --floor 0 --at 0 -";
 
 const INSPECT_EXAMPLE: &str = "\
-Each line is a field of the proof: its offset, its bytes, its name and what it means, with tabs between them.
+A line is a field of the proof: its offset, its bytes, its name and what it means, with tabs between them.
 With --json the members are `offset`, `bytes`, `field` and `meaning`. Nothing is checked but the bytes' form.
 
+Then come the strings that the check hashes, which a range proof does not tell: the number of each, its parts,
+and what its digest is; be8 is a number in eight bytes, the highest first. With --json the members are
+`string`, `hashed` and `gives`. Where the proof's numbers do not fit together there are none, and the check says no.
+
 Example:
-  gawerunoa inspect --family mmr --chunk 1 proof.hex";
+  gawerunoa inspect --family mmr --chunk 1 --svg path.svg proof.hex";
 
 const CHECK_EXAMPLE: &str = "\
 A line for --batch is an object whose members are named as the options, with `check` for the claim; numbers
@@ -321,7 +337,7 @@ const INSPECT_COMMAND: Subcommand = Subcommand {
     name: "inspect",
     about: "Takes a proof apart, field by field",
     example: INSPECT_EXAMPLE,
-    parameters: &[FAMILY, HASH, CHUNK, SHOWS, JSON, PROOF_FILE],
+    parameters: &[FAMILY, HASH, CHUNK, SHOWS, SVG, JSON, PROOF_FILE],
 };
 
 const CHECK_COMMAND: Subcommand = Subcommand {
@@ -377,52 +393,57 @@ const ABSENCE_CHECK: Subcommand = Subcommand {
 
 /// Returns the whole command line.
 pub(crate) fn command<'a>(alloc: Global) -> Result<Command<'a>, AllocError> {
-    let command = Command::new(alloc, "gawerunoa")
+    let mut commands = all(alloc, &[ROOT_COMMAND, PROVE_COMMAND, INSPECT_COMMAND])?;
+    commands.push(check(alloc)?)?;
+    commands.push(sync(alloc)?)?;
+    program(alloc).subcommands(commands)
+}
+
+/// Returns the command line with no subcommand yet.
+fn program<'a>(alloc: Global) -> Command<'a> {
+    Command::new(alloc, "gawerunoa")
         .version("0.1.0")
         .about(ABOUT)
         .after_help(STATUS)
-        .subcommand_required(true);
-    with_all(
-        alloc,
-        command,
-        &[ROOT_COMMAND, PROVE_COMMAND, INSPECT_COMMAND],
-    )?
-    .subcommand(check(alloc)?)
+        .subcommand_required(true)
 }
 
 /// Returns the subcommand `check`.
 fn check<'a>(alloc: Global) -> Result<Command<'a>, AllocError> {
-    let command = with_parameters(alloc, &CHECK_COMMAND)?.args_conflicts_with_subcommands(true);
-    with_all(
+    let commands = all(
         alloc,
-        command,
         &[OPERATION_CHECK, RANGE_CHECK, VALUE_CHECK, ABSENCE_CHECK],
-    )
+    )?;
+    with_parameters(alloc, &CHECK_COMMAND)?
+        .args_conflicts_with_subcommands(true)
+        .subcommands(commands)
 }
 
-/// Returns `command` with these subcommands.
-fn with_all<'a>(
-    alloc: Global,
-    command: Command<'a>,
-    subcommands: &[Subcommand],
-) -> Result<Command<'a>, AllocError> {
+/// Returns these subcommands.
+fn all<'a>(alloc: Global, subcommands: &[Subcommand]) -> Result<Vec<Command<'a>>, AllocError> {
     let mut commands = Vec::new(alloc);
     for it in subcommands {
         commands.push(with_parameters(alloc, it)?)?;
     }
-    command.subcommands(commands)
+    Ok(commands)
 }
 
 /// Returns a subcommand, as the kit's `clap` takes it.
 fn with_parameters<'a>(alloc: Global, it: &Subcommand) -> Result<Command<'a>, AllocError> {
-    let mut arguments = Vec::new(alloc);
-    for parameter in it.parameters {
-        arguments.push(argument(alloc, parameter))?;
-    }
+    let arguments = arguments(alloc, it.parameters)?;
     Command::new(alloc, it.name)
         .about(it.about)
         .after_help(it.example)
         .args(arguments)
+}
+
+/// Returns options, as the kit's `clap` takes them.
+fn arguments<'a>(alloc: Global, options: &[Parameter]) -> Result<Vec<Arg<'a>>, AllocError> {
+    let mut arguments = Vec::new(alloc);
+    for option in options {
+        arguments.push(argument(alloc, option))?;
+    }
+    Ok(arguments)
 }
 
 /// Returns an option, as the kit's `clap` takes it.
@@ -441,6 +462,7 @@ fn argument<'a>(alloc: Global, option: &Parameter) -> Arg<'a> {
         Form::Among(values) => arg.required(true).value_parser(values),
         Form::UsualAmong(value, values) => arg.default_value(value).value_parser(values),
         Form::Free => arg,
+        Form::Many => arg.action(ArgAction::Append),
         _ => arg.required(true),
     }
 }

@@ -1,8 +1,9 @@
 //! What is given in hexadecimal, read where it is.
 
 use crate::claim::Claim;
-use crate::fault::Fault;
+use crate::fault::{Fault, Misfit};
 use crate::mark::Mark;
+use crate::mistake::Mistake;
 use crate::request::Claimed;
 use crate::source::{Given, Listed, Source};
 use crate::strings::{Strings, read_strings};
@@ -55,10 +56,7 @@ pub(crate) fn bytes_given<'a, R: Files, I: Read>(
         Given::Digits(word) => match hex::decode(alloc, word) {
             Ok(bytes) => Ok(bytes),
             Err(hex::FromHexError::OutOfMemory) => Err(Fault::Memory),
-            Err(_) => Err(Fault::Digits {
-                option,
-                mark: Mark::of_digits(word.as_bytes(), 1),
-            }),
+            Err(_) => Err(not_digits(option, word)),
         },
         Given::In(source) => match source {
             Source::Standard => bytes_in(alloc, source, input),
@@ -99,16 +97,13 @@ fn strings_of<'a>(
     let mut string = Vec::new(alloc);
     for item in list {
         let Some(digits) = item.as_str() else {
-            return Err(Fault::Member {
+            return Err(Fault::Question(Mistake::Member {
                 name,
                 expected: "an array of strings",
-            });
+            }));
         };
         if !strings.add(digits.as_bytes(), &mut string)? {
-            return Err(Fault::Digits {
-                option: name,
-                mark: Mark::of_digits(digits.as_bytes(), 1),
-            });
+            return Err(not_digits(name, digits));
         }
     }
     Ok(strings)
@@ -131,10 +126,20 @@ fn bytes_in<'a, I: Read>(
     match hex::decode(alloc, digits) {
         Ok(bytes) => Ok(bytes),
         Err(hex::FromHexError::OutOfMemory) => Err(Fault::Memory),
-        Err(_) => Err(Fault::Line {
+        Err(_) => Err(Fault::Misfit(
             source,
-            number: 1,
-            mark: Mark::of_digits(digits, 1),
-        }),
+            Misfit::Line {
+                number: 1,
+                mark: Mark::of_digits(digits, 1),
+            },
+        )),
     }
+}
+
+/// Returns the fault where `word`, of `option`, is not hexadecimal.
+fn not_digits(option: &'static str, word: &str) -> Fault<'static> {
+    Fault::Question(Mistake::Digits {
+        option,
+        mark: Mark::of_digits(word.as_bytes(), 1),
+    })
 }

@@ -1,168 +1,136 @@
-//! A proof taken apart: which of its bytes are which field, and what that means.
+//! A proof taken apart: which of its bytes are which field, and which strings its check hashes.
 
-use crate::agreed::{Agreed, Family};
-use crate::fault::Fault;
+mod fields;
+pub(crate) mod path;
+mod sites;
+mod strings;
+mod tree;
+
+use crate::answer::Answer;
+use crate::fault::{Fault, Misfit};
+use crate::hexadecimal::bytes_given;
+use crate::inspect::fields::{Cut, Fields, Parts};
+use crate::inspect::path::{NoPath, Path, Piece, path_of};
+use crate::inspect::strings::{add_none, add_strings};
 use crate::request::{Format, Inspection, Shows};
-use crate::source::Source;
-use commonware_storage::codec::{Read, UInt};
-use std::alloc::Global;
+use crate::source::{Given, Source};
+use crate::svg::{Beginning, drawn};
+use std::alloc::{AllocError, Global};
+use std::fs;
+use std::io::{self, Read, Write};
+use std::rt::Files;
 
-/// A proof that is being taken apart.
-#[derive(Drop)]
-struct Parts<'a, 'p> {
-    /// What takes memory.
+/// Takes the proof of `inspection` apart, and draws its path where a file for that is named.
+pub(crate) fn inspected<'a, R: Files, I: Read>(
     alloc: Global,
-    /// Where the proof is.
-    source: Source<'a>,
-    /// What is agreed of the snapshot.
-    agreed: Agreed,
-    /// How a field is written.
+    files: &R,
+    inspection: &Inspection<'a>,
     format: Format,
-    /// How many bytes were taken.
-    offset: usize,
-    /// The bytes that are left.
-    left: &'p [u8],
-    /// A line for each field that was taken.
-    text: String,
+    input: &mut I,
+) -> Result<Answer, Fault<'a>> {
+    let given = Given::In(inspection.proof);
+    let proof = bytes_given(alloc, files, "file", given, input)?;
+    let (mut text, fields) = taken_apart(alloc, inspection, format, &proof)?;
+    if !matches!(inspection.shows, Shows::Range) {
+        add_path(alloc, files, inspection, format, &fields, &mut text)?;
+    }
+    Ok(Answer { text, status: 0 })
 }
 
-/// Returns a line for each field of `proof`, which shows `shows`: its offset, its bytes, its name and what it means.
-pub(crate) fn taken_apart<'a>(
+/// Returns a line for each field of `proof`, and the fields.
+fn taken_apart<'a, 'p>(
     alloc: Global,
     inspection: &Inspection<'a>,
     format: Format,
-    proof: &[u8],
-) -> Result<String, Fault<'a>> {
-    let (agreed, shows) = (inspection.agreed, inspection.shows);
-    let mut parts = Parts {
-        alloc,
-        source: inspection.proof,
-        agreed,
-        format,
-        offset: 0,
-        left: proof,
-        text: String::new(alloc),
-    };
-    if let Shows::Absence = shows {
-        parts.take(
-            1,
-            "tag",
-            "00: an update whose span has the key; 01: a commit at its own floor",
-        )?;
-    }
-    match shows {
-        Shows::Range => {}
-        _ => {
-            parts.number("location", "the operation's, counted from 0")?;
-            parts.take(
-                agreed.chunk,
-                "chunk",
-                "the activity bits around the location",
-            )?;
-        }
-    }
-    parts.range_proof()?;
-    match shows {
-        Shows::Value => parts.rest("next key", "as keys are written")?,
-        Shows::Absence => parts.rest(
-            "update or value",
-            "key, value and next key, or the commit's value",
-        )?,
-        _ => {}
-    }
-    if parts.left.is_empty() {
-        Ok(parts.text)
-    } else {
-        Err(parts.fault("the end", "the end of the proof"))
+    proof: &'p [u8],
+) -> Result<(String, Fields<'p>), Fault<'a>> {
+    let mut parts = Parts::new(alloc, inspection.agreed, format, proof);
+    match parts.fields(inspection.shows) {
+        Ok(fields) => Ok((parts.text, fields)),
+        Err(Cut::Field(name, expected)) => Err(Fault::Misfit(
+            inspection.proof,
+            Misfit::Field {
+                offset: parts.offset,
+                name,
+                expected,
+            },
+        )),
+        Err(Cut::Memory) => Err(Fault::Memory),
     }
 }
 
-impl<'a> Parts<'a, '_> {
-    /// Takes the fields of a range proof over chunks.
-    fn range_proof(&mut self) -> Result<(), Fault<'a>> {
-        self.number("leaves", "operations under the root")?;
-        self.number("inactive peaks", "peaks that lie wholly before the floor")?;
-        let alloc = self.alloc;
-        let count = self.number("number of digests", "digests that follow")?;
-        for number in 0..count {
-            let meaning = format!(in alloc; "number {} of {count}", number + 1)?;
-            self.digest("digest", meaning.as_str())?;
+/// Adds the strings that the check of a proof with these fields hashes, and draws its path where a file for that is named.
+fn add_path<'a, R: Files>(
+    alloc: Global,
+    files: &R,
+    inspection: &Inspection<'a>,
+    format: Format,
+    fields: &Fields<'_>,
+    text: &mut String,
+) -> Result<(), Fault<'a>> {
+    match path_of(alloc, inspection.agreed, fields) {
+        Ok(path) => {
+            add_strings(alloc, format, &path, text)?;
+            draw(alloc, files, inspection, &path, fields)
         }
-        if let Family::Mmb = self.agreed.family {
-            self.slot(
-                "pending chunk",
-                "of the chunk that is complete, and over which no node stands yet",
-            )?;
+        Err(NoPath::Unfit(why)) if inspection.svg.is_some() => {
+            Err(Fault::Misfit(inspection.proof, Misfit::NoPath(why)))
         }
-        self.slot("partial chunk", "of the chunk that is not complete")?;
-        self.digest("operations root", "of the tree over the operations alone")
+        Err(NoPath::Unfit(why)) => Ok(add_none(alloc, format, why, text)?),
+        Err(NoPath::Memory) => Err(Fault::Memory),
     }
+}
 
-    /// Takes a digest that may be absent.
-    fn slot(&mut self, name: &'static str, meaning: &str) -> Result<(), Fault<'a>> {
-        match self.left.first() {
-            Some(0) => self.take(1, name, "there is none"),
-            Some(1) => {
-                self.take(1, name, "there is one")?;
-                self.digest(name, meaning)
-            }
-            _ => Err(self.fault(name, "00 or 01")),
-        }
+/// Draws `path`, of a proof with these fields, where a file for that is named.
+fn draw<'a, R: Files>(
+    alloc: Global,
+    files: &R,
+    inspection: &Inspection<'a>,
+    path: &Path,
+    fields: &Fields<'_>,
+) -> Result<(), Fault<'a>> {
+    let Some(name) = inspection.svg else {
+        return Ok(());
+    };
+    let picture = picture_of(alloc, inspection.shows, path, fields)?;
+    match write_file(files, name, picture.as_str()) {
+        Ok(()) => Ok(()),
+        Err(error) => Err(Fault::unread(Source::File(name), error)),
     }
+}
 
-    /// Takes a digest.
-    fn digest(&mut self, name: &'static str, meaning: &str) -> Result<(), Fault<'a>> {
-        self.take(self.agreed.function.digits() / 2, name, meaning)
-    }
+/// Makes the file `name` anew, with `text`.
+fn write_file<R: Files>(files: &R, name: &str, text: &str) -> io::Result<()> {
+    let mut file = fs::create(files, name)?;
+    file.write_all(text.as_bytes())
+}
 
-    /// Takes a number, and answers it.
-    fn number(&mut self, name: &'static str, meaning: &str) -> Result<u64, Fault<'a>> {
-        let alloc = self.alloc;
-        let mut rest = self.left;
-        match UInt::read_cfg(alloc, &mut rest, &()) {
-            Ok(UInt(number)) => {
-                let count = self.left.len().saturating_sub(rest.len());
-                let meaning = format!(in alloc; "{number}: {meaning}")?;
-                self.take(count, name, meaning.as_str())?;
-                Ok(number)
-            }
-            Err(_) => Err(self.fault(name, "a number in the fewest groups of seven bits")),
-        }
-    }
+/// Returns the picture of `path`, of a proof with these fields that shows `shows`.
+fn picture_of(
+    alloc: Global,
+    shows: Shows,
+    path: &Path,
+    fields: &Fields<'_>,
+) -> Result<String, AllocError> {
+    let beginning = beginning_of(alloc, shows, fields)?;
+    drawn(alloc, path, &beginning)
+}
 
-    /// Takes all that is left.
-    fn rest(&mut self, name: &'static str, meaning: &str) -> Result<(), Fault<'a>> {
-        self.take(self.left.len(), name, meaning)
+/// Returns where the path of a proof with these fields begins, which shows `shows`.
+fn beginning_of(alloc: Global, shows: Shows, fields: &Fields<'_>) -> Result<Beginning, AllocError> {
+    let (claimed, name) = match (shows, fields.tag) {
+        (Shows::Value, _) => ("key and value", "next key"),
+        (Shows::Absence, 0) => ("key", "update that spans the key"),
+        (Shows::Absence, _) => ("key", "commit at its own floor"),
+        _ => return Ok(Beginning::of("operation")),
+    };
+    let name = String::from_str(alloc, name)?;
+    let piece = Piece::new(alloc, String::new(alloc), name, fields.behind)?;
+    let mut beginning = Beginning::of(claimed);
+    if let Shows::Value = shows {
+        beginning.beside = Some(piece);
+    } else {
+        beginning.between = Some(piece);
     }
-
-    /// Takes `count` bytes as the field `name`, and writes its line.
-    fn take(&mut self, count: usize, name: &'static str, meaning: &str) -> Result<(), Fault<'a>> {
-        if count > self.left.len() {
-            return Err(self.fault(name, "more bytes"));
-        }
-        let (bytes, left) = self.left.split_at(count);
-        let alloc = self.alloc;
-        let digits = hex::encode(alloc, bytes)?;
-        let offset = self.offset;
-        let line = match self.format {
-            Format::Text => format!(in alloc; "{offset}\t{digits}\t{name}\t{meaning}\n")?,
-            Format::Json => format!(in alloc;
-                "{{\"offset\":{offset},\"bytes\":\"{digits}\",\"field\":\"{name}\",\"meaning\":\"{meaning}\"}}\n"
-            )?,
-        };
-        self.text.push_str(line.as_str())?;
-        self.offset = offset.saturating_add(count);
-        self.left = left;
-        Ok(())
-    }
-
-    /// Returns the fault where something else was expected as the field `name`.
-    fn fault(&self, name: &'static str, expected: &'static str) -> Fault<'a> {
-        Fault::Field {
-            source: self.source,
-            offset: self.offset,
-            name,
-            expected,
-        }
-    }
+    Ok(beginning)
 }

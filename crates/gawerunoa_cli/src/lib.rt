@@ -16,20 +16,24 @@ mod hexadecimal;
 mod inspect;
 pub mod lines;
 pub mod mark;
+pub mod mistake;
 pub mod operations;
+mod over;
 pub mod request;
 pub mod shown;
 pub mod source;
 pub mod strings;
+mod svg;
+pub mod sync;
 pub mod words;
 
-use answer::{checked, print, shown};
+use answer::{checked, print};
 use batch::answer_lines;
 use fault::Fault;
-use hexadecimal::bytes_given;
-use inspect::taken_apart;
+use inspect::inspected;
+use over::{copied_over, shown_over};
 use request::{Asked, Format, Request};
-use source::{Given, Source};
+use source::Source;
 use std::alloc::Global;
 use std::fs;
 use std::io::{Read, Write};
@@ -60,34 +64,53 @@ fn answered<'a, R: Files, I: Read + Drop, O: Write>(
     alloc: Global,
     files: &R,
     words: &'a [String],
+    input: I,
+    output: &mut O,
+) -> Result<u8, Fault<'a>>
+    ensures { IfOk result (λ status. status ≤ 3) }
+{
+    match Request::parse(alloc, words) {
+        Ok(request) => carried_out(alloc, files, &request, input, output),
+        Err(Fault::Words(error)) => helped(alloc, error, output),
+        Err(fault) => Err(fault),
+    }
+}
+
+/// Writes the answer to `request` to `output`, and returns its status.
+fn carried_out<'a, R: Files, I: Read + Drop, O: Write>(
+    alloc: Global,
+    files: &R,
+    request: &Request<'a>,
     mut input: I,
     output: &mut O,
 ) -> Result<u8, Fault<'a>>
     ensures { IfOk result (λ status. status ≤ 3) }
 {
-    let request = match Request::parse(alloc, words) {
-        Ok(request) => request,
-        Err(Fault::Words(error)) if !error.use_stderr() => {
-            let text = format!(in alloc; "{error}")?;
-            return told(output, text.as_str(), 0);
-        }
-        Err(fault) => return Err(fault),
-    };
     let format = request.format;
     let answer = match &request.asked {
-        Asked::Show { snapshot, at } => shown(alloc, files, snapshot, *at, format, input)?,
-        Asked::Check(check) => checked(alloc, files, check, format, input)?,
-        Asked::Inspect(inspection) => {
-            let given = Given::In(inspection.proof);
-            let proof = bytes_given(alloc, files, "file", given, &mut input)?;
-            let text = taken_apart(alloc, inspection, format, &proof)?;
-            return told(output, text.as_str(), 0);
-        }
+        Asked::Show { snapshot, at } => shown_over(alloc, files, snapshot, *at, format, input),
+        Asked::Check(check) => checked(alloc, files, check, format, input),
+        Asked::Inspect(inspection) => inspected(alloc, files, inspection, format, &mut input),
+        Asked::Sync(part) => copied_over(alloc, files, part, &mut input, output),
         Asked::Batch(source) => {
             return answered_lines(alloc, files, *source, format, &mut input, output);
         }
     };
-    told(output, answer.text.as_str(), answer.status)
+    match answer {
+        Ok(answer) => told(output, answer.text.as_str(), answer.status),
+        Err(fault) => Err(fault),
+    }
+}
+
+/// Writes help, or the version, to `output` where that is what `error` says.
+fn helped<'a, O: Write>(alloc: Global, error: clap::Error, output: &mut O) -> Result<u8, Fault<'a>>
+    ensures { IfOk result (λ status. status ≡ 0) }
+{
+    if error.use_stderr() {
+        return Err(Fault::Words(error));
+    }
+    let text = format!(in alloc; "{error}")?;
+    told(output, text.as_str(), 0)
 }
 
 /// Answers the lines of `source`.

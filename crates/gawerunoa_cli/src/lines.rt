@@ -6,7 +6,7 @@ ghost use Rattle.hex.specs.Hex.{decode_of};
 ghost use Rattle.stateproof_cli.specs.Words.{IsOperationLine};
 ghost use Rattle.gawerunoa_cli.specs.Rows.{IsReadFrom, IsTaken};
 
-use crate::fault::Fault;
+use crate::fault::{Fault, Misfit};
 use crate::mark::{Expected, Mark};
 use crate::operations::Operations;
 use crate::source::Source;
@@ -15,6 +15,22 @@ use std::io::{self, BufRead, BufReader, Read};
 use storage_codec::NoMemory;
 use storage_codec::digest::Hasher;
 use storage_merkle::merkle::Graftable;
+
+/// What is kept of operations beside the tree over them.
+pub(crate) trait Keep {
+    /// Keeps what it does of `operation`.
+    fn keep(&mut self, operation: &[u8]) -> Result<(), NoMemory>;
+}
+
+/// Of no operation anything is kept.
+#[derive(Clone, Copy)]
+struct Nothing;
+
+impl Keep for Nothing {
+    fn keep(&mut self, _operation: &[u8]) -> Result<(), NoMemory> {
+        Ok(())
+    }
+}
 
 /// How many bytes are read at once.
 pub(crate) const READ_AT_ONCE: usize = 65_536;
@@ -34,17 +50,31 @@ pub fn read_operations<'a, F: Graftable, H: Hasher, R: Read + Drop>(
     ensures { IfOk result (λ it. IfSome (R.remaining input) (λ text.
         IsReadFrom H.hash_of F.shape text it.tree it.bits.items)) }
 {
+    read_kept(alloc, source, input, &mut Nothing)
+}
+
+/// Reads the same, and keeps each operation in `kept`.
+pub(crate) fn read_kept<'a, F: Graftable, H: Hasher, R: Read + Drop, K: Keep>(
+    alloc: Global,
+    source: Source<'a>,
+    input: R,
+    kept: &mut K,
+) -> Result<Operations<F, H>, Fault<'a>>
+    ensures { IfOk result (λ it. IfSome (R.remaining input) (λ text.
+        IsReadFrom H.hash_of F.shape text it.tree it.bits.items)) }
+{
     match BufReader::with_capacity(alloc, READ_AT_ONCE, input) {
-        Ok(mut input) => read_lines(alloc, source, &mut input),
+        Ok(mut input) => read_lines(alloc, source, &mut input, kept),
         Err(_) => Err(Fault::Memory),
     }
 }
 
 /// Reads the operations on the lines that `input` has left.
-fn read_lines<'a, F: Graftable, H: Hasher, B: BufRead>(
+fn read_lines<'a, F: Graftable, H: Hasher, B: BufRead, K: Keep>(
     alloc: Global,
     source: Source<'a>,
     input: &mut B,
+    kept: &mut K,
 ) -> Result<Operations<F, H>, Fault<'a>>
     ensures { IfOk result (λ it. IfSome (B.remaining input.old) (λ text.
         IsReadFrom H.hash_of F.shape text it.tree it.bits.items)) }
@@ -59,14 +89,13 @@ fn read_lines<'a, F: Graftable, H: Hasher, B: BufRead>(
             Err(error) => return Err(Fault::unread(source, error)),
         }
         match parse_operation(&line, &mut operation)? {
-            Some(active) => operations.add(active, &operation)?,
+            Some(active) => {
+                operations.add(active, &operation)?;
+                kept.keep(&operation)?;
+            }
             None => {
                 let mark = mark_of(&line);
-                return Err(Fault::Line {
-                    source,
-                    number,
-                    mark,
-                });
+                return Err(Fault::Misfit(source, Misfit::Line { number, mark }));
             }
         }
     }

@@ -6,7 +6,9 @@ use crate::command::command;
 use crate::fault::Fault;
 use crate::given::Words;
 use crate::mark::Mark;
+use crate::mistake::{Mistake, NO_CLAIM, NO_ENCODING, NO_PATH, TWICE, none_of};
 use crate::source::{Given, Listed, Source};
+use crate::sync::asked::Part;
 use crate::words::root_of;
 use clap::ArgMatches;
 use light_questions::agreed::Root;
@@ -20,10 +22,10 @@ const MOST: usize = 1 << 59;
 
 /// The most digests that a range proof may have where nothing is said. No tree needs more: it has at most 62 peaks, and a
 /// range at most 62 siblings on either side.
-const MOST_DIGESTS: usize = 186;
+pub(crate) const MOST_DIGESTS: usize = 186;
 
 /// What is asked for, and how the answer is written.
-#[derive(Clone, Copy)]
+#[derive(Drop)]
 pub struct Request<'a> {
     /// How the answer is written.
     pub format: Format,
@@ -41,7 +43,7 @@ pub enum Format {
 }
 
 /// What is asked for.
-#[derive(Clone, Copy)]
+#[derive(Drop)]
 pub enum Asked<'a> {
     /// The canonical root of operations, and the proof of the operation at a location, where one is named.
     Show {
@@ -56,6 +58,8 @@ pub enum Asked<'a> {
     Batch(Source<'a>),
     /// The fields of a proof.
     Inspect(Inspection<'a>),
+    /// A copy, or pages for one.
+    Sync(Part<'a>),
 }
 
 /// A snapshot of operations that are read.
@@ -78,6 +82,8 @@ pub struct Inspection<'a> {
     pub shows: Shows,
     /// Where it is.
     pub proof: Source<'a>,
+    /// The file that its path is drawn into, where one is named.
+    pub svg: Option<&'a str>,
 }
 
 /// What a proof shows.
@@ -144,43 +150,56 @@ pub enum Claimed<'a> {
 impl<'a> Request<'a> {
     /// Reads the words of a command line, of which the first is the program's name.
     pub fn parse(alloc: Global, words: &'a [String]) -> Result<Request<'a>, Fault<'a>> {
-        let matches = match command(alloc)?.try_get_matches_from(words) {
-            Ok(matches) => matches,
-            Err(error) => return Err(Fault::Words(error)),
-        };
+        match command(alloc)?.try_get_matches_from(words) {
+            Ok(matches) => Request::of(alloc, &matches),
+            Err(error) => Err(Fault::Words(error)),
+        }
+    }
+
+    /// Returns what the words of a command line ask for.
+    fn of(alloc: Global, matches: &ArgMatches<'a>) -> Result<Request<'a>, Fault<'a>> {
         match matches.subcommand() {
-            Some(("root", matches)) => Ok(Request {
-                format: Format::of(matches),
-                asked: Asked::Show {
-                    snapshot: Snapshot::of(Words::Line(matches))?,
-                    at: None,
-                },
+            Some(("sync", matches)) => Ok(Request {
+                format: Format::Text,
+                asked: Asked::Sync(Part::of(alloc, matches)?),
             }),
-            Some(("prove", matches)) => Ok(Request {
-                format: Format::of(matches),
-                asked: Asked::Show {
-                    snapshot: Snapshot::of(Words::Line(matches))?,
-                    at: Some(Words::Line(matches).number("at")?),
-                },
-            }),
-            Some(("check", matches)) => match matches.subcommand() {
-                Some((claim, matches)) => Ok(Request {
-                    format: Format::of(matches),
-                    asked: Asked::Check(Check::of(claim, Words::Line(matches))?),
-                }),
-                None => match matches.get_str("batch") {
-                    Some(file) => Ok(Request {
-                        format: Format::of(matches),
-                        asked: Asked::Batch(Source::named(file)),
-                    }),
-                    None => Err(Fault::Claim),
-                },
+            Some((name, matches)) => Ok(Request::named(name, matches)?),
+            None => Err(Fault::Question(Mistake::Missing("subcommand"))),
+        }
+    }
+
+    /// Returns what the words behind the subcommand `name` ask for.
+    fn named(name: &str, matches: &ArgMatches<'a>) -> Result<Request<'a>, Mistake<'a>> {
+        let (words, format) = (Words::Line(matches), Format::of(matches));
+        let asked = match name {
+            "root" => Asked::Show {
+                snapshot: Snapshot::of(words)?,
+                at: None,
             },
-            Some(("inspect", matches)) => Ok(Request {
+            "prove" => Asked::Show {
+                snapshot: Snapshot::of(words)?,
+                at: Some(words.number("at")?),
+            },
+            "inspect" => Asked::Inspect(Inspection::of(words)?),
+            _ => return Request::of_check(matches),
+        };
+        Ok(Request { format, asked })
+    }
+
+    /// Returns what the words behind `check` ask for.
+    fn of_check(matches: &ArgMatches<'a>) -> Result<Request<'a>, Mistake<'a>> {
+        match matches.subcommand() {
+            Some((claim, matches)) => Ok(Request {
                 format: Format::of(matches),
-                asked: Asked::Inspect(Inspection::of(Words::Line(matches))?),
+                asked: Asked::Check(Check::of(claim, Words::Line(matches))?),
             }),
-            _ => Err(Fault::Missing("subcommand")),
+            None => match matches.get_str("batch") {
+                Some(file) => Ok(Request {
+                    format: Format::of(matches),
+                    asked: Asked::Batch(Source::named(file)),
+                }),
+                None => Err(Mistake::Other(NO_CLAIM)),
+            },
         }
     }
 }
@@ -198,7 +217,7 @@ impl Format {
 
 impl<'a> Snapshot<'a> {
     /// Returns the snapshot that the words name.
-    fn of(words: Words<'_, 'a>) -> Result<Snapshot<'a>, Fault<'a>> {
+    pub(crate) fn of(words: Words<'_, 'a>) -> Result<Snapshot<'a>, Mistake<'a>> {
         Ok(Snapshot {
             agreed: agreed_of(words, MOST_CHUNK)?,
             floor: words.number("floor")?,
@@ -209,66 +228,46 @@ impl<'a> Snapshot<'a> {
 
 impl<'a> Inspection<'a> {
     /// Returns the proof that the words name, and what it shows.
-    fn of(words: Words<'_, 'a>) -> Result<Inspection<'a>, Fault<'a>> {
-        let shows = match words.text("shows")? {
-            "range" => Shows::Range,
-            "value" => Shows::Value,
-            "absence" => Shows::Absence,
-            _ => Shows::Operation,
-        };
+    fn of(words: Words<'_, 'a>) -> Result<Inspection<'a>, Mistake<'a>> {
+        let shows = Shows::named(words.text("shows")?);
+        let svg = words.text("svg").ok();
+        if let (Shows::Range, Some(_)) = (shows, svg) {
+            return Err(Mistake::Other(NO_PATH));
+        }
         Ok(Inspection {
             agreed: agreed_of(words, MOST)?,
             shows,
             proof: Source::named(words.text("file")?),
+            svg,
         })
+    }
+}
+
+impl Shows {
+    /// Returns what `word` names; an operation where it names nothing else.
+    fn named(word: &str) -> Shows {
+        match word {
+            "range" => Shows::Range,
+            "value" => Shows::Value,
+            "absence" => Shows::Absence,
+            _ => Shows::Operation,
+        }
     }
 }
 
 impl<'a> Check<'a> {
     /// Returns the check of what is called `claim`, and of which the words tell the rest.
-    pub(crate) fn of(claim: &str, words: Words<'_, 'a>) -> Result<Check<'a>, Fault<'a>> {
+    pub(crate) fn of(claim: &str, words: Words<'_, 'a>) -> Result<Check<'a>, Mistake<'a>> {
         let agreed = agreed_of(words, MOST)?;
         let root = root_at(words, agreed.function)?;
-        let (claim, database) = match claim {
-            "operation" => (
-                Claimed::Operation {
-                    at: words.number("at")?,
-                    operation: words.given("operation")?,
-                },
-                database_of(&agreed),
-            ),
-            "range" => (
-                Claimed::Range {
-                    start: words.number("start")?,
-                    operations: words.listed("operations")?,
-                    chunks: words.listed("chunks")?,
-                },
-                Database {
-                    max_digests: length_at(words, "max-digests", true, MOST_DIGESTS)?,
-                    ..database_of(&agreed)
-                },
-            ),
-            "value" => (
-                Claimed::Value {
-                    key: words.given("key")?,
-                    value: words.given("value")?,
-                },
-                with_keys(words, database_of(&agreed))?,
-            ),
-            "absence" => (
-                Claimed::Absence {
-                    key: words.given("key")?,
-                },
-                with_values(words, with_keys(words, database_of(&agreed))?)?,
-            ),
-            _ => return Err(Fault::Claim),
-        };
+        let claim = Claimed::of(claim, words)?;
+        let database = claim.database(words, agreed)?;
         let Ok((database, kind)) = agreed_on(&[database]) else {
-            return Err(Fault::Encoding);
+            return Err(Mistake::Other(NO_ENCODING));
         };
         let proof = words.given("proof")?;
         if claim.reads_twice(proof) {
-            return Err(Fault::Twice);
+            return Err(Mistake::Other(TWICE));
         }
         Ok(Check {
             database,
@@ -281,6 +280,43 @@ impl<'a> Check<'a> {
 }
 
 impl<'a> Claimed<'a> {
+    /// Returns what is called `claim`, and of which the words tell the rest.
+    fn of(claim: &str, words: Words<'_, 'a>) -> Result<Claimed<'a>, Mistake<'a>> {
+        match claim {
+            "operation" => Ok(Claimed::Operation {
+                at: words.number("at")?,
+                operation: words.given("operation")?,
+            }),
+            "range" => Ok(Claimed::Range {
+                start: words.number("start")?,
+                operations: words.listed("operations")?,
+                chunks: words.listed("chunks")?,
+            }),
+            "value" => Ok(Claimed::Value {
+                key: words.given("key")?,
+                value: words.given("value")?,
+            }),
+            "absence" => Ok(Claimed::Absence {
+                key: words.given("key")?,
+            }),
+            _ => Err(Mistake::Other(NO_CLAIM)),
+        }
+    }
+
+    /// Returns what the words name as agreed of the database that it is claimed of.
+    fn database(&self, words: Words<'_, 'a>, agreed: Agreed) -> Result<Database, Mistake<'a>> {
+        let database = database_of(&agreed);
+        match self {
+            Claimed::Operation { .. } => Ok(database),
+            Claimed::Range { .. } => Ok(Database {
+                max_digests: length_at(words, "max-digests", true, MOST_DIGESTS)?,
+                ..database
+            }),
+            Claimed::Value { .. } => with_keys(words, database),
+            Claimed::Absence { .. } => with_values(words, with_keys(words, database)?),
+        }
+    }
+
     /// Returns whether standard input is to have two of its parts, or one of them and `proof`.
     fn reads_twice(&self, proof: Given<'a>) -> bool {
         let (first, second) = match self {
@@ -314,24 +350,8 @@ fn database_of(agreed: &Agreed) -> Database {
 }
 
 /// Returns the same with the kind of keys, the lengths of keys and the encoding of values that the words name.
-fn with_keys<'a>(words: Words<'_, 'a>, database: Database) -> Result<Database, Fault<'a>> {
-    let keys = match words.text("keys")? {
-        "one-size" => ONE_SIZE,
-        "strings" => STRINGS,
-        word => return Err(Fault::Word {
-            option: "keys",
-            word,
-        }),
-    };
-    let values = match words.text("values")? {
-        "variable" => VARIABLE,
-        "sized" => SIZED,
-        "fixed" => FIXED,
-        word => return Err(Fault::Word {
-            option: "values",
-            word,
-        }),
-    };
+fn with_keys<'a>(words: Words<'_, 'a>, database: Database) -> Result<Database, Mistake<'a>> {
+    let (keys, values) = (keys_of(words)?, values_of(words)?);
     let strings = keys == STRINGS;
     Ok(Database {
         keys,
@@ -342,72 +362,102 @@ fn with_keys<'a>(words: Words<'_, 'a>, database: Database) -> Result<Database, F
     })
 }
 
+/// Returns the kind of keys that the words name.
+fn keys_of<'a>(words: Words<'_, 'a>) -> Result<u32, Mistake<'a>> {
+    match words.text("keys")? {
+        "one-size" => Ok(ONE_SIZE),
+        "strings" => Ok(STRINGS),
+        word => Err(none_of("keys", word)),
+    }
+}
+
+/// Returns the encoding of values that the words name.
+fn values_of<'a>(words: Words<'_, 'a>) -> Result<u32, Mistake<'a>> {
+    match words.text("values")? {
+        "variable" => Ok(VARIABLE),
+        "sized" => Ok(SIZED),
+        "fixed" => Ok(FIXED),
+        word => Err(none_of("values", word)),
+    }
+}
+
 /// Returns the same with the lengths of values that the words name, or with the one size that they have.
-fn with_values<'a>(words: Words<'_, 'a>, database: Database) -> Result<Database, Fault<'a>> {
+fn with_values<'a>(words: Words<'_, 'a>, database: Database) -> Result<Database, Mistake<'a>> {
     let variable = database.values == VARIABLE;
     let least = length_at(words, "min-value-length", variable, 0)?;
     let most = length_at(words, "max-value-length", variable, usize::MAX)?;
     let size = length_at(words, "value-size", !variable, 0)?;
-    if !variable && !words.has("value-size") {
-        return Err(Fault::Missing("value-size"));
+    if variable {
+        return Ok(with_lengths(database, least, most));
     }
-    Ok(Database {
-        min_value_length: if variable { least } else { size },
-        max_value_length: if variable { most } else { size },
+    if words.has("value-size") {
+        Ok(with_lengths(database, size, size))
+    } else {
+        Err(Mistake::Missing("value-size"))
+    }
+}
+
+/// Returns the same with values of at least `least` and at most `most` bytes.
+pub(crate) fn with_lengths(database: Database, least: usize, most: usize) -> Database {
+    Database {
+        min_value_length: least,
+        max_value_length: most,
         ..database
-    })
+    }
 }
 
 /// Returns the length that the word of the option `name` writes, and `usual` where there is none. It may be given where it
 /// is `asked` for alone.
-fn length_at<'a>(
+pub(crate) fn length_at<'a>(
     words: Words<'_, 'a>,
     name: &'static str,
     asked: bool,
     usual: usize,
-) -> Result<usize, Fault<'a>> {
+) -> Result<usize, Mistake<'a>> {
     if !words.has(name) {
-        return Ok(usual);
+        Ok(usual)
+    } else if asked {
+        Ok(words.number(name)? as usize)
+    } else {
+        Err(Mistake::Needless(name))
     }
-    if !asked {
-        return Err(Fault::Needless(name));
-    }
-    Ok(words.number(name)? as usize)
 }
 
 /// Returns what the words name as agreed, with a chunk of at most `most` bytes.
-fn agreed_of<'a>(words: Words<'_, 'a>, most: usize) -> Result<Agreed, Fault<'a>> {
-    let family = words.text("family")?;
-    let hash = if words.has("hash") {
-        words.text("hash")?
-    } else {
-        "sha256"
-    };
+pub(crate) fn agreed_of<'a>(words: Words<'_, 'a>, most: usize) -> Result<Agreed, Mistake<'a>> {
+    let (family, hash) = (words.text("family")?, hash_of(words)?);
     Ok(Agreed {
-        family: Family::named(family).ok_or(Fault::Word {
-            option: "family",
-            word: family,
-        })?,
-        function: Function::named(hash).ok_or(Fault::Word {
-            option: "hash",
-            word: hash,
-        })?,
+        family: Family::named(family).ok_or(none_of("family", family))?,
+        function: Function::named(hash).ok_or(none_of("hash", hash))?,
         chunk: words.chunk(most)?,
     })
 }
 
+/// Returns the name of the digest function; SHA-256's where the words name none.
+fn hash_of<'a>(words: Words<'_, 'a>) -> Result<&'a str, Mistake<'a>> {
+    if words.has("hash") {
+        words.text("hash")
+    } else {
+        Ok("sha256")
+    }
+}
+
 /// Returns the root that is trusted, a digest of `function`.
-fn root_at<'a>(words: Words<'_, 'a>, function: Function) -> Result<Root, Fault<'a>> {
+pub(crate) fn root_at<'a>(words: Words<'_, 'a>, function: Function) -> Result<Root, Mistake<'a>> {
     let word = words.text("root")?;
-    if let Some(root) = root_of(word, function) {
-        return Ok(root);
+    match root_of(word, function) {
+        Some(root) => Ok(root),
+        None => Err(mistake_in_root(word, function)),
     }
+}
+
+/// Returns what is wrong with `word`, which is no digest of `function`.
+fn mistake_in_root(word: &str, function: Function) -> Mistake<'_> {
     if word.bytes().all(|byte| byte.is_ascii_hexdigit()) {
-        return Err(Fault::Root { word, function });
+        return Mistake::Root { word, function };
     }
-    let mark = Mark::of_digits(word.as_bytes(), 1);
-    Err(Fault::Digits {
+    Mistake::Digits {
         option: "root",
-        mark,
-    })
+        mark: Mark::of_digits(word.as_bytes(), 1),
+    }
 }

@@ -3,7 +3,7 @@
 ghost use Rattle.std.specs.Prelude.{◌≡◌, ◌∷◌, ◌++◌, [], length, MatchResult, IfOk, true, false};
 ghost use Rattle.hex.specs.Hex.{decode_of};
 
-use crate::fault::Fault;
+use crate::fault::{Fault, Misfit};
 use crate::lines::{READ_AT_ONCE, advance, decode};
 use crate::mark::Mark;
 use crate::source::Source;
@@ -68,11 +68,7 @@ pub(crate) fn read_strings<'a, R: Read>(
         }
         if !strings.add(&line, &mut string)? {
             let mark = Mark::of_digits(&line, 1);
-            return Err(Fault::Line {
-                source,
-                number,
-                mark,
-            });
+            return Err(Fault::Misfit(source, Misfit::Line { number, mark }));
         }
     }
     Err(Fault::Memory)
