@@ -1,4 +1,5 @@
-//! Openings from a server: each is accepted under the canonical root, and is read again as it is written. Copies that begin where they do.
+//! Openings from a server: each is accepted under the canonical root, and is read again as it is written. Copies that begin where they do,
+//! and the last check of their pins.
 
 use crate::snapshots::{node_at, ops_root_of, root_of};
 use crate::stops::{is_refused, some, there};
@@ -9,8 +10,9 @@ use std::process::Abort;
 use storage_bitmap::bitmap::Readable as _;
 use storage_codec::codec::{Decode, Encode, Error};
 use storage_codec::digest::{DigestOf, Sha256};
+use storage_current::qmdb::current::Tail;
 use storage_merkle::merkle::{Graftable, Location, mmb, mmr};
-use storage_sync::sync::{Limits, Opening, Replica, Server, Sync, Unanswered};
+use storage_sync::sync::{Limits, Opening, Replica, Server, Sync, Unanswered, Unfounded};
 
 type Told<F> = Opening<F, DigestOf<Sha256>>;
 
@@ -173,30 +175,70 @@ fn assert_tail(rt: &impl Abort, copy: &Replica<DigestOf<Sha256>, 1>, chunks: u64
     }
 }
 
-/// Takes a copy of what `server` has of nineteen operations behind `chunks` chunks, in `pages` pages of a chunk each.
+/// Takes a copy of what `server` has of nineteen operations from where `told` begins on, in `pages` pages of a chunk each.
 fn copy_from<F: Graftable>(
     rt: &impl Abort,
     alloc: Global,
     server: &Server<F, Sha256, 1>,
-    chunks: u64,
+    log: &mut Log,
+    told: &Told<F>,
     pages: u64,
 ) -> Replica<DigestOf<Sha256>, 1> {
-    assert!(rt; chunks < 3);
-    let mut log = log_of(8 * chunks, 19, 12);
-    let told = some(rt, opening(rt, alloc, server, &mut log, 8 * chunks));
-    let mut sync = begun(rt, alloc, server, &told);
-    drop(told);
-    take_pages(rt, alloc, server, &mut log, &mut sync, pages);
+    let mut sync = begun(rt, alloc, server, told);
+    take_pages(rt, alloc, server, log, &mut sync, pages);
     finish(rt, sync)
 }
 
-/// Takes that copy of a snapshot, and asserts what it has.
+/// Returns the trees of `copy`, which began with `told`, with the inactivity floor `floor`.
+fn trees<F: Graftable>(
+    alloc: Global,
+    copy: &Replica<DigestOf<Sha256>, 1>,
+    told: &Told<F>,
+    floor: u64,
+) -> Result<Tail<F, Sha256>, Unfounded> {
+    copy.to_tail::<F, Sha256>(alloc, told, Location::new(floor))
+}
+
+/// Asserts that `copy` has trees with the floor `floor` and the pins of `told`, with which it began, and none with another pin over
+/// the chunks, or from where it did not begin on.
+fn assert_pinned<F: Graftable>(
+    rt: &impl Abort,
+    alloc: Global,
+    copy: &Replica<DigestOf<Sha256>, 1>,
+    mut told: Told<F>,
+    floor: u64,
+) {
+    let found = some(rt, trees(alloc, copy, &told, floor));
+    assert!(rt; found.operations.leaves().as_u64() == 19);
+    drop(found);
+    is_refused(
+        rt,
+        &trees(alloc, copy, &told, 20),
+        &Unfounded::FloorPastTheEnd,
+    );
+    assert!(rt; told.over_chunks.len() == 1);
+    told.over_chunks = some(rt, Vec::from_slice(alloc, &[told.ops_root]));
+    is_refused(
+        rt,
+        &trees(alloc, copy, &told, floor),
+        &Unfounded::OtherRoots,
+    );
+    told.begin = Location::new(0);
+    is_refused(rt, &trees(alloc, copy, &told, floor), &Unfounded::Malformed);
+    drop(told);
+}
+
+/// Takes a copy of a snapshot of nineteen operations behind its first `chunks` chunks, and asserts what it has.
 fn copy_tail<F: Graftable>(rt: &impl Abort, alloc: Global, chunks: u64, pages: u64) {
     let server = server_of::<F, 1>(rt, alloc, 19);
     assert_not_started(rt, alloc, &server);
-    let copy = copy_from(rt, alloc, &server, chunks, pages);
+    assert!(rt; chunks < 3);
+    let mut log = log_of(8 * chunks, 19, 12);
+    let told = some(rt, opening(rt, alloc, &server, &mut log, 8 * chunks));
+    let copy = copy_from(rt, alloc, &server, &mut log, &told, pages);
     assert!(rt; copy.ops_root == ops_root_of(&server.snapshot));
     assert_tail(rt, &copy, chunks);
+    assert_pinned(rt, alloc, &copy, told, server.floor.as_u64());
     drop(copy);
     drop(server);
 }

@@ -53,3 +53,4 @@ mod PinRoots
 mod PinMeanings
 mod Openings
 mod Beginnings
+mod Tails

@@ -32,3 +32,4 @@ pub mod Pins
 pub mod Openings
 pub mod Beginnings
 pub mod Laws
+pub mod Tails

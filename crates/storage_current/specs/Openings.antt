@@ -1,14 +1,15 @@
 -- Openings: what a copy of a snapshot begins with, if what is before it is told by pins alone.
-use Rattle.std.specs.Prelude.{◌≡◌, ◌⊎◌, ℕ, List, ◌∷◌}
+use Rattle.std.specs.Prelude.{◌≡◌, ◌⊎◌, ℕ, ◌+◌, ◌<◌, List, ◌∷◌, length}
 use Rattle.storage_codec.specs.Digests.{HashFunction, Cross}
 use Rattle.storage_merkle.specs.declared.merkle.bagging.Bagging.TheVariants.{BackwardFold}
 use Rattle.storage_merkle.specs.Pinned.{IsPinnedAccepted, pinned_strings}
 use Rattle.storage_merkle.specs.RangeProofs.{Proof, StandAt}
 use Rattle.storage_merkle.specs.Shape.{Shape}
 use Rattle.storage_merkle.specs.Trees.{listed, ungrafted}
+use Rattle.storage_current.specs.Beginnings.{IsOwnPlainProof}
 use Rattle.storage_current.specs.CurrentProofs.{witness_string}
 use Rattle.storage_current.specs.Pins.{operation_pins}
-use Rattle.storage_current.specs.Snapshots.{Grafting, Snapshot, IsSnapshot, Witness, canonical_root, grafting_of, ops_root_of, own_witness, snapshot_strings}
+use Rattle.storage_current.specs.Snapshots.{Grafting, IsGrafting, Snapshot, IsSnapshot, Witness, canonical_root, grafting_of, ops_root_of, own_witness, snapshot_strings}
 
 -- a witness of the operations root, and a plain proof under it with the digests of the peaks over what is before its range: both are a
 -- snapshot's own
@@ -36,3 +37,12 @@ MeansOpening h S w ops_root proof start operations pinned root =
     (bytes : ℕ) (s : Snapshot) → IsSnapshot s → canonical_root h (grafting_of S bytes) s ≡ root →
     IsOpening h (grafting_of S bytes) s w ops_root start operations pinned
     ⊎ Cross h (opening_strings h S w ops_root proof start operations pinned) (snapshot_strings h (grafting_of S bytes) s)
+
+-- A snapshot's own witness with its operations root, and its own plain proof of some operations with its digests of the peaks over what
+-- is before them: the check of both says yes against its canonical root.
+abbrev pub OwnOpeningsAreAccepted : Type 0
+OwnOpeningsAreAccepted =
+    (h : HashFunction) (g : Grafting) → IsGrafting g → (s : Snapshot) → IsSnapshot s →
+    (w : Witness) (ops_root : List ℕ) (proof : Proof) (start : ℕ) (operations pinned : List (List ℕ)) → 0 < length operations →
+    IsOpening h g s w ops_root start operations pinned → IsOwnPlainProof h g s start (start + length operations) proof →
+    IsOpeningAccepted h g.shape w ops_root proof start operations pinned (canonical_root h g s)

@@ -3,6 +3,7 @@
 
 ghost use Rattle.storage_current.specs.CurrentSoundness.{CurrentProofsAreSound, FamiliesAreLawful, OperationProofsAreSound, OwnCurrentProofsAreAccepted, OwnOperationProofsAreAccepted, OwnWitnessesAreAccepted, WitnessesAreSound};
 ghost use Rattle.storage_current.specs.HashedLengths.{HashedLengthsDiffer};
+ghost use Rattle.storage_current.specs.Openings.{OwnOpeningsAreAccepted};
 ghost use Rattle.storage_current.specs.OwnWire.{OwnCurrentProofsAreReadAgain, OwnOperationProofsAreReadAgain};
 
 pub mod chunk_lengths;
@@ -14,6 +15,7 @@ pub mod keys;
 pub mod pins;
 pub mod shared;
 
+use storage_merkle::laws::extracted::own_pinned_proofs_are_accepted;
 use storage_merkle::laws::{own_range_proofs_are_accepted, range_proofs_are_sound};
 
 /// A range proof that is accepted against a snapshot's canonical root is the snapshot's own, field for field, and its
@@ -67,6 +69,15 @@ pub fn own_operation_proofs_are_read_again()
 pub fn own_witnesses_are_accepted()
     ensures { OwnWitnessesAreAccepted }
 {}
+
+/// A snapshot's own witness, with its own plain proof of some operations and its own digests of the peaks over what is before them, is
+/// accepted against its canonical root.
+pub fn own_openings_are_accepted()
+    ensures { OwnOpeningsAreAccepted }
+{
+    own_witnesses_are_accepted();
+    own_pinned_proofs_are_accepted();
+}
 
 /// Both families of trees can be grafted at each height from 1 on.
 pub fn families_are_lawful()

@@ -169,7 +169,7 @@ one_for_times t (p ∷ ps) s = omega arith
 
 module _ (T : Layout) (low high : ℕ) where
   -- the sites over some peaks are the folds and those in the peaks, but for some of the peaks
-  all_times : (s : Site) (xs ys : List Peak) → times s (sites_over T low high xs ys)
+  pub all_times : (s : Site) (xs ys : List Peak) → times s (sites_over T low high xs ys)
       ≤ one_if (same_site front s) + one_if (same_site back s) + times s (sites_in T (apart low high) (xs ++ ys))
   all_times s xs ys =
       let ls = leading low xs in

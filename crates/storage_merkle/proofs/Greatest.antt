@@ -67,10 +67,10 @@ in_half a k b j ha hb l lo hi =
 
 module _ (T : Layout) (ks : List ℕ) (cut : ℕ → ℕ → Bool) where
   -- no other node that is cut covers it
-  abbrev Top : ℕ → ℕ → Type 0
+  abbrev pub Top : ℕ → ℕ → Type 0
   Top a k = (b j : ℕ) → IsUnder ks b j → b ≤ a → a + 2 ^ k ≤ b + 2 ^ j → cut b j ≡ true → (b ≡ a) × (j ≡ k)
 
-  abbrev IsTop : Site → Type 0
+  abbrev pub IsTop : Site → Type 0
   IsTop front = ⊥
   IsTop back = ⊥
   IsTop (node a k) = IsUnder ks a k × (cut a k ≡ true) × Top a k
@@ -185,7 +185,7 @@ module _ (S : Shape) (L : Laws S) (n : ℕ) where
   peak_under a k p = ((peak_node S L n a k p).0, peak_inside (S.peaks n) 0 a k p)
 
   -- no other node of the tree covers a peak
-  peak_top : (cut : ℕ → ℕ → Bool) (a k : ℕ) → HasPeak (S.peaks n) 0 a k → Top (ungrafted S) (S.peaks n) cut a k
+  pub peak_top : (cut : ℕ → ℕ → Bool) (a k : ℕ) → HasPeak (S.peaks n) 0 a k → Top (ungrafted S) (S.peaks n) cut a k
   peak_top cut a k p b j under l u c =
       let i = inside_of_peak (S.peaks n) 0 b j a k a under.1 p l (omega (arith, pow_pos k)) (omega arith)
       (omega (arith, pow_pos k)) in
@@ -195,6 +195,12 @@ module _ (S : Shape) (L : Laws S) (n : ℕ) where
       let x : j ≤ k = pow_order j k up in
       let y : k ≤ j = pow_order k j down in
       (eb, omega arith)
+
+-- no other node that is cut covers one that a tree is given
+pub all_tops : (T : Layout) → Laws T.shape → (n : ℕ) (cut : ℕ → ℕ → Bool)
+    → AllSites (IsTop T (T.shape.peaks n) cut) (sites_in T cut (peaks_of T n))
+all_tops T L n cut = tops_in T (T.shape.peaks n) cut 0 (T.shape.peaks n)
+    (λ a k h. (peak_under T.shape L n a k h, peak_top T.shape L n cut a k h))
 
 named : (T : Layout) (Q : Site → Type 0) (ss : List Site) → AllSites Q ss → (k : ℕ) (p : ℕ)
     → k < length (positions T ss) → get_or (positions T ss) k p ≡ p → (s : Site) × Q s × (position_of T s ≡ p)
@@ -213,8 +219,7 @@ greatest_nodes_are_planned S L n low high p =
     let cut = apart low high in
     let ks = S.peaks n in
     let ss = sites_in T cut (peaks_of T n) in
-    let all : AllSites (IsTop T ks cut) ss =
-    tops_in T ks cut 0 ks (λ a k h. (peak_under S L n a k h, peak_top S L n cut a k h)) in
+    let all : AllSites (IsTop T ks cut) ss = all_tops T L n cut in
     let sorted : AllSites (IsTop T ks cut) (by_position T ss) = all_have (IsTop T ks cut) (by_position T ss)
     (λ s l. site_has (IsTop T ks cut) s ss all (omega (arith, times-by_position T s ss))) in (
       λ c. (let r = named T (IsTop T ks cut) (by_position T ss) sorted c.0 p c.1 c.2 in of_site r.0 r.1 r.2),

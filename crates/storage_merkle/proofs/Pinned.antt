@@ -4,3 +4,4 @@ pub mod Nodes
 pub mod Match
 pub mod Checks
 pub mod Meaning
+pub mod Own

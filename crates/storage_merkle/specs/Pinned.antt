@@ -1,10 +1,10 @@
 -- The check of a range proof with the digests of the peaks over its start.
-use Rattle.std.specs.Prelude.{◌≡◌, ℕ, ◌+◌, ◌≤◌, ◌^◌, ◌⊎◌, List, [], ◌∷◌, ◌++◌, length, map, Bool, true, false, if◌then◌else◌, ◌&&◌, ◌||◌, leb, eqb}
+use Rattle.std.specs.Prelude.{◌≡◌, ℕ, ◌+◌, ◌<◌, ◌≤◌, ◌^◌, ◌⊎◌, List, [], ◌∷◌, ◌++◌, length, map, Bool, true, false, if◌then◌else◌, ◌&&◌, ◌||◌, leb, eqb}
 use Rattle.storage_codec.specs.Digests.{HashFunction, IsSized, Cross}
 use Rattle.storage_merkle.specs.Shape.{Shape, Laws, max_leaves}
 use Rattle.storage_merkle.specs.Calc.{Site, front, back, node, Values, eval, strings}
 use Rattle.storage_merkle.specs.declared.merkle.bagging.Bagging.{Bagging}
-use Rattle.storage_merkle.specs.Trees.{Layout, Content, Peak, listed, ungrafted, part, node_calc, peaks_of, folded, bag, strings_bag, tree_root, tree_strings}
+use Rattle.storage_merkle.specs.Trees.{Layout, Content, content_of, Peak, listed, ungrafted, part, node_calc, peaks_of, folded, bag, strings_bag, tree_root, tree_strings}
 use Rattle.storage_merkle.specs.RangeProofs.{Proof, leading, look_up, range_sites, check_values, check_strings, fold_digest, IsAccepted, IsOwn, AreDigests}
 use Rattle.storage_merkle.specs.Multi.{tree_digest}
 
@@ -100,3 +100,14 @@ PinnedDigestsAreSound =
     IsPinnedOwn h (ungrafted S) b proof start (listed elements) pinned (listed list) inactive
     ⊎ Cross h (pinned_strings h (ungrafted S) b proof start (listed elements) pinned)
     (tree_strings h (ungrafted S) b (listed list) inactive)
+
+-- A tree's own proof of some elements that stand in it, with the digests of the tree's own peaks over the start, is accepted against its
+-- root.
+abbrev pub OwnPinnedProofsAreAccepted : Type 0
+OwnPinnedProofsAreAccepted =
+    (h : HashFunction) (T : Layout) → Laws T.shape →
+    (b : Bagging) (proof : Proof) (start : ℕ) (elements pinned : List (List ℕ)) (content : Content) (inactive : ℕ) →
+    length content.elements ≤ max_leaves → inactive ≤ length (T.shape.peaks (length content.elements))
+    → 0 < length elements →
+    IsPinnedOwn h T b proof start (content_of elements content.chunk) pinned content inactive →
+    IsPinnedAccepted h T b proof start (content_of elements content.chunk) pinned (tree_root h T b content inactive)

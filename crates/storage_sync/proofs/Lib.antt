@@ -12,3 +12,4 @@ mod Joined
 mod Alike
 mod Founded
 mod Floors
+mod Tails

@@ -1,5 +1,5 @@
 -- Openings that are served.
-use Rattle.std.proofs.Common.{◌≡◌, ℕ, ◌+◌, ◌-◌, ◌*◌, ◌/◌, ◌<◌, ◌≤◌, ◌^◌, List, [], length, map, min, get_or, None, inl, inr, refl, sym, ap, subst, ◌∙◌, arith}
+use Rattle.std.proofs.Common.{◌≡◌, ℕ, ◌+◌, ◌-◌, ◌*◌, ◌/◌, ◌%◌, ◌<◌, ◌≤◌, ◌^◌, List, [], length, map, min, get_or, None, inl, inr, refl, sym, ap, subst, ◌∙◌, arith}
 use Rattle.std.specs.Global.{Vec}
 use Rattle.std.specs.List.{range_with_len}
 use Rattle.std.specs.Prelude.{MatchOption}
@@ -15,9 +15,10 @@ use Rattle.storage_ops.specs.declared.qmdb.error.Error.TheVariants as fault
 use Rattle.storage_current.specs.Beginnings.{IsOwnPlainProof, IsPinsRefused, IsPlainRefused}
 use Rattle.storage_current.specs.KeptSnapshots.{KeptSnapshot, StandsForSnapshot, pruned_operations}
 use Rattle.storage_current.specs.Laws.Grafting.{chunk_height}
+use Rattle.storage_current.specs.Openings.{OwnOpeningsAreAccepted}
 use Rattle.storage_current.specs.Pins.{chunk_pins, operation_pins}
 use Rattle.storage_current.specs.Snapshots.{Grafting, IsSnapshot, Snapshot, height, ops_root_of, own_witness}
-use Rattle.storage_sync.specs.Beginnings.{CanBegin, HasNoBeginning, IsBeginning, IsLeft, IsOwnOpening, IsUnopened}
+use Rattle.storage_sync.specs.Beginnings.{CanBegin, HasNoBeginning, IsBeginning, IsLeft, IsOwnOpening, IsUnopened, ServedOpeningsAreAccepted}
 use Rattle.storage_sync.specs.Openings.{Opening}
 use Rattle.storage_sync.specs.Serving.{IsFailedRead, IsLogOf}
 use Rattle.storage_sync.specs.declared.sync.unanswered.Unanswered.{Unanswered}
@@ -163,3 +164,20 @@ opened h g s b begin is o at begins witness root proof pins over there =
       pins_are = pins;
       over_chunks_are = over;
     })
+
+-- ---- it is accepted
+
+pub served_accepted : OwnOpeningsAreAccepted → ServedOpeningsAreAccepted
+served_accepted law h g grafting s snapshot begin o own =
+    let at = own.at in
+    record {
+      boundary = ap (λ (b : ℕ). b % (8 * g.bytes)) at ∙ own.begins.boundary;
+      accepted = law h g grafting s snapshot o.witness o.ops_root o.proof o.begin o.operations o.pins own.some
+          (record {
+            witness_is = own.witness_is;
+            ops_root_is = own.ops_root_is;
+            there = subst (λ (b : ℕ). StandAt s.operations b o.operations) (sym at) own.there;
+            pins_are = own.pins_are ∙ ap (operation_pins h g s) (sym at);
+          })
+          (subst (λ (b : ℕ). IsOwnPlainProof h g s b (b + length o.operations) o.proof) (sym at) own.proof_is);
+    }

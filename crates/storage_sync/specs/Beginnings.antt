@@ -5,8 +5,8 @@ use Rattle.storage_merkle.specs.RangeProofs.{StandAt}
 use Rattle.storage_current.specs.Beginnings.{IsOwnPlainProof}
 use Rattle.storage_current.specs.Pins.{HavePins, chunk_pins, operation_pins}
 use Rattle.storage_current.specs.Served.{MayFailWithin}
-use Rattle.storage_current.specs.Snapshots.{Grafting, Snapshot, height, ops_root_of, own_witness}
-use Rattle.storage_sync.specs.Openings.{Opening}
+use Rattle.storage_current.specs.Snapshots.{Grafting, IsGrafting, IsSnapshot, Snapshot, canonical_root, height, ops_root_of, own_witness}
+use Rattle.storage_sync.specs.Openings.{IsAcceptedOpening, Opening}
 use Rattle.storage_sync.specs.declared.sync.unanswered.Unanswered.{Unanswered}
 use Rattle.storage_sync.specs.declared.sync.unanswered.Unanswered.TheVariants.{OutOfBounds, NotAtChunk, Pruned, Corrupted, Log, Memory}
 
@@ -32,6 +32,12 @@ pub record IsOwnOpening (h : HashFunction) (g : Grafting) (s : Snapshot) (begin 
   pub there : StandAt s.operations begin o.operations
   pub pins_are : o.pins ≡ operation_pins h g s begin
   pub over_chunks_are : o.over_chunks ≡ chunk_pins h g s (begin / 2 ^ height g)
+
+-- It is accepted against the snapshot's canonical root.
+abbrev pub ServedOpeningsAreAccepted : Type 0
+ServedOpeningsAreAccepted =
+    (h : HashFunction) (g : Grafting) → IsGrafting g → (s : Snapshot) → IsSnapshot s → (begin : ℕ) (o : Opening)
+    → IsOwnOpening h g s begin o → IsAcceptedOpening h g o (canonical_root h g s)
 
 -- ---- why there is none, of n operations with so many chunks pruned, and a log that begins at this location
 

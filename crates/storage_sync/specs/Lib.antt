@@ -11,4 +11,5 @@ pub mod Founded
 pub mod Floors
 pub mod Openings
 pub mod Beginnings
+pub mod Tails
 pub mod Laws

@@ -1,6 +1,7 @@
 //! What holds of pages that are proved: laws over the definitions, each the contract of a function that does nothing.
 
 ghost use Rattle.storage_sync.specs.Alike.{FloorsProveAlike, RootOfNothing, RootsBindSnapshots};
+ghost use Rattle.storage_sync.specs.Beginnings.{ServedOpeningsAreAccepted};
 ghost use Rattle.storage_sync.specs.Floors.{CopiesFromPins, PagesAreTails, TailsAreCopies};
 ghost use Rattle.storage_sync.specs.Joined.{AnswersAreHonest, ServedCopiesAreWhole};
 ghost use Rattle.storage_sync.specs.Openings.{OpeningsAreReadAgain, OpeningsAreWrittenSo};
@@ -11,7 +12,7 @@ ghost use Rattle.storage_sync.specs.Runs.{RunsEnd};
 use storage_codec::digest::Digest;
 use storage_current::laws::{
     current_proofs_are_sound, own_current_proofs_are_accepted, own_current_proofs_are_read_again,
-    own_witnesses_are_accepted, witnesses_are_sound,
+    own_openings_are_accepted, own_witnesses_are_accepted, witnesses_are_sound,
 };
 use storage_merkle::laws::roots_bind_their_trees;
 use storage_merkle::merkle::Graftable;
@@ -77,6 +78,13 @@ pub fn served_copies_are_whole()
 {
     own_current_proofs_are_accepted();
     own_current_proofs_are_read_again();
+}
+
+/// The opening that a server answers, its snapshot's own, is accepted against the snapshot's canonical root.
+pub fn served_openings_are_accepted()
+    ensures { ServedOpeningsAreAccepted }
+{
+    own_openings_are_accepted();
 }
 
 /// Snapshots with one canonical root have as many operations and inactive peaks and one operations root, or two different strings of

@@ -11,9 +11,11 @@ mod required;
 mod root;
 mod roots;
 mod snapshot;
+mod tail;
 mod view;
 
 pub use contiguous::{Contiguous, LogError};
 pub use operation_tree::OperationTree;
 pub use required::{RequiredChunks, required_chunks};
 pub use snapshot::{Snapshot, chunk_pins};
+pub use tail::Tail;

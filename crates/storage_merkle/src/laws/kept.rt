@@ -1,6 +1,6 @@
 //! Trees that are kept in memory.
 
-ghost use Rattle.std.specs.Prelude.{◌≡◌, ℕ, ◌<◌, ◌≤◌, List, length, Some, option_map};
+ghost use Rattle.std.specs.Prelude.{◌≡◌, ℕ, ◌<◌, ◌≤◌, List, length, Some, IsSome, option_map};
 ghost use Rattle.storage_merkle.specs.Kept.{NodesOver, StandsFor, kept_at};
 ghost use Rattle.storage_merkle.specs.Nodes.{IsNode};
 ghost use Rattle.storage_merkle.specs.Shape.{size};
@@ -18,6 +18,16 @@ pub fn trees_keep_the_nodes_of_their_list<F: Family, D: Digest>(tree: &Mem<F, D>
         → position < size F.shape (length list)
         → option_map D.text (kept_at F.shape tree.now.boundary tree.now.pinned tree.now.nodes
         position) ≡ Some (N list height first) }
+{
+    tree.is_whole();
+}
+
+/// A tree in memory has a digest for each of its nodes from the position of its boundary's leaf on, whatever digests it was given for
+/// what is before.
+pub fn trees_keep_each_node_behind_their_boundary<F: Family, D: Digest>(tree: &Mem<F, D>)
+    ensures { (position : ℕ) → size F.shape tree.now.boundary ≤ position
+        → position < size F.shape tree.now.leaves
+        → IsSome (kept_at F.shape tree.now.boundary tree.now.pinned tree.now.nodes position) }
 {
     tree.is_whole();
 }

@@ -9,6 +9,8 @@ ghost use Rattle.storage_sync.specs.Alike.{ProveAlike};
 ghost use Rattle.storage_sync.specs.Founded.{AreCounted, HaveRoots, IsUnfounded};
 ghost use Rattle.storage_sync.specs.Pages.{IsCopy, with_floor};
 
+mod tail;
+
 use crate::laws::floors_prove_alike;
 use crate::sync::Unfounded;
 use std::alloc::Global;

@@ -5,11 +5,12 @@ ghost use Rattle.storage_sync.specs.declared.sync.unfounded.Unfounded.TheVariant
 
 use storage_codec::NoMemory;
 
-/// Why a copy with an inactivity floor is no snapshot with the roots that are trusted.
+/// Why a copy with an inactivity floor is no snapshot with the roots that are trusted, nor what one has from an operation on.
 #[derive(Clone, Copy, Debug, PartialEq, Eq, Drop, thiserror::Error)]
 pub enum Unfounded {
-    /// The copy has not one bit for each operation, or more operations than a tree may have, 2^62.
-    #[error("not one bit for each operation")]
+    /// The copy's parts do not fit together: it has not one bit for each operation, more operations than a tree may
+    /// have, 2^62, or began with another opening.
+    #[error("parts that do not fit together")]
     Malformed,
     /// The floor is past the end of the operations.
     #[error("the floor is past the end")]

@@ -1,17 +1,21 @@
 //! The tree over a snapshot's graftable chunks: its leaves are these chunks grafted over the operations' nodes.
 
-ghost use Rattle.std.specs.Prelude.{◌≡◌, ℕ, ◌-◌, ◌*◌, ◌^◌, ◌<◌, ◌≤◌, List, OnOk, IsOk};
+ghost use Rattle.std.specs.Prelude.{◌≡◌, ℕ, ◌-◌, ◌*◌, ◌^◌, ◌<◌, ◌≤◌, List, length, map, IfOk, OnOk, IsOk};
 ghost use Rattle.storage_merkle.specs.Kept.{HasRoomFor};
+ghost use Rattle.storage_merkle.specs.Shape.{max_leaves};
 ghost use Rattle.storage_bitmap.specs.Chunks.{IsChunkSize, IsRest, bit_count};
-ghost use Rattle.storage_current.specs.KeptTrees.{ArePruned, HasMoreGrafts, StandsForChunks};
+ghost use Rattle.storage_current.specs.KeptTrees.{AreGraftsFrom, ArePruned, HasMoreGrafts, StandsForChunks};
 ghost use Rattle.storage_current.specs.NodeLists.{IsGrown, IsOver};
 ghost use Rattle.storage_current.specs.Snapshots.{Snapshot as SnapshotOf, graftable, grafting_of, height, view_node};
 
 use crate::qmdb::current::grafting::{self, GraftedHasher, graft, graftable_chunks, power};
+use std::alloc::Global;
 use storage_bitmap::bitmap::{Prunable, Readable};
 use storage_codec::NoMemory;
 use storage_codec::digest::Hasher;
-use storage_merkle::laws::kept::trees_keep_the_nodes_of_their_list;
+use storage_merkle::laws::kept::{
+    trees_keep_each_node_behind_their_boundary, trees_keep_the_nodes_of_their_list,
+};
 use storage_merkle::merkle::hasher::Standard;
 use storage_merkle::merkle::mem::Mem;
 use storage_merkle::merkle::{Graftable, Position};
@@ -25,7 +29,7 @@ pub(crate) fn graft_at<F: Graftable, H: Hasher, const N: usize>(
     index: u64,
 ) -> H::Digest
     requires chunks { IsChunkSize N }
-    requires grown { IsGrown H.Digest.text H.hash_of F.shape operations.now }
+    requires few { operations.now.leaves ≤ max_leaves }
     requires bits { ArePruned (grafting_of F.shape N) operations.now status.now }
     requires kept { status.now.pruned ≤ index }
     requires within { index < graftable (grafting_of F.shape N) operations.now.leaves }
@@ -34,6 +38,7 @@ pub(crate) fn graft_at<F: Graftable, H: Hasher, const N: usize>(
         → H.Digest.text result ≡ view_node H.hash_of g s (index * 2 ^ height g) (height g) }
 {
     trees_keep_the_nodes_of_their_list(operations);
+    trees_keep_each_node_behind_their_boundary(operations);
     let height = grafting::height::<N>();
     let position = Position::new(F::position(index * power(height), height));
     let inner = operations.get_node(position).unwrap();
@@ -75,4 +80,30 @@ pub(crate) fn append_grafts<F: Graftable, H: Hasher, const N: usize>(
         }
     }
     Ok(())
+}
+
+/// Returns the digests of the graftable chunks of `status` that are not pruned, grafted over the nodes that `operations`
+/// keeps.
+pub(crate) fn grafts_behind<F: Graftable, H: Hasher, const N: usize>(
+    alloc: Global,
+    operations: &Mem<F, H::Digest>,
+    status: &Prunable<N>,
+) -> Result<Vec<H::Digest>, NoMemory>
+    requires chunks { IsChunkSize N }
+    requires few { operations.now.leaves ≤ max_leaves }
+    requires bits { ArePruned (grafting_of F.shape N) operations.now status.now }
+    ensures count { IfOk result (λ v. length v.items
+        ≡ graftable (grafting_of F.shape N) operations.now.leaves - status.now.pruned) }
+    ensures own { let g = grafting_of F.shape N in IfOk result (λ v. (s : SnapshotOf)
+        → IsRest N status.now s.bits
+        → IsOver H.Digest.text H.hash_of F.shape operations.now s.operations
+        → AreGraftsFrom H.hash_of g s status.now.pruned (map H.Digest.text v.items)) }
+{
+    let count = graftable_chunks::<F>(operations.leaves().as_u64(), grafting::height::<N>());
+    let mut grafts = Vec::new(alloc);
+    for index in status.pruned_chunks() as u64..count {
+        let digest = graft_at::<F, H, N>(operations, status, index);
+        grafts.push(digest)?;
+    }
+    Ok(grafts)
 }

@@ -25,6 +25,7 @@ graft_at-digest-requires g c =
     let within : c.loop-index.index < graftable G m.leaves = omega (arith, total, c.loop-index-test.true) in
     let from : c.args.status.now.pruned ≤ c.loop-index.index =
     omega (arith, c.requires.kept, c.loop-index.invariant.first) in
+    let few : m.leaves ≤ 2 ^ 62 = c.requires.grown.few in
     search rules
 
 pub add_leaf-requires : goal.add_leaf-requires

@@ -6,7 +6,7 @@ use Rattle.storage_bitmap.specs.Chunks.{bit_count}
 use Rattle.storage_current.specs.Laws.Grafting.{height_of_power}
 use Rattle.storage_current.specs.Laws.Retained.{behind}
 use Rattle.storage_current.specs.Snapshots.{Grafting, graftable}
-use Rattle.storage_current.proofs.MemViews.{chunk_grafted, chunk_site, kept_is, kept_some, told_bytes}
+use Rattle.storage_current.proofs.MemViews.{chunk_grafted, chunk_site, kept_is, told_bytes}
 use Rattle.storage_current.proofs.Retaining.{pruned_behind}
 use Rattle.storage_current.proofs.Roots.{kept_chunk}
 use Rattle.storage_current.proofs.qmdb.current.chunk_tree.graft_at.Goals as goal
@@ -19,7 +19,7 @@ overflow_mul-index g c =
     let level = height_of_power S g.row.N _ c.height-height.ensures.power in
     let s = chunk_site G g.met.F.Family.laws c.args.operations.now.leaves c.args.index
     (graftable G c.args.operations.now.leaves) r level refl c.requires.within in
-    rw c.power.ensures (omega (arith, s.ends, c.requires.grown.few))
+    rw c.power.ensures (omega (arith, s.ends, c.requires.few))
 
 pub position-requires-clause-aligned : goal.position-requires-clause-aligned
 position-requires-clause-aligned g c =
@@ -39,7 +39,7 @@ position-requires-clause-fits g c =
     let level = height_of_power S g.row.N _ c.height-height.ensures.power in
     let s = chunk_site G g.met.F.Family.laws c.args.operations.now.leaves c.args.index
     (graftable G c.args.operations.now.leaves) r level refl c.requires.within in
-    rw c.power.ensures (omega (arith, s.before, c.requires.grown.few))
+    rw c.power.ensures (omega (arith, s.before, c.requires.few))
 
 pub unwrap-inner-requires : goal.unwrap-inner-requires
 unwrap-inner-requires g c =
@@ -53,9 +53,8 @@ unwrap-inner-requires g c =
     let a : ℕ = c.args.index * 2 ^ r in
     let start : m.boundary ≤ a = pruned_behind G m c.args.status.now c.args.index r level c.requires.bits c.requires.kept in
     rw (c.get_node.ensures, c.new-position.ensures, c.position.ensures, c.power.ensures)
-    (kept_some g.H.Digest.Digest.text g.H.Hasher.hash_of S g.met.F.Family.laws m
-    c.trees_keep_the_nodes_of_their_list.ensures c.requires.grown (S.position a r) a r
-    (record { aligned = s.aligned; at = refl }) (behind S g.met.F.Family.laws m.boundary a r s.aligned start) s.before)
+    (c.trees_keep_each_node_behind_their_boundary.ensures (S.position a r)
+    (behind S g.met.F.Family.laws m.boundary a r s.aligned start) s.before)
 
 pub get_chunk-requires : goal.get_chunk-requires
 get_chunk-requires g c =
@@ -91,7 +90,7 @@ returns g c s rest over =
     let below : i < graftable G (length s.operations) = rw (← n) c.requires.within in
     let inner = told_bytes text c.get_node.result (kept_at S m.boundary m.pinned m.nodes p) c.unwrap-inner.result
     (tree_node h (ungrafted S) (listed s.operations) (i * 2 ^ r) r) read c.unwrap-inner.ensures
-    (kept_is text h S L m c.trees_keep_the_nodes_of_their_list.ensures c.requires.grown s.operations over p
+    (kept_is text h S L m c.trees_keep_the_nodes_of_their_list.ensures (record { few = c.requires.few; list = _; stands = over }) s.operations over p
     (i * 2 ^ r) r (record { aligned = at.aligned; at = refl }) (behind S L m.boundary (i * 2 ^ r) r at.aligned start)
     (rw (← n) at.before)) in
     chunk_grafted h G L s i i r c.get_chunk.result (text c.graft.result)

@@ -21,6 +21,7 @@ graft_at-digest-requires g c =
     let from : c.args.status.now.pruned ≤ get_or touched i 0 = here.0 in
     let within : get_or touched i 0 < graftable G c.args.operations.now.leaves =
     omega (arith, here.1, c.requires.within) in
+    let few : c.args.operations.now.leaves ≤ 2 ^ 62 = c.requires.grown.few in
     search rules
 
 pub loop-index-preserved : goal.loop-index-preserved
