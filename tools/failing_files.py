@@ -3,9 +3,9 @@
 
     tools/failing_files.py [PROGRAM]
 
-PROGRAM is crates/file_tests/out/file_tests_tests, which `rt ci` leaves, if none is named. Its test `load` stores commits in a file; where
-something fails it opens the file again, compares the root with those of its commits, and goes on. The test is run once with nothing wrong.
-Then each of its calls that reads, writes, cuts or syncs a file goes wrong in turn, in seven ways.
+PROGRAM is crates/stored_tests/out/stored_tests_tests, which `rt ci` leaves, if none is named. Its test `load` stores commits in a file;
+where something fails it opens the file again, compares the root with those of its commits, and goes on. The test is run once with nothing
+wrong. Then each of its calls that reads, writes, cuts or syncs a file goes wrong in turn, in seven ways.
 
 The call fails, or the disk is full, or one byte is moved: the test must pass. Or the test is killed before the call, or when half of its
 bytes are written; or it is killed before it, and what was not synced is lost, or all of that but the last change, as where the power is cut.
@@ -153,7 +153,7 @@ def test_of_load(program):
 
 
 def main():
-    program = pathlib.Path(sys.argv[1] if sys.argv[1:] else ROOT / "crates/file_tests/out/file_tests_tests").resolve()
+    program = pathlib.Path(sys.argv[1] if sys.argv[1:] else ROOT / "crates/stored_tests/out/stored_tests_tests").resolve()
     if not program.is_file():
         print(f"{program} is not there: nothing was run")
         return NOT_RUN

@@ -1,7 +1,7 @@
 //! Databases in files. A function that makes calls at a file's own store takes some twenty seconds to prove, however many they are:
 //! so one does, for all tests, and what it does is over any store.
 
-use crate::{journals, stored, tables};
+use crate::{journals, tables};
 use sqlite::{Alter, Connection};
 use std::alloc::Global;
 use std::fs;
@@ -19,10 +19,6 @@ pub(crate) enum Work {
     FillJournal,
     /// Reads it.
     ReadJournal,
-    /// Stores the commits of a database.
-    FillCommits,
-    /// Opens the database of the commits.
-    ReadCommits,
 }
 
 /// Does `work` with a database. Returns its journal, and whether the database has what `written` has.
@@ -36,8 +32,6 @@ fn journal_after<S: Alter + Drop>(
         Work::ReadTables => Ok(tables::read_all(alloc, conn)?),
         Work::FillJournal => Ok((journals::filled(alloc, conn)?, true)),
         Work::ReadJournal => Ok(journals::read_all(alloc, conn)?),
-        Work::FillCommits => stored::fill_all(alloc, conn),
-        Work::ReadCommits => stored::read_all(alloc, conn),
     }
 }
 

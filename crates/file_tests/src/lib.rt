@@ -4,18 +4,8 @@
 #[cfg(test)]
 mod agreed;
 #[cfg(test)]
-mod commands;
-#[cfg(test)]
-mod databases;
-#[cfg(test)]
 mod files;
 #[cfg(test)]
 mod journals;
-#[cfg(test)]
-mod kept;
-#[cfg(test)]
-mod load;
-#[cfg(test)]
-mod stored;
 #[cfg(test)]
 mod tables;

@@ -1,8 +1,7 @@
 //! A load of commits on a file, which is opened again and goes on after whatever fails. `tools/failing_files.py` has each call of the
 //! system that reads, writes or syncs fail in turn, and kills the load there.
 
-use crate::kept::{Change, Kept, Last, Refusal, close, open, open_file};
-use crate::tables::in_memory;
+use crate::kept::{Change, Kept, Last, Refusal, close, in_memory, open, open_file};
 use std::alloc::Global;
 use std::fs::{self, File};
 use std::io::{self, Write};

@@ -1,7 +1,6 @@
 //! A stored database that is given commands which look random, and is opened again anywhere among them, beside a plain map.
 
-use crate::kept::{Change, InMemory, Kept, Refusal, committed, connection, open, value};
-use crate::tables::in_memory;
+use crate::kept::{Change, InMemory, Kept, Refusal, committed, connection, in_memory, open, value};
 use std::alloc::Global;
 use std::process::Abort;
 use std::test::Fail;

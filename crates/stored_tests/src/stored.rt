@@ -1,14 +1,13 @@
-//! The commits of a database, stored in memory and in a file, and opened again.
+//! The commits of a database, stored in memory and opened again.
 
-use crate::files::{Work, comes_back};
-use crate::tables::{commit_at, execute, in_memory};
+use crate::kept::{execute, in_memory};
 use sqlite::{Alter, Connection, Error as SqlError, ErrorCode, MemStore};
 use std::alloc::Global;
 use std::test::Fail;
 use storage_codec::codec::FixedBytes;
 use storage_codec::digest::Sha256;
 use storage_db::db::Ordered;
-use storage_file::{Agreement, Contents, Error as FileError, Journal};
+use storage_file::{Agreement, Commit, Contents, Error as FileError, Journal};
 use storage_merkle::merkle::mmr;
 use storage_ops::qmdb::any::FixedEncoding;
 use storage_stored::{is_stored, store_commit};
@@ -164,29 +163,10 @@ fn kept_answers<S: Alter + Drop>(
     Ok((journal, answers(&database), stored))
 }
 
-/// Stores both commits in an empty database.
-pub(crate) fn fill_all<S: Alter + Drop>(
-    alloc: Global,
-    conn: Connection<S>,
-) -> Result<(Journal<S>, bool), Fail> {
-    let (journal, _) = filled(alloc, conn)?;
-    Ok((journal, true))
-}
-
 /// Tells whether a connection keeps both commits, and nothing that was put since.
-pub(crate) fn read_all<S: Alter + Drop>(
-    alloc: Global,
-    conn: Connection<S>,
-) -> Result<(Journal<S>, bool), Fail> {
-    let (journal, found, stored) = kept_answers(alloc, conn)?;
-    let is_both = stored && are_of_both(alloc, &found)?;
-    Ok((journal, is_both))
-}
-
-/// The same of a connection to memory.
 fn has_both(alloc: Global, conn: Connection<MemStore>) -> Result<bool, Fail> {
-    let (_, is_both) = read_all(alloc, conn)?;
-    Ok(is_both)
+    let (_, found, stored) = kept_answers(alloc, conn)?;
+    Ok(stored && are_of_both(alloc, &found)?)
 }
 
 #[test]
@@ -207,8 +187,12 @@ fn stored_without_commit(alloc: Global) -> Result<(bool, Result<(), Error>), Fai
 
 /// Returns whether a row is that of the last commit of the empty database.
 fn is_of_nothing(alloc: Global) -> Result<bool, Fail> {
-    let commits = vec![in alloc; commit_at(alloc, 0, 0, b"root")?]?;
-    Ok(is_stored(&commits, &Database::new(alloc)))
+    let commit = Commit {
+        location: 0,
+        floor: 0,
+        root: Vec::from_slice(alloc, b"root")?,
+    };
+    Ok(is_stored(&vec![in alloc; commit]?, &Database::new(alloc)))
 }
 
 #[test]
@@ -268,12 +252,5 @@ fn a_refused_commit_leaves_the_one_before(rt: HostRuntime) -> Result<(), Fail> {
     let mut conn = journal.into_connection();
     execute(&mut conn, "ROLLBACK")?;
     assert!(rt; has_both(alloc, conn)?);
-    Ok(())
-}
-
-#[test]
-fn stored_commits_come_back_from_a_file(rt: HostRuntime) -> Result<(), Fail> {
-    let folder = "stored_test";
-    assert!(rt; comes_back(&rt, folder, Work::FillCommits, Work::ReadCommits)?);
     Ok(())
 }

@@ -1,8 +1,8 @@
 //! A stored database over memory and over a file, by calls without a contract. A call of `Stored` owes that its type takes fewer than
 //! 2^63 bytes, which the prover finds of a type in which nothing is left open: so they stand here once for each store.
 
-use sqlite::{Connection, File, FileStore, MemStore};
-use std::alloc::Global;
+use sqlite::{Alter, Connection, Error as SqlError, File, FileStore, MemStore};
+use std::alloc::{AllocError, Global};
 use storage_codec::codec::FixedBytes;
 use storage_codec::digest::Sha256;
 use storage_file::Agreement;
@@ -152,4 +152,15 @@ pub(crate) fn compact(database: &mut InMemory, count: u64) -> Result<u64, Refusa
 /// Gives the connection back.
 pub(crate) fn connection(database: InMemory) -> Connection<MemStore> {
     database.into_connection()
+}
+
+/// Returns an empty database in memory.
+pub(crate) fn in_memory(alloc: Global) -> Result<Connection<MemStore>, AllocError> {
+    Connection::open_in_memory(alloc)
+}
+
+/// Runs a statement.
+pub(crate) fn execute<S: Alter>(conn: &mut Connection<S>, statement: &str) -> Result<(), SqlError> {
+    conn.execute(statement, &[])?;
+    Ok(())
 }

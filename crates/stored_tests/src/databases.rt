@@ -1,7 +1,8 @@
 //! Databases that keep their commits, in memory and in a file, opened again.
 
-use crate::kept::{Change, Kept, Last, Refusal, close, compact, connection, open, open_file};
-use crate::tables::{execute, in_memory};
+use crate::kept::{
+    Change, Kept, Last, Refusal, close, compact, connection, execute, in_memory, open, open_file,
+};
 use sqlite::{Connection, Error as SqlError, ErrorCode, MemStore};
 use std::alloc::Global;
 use std::fs;
