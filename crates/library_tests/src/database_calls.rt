@@ -50,6 +50,21 @@ pub fn compact<F: Graftable, H: Hasher, K: Key, V: OrderedCodec<F, K>, const N: 
     database.compact(count, cfg)
 }
 
+/// Forgets the operations before `location` that can be.
+pub fn prune<F: Graftable, H: Hasher, K: Key, V: OrderedCodec<F, K>, const N: usize>(
+    database: &mut Ordered<F, H, K, V, N>,
+    location: Location<F>,
+) -> Result<(), Error<F>> {
+    database.prune(location)
+}
+
+/// Returns how many operations are forgotten.
+pub fn pruned<F: Graftable, H: Hasher, K: Key, V: OrderedCodec<F, K>, const N: usize>(
+    database: &Ordered<F, H, K, V, N>,
+) -> u64 {
+    database.pruned()
+}
+
 /// Returns the proof of at most `count` operations from `start` on, the operations, and the chunks that they touch.
 pub fn page<F: Graftable, H: Hasher, K: Key, V: OrderedCodec<F, K>, const N: usize>(
     database: &Ordered<F, H, K, V, N>,

@@ -27,6 +27,8 @@ mod opened;
 #[cfg(test)]
 mod pins;
 #[cfg(test)]
+mod pruned;
+#[cfg(test)]
 mod pruned_snapshots;
 #[cfg(test)]
 mod refused;

@@ -36,7 +36,7 @@ module _ {K W Y : Type 0} (e : Keyed K W) (seen : W → Y) (is : IsKeyed e) (h :
   command_ok old view =
       ok_with e seen is h g after n es fs last old step r
       (subst (λ (b : Bool). OnOk r (b ≡ true → AreAlike e.cmp es fs)) told alike)
-      (done_ok e seen h g step log after m n (with_all es last) old view r does few on)
+      (done_ok e seen h g command log after m n (with_all es last) old view r does few)
 
   pub command_err : (old : KeptDatabase K W) → before ≡ old → OnErr r (now ≡ old)
   command_err old view =

@@ -1,5 +1,5 @@
 -- A commit, from what its steps say: the room for it is made first, and the last that may be refused is what is kept of it.
-use Rattle.std.proofs.Common.{◌≡◌, ℕ, ◌+◌, ◌-◌, ◌^◌, Bool, true, false, List, [], ◌∷◌, ◌++◌, length, map, take, Option, Some, None, nat_lt, refl, sym, ap, ap₂, ◌∙◌, subst, arith}
+use Rattle.std.proofs.Common.{◌≡◌, ℕ, ◌+◌, ◌-◌, ◌≤◌, ◌^◌, Bool, true, false, List, [], ◌∷◌, ◌++◌, length, take, Option, Some, None, nat_lt, refl, sym, ap, ap₂, ◌∙◌, subst, arith}
 use Rattle.std.specs.Global.{Vec}
 use Rattle.std.specs.Prelude.{IsSomeAnd}
 use Rattle.std.proofs.Math.Seq.{take-append_seam}
@@ -10,12 +10,14 @@ use Rattle.storage_current.specs.Snapshots.{Grafting, Snapshot}
 use Rattle.storage_db.specs.declared.db.active.Active.{Active}
 use Rattle.storage_db.specs.declared.db.log.Log.{Log}
 use Rattle.storage_db.specs.Databases.{Command, Committed, Database, least_location, commit}
+use Rattle.storage_db.specs.Floors.{floor_of}
 use Rattle.storage_db.specs.Logs.{cleared_at}
 use Rattle.storage_db.specs.Parts.{GoesOn, IsCommitOf, IsKeptOf, IsSince, database_of, kept_of, place_of, texts}
-use Rattle.storage_db.specs.Kept.{IsDone, KeptDatabase, KeptCommit, Keeps}
+use Rattle.storage_db.specs.Kept.{IsDone, KeptDatabase, KeptCommit, Keeps, forgetting, pruned_of}
 use Rattle.storage_db.proofs.Changing.{same_database, texts_more}
-use Rattle.storage_db.proofs.Extensions.{kept_now, place_within, since_settled}
-use Rattle.storage_db.proofs.Going.{first_more, goes_appended, goes_same, since_on, texts_on}
+use Rattle.storage_db.proofs.Extensions.{kept_now, place_within, since_settled, snapshot_with}
+use Rattle.storage_db.proofs.Forgetting.{forgetting_append, pruned_low, pruned_within}
+use Rattle.storage_db.proofs.Going.{first_more, goes_appended, goes_same, since_on}
 use Rattle.storage_db.proofs.Keeping.{same_kept, committed_of}
 use Rattle.storage_db.proofs.Told.{no_more}
 
@@ -65,6 +67,12 @@ module _ {K W Y : Type 0} (e : Keyed K W) (seen : W → Y) (h : HashFunction) (g
   done_with_room log room m last new command more =
       subst (λ (k : KeptDatabase K W). IsDone e seen h g k new command) (kept_same log room m last last more refl)
 
+  -- and what is kept is kept with the room
+  pub keeps_with_room : (log room : Log) (m : List (K × Active W)) (last : Option (KeptCommit K W)) → HasRoomMore log room
+      → (d : Database K W) → Keeps e seen h g (kept_of log m last) d → Keeps e seen h g (kept_of room m last) d
+  keeps_with_room log room m last more d keeps =
+      subst (λ (k : KeptDatabase K W). Keeps e seen h g k d) (sym (kept_same log room m last last more refl)) keeps
+
   module _ (room made after : Log) (m : List (K × Active W)) (last : Option (KeptCommit K W)) (bytes : Vec ℕ)
       (one : HasOneMore room made bytes) (since : IsSince room last) (before : Option ℕ)
       (before_is : before ≡ place_of last) (settled : IsSettled made after before) (metadata : Option W) (floor : ℕ) where
@@ -81,47 +89,56 @@ module _ {K W Y : Type 0} (e : Keyed K W) (seen : W → Y) (h : HashFunction) (g
         ∙ place_within room last true since
         ∙ ap (λ (o : Option ℕ). cleared_at o room.bits.items ++ true ∷ []) (sym before_is)
 
+    -- what is kept now stands for the snapshot of the database's operations and this one
+    stands_now : (c : KeptCommit K W) → IsCommitOf e seen h g made m last metadata floor c → (d : Database K W)
+        → Keeps e seen h g (kept_of room m last) d
+        → IsKeptOf h g c (snapshot_with (d.operations ++ bytes.items ∷ []) (cleared_at (place_of last) made.bits.items) floor)
+    stands_now c is d keeps =
+        let all : List (List ℕ) = d.operations ++ bytes.items ∷ [] in
+        let within : pruned_of last ≤ length d.operations = pruned_within e seen h g (kept_of room m last) d keeps in
+        let are : texts made ≡ forgetting (pruned_of last) all
+        = texts_more room made bytes one.operations ∙ ap (λ (l : List (List ℕ)). l ++ bytes.items ∷ []) keeps.operations
+        ∙ sym (forgetting_append (pruned_of last) d.operations (bytes.items ∷ []) within) in
+        kept_now e seen h g made c (λ o. snapshot_with o (cleared_at (place_of last) made.bits.items) floor) all last d.last are
+        keeps.last (first_more d.operations all (bytes.items ∷ []) refl d.last keeps.prefix) since_made is.snapshot
+
     -- what is kept now is that of the database after the commit
-    one_committed : (c : KeptCommit K W) → floor ≡ least_location m (length room.operations.items)
+    one_committed : (c : KeptCommit K W) → floor_of last ≤ floor → floor ≡ least_location m (length room.operations.items)
         → bytes.items ≡ commit_text e metadata floor → IsCommitOf e seen h g made m last metadata floor c
         → (d : Database K W) → Keeps e seen h g (kept_of room m last) d
         → (nat_lt (2 ^ 62) (length (commit e d metadata).operations) ≡ false)
-        × Keeps e seen h g (kept_of after m (Some c)) (commit e d metadata)
-    one_committed c floor_is written is d keeps =
-        let on : GoesOn room made = one_goes room made bytes one in
+        × Keeps e seen h g (kept_of after m (Some c)) (commit e d metadata) × (pruned_of (Some c) ≡ pruned_of last)
+    one_committed c later floor_is written is d keeps =
+        let all : List (List ℕ) = d.operations ++ bytes.items ∷ [] in
         let least : ℕ = least_location m (length room.operations.items) in
-        let S : List (List ℕ) → List Bool → ℕ → Snapshot = λ o b f. record { operations = o; bits = b; floor = f } in
-        let whole : IsKeptOf h g c (S (texts made) (cleared_at (place_of last) made.bits.items) floor)
-        = kept_now e seen h g made c (S (texts made) (cleared_at (place_of last) made.bits.items) floor) last d.last keeps.last
-        (first_more d.operations (texts made) _
-        (texts_on room made on ∙ ap (λ (l : List (List ℕ)). l ++ map (λ (v : Vec ℕ). v.items) on.more) keeps.operations) d.last keeps.prefix)
-        since_made is.snapshot in
-        let moved : S (texts made) (cleared_at (place_of last) made.bits.items) floor
-        ≡ S (texts room ++ bytes.items ∷ []) (cleared_at before room.bits.items ++ true ∷ []) least
-        = ap (λ (o : List (List ℕ)). S o (cleared_at (place_of last) made.bits.items) floor)
-        (texts_more room made bytes one.operations)
-        ∙ ap (λ (b : List Bool). S (texts room ++ bytes.items ∷ []) b floor)
-        (ap (λ (o : Option ℕ). cleared_at o made.bits.items) (sym before_is) ∙ bits_made)
-        ∙ ap (λ (f : ℕ). S (texts room ++ bytes.items ∷ []) (cleared_at before room.bits.items ++ true ∷ []) f) floor_is in
-        let there : IsKeptOf h g c (S (texts room ++ bytes.items ∷ []) (cleared_at before room.bits.items ++ true ∷ []) least)
-        = subst (λ (s : Snapshot). IsKeptOf h g c s) moved whole in
-        committed_of e seen h g room after m last d keeps metadata c bytes before
+        let moved : snapshot_with all (cleared_at (place_of last) made.bits.items) floor
+        ≡ snapshot_with all (cleared_at before room.bits.items ++ true ∷ []) least
+        = ap₂ (λ (b : List Bool) (f : ℕ). snapshot_with all b f)
+        (ap (λ (o : Option ℕ). cleared_at o made.bits.items) (sym before_is) ∙ bits_made) floor_is in
+        let there : IsKeptOf h g c (snapshot_with all (cleared_at before room.bits.items ++ true ∷ []) least)
+        = subst (λ (s : Snapshot). IsKeptOf h g c s) moved (stands_now c is d keeps) in
+        let low : pruned_of last ≤ floor_of last = pruned_low e seen h g d.last last keeps.last in
+        let result = committed_of e seen h g room after m last d keeps metadata c bytes before
         (written ∙ ap (commit_text e metadata) floor_is) before_is
         (ap (λ (v : Vec (Vec ℕ)). v.items) settled.operations ∙ one.operations) (settled.bits ∙ bits_made)
-        is.metadata_is (is.floor_is ∙ floor_is) (is.count ∙ count_made) is.copies there.0 there.1 (no_more after)
+        is.metadata_is (is.floor_is ∙ floor_is) (is.count ∙ count_made) is.pruned (omega (arith, low, later, floor_is)) is.copies
+        there (no_more after) in
+        (result.0, result.1, is.pruned)
 
-    pub committed_with : (now : Option (KeptCommit K W)) → floor ≡ least_location m (length room.operations.items)
+    pub committed_with : (now : Option (KeptCommit K W)) → floor_of last ≤ floor
+        → floor ≡ least_location m (length room.operations.items)
         → bytes.items ≡ commit_text e metadata floor → IsSomeAnd now (IsCommitOf e seen h g made m last metadata floor)
         → (d : Database K W) → Keeps e seen h g (kept_of room m last) d
         → (nat_lt (2 ^ 62) (length (commit e d metadata).operations) ≡ false)
-        × Keeps e seen h g (kept_of after m now) (commit e d metadata)
-    committed_with None floor_is written is d keeps = absurd is
-    committed_with (Some c) floor_is written is d keeps = one_committed c floor_is written is d keeps
+        × Keeps e seen h g (kept_of after m now) (commit e d metadata) × (pruned_of now ≡ pruned_of last)
+    committed_with None later floor_is written is d keeps = absurd is
+    committed_with (Some c) later floor_is written is d keeps = one_committed c later floor_is written is d keeps
 
     pub since_now : (now : Option (KeptCommit K W)) → IsSomeAnd now (IsCommitOf e seen h g made m last metadata floor)
-        → IsSince after now
-    since_now None is = absurd is
-    since_now (Some c) is = since_settled made after last before c (omega (arith, count_made)) is.count is.status before_is
+        → (d : Database K W) → Keeps e seen h g (kept_of room m last) d → IsSince after now
+    since_now None is d keeps = absurd is
+    since_now (Some c) is d keeps =
+        since_settled made after last before c (omega (arith, count_made)) is.count (stands_now c is d keeps).2 before_is
         settled.operations settled.bits settled.committed settled.cleared
 
 -- a commit that was refused has been taken back

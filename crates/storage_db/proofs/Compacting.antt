@@ -14,7 +14,7 @@ use Rattle.storage_db.specs.Rings.{next_key, previous}
 use Rattle.storage_db.specs.Compacting.{AreMoved, AreOldest, IsCompact, IsCompacted, IsLeft, IsMovedOnce, IsNext, IsNotMoved, IsSoFar, IsStopped, PutsAgain, StandsAt, oldest}
 use Rattle.storage_db.specs.Databases.{Command, Database, active_at, done, empty, is_full, least_location, put, relinked, run, updated}
 use Rattle.storage_db.specs.Floors.{AreMarked, IsFirstMarked, IsMarked, floor_of}
-use Rattle.storage_db.specs.Kept.{IsDone, IsMade, KeptDatabase, Keeps}
+use Rattle.storage_db.specs.Kept.{IsDone, IsMade, KeptDatabase, Keeps, pruned_of}
 use Rattle.storage_db.specs.Parts.{place_of}
 use Rattle.storage_db.proofs.Cases.{by_bool, cond_yes, cond_no, somes}
 use Rattle.storage_db.proofs.Entries.{Sorted, lookup-insert}
@@ -25,6 +25,7 @@ use Rattle.storage_db.proofs.Said.{AreSaid}
 use Rattle.storage_db.proofs.Steps.{value_relinked}
 use Rattle.storage_db.proofs.Lists.{Kept, done_kept}
 use Rattle.storage_db.proofs.Floors.{each_of, first_is_least, least_reached, made_floored, made_marked}
+use Rattle.storage_db.proofs.Forgetting.{counted, pruned_low}
 use Rattle.storage_db.proofs.Made.{run_more}
 
 -- ---- where a search for the oldest active update begins, and what it finds
@@ -154,7 +155,7 @@ module _ {K W Y : Type 0} (e : Keyed K W) (is : IsKeyed e) (said : AreSaid e) (s
 
     each_bit : length kept.bits ≡ length kept.operations
     each_bit = ap (λ (b : List Bool). length b) made.1.bits ∙ of_kept.placed.bit_each
-        ∙ ap (λ (o : List (List ℕ)). length o) (sym made.1.operations)
+        ∙ sym (counted e seen h g kept of made.1)
 
     abbrev least : ℕ
     least = least_location kept.entries (length kept.operations)
@@ -169,6 +170,12 @@ module _ {K W Y : Type 0} (e : Keyed K W) (is : IsKeyed e) (said : AreSaid e) (s
     pub search_start : floor_of kept.last ≤ least
     search_start = subst (λ (n : ℕ). floor_of kept.last ≤ n) least_by_bits
         (marked_low is.total kept.bits (place_of kept.last) (floor_of kept.last) kept.entries marked)
+
+    -- and none of what is forgotten
+    pub behind_pruned : pruned_of kept.last ≤ least
+    behind_pruned =
+        let low : pruned_of kept.last ≤ floor_of kept.last = pruned_low e seen h g of.last kept.last made.1.last in
+        omega (arith, low, search_start)
 
     -- a search that begins before it finds the oldest
     pub oldest_found : (from : ℕ) → from ≤ least → (place : Option ℕ) → place ≡ place_of kept.last → (found : ℕ)
@@ -188,14 +195,13 @@ module _ {K W Y : Type 0} (e : Keyed K W) (is : IsKeyed e) (said : AreSaid e) (s
         → location ≡ least → IsDone e seen h g kept new command → location < least_location new.entries (length new.operations)
     moved_past new location command again at is_done =
         let result = is_done of made.1 in
-        let place : location ≡ oldest of = at ∙ ap₂ (λ (es : List (K × Active W)) (o : List (List ℕ)). least_location es (length o))
-        made.1.entries made.1.operations in
+        let place : location ≡ oldest of = at ∙ ap₂ least_location made.1.entries (counted e seen h g kept of made.1) in
         let here : PutsAgain e of.entries (oldest of) command
         = subst (λ (n : ℕ). PutsAgain e of.entries n command) place
         (subst (λ (es : List (K × Active W)). PutsAgain e es location command) made.1.entries again) in
         let past : oldest of + 1 ≤ oldest (done e of command) = (one_moved e is said of of_kept command here result.0).1.past in
         let now : least_location new.entries (length new.operations) ≡ oldest (done e of command)
-        = ap₂ (λ (es : List (K × Active W)) (o : List (List ℕ)). least_location es (length o)) result.1.entries result.1.operations in
+        = ap₂ least_location result.1.entries (counted e seen h g new (done e of command) result.1) in
         omega (arith, place, past, now)
 
     pub once_moved : (new : KeptDatabase K W) (location : ℕ) → location ≡ least → length kept.operations ≤ length new.operations
@@ -239,8 +245,7 @@ module _ {K W Y : Type 0} (e : Keyed K W) (seen : W → Y) (h : HashFunction) (g
   more_moved d moved kept new are location at command again is_done =
       let c : Database K W = run e d are.commands in
       let result = is_done c are.keeps in
-      let place : location ≡ oldest c = at ∙ ap₂ (λ (es : List (K × Active W)) (o : List (List ℕ)). least_location es (length o))
-      are.keeps.entries are.keeps.operations in
+      let place : location ≡ oldest c = at ∙ ap₂ least_location are.keeps.entries (counted e seen h g kept c are.keeps) in
       let here : PutsAgain e c.entries (oldest c) command
       = subst (λ (n : ℕ). PutsAgain e c.entries n command) place
       (subst (λ (es : List (K × Active W)). PutsAgain e es location command) are.keeps.entries again) in
@@ -269,15 +274,12 @@ module _ {K W Y : Type 0} (e : Keyed K W) (seen : W → Y) (h : HashFunction) (g
         omega (arith, first, then);
   }
 
-  counted : (old : KeptDatabase K W) (d : Database K W) → Keeps e seen h g old d → length old.operations ≡ length d.operations
-  counted old d keeps = ap (λ (o : List (List ℕ)). length o) keeps.operations
-
   -- each update that stood before the end has been put again
   pub ended : (old kept new : KeptDatabase K W) (count moved from end : ℕ) → IsSoFar e seen h g old kept moved from → moved < count
       → end ≡ length old.operations → IsNext e seen h g kept new end None → (d : Database K W) → Keeps e seen h g old d
       → IsCompacted e seen h g d count new moved
   ended old kept new count moved from end so_far fewer all next d keeps =
-      let same : length old.operations ≡ length d.operations = counted old d keeps in
+      let same : length old.operations ≡ length d.operations = counted e seen h g old d keeps in
       let here : IsCompacted e seen h g d count kept moved
       = record {
         are = so_far.are d keeps;
@@ -303,7 +305,7 @@ module _ {K W Y : Type 0} (e : Keyed K W) (seen : W → Y) (h : HashFunction) (g
       → error ≡ told → IsLeft e reads seen h g kept new end told → (d : Database K W) → Keeps e seen h g old d
       → IsStopped e reads seen h g d count new error
   stopped {F} reads old kept new count moved from end so_far fewer all error told error_is left d keeps =
-      let same : length old.operations ≡ length d.operations = counted old d keeps in
+      let same : length old.operations ≡ length d.operations = counted e seen h g old d keeps in
       let before : least_location kept.entries (length kept.operations) < end = left.before in
       let here : IsStopped e reads seen h g d count kept told
       = record {
@@ -327,6 +329,6 @@ module _ {K W Y : Type 0} (e : Keyed K W) (seen : W → Y) (h : HashFunction) (g
         same = same;
         before = omega (arith, at, before);
         why = λ d keeps. subst (λ (n : ℕ). IsNotMoved e reads d n told)
-            (at ∙ ap₂ (λ (es : List (K × Active W)) (o : List (List ℕ)). least_location es (length o)) keeps.entries keeps.operations)
+            (at ∙ ap₂ least_location keeps.entries (counted e seen h g old d keeps))
             (why d keeps);
       })

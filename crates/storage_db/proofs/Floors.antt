@@ -87,6 +87,16 @@ module _ {K W : Type 0} where
       let count : length room.bits.items ≡ length room.operations.items = omega (arith, room.each) in
       first_is_least o room.bits.items place from found es three finds ∙ ap (least_location es) count
 
+  -- and it stands at or behind the start of the search
+  pub floor_later : {cmp : K → K → Ordering} → (log room : Log) (es : List (K × Active W)) (last : Option ℕ) (start : ℕ)
+      → AreMarked cmp log.bits.items last start es → room.bits.items ≡ log.bits.items → (place : Option ℕ) (from : ℕ) → from ≡ start
+      → (found : ℕ) → (from ≤ length room.bits.items → IsFirstMarked room.bits.items place from found)
+      → (floor : ℕ) → floor ≡ found → start ≤ floor
+  floor_later log room es last start marked bits place from from_is found finds floor floor_is =
+      let count : length room.bits.items ≡ length log.bits.items = ap (λ (b : List Bool). length b) bits in
+      let first : IsFirstMarked room.bits.items place from found = finds (omega (arith, marked.within, from_is, count)) in
+      omega (arith, first.from, from_is, floor_is)
+
   -- what holds of what each key finds holds of each entry
   pub each_of : {cmp : K → K → Ordering} → IsTotalOrder cmp → (P : Active W → Type 0) (es : List (K × Active W)) → Sorted cmp es
       → ((q : K) (a : Active W) → lookup (is_at (cmp q)) es ≡ Some a → P a) → All (λ (c : K × Active W). P c.1) es

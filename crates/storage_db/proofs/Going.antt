@@ -1,15 +1,15 @@
 -- Logs that go on: what the last commit has of them stays, but for bits that are told.
-use Rattle.std.proofs.Common.{◌≡◌, ℕ, ◌<◌, ◌≤◌, Bool, false, List, [], ◌∷◌, ◌++◌, length, map, take, drop, set, Option, Some, None, refl, sym, ap, ap₂, ◌∙◌, arith, append-nil, append_assoc}
+use Rattle.std.proofs.Common.{◌≡◌, ℕ, ◌<◌, ◌≤◌, Bool, false, List, [], ◌∷◌, ◌++◌, length, take, drop, set, Option, Some, None, refl, sym, ap, ap₂, ◌∙◌, arith, append-nil, append_assoc}
 use Rattle.std.specs.Global.{Vec}
 use Rattle.std.specs.Prelude.{MatchOption}
 use Rattle.std.proofs.Math.Seq.{take-set-lt}
-use Rattle.std.proofs.lemmas.List.{drop-set-lt, length-take, map-append, take-append-drop, take-append-le, take-set-le}
+use Rattle.std.proofs.lemmas.List.{drop-set-lt, length-take, take-append-drop, take-append-le, take-set-le}
 use Rattle.storage_current.specs.Extended.{cleared}
 use Rattle.storage_db.specs.declared.db.log.Log.{Log}
 use Rattle.storage_db.specs.Databases.{Committed}
-use Rattle.storage_db.specs.Kept.{AreFirst, KeptCommit}
+use Rattle.storage_db.specs.Kept.{AreFirst, KeptCommit, bits_of}
 use Rattle.storage_db.specs.Logs.{AreCommitted}
-use Rattle.storage_db.specs.Parts.{AreLast, GoesOn, IsSince, texts}
+use Rattle.storage_db.specs.Parts.{AreLast, GoesOn, IsSince}
 
 -- ---- bits
 
@@ -99,13 +99,10 @@ since_on old new None on since = tt
 since_on old new (Some c) on since = record {
   some = since.some;
   committed = on.committed ∙ since.committed;
-  cleared = on.cleared c.snapshot.status.bits since.cleared;
+  cleared = on.cleared (bits_of c) since.cleared;
 }
 
 -- ---- operations of the last commit
-
-pub texts_on : (old new : Log) (on : GoesOn old new) → texts new ≡ texts old ++ map (λ (v : Vec ℕ). v.items) on.more
-texts_on old new on = ap (map (λ (v : Vec ℕ). v.items)) on.operations ∙ map-append _ _ _
 
 module _ {K W : Type 0} where
   one_first : (xs more : List (List ℕ)) (commit : Committed K W) → AreFirst xs commit → AreFirst (xs ++ more) commit

@@ -10,6 +10,7 @@ pub mod Notes
 pub mod Noting
 pub mod Walks
 pub mod Stepping
+pub mod Forgetting
 pub mod Keeping
 pub mod Told
 pub mod Made
@@ -34,6 +35,8 @@ pub mod Accepted
 pub mod Lists
 pub mod Answered
 pub mod Floors
+pub mod Inactive
+pub mod Pruning
 pub mod Compacting
 pub mod Again
 pub mod Moving

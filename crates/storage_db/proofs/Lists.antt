@@ -55,7 +55,7 @@ module _ {K W : Type 0} (e : Keyed K W) (is : IsKeyed e) (said : AreSaid e) wher
   set_same : (b : Bool) (o p q : Option W) → p ≡ q → cond b o p ≡ cond b o q
   set_same b o p q same = ap (λ (x : Option W). cond b o x) same
 
-  one_more : (d : Database K W) (metadata : Option W) → length (commit e d metadata).operations ≤ 2 ^ 62
+  pub one_more : (d : Database K W) (metadata : Option W) → length (commit e d metadata).operations ≤ 2 ^ 62
       → length d.operations + 1 ≤ 2 ^ 62
   one_more d metadata few = subst (λ (n : ℕ). n ≤ 2 ^ 62)
       (length-append d.operations (commit_text e metadata (least_location d.entries (length d.operations)) ∷ [])) few

@@ -1,19 +1,15 @@
 -- Databases in memory that commands left, and one command more.
-use Rattle.std.proofs.Common.{◌≡◌, ℕ, ◌≤◌, ◌^◌, List, [], ◌∷◌, ◌++◌, length, cond, Option, refl, sym, ◌∙◌, subst}
+use Rattle.std.proofs.Common.{◌≡◌, ℕ, List, [], ◌∷◌, ◌++◌, cond, refl, sym, ◌∙◌, subst}
 use Rattle.std.specs.Prelude.{Result, Ok, Err, OnOk, OnErr}
 use Rattle.storage_codec.specs.Digests.{HashFunction}
 use Rattle.std.specs.declared.cmp.Ordering.{Ordering}
 use Rattle.storage_current.specs.Keys.{Keyed, keyed_by}
 use Rattle.storage_ops.specs.Operations.{OperationView}
 use Rattle.storage_current.specs.Snapshots.{Grafting}
-use Rattle.storage_db.specs.declared.db.active.Active.{Active}
-use Rattle.storage_db.specs.declared.db.log.Log.{Log}
-use Rattle.storage_db.specs.Databases.{Committed, Database, Command, empty, done, is_full, run, Maps, no_maps, changed, maps_after}
-use Rattle.storage_db.specs.Kept.{KeptDatabase, KeptCommit, Keeps, IsMade, IsDone}
-use Rattle.storage_db.specs.Parts.{GoesOn, database_of, kept_of}
+use Rattle.storage_db.specs.Databases.{Database, Command, empty, done, is_full, run, Maps, no_maps, changed, maps_after}
+use Rattle.storage_db.specs.Kept.{KeptDatabase, Keeps, IsMade, IsDone}
 use Rattle.storage_db.specs.Promises.{EachCallIsKept}
 use Rattle.storage_db.proofs.Cases.{cond_no}
-use Rattle.storage_db.proofs.Keeping.{done_ok, kept_err}
 
 module _ {K W : Type 0} (e : Keyed K W) where
   pub run_more : (commands : List (Command K W)) (command : Command K W) (d : Database K W)
@@ -68,16 +64,3 @@ module _ {K W Y : Type 0} (e : Keyed K W) (seen : W → Y) (h : HashFunction) (g
   made_either old new command (Ok x) is_done same made = made_more old new command is_done made
   made_either old new command (Err y) is_done same made =
       subst (λ (k : KeptDatabase K W). IsMade e seen h g k) (sym same) made
-
-  -- a command that only changes the log and the active keys, or is refused
-  pub made_by : (command : Command K W) (log after : Log) (m n : List (K × Active W)) (last : Option (KeptCommit K W))
-      → {T E : Type 0} (r : Result T E)
-      → OnOk r ((l : Option (Committed K W)) → database_of after n l ≡ done e (database_of log m l) command)
-      → length after.operations.items ≤ 2 ^ 62 → GoesOn log after
-      → OnErr r ((l : Option (Committed K W)) → database_of after n l ≡ database_of log m l)
-      → IsMade e seen h g (kept_of log m last) → IsMade e seen h g (kept_of after n last)
-  made_by command log after m n last r steps few on same =
-      let step : Database K W → Database K W = λ d. done e d command in
-      made_either (kept_of log m last) (kept_of after n last) command r
-      (done_ok e seen h g step log after m n last (kept_of log m last) refl r steps few on)
-      (kept_err e seen h g step log after m n last (kept_of log m last) refl r same)

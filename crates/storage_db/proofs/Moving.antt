@@ -1,5 +1,5 @@
 -- A database in memory, once an active update was put again or that was refused.
-use Rattle.std.proofs.Common.{◌≡◌, ℕ, ◌+◌, ◌≤◌, ◌^◌, Bool, true, List, length, Option, None, is_some, refl, sym, ap, ◌∙◌, subst, arith}
+use Rattle.std.proofs.Common.{◌≡◌, ℕ, ◌+◌, ◌≤◌, ◌^◌, Bool, true, false, List, length, Option, None, is_some, nat_lt, refl, sym, ap, ◌∙◌, subst, arith}
 use Rattle.std.specs.Global.{Vec}
 use Rattle.std.proofs.lemmas.List.{length-append}
 use Rattle.std.specs.Prelude.{Result, Ok, Err, OnOk, OnErr, IfErr}
@@ -9,15 +9,30 @@ use Rattle.storage_current.specs.Snapshots.{Grafting}
 use Rattle.storage_db.specs.declared.db.active.Active.{Active}
 use Rattle.storage_db.specs.declared.db.log.Log.{Log}
 use Rattle.storage_db.specs.declared.db.ordered.compact.CompactError.{CompactError}
+use Rattle.storage_db.specs.declared.db.ordered.compact.CompactError.TheVariants.{NotRead, Refused}
 use Rattle.storage_db.specs.Compacting.{IsNotMoved, PutsAgain}
 use Rattle.storage_db.specs.Databases.{Command, Commit, Committed, Database, done}
-use Rattle.storage_db.specs.Kept.{HeldCommit, IsDone, IsMade, KeptDatabase, Keeps}
+use Rattle.storage_db.specs.Kept.{HeldCommit, IsDone, IsMade, KeptDatabase, Keeps, pruned_of}
+use Rattle.storage_db.specs.Logs.{IsTooMany}
 use Rattle.storage_db.specs.Notes.{AreAlike}
 use Rattle.storage_db.specs.Parts.{GoesOn, IsSince, database_of, kept_of, texts}
 use Rattle.storage_db.proofs.Commands.{command_err, command_made, command_ok}
 use Rattle.storage_db.proofs.Changing.{count_of_texts, same_parts}
+use Rattle.storage_db.proofs.Forgetting.{forgetting_get, forgetting_length, lacking, pruned_within}
 use Rattle.storage_db.proofs.Going.{since_on}
 use Rattle.storage_db.proofs.Remembering.{since_any, with_all}
+
+-- why it was refused where the first operations are forgotten, and the active update stands behind them
+not_lacking : {K W F : Type 0} (e : Keyed K W) (reads : List ℕ → Command K W → Type 0) (n : ℕ) (d : Database K W) (location : ℕ)
+    (error : CompactError F) → n ≤ length d.operations → n ≤ location → IsNotMoved e reads (lacking n d) location error
+    → IsNotMoved e reads d location error
+not_lacking e reads n d location (NotRead place) few behind why = (
+  why.0,
+  subst (λ (k : ℕ). nat_lt (2 ^ 62) (k + 1) ≡ false) (forgetting_length n d.operations few) why.1,
+  λ operation there. why.2 operation (forgetting_get n location d.operations behind ∙ there),
+)
+not_lacking e reads n d location (Refused error) few behind why =
+    subst (λ (k : ℕ). IsTooMany k (k + 1) error) (forgetting_length n d.operations few) why
 
 module _ {K W Y : Type 0} (e : Keyed K W) (seen : W → Y) (is : IsKeyed e) (h : HashFunction) (g : Grafting) (log after : Log)
     (m n es fs : List (K × Active W)) (last : Option (HeldCommit W)) (since : IsSince log (with_all es last)) (location : ℕ)
@@ -75,10 +90,11 @@ module _ {K W Y : Type 0} (e : Keyed K W) (seen : W → Y) (is : IsKeyed e) (h :
   -- why it was refused, of each database that is kept
   pub again_why : (reads : List ℕ → Command K W → Type 0) {T F : Type 0} (r : Result T (CompactError F))
       → IfErr r (λ error. (l : Option (Committed K W)) → IsNotMoved e reads (database_of log m l) location error)
-      → (old : KeptDatabase K W) → before ≡ old
+      → pruned_of before.last ≤ location → (old : KeptDatabase K W) → before ≡ old
       → IfErr r (λ error. (d : Database K W) → Keeps e seen h g old d → IsNotMoved e reads d location error)
-  again_why reads (Ok x) why old view = tt
-  again_why reads (Err error) why old view = λ d keeps.
+  again_why reads (Ok x) why behind old view = tt
+  again_why reads (Err error) why behind old view = λ d keeps.
       let inside : Keeps e seen h g before d = subst (λ (k : KeptDatabase K W). Keeps e seen h g k d) (sym view) keeps in
-      subst (λ (x : Database K W). IsNotMoved e reads x location error)
-      (same_parts _ _ _ _ _ _ d.last inside.operations inside.bits inside.entries) (why d.last)
+      not_lacking e reads (pruned_of before.last) d location error (pruned_within e seen h g before d inside) behind
+      (subst (λ (x : Database K W). IsNotMoved e reads x location error)
+      (same_parts _ _ _ _ _ _ d.last inside.operations inside.bits inside.entries) (why d.last))

@@ -13,7 +13,7 @@ use Rattle.storage_db.specs.declared.db.log.Log.{Log}
 use Rattle.storage_db.specs.declared.db.ordered.opening.OpenError.{OpenError}
 use Rattle.storage_db.specs.declared.db.ordered.opening.OpenError.TheVariants.{NotALog, Memory}
 use Rattle.storage_db.specs.Databases.{Command, Committed, Database, empty, run}
-use Rattle.storage_db.specs.Kept.{AreFirst, KeptCommit, Keeps, KeepsCommit}
+use Rattle.storage_db.specs.Kept.{AreFirst, KeptCommit, Keeps, KeepsCommit, bits_of, forgetting, pruned_of}
 use Rattle.storage_db.specs.Opening.{Begins, IsCommitted, IsOpenRefused, IsOpened, IsRefusedAt, IsSame, IsSameCommit, Leave}
 use Rattle.storage_db.specs.Parts.{IsCommitOf, IsSince, database_of, kept_of}
 use Rattle.storage_db.specs.Replays.{AreReadAlike, IsPath, IsReplayOf}
@@ -189,9 +189,11 @@ module _ {K W Y : Type 0} (e : Keyed K W) (seen : W → Y) (log : Log) (m : List
       metadata = is_made.metadata_is;
       floor = is_made.floor_is;
       count = is_made.count ∙ count_of_texts log;
+      pruned = omega (arith, is_made.pruned);
       entries = is_made.copies;
       whole = is_made.snapshot.0;
       snapshot = is_made.snapshot.1;
+      bits = is_made.snapshot.2;
     }
 
     last_kept : (o : Option (Committed K W)) → MatchOption o ((log.committed ≡ 0) × (last ≡ None)) (λ c. (0 < log.committed)
@@ -213,9 +215,17 @@ module _ {K W Y : Type 0} (e : Keyed K W) (seen : W → Y) (log : Log) (m : List
         committed_is ∙ sym (take-length d.operations)
         ∙ ap (λ (l : List (List ℕ)). take (length l) d.operations) (sym committed_is)
 
+    -- nothing is forgotten
+    none_pruned : (l : Option (Option W × ℕ)) (k : Option (KeptCommit K W))
+        → MatchOption l (k ≡ None) (λ p. IsSomeAnd k (IsCommitOf e seen h g log m None p.0 p.1)) → pruned_of k ≡ 0
+    none_pruned None k is_made = ap pruned_of is_made
+    none_pruned (Some p) None is_made = absurd is_made
+    none_pruned (Some p) (Some c) is_made = is_made.pruned
+
     pub keeps : Keeps e seen h g (kept_of log m kept) d
     keeps = record {
-      operations = ap (λ (x : Database K W). x.operations) replay.is;
+      operations = ap (λ (x : Database K W). x.operations) replay.is
+          ∙ ap (λ (n : ℕ). forgetting n d.operations) (sym (none_pruned last kept made));
       bits = ap (λ (x : Database K W). x.bits) replay.is;
       entries = ap (λ (x : Database K W). x.entries) replay.is;
       last = last_kept d.last replay.last_is whole;
@@ -230,8 +240,8 @@ module _ {K W Y : Type 0} (e : Keyed K W) (seen : W → Y) (log : Log) (m : List
     since_at (Some p) (Some c) is_made some = record {
       some = subst (λ (n : ℕ). 0 < n) (sym is_made.count) some;
       committed = full ∙ sym is_made.count;
-      cleared = take_all log.committed log.bits.items (omega (arith, log.each, full)) ∙ sym is_made.status
-          ∙ ap (λ (x : List ℕ). cleared x c.snapshot.status.bits) (sym (replay.settled full));
+      cleared = take_all log.committed log.bits.items (omega (arith, log.each, full)) ∙ sym is_made.snapshot.2
+          ∙ ap (λ (x : List ℕ). cleared x (bits_of c)) (sym (replay.settled full));
     }
 
     pub since_kept : IsSince log kept

@@ -1,20 +1,14 @@
 -- The parts of a snapshot, as a proof of one operation takes them.
-use Rattle.std.proofs.Common.{◌≡◌, ℕ, ◌≤◌, Bool, List, length, Option, Some, None, sym, ap₂, ◌∙◌, arith}
+use Rattle.std.proofs.Common.{◌≡◌, ℕ, ◌≤◌, List, length, Option, Some, None, sym, ◌∙◌, arith}
 use Rattle.std.specs.Prelude.{MatchOption, Ok, Err}
 use Rattle.std.proofs.Math.Nat.{min-eq_left}
 use Rattle.storage_codec.specs.Digests.{HashFunction}
 use Rattle.storage_merkle.specs.Plans.{PlanOf}
 use Rattle.storage_bitmap.specs.Chunks.{IsRest, Retained}
 use Rattle.storage_current.specs.BuiltProofs.{ArePartsOf}
-use Rattle.storage_current.specs.Laws.Retained.{rest_first, told_true}
+use Rattle.storage_current.specs.Laws.Retained.{told_true}
 use Rattle.storage_current.specs.NodeLists.{AreNodes, told_by}
 use Rattle.storage_current.specs.Snapshots.{Grafting, Snapshot, height, ops_root_of, view_node}
-
--- what is left of bits of which none is pruned
-pub unpruned_is : (n : ℕ) (status : Retained) (bits : List Bool) → IsRest n status bits → status.pruned ≡ 0
-    → status ≡ record { pruned = 0; bits = bits }
-unpruned_is n status bits rest none =
-    ap₂ (λ (p : ℕ) (b : List Bool). record { pruned = p; bits = b }) none (rest_first n status bits rest none)
 
 -- the parts of a snapshot, and the digests of its grafted view's nodes
 pub parts_of : {D : Type 0} (text : D → List ℕ) (answers : ℕ → Option D → Type 0) (h : HashFunction) (g : Grafting)

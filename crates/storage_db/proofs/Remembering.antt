@@ -1,5 +1,5 @@
 -- What is kept of the last commit, as its entries are found another way.
-use Rattle.std.proofs.Common.{◌≡◌, ◌^◌, false, true, List, [], ◌∷◌, length, Option, Some, None, is_some, option_map, nat_lt, refl, sym, ap, ap₂, ◌∙◌}
+use Rattle.std.proofs.Common.{◌≡◌, ℕ, ◌^◌, false, true, List, [], ◌∷◌, length, Option, Some, None, is_some, option_map, nat_lt, refl, sym, ap, ap₂, ◌∙◌}
 use Rattle.std.specs.List.{AllZip}
 use Rattle.std.specs.declared.cmp.Ordering.{Ordering}
 use Rattle.std.specs.Prelude.{MatchOption, IsSomeAnd, Result, Ok, Err, OnOk, OnErr}
@@ -11,7 +11,7 @@ use Rattle.storage_db.specs.declared.db.active.ActiveKeys.{ActiveKeys}
 use Rattle.storage_db.specs.declared.db.log.Log.{Log}
 use Rattle.storage_db.specs.declared.db.notes.Note.{Note}
 use Rattle.storage_db.specs.Databases.{Committed, Database}
-use Rattle.storage_db.specs.Kept.{HeldCommit, IsCopy, KeepsCommit, Keeps, KeptCommit, KeptDatabase, with_keys}
+use Rattle.storage_db.specs.Kept.{HeldCommit, IsCopy, KeepsCommit, Keeps, KeptCommit, KeptDatabase, forgetting, pruned_of, with_keys}
 use Rattle.storage_db.specs.Notes.{AreAlike, IsAlike, taken_back}
 use Rattle.storage_db.specs.Parts.{IsSince, committed_of, kept_of, kept_with}
 use Rattle.storage_db.specs.Rings.{around, last_of, previous}
@@ -32,6 +32,11 @@ module _ {K W : Type 0} where
     committed = since.committed;
     cleared = since.cleared;
   }
+
+  -- nor for how many are forgotten
+  pruned_any : (es fs : List (K × Active W)) (last : Option (HeldCommit W)) → pruned_of (with_all es last) ≡ pruned_of (with_all fs last)
+  pruned_any es fs None = refl
+  pruned_any es fs (Some c) = refl
 
   pub kept_same_with : (log : Log) (m n es fs : List (K × Active W)) (last : Option (HeldCommit W)) → n ≡ m → fs ≡ es
       → kept_of log n (with_all fs last) ≡ kept_of log m (with_all es last)
@@ -106,9 +111,11 @@ module _ {K W Y : Type 0} (e : Keyed K W) (seen : W → Y) where
         metadata = last.metadata;
         floor = last.floor;
         count = last.count;
+        pruned = last.pruned;
         entries = alike_copies commit.entries es fs last.entries (alike refl);
         whole = last.whole;
         snapshot = last.snapshot;
+        bits = last.bits;
       }
 
       -- a database that is kept with entries is kept with ones that are alike
@@ -116,7 +123,7 @@ module _ {K W Y : Type 0} (e : Keyed K W) (seen : W → Y) where
           → (is_some last ≡ true → AreAlike e.cmp es fs) → Keeps e seen h g (kept_of log n (with_all es last)) d
           → Keeps e seen h g (kept_of log n (with_all fs last)) d
       keeps_alike log n es fs last d alike keeps = record {
-        operations = keeps.operations;
+        operations = keeps.operations ∙ ap (λ (p : ℕ). forgetting p d.operations) (pruned_any es fs last);
         bits = keeps.bits;
         entries = keeps.entries;
         last = last_alike es fs d.last last alike keeps.last;
@@ -129,12 +136,13 @@ module _ {K W Y : Type 0} (e : Keyed K W) (seen : W → Y) where
         abbrev IsStep : KeptDatabase K W → Type 0
         IsStep new = (d : Database K W) → Keeps e seen h g old d
             → (nat_lt (2 ^ 62) (length (step d).operations) ≡ false) × Keeps e seen h g new (step d)
+            × (pruned_of new.last ≡ pruned_of old.last)
 
         pub step_with : (is_some last ≡ true → AreAlike e.cmp es fs) → IsStep (kept_of after n (with_all es last))
             → IsStep (kept_of after n (with_all fs last))
         step_with alike does d keeps =
             let result = does d keeps in
-            (result.0, keeps_alike after n es fs last (step d) alike result.1)
+            (result.0, keeps_alike after n es fs last (step d) alike result.1, pruned_any fs es last ∙ result.2)
 
         pub ok_with : {T E : Type 0} (r : Result T E) → OnOk r (is_some last ≡ true → AreAlike e.cmp es fs)
             → OnOk r (IsStep (kept_of after n (with_all es last))) → OnOk r (IsStep (kept_of after n (with_all fs last)))

@@ -13,4 +13,5 @@ pub mod Trusted
 pub mod Replays
 pub mod Compacting
 pub mod Again
+pub mod Pruning
 pub mod Promises

@@ -1,5 +1,5 @@
 -- The parts of a database in memory, and how an active update moves.
-use Rattle.std.specs.Prelude.{◌≡◌, ℕ, ◌-◌, ◌<◌, Bool, true, List, ◌++◌, length, map, take, Option, Some, None, is_some, option_map, MatchOption}
+use Rattle.std.specs.Prelude.{◌≡◌, ℕ, ◌-◌, ◌<◌, Bool, true, List, ◌++◌, length, map, drop, Option, Some, None, is_some, option_map, MatchOption}
 use Rattle.std.specs.Global.{Vec}
 use Rattle.std.specs.List.{AllZip}
 use Rattle.std.specs.BTreeMap.{is_at}
@@ -13,7 +13,7 @@ use Rattle.storage_db.specs.declared.db.active.Active.{Active}
 use Rattle.storage_db.specs.declared.db.active.ActiveKeys.{ActiveKeys}
 use Rattle.storage_db.specs.declared.db.log.Log.{Log}
 use Rattle.storage_db.specs.Databases.{Committed, Database}
-use Rattle.storage_db.specs.Kept.{HeldCommit, IsCopy, KeptCommit, KeptDatabase, with_keys}
+use Rattle.storage_db.specs.Kept.{HeldCommit, IsCopy, KeptCommit, KeptDatabase, bits_of, pruned_of, with_keys}
 use Rattle.storage_db.specs.Notes.{AreAlike, taken_back}
 use Rattle.storage_db.specs.Logs.{AreCommitted, cleared_at}
 
@@ -37,7 +37,7 @@ pub record GoesOn (old new : Log) : Type 0 where
 pub record IsSinceCommit {K W : Type 0} (log : Log) (commit : KeptCommit K W) : Type 0 where
   pub some : 0 < commit.count
   pub committed : log.committed ≡ commit.count
-  pub cleared : AreLast log commit.snapshot.status.bits
+  pub cleared : AreLast log (bits_of commit)
 
 abbrev pub IsSince : {K W : Type 0} → Log → Option (KeptCommit K W) → Type 0
 IsSince log last = MatchOption last (Unit {0}) (IsSinceCommit log)
@@ -94,24 +94,25 @@ moved test entries location = moved_to (lookup test entries) test entries locati
 abbrev pub place_of : {K W : Type 0} → Option (KeptCommit K W) → Option ℕ
 place_of {K} {W} before = option_map (λ (commit : KeptCommit K W). commit.count - 1) before
 
--- a commit that is kept stands for a well-formed snapshot
+-- a commit that is kept stands for a well-formed snapshot, and has the bits of that
 abbrev pub IsKeptOf : {K W : Type 0} → HashFunction → Grafting → KeptCommit K W → Snapshot → Type 0
-IsKeptOf h g commit s = IsSnapshot s × StandsForSnapshot h g commit.snapshot s
+IsKeptOf h g commit s = IsSnapshot s × StandsForSnapshot h g commit.snapshot s × (bits_of commit ≡ s.bits)
 
 module _ {K W Y : Type 0} (e : Keyed K W) (seen : W → Y) (h : HashFunction) (g : Grafting) where
   -- A commit that is kept is that of the last operation of a log, with this value and floor, and of the commit before it the bit is
-  -- cleared: it stands for the snapshot of the operations, if the commit before it did for that of its own.
+  -- cleared. As many operations are forgotten as were before. It stands for the snapshot of the operations; where there was a commit
+  -- before it, of those of the snapshot that it stood for and of those behind them.
   pub record IsCommitOf (log : Log) (entries : List (K × Active W)) (before : Option (KeptCommit K W)) (metadata : Option W)
       (floor : ℕ) (commit : KeptCommit K W) : Type 0 where
     pub metadata_is : commit.metadata ≡ metadata
     pub floor_is : commit.floor ≡ floor
     pub count : commit.count ≡ length log.operations.items
+    pub pruned : commit.pruned ≡ pruned_of before
     pub copies : AllZip (IsCopy e seen) entries commit.entries
-    pub status : commit.snapshot.status.bits ≡ cleared_at (place_of before) log.bits.items
-    pub snapshot : let s : Snapshot = record {
-      operations = texts log;
+    pub snapshot : let s : List (List ℕ) → Snapshot = λ operations. record {
+      operations = operations;
       bits = cleared_at (place_of before) log.bits.items;
       floor = floor;
     } in
-        MatchOption before (IsKeptOf h g commit s) (λ b. (t : Snapshot) → IsSnapshot t → StandsForSnapshot h g b.snapshot t
-        → t.operations ≡ take log.committed (texts log) → IsKeptOf h g commit s)
+        MatchOption before (IsKeptOf h g commit (s (texts log))) (λ b. (t : Snapshot) → IsKeptOf h g b t
+        → length t.operations ≡ log.committed → IsKeptOf h g commit (s (t.operations ++ drop log.committed (texts log))))

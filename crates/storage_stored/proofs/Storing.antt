@@ -1,6 +1,6 @@
 -- What a commit puts into the tables, and what a crash leaves of them.
-use Rattle.std.proofs.Common.{◌≡◌, ◌⊎◌, inl, inr, ℕ, ◌≤◌, List, length, map, take, drop, Option, Some, IsTrue, Result, Ok, Err, OnErr, sym, ap, ap₂, ◌∙◌, arith}
-use Rattle.std.proofs.lemmas.List.{drop-map, length-map}
+use Rattle.std.proofs.Common.{◌≡◌, ◌⊎◌, inl, inr, ℕ, ◌+◌, ◌-◌, ◌≤◌, List, length, map, take, drop, Option, Some, IsTrue, Result, Ok, Err, OnErr, sym, ap, ◌∙◌, arith}
+use Rattle.std.proofs.lemmas.List.{drop-drop, drop-map, length-drop, length-map}
 use Rattle.sqlite.specs.Store.{Ghosts}
 use Rattle.sqlite.specs.Tree.{Trees}
 use Rattle.sqlite.specs.Held.{state}
@@ -23,12 +23,20 @@ on_err (Err e) p = p
 abbrev pub Settles : {S : Type 0} → Ghosts S → Journal S → Type 0
 Settles store journal = (db : Trees) → IsTrue (state store journal.conn).is_open → (state store journal.conn).may_leave db → db ≡ (state store journal.conn).committed.trees
 
+-- the operations from a location on, of those that are not forgotten
+pub rest_behind : {X : Type 0} (f : X → List ℕ) (operations more : List X) (pruned start : ℕ) (all : List (List ℕ)) → map f operations ≡ drop pruned all
+    → pruned ≤ start → start ≤ length all → (start - pruned ≤ length operations → more ≡ drop (start - pruned) operations) → map f more ≡ drop start all
+rest_behind f operations more pruned start all is low few rest =
+    let count : length operations ≡ length all - pruned = sym (length-map operations f) ∙ ap length is ∙ length-drop pruned all in
+    let place : pruned + (start - pruned) ≡ start = omega (arith, low) in
+    ap (map f) (rest (omega (arith, count, few, low))) ∙ sym (drop-map f (start - pruned) operations) ∙ ap (drop (start - pruned)) is
+    ∙ drop-drop (start - pruned) pruned all ∙ ap (λ n. drop n all) place
+
 -- the operations from the end of the lists on
-pub rest_is : {X : Type 0} (f : X → List ℕ) (operations more : List X) (start : ℕ) (all first : List (List ℕ)) → map f operations ≡ all → start ≡ length first
-    → first ≡ take (length first) all → (start ≤ length operations → more ≡ drop start operations) → map f more ≡ drop (length first) all
-rest_is f operations more start all first is at begins rest =
-    let low : start ≤ length operations = omega (arith, within_taken first all begins, ap length is, length-map operations f) in
-    ap (map f) (rest low) ∙ sym (drop-map f start operations) ∙ ap₂ drop at is
+pub rest_is : {X : Type 0} (f : X → List ℕ) (more : List X) (start : ℕ) (all first : List (List ℕ)) → start ≡ length first
+    → first ≡ take (length first) all → (start ≤ length all → map f more ≡ drop start all) → map f more ≡ drop (length first) all
+rest_is f more start all first at begins rest =
+    rest (omega (arith, at, within_taken first all begins)) ∙ ap (λ n. drop n all) at
 
 module _ (h : HashFunction) (g : Grafting) {K W : Type 0} where
   pub holds_either : (db : Trees) (lists : Kept) (last : Option (Committed K W)) (P : Type 0) → AreListsOf h g lists last → Holds db lists ⊎ P → HoldsLast h g db last ⊎ P

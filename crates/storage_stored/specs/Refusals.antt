@@ -14,7 +14,7 @@ use Rattle.storage_db.specs.Kept.{KeptDatabase, Keeps}
 use Rattle.storage_file.specs.declared.error.Error as file
 use Rattle.storage_file.specs.declared.error.Error.TheVariants as of_file
 use Rattle.storage_stored.specs.declared.error.Error.{Error}
-use Rattle.storage_stored.specs.declared.error.Error.TheVariants.{Foreign, Corrupted, Store, Stopped, NotCommitted, Absent, Present, Full, RangeOutOfBounds, Memory}
+use Rattle.storage_stored.specs.declared.error.Error.TheVariants.{Foreign, Corrupted, Store, Stopped, NotCommitted, Absent, Present, Full, RangeOutOfBounds, Pruned, Memory}
 
 abbrev pub told_of_database : {F : Type 0} → database.Error F → Error F
 told_of_database of_database.NotCommitted = NotCommitted
@@ -22,6 +22,7 @@ told_of_database of_database.Absent = Absent
 told_of_database of_database.Present = Present
 told_of_database (of_database.Full count) = Full count
 told_of_database (of_database.RangeOutOfBounds start) = RangeOutOfBounds start
+told_of_database (of_database.Pruned start) = Pruned start
 told_of_database of_database.Memory = Memory
 
 abbrev pub told_of_open : {F : Type 0} → opening.OpenError F → Error F

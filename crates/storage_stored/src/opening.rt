@@ -130,7 +130,8 @@ fn is_at<F: Graftable, H: Hasher, K: Key, V: OrderedCodec<F, K>, const N: usize>
     are_one_location(mark.floor, database.floor()) && are_one_digest(mark.root, database.root())
 }
 
-/// The database of the operations up to a mark, if they are read again, and it has the floor and the root of the mark.
+/// The database of the operations up to a mark, if none is forgotten, they are read again, and it has the floor and the root
+/// of the mark.
 fn back<F: Graftable, H: Hasher, K: Key, V: OrderedCodec<F, K>, const N: usize>(
     alloc: Global,
     database: Ordered<F, H, K, V, N>,
@@ -148,6 +149,9 @@ fn back<F: Graftable, H: Hasher, K: Key, V: OrderedCodec<F, K>, const N: usize>(
         × IsAt H.hash_of g mark.now.floor (option_map H.Digest.text mark.now.root)
         (run e empty opened.commands).last) }
 {
+    if database.pruned() > 0 {
+        return None;
+    }
     let mut operations = database.into_operations();
     operations.truncate(mark.operations as usize);
     let Ok(database) = Ordered::open(alloc, operations, cfg) else {

@@ -1,6 +1,6 @@
 //! The row of the last commit, as it is written and as it is compared.
 
-ghost use Rattle.std.specs.Prelude.{◌≡◌, ◌≤◌, ◌-◌, ◌↔◌, Some, drop, length, map, option_map, IfOk, IsTrue};
+ghost use Rattle.std.specs.Prelude.{◌≡◌, ◌≤◌, ◌-◌, ◌↔◌, Some, drop, length, map, option_map, IfOk, IfSome, IsTrue};
 ghost use Rattle.storage_current.specs.Keys.{keyed_by};
 ghost use Rattle.storage_current.specs.Snapshots.{grafting_of};
 ghost use Rattle.storage_db.specs.Databases.{Database};
@@ -17,12 +17,36 @@ use storage_file::Commit;
 use storage_merkle::merkle::Graftable;
 use storage_ops::qmdb::operation::Key;
 
-/// The operations from a location on; none where there are no more.
-pub(crate) fn operations_from(operations: &[Vec<u8>], location: u64) -> &[Vec<u8>]
-    ensures { location ≤ length operations.now → result.now ≡ drop location operations.now }
+/// The operations from a place on; none where there are no more.
+fn rest_of(operations: &[Vec<u8>], place: u64) -> &[Vec<u8>]
+    ensures { place ≤ length operations.now → result.now ≡ drop place operations.now }
 {
     let count = operations.len() as u64;
-    &operations[location.min(count) as usize..]
+    &operations[place.min(count) as usize..]
+}
+
+/// The operations of a database from a location on, as they are written; `None` if it has forgotten some of them.
+pub(crate) fn operations_from<
+    F: Graftable,
+    H: Hasher,
+    K: Key,
+    V: OrderedCodec<F, K>,
+    const N: usize,
+>(
+    database: &Ordered<F, H, K, V, N>,
+    location: u64,
+) -> Option<&[Vec<u8>]>
+    ensures { let e = keyed_by K.text V.Value.text V.operation_text K.cmp in
+        IfSome result (λ more. (d : Database K V.Value)
+        → Keeps e V.Value.view H.hash_of (grafting_of F.shape N) database.now d
+        → location ≤ length d.operations
+        → map (λ v. v.items) more.now ≡ drop location d.operations) }
+{
+    let pruned = database.pruned();
+    if location < pruned {
+        return None;
+    }
+    Some(rest_of(database.operations(), location - pruned))
 }
 
 /// The location of the last operation.
@@ -34,7 +58,7 @@ fn location_of<F: Graftable, H: Hasher, K: Key, V: OrderedCodec<F, K>, const N: 
         → Keeps e V.Value.view H.hash_of (grafting_of F.shape N) database.now d
         → result ≡ length d.operations - 1 }
 {
-    (database.operations().len() as u64).saturating_sub(1)
+    database.operation_count().saturating_sub(1)
 }
 
 /// The row of the last commit, which is the last operation.

@@ -18,7 +18,7 @@ use std::alloc::Global;
 use storage_codec::digest::Hasher;
 use storage_db::db::{Ordered, OrderedCodec};
 use storage_file::{Commit, Journal};
-use storage_merkle::merkle::Graftable;
+use storage_merkle::merkle::{Graftable, Location};
 use storage_ops::qmdb::operation::Key;
 
 /// Stores the last commit of `database`, which is its last operation: the operations that the journal has not, and the row
@@ -27,7 +27,8 @@ use storage_ops::qmdb::operation::Key;
 ///
 /// # Errors
 ///
-/// The first of: `NotCommitted` before the first commit; `Store` with what the connection refuses or fails at; `Memory`.
+/// The first of: `NotCommitted` before the first commit; `Pruned` with the location of the first operation that the journal
+/// has not, if that is forgotten; `Store` with what the connection refuses or fails at; `Memory`.
 pub fn store_commit<
     F: Graftable,
     H: Hasher,
@@ -60,7 +61,10 @@ pub fn store_commit<
         → Holds db lists ⊎ HoldsLast H.hash_of g db d.last }
 {
     let row = row_of(alloc, database)?;
-    let more = operations_from(database.operations(), journal.counts().operations);
+    let start = journal.counts().operations;
+    let Some(more) = operations_from(database, start) else {
+        return Err(Error::Pruned(Location::new(start)));
+    };
     journal.append(more, &row)?;
     Ok(())
 }

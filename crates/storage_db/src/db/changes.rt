@@ -8,9 +8,9 @@ ghost use Rattle.storage_bitmap.specs.Chunks.{IsChunkSize};
 ghost use Rattle.storage_current.specs.Keys.{commit_text, keyed_by};
 ghost use Rattle.storage_current.specs.Snapshots.{grafting_of};
 ghost use Rattle.storage_db.specs.declared.db.active.Active.{Active};
-ghost use Rattle.storage_db.specs.Databases.{Commit as Committing, Committed, active_at, commit, delete, least_location, put, without};
+ghost use Rattle.storage_db.specs.Databases.{Commit as Committing, Committed, Database, active_at, commit, delete, least_location, put, without};
 ghost use Rattle.storage_db.specs.Floors.{AreMarked, floor_of};
-ghost use Rattle.storage_db.specs.Kept.{IsDone, with_keys};
+ghost use Rattle.storage_db.specs.Kept.{IsDone, Keeps, with_keys};
 ghost use Rattle.storage_db.specs.Logs.{HaveRoom, IsTooMany};
 ghost use Rattle.storage_db.specs.Parts.{GoesOn, IsCommitOf, IsSince, StayCommitted, StayNoted, committed_of, database_of, is_noted, kept_of, kept_with, moved, place_of};
 
@@ -186,7 +186,10 @@ pub(crate) fn put_commit<
         (kept_of log.old active.old.present.entries (kept_with K.cmp active.old last.old))
         (kept_of log.new active.new.present.entries (kept_with K.cmp active.new last.new))
         (Committing metadata)) }
-    ensures since { IsSince log.old (kept_with K.cmp active.old last.old)
+    ensures since { let e = keyed_by K.text V.Value.text V.operation_text K.cmp in
+        IsSince log.old (kept_with K.cmp active.old last.old)
+        → (d : Database K V.Value) → Keeps e V.Value.view H.hash_of (grafting_of F.shape N)
+        (kept_of log.old active.old.present.entries (kept_with K.cmp active.old last.old)) d
         → IsSince log.new (kept_with K.cmp active.new last.new) }
     ensures err { OnErr result (kept_of log.new active.new.present.entries
         (kept_with K.cmp active.new last.new)
@@ -226,13 +229,17 @@ fn append_commit<
     requires few { vec_len log.old.operations < max_leaves }
     ensures ok { let e = keyed_by K.text V.Value.text V.operation_text K.cmp in
         IsSince log.old (kept_with K.cmp active.old last.old)
+        → floor_of (kept_with K.cmp active.old last.old) ≤ floor
         → floor ≡ least_location active.old.present.entries (length log.old.operations.items)
         → bytes.items ≡ commit_text e metadata floor
         → OnOk result (IsDone e V.Value.view H.hash_of (grafting_of F.shape N)
         (kept_of log.old active.old.present.entries (kept_with K.cmp active.old last.old))
         (kept_of log.new active.new.present.entries (kept_with K.cmp active.new last.new))
         (Committing metadata)) }
-    ensures since { IsSince log.old (kept_with K.cmp active.old last.old)
+    ensures since { let e = keyed_by K.text V.Value.text V.operation_text K.cmp in
+        IsSince log.old (kept_with K.cmp active.old last.old)
+        → (d : Database K V.Value) → Keeps e V.Value.view H.hash_of (grafting_of F.shape N)
+        (kept_of log.old active.old.present.entries (kept_with K.cmp active.old last.old)) d
         → IsSince log.new (kept_with K.cmp active.new last.new) }
     ensures err { OnErr result (kept_of log.new active.new.present.entries
         (kept_with K.cmp active.new last.new)

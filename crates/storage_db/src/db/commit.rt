@@ -12,12 +12,13 @@ ghost use Rattle.storage_db.specs.Databases.{Committed, active_at, value_at};
 ghost use Rattle.storage_db.specs.Kept.{IsCopy, KeepsCommit, with_keys};
 ghost use Rattle.storage_db.specs.Notes.{shown};
 ghost use Rattle.storage_db.specs.Parts.{IsCommitOf, IsSinceCommit, committed_of};
+ghost use Rattle.storage_db.specs.Pruning.{IsCommitPruned, IsPruneRefused};
 ghost use Rattle.storage_db.specs.Shown.{IsAbsenceProof, IsValueProof, absence_by};
 
 use crate::db::Error;
 use crate::db::active::ActiveKeys;
 use crate::db::log::Log;
-use crate::db::nodes::{chunks_touched, own_proof, own_range};
+use crate::db::nodes::{chunks_touched, own_proof, own_range, pruned_bits};
 use crate::db::strings::value_copy;
 use std::alloc::Global;
 use std::marker::{Model, PhantomData};
@@ -35,11 +36,12 @@ use storage_ops::qmdb::any::operation::update::Ordered as Update;
 use storage_ops::qmdb::any::value::ValueEncoding;
 use storage_ops::qmdb::operation::Key;
 
-/// A commit: how many operations there are up to it, its value, its floor, and the snapshot of the operations. Which keys
-/// were active, the [`ActiveKeys`] tell.
+/// A commit: how many operations there are up to it, how many of the first are forgotten, its value, its floor, and the
+/// snapshot of the operations. Which keys were active, the [`ActiveKeys`] tell.
 #[derive(Drop)]
 pub(crate) struct Commit<F: Graftable, H: Hasher, K: Key, V: ValueEncoding, const N: usize> {
     length: u64,
+    pruned: u64,
     metadata: Option<V::Value>,
     floor: Location<F>,
     snapshot: Snapshot<F, H, N>,
@@ -48,7 +50,7 @@ pub(crate) struct Commit<F: Graftable, H: Hasher, K: Key, V: ValueEncoding, cons
 
 impl<F: Graftable, H: Hasher, K: Key, V: ValueEncoding, const N: usize> Model
     for Commit<F, H, K, V, N> {
-    ghost use Rattle.std.specs.Prelude.{◌≡◌, ◌<◌};
+    ghost use Rattle.std.specs.Prelude.{◌≡◌, ◌*◌, ◌<◌};
     ghost use Rattle.storage_db.specs.Kept.{HeldCommit};
 
     ghost Value = { HeldCommit V.Value };
@@ -57,10 +59,11 @@ impl<F: Graftable, H: Hasher, K: Key, V: ValueEncoding, const N: usize> Model
       metadata = c.metadata;
       floor = c.floor;
       count = c.length;
+      pruned = c.pruned;
       snapshot = c.snapshot;
     } };
 
-    ghost invariant = { λ c. (0 < c.length) × (c.snapshot.status.pruned ≡ 0) };
+    ghost invariant = { λ c. (0 < c.length) × (c.pruned ≡ c.snapshot.status.pruned * (8 * N)) };
 }
 
 impl<F: Graftable, H: Hasher, K: Key, V: OperationCodec<F, Update<K, V>>, const N: usize> Commit<
@@ -90,6 +93,7 @@ impl<F: Graftable, H: Hasher, K: Key, V: OperationCodec<F, Update<K, V>>, const 
         };
         Ok(Commit {
             length: log.len(),
+            pruned: 0,
             metadata,
             floor,
             snapshot,
@@ -130,11 +134,42 @@ impl<F: Graftable, H: Hasher, K: Key, V: OperationCodec<F, Update<K, V>>, const 
         Ok(())
     }
 
+    /// Forgets the bits and low nodes of the graftable chunks that end at or before `location`.
+    ///
+    /// # Errors
+    ///
+    /// The first of: `RangeOutOfBounds(location)` if `location` is greater than the floor; `Memory`. After either the
+    /// commit is as it was.
+    pub(crate) fn prune(&mut self, location: Location<F>) -> Result<(), Error<F>>
+        ensures ok { OnOk result (IsCommitPruned H.hash_of (grafting_of F.shape N) self.old self.new
+            location) }
+        ensures err { OnErr result (self.new ≡ self.old) }
+        ensures why { IfErr result (IsPruneRefused self.old.floor location) }
+    {
+        let place = location.as_u64();
+        let floor = self.floor.as_u64();
+        if place > floor {
+            return Err(Error::RangeOutOfBounds(location));
+        }
+        if self.snapshot.prune(location).is_err() {
+            return Err(Error::Memory);
+        }
+        self.pruned = pruned_bits(self.snapshot.status());
+        Ok(())
+    }
+
     /// Returns how many operations there are up to the commit, itself among them.
     pub(crate) fn len(&self) -> u64
         ensures { result ≡ self.now.count }
     {
         self.length
+    }
+
+    /// Returns how many of the first operations are forgotten.
+    pub(crate) fn pruned(&self) -> u64
+        ensures { result ≡ self.now.pruned }
+    {
+        self.pruned
     }
 
     /// Returns the location of the commit itself.

@@ -26,6 +26,9 @@ pub enum Error<F> {
     /// The location is not of an operation of the last commit.
     #[error("no operation of the last commit at {0}")]
     RangeOutOfBounds(Location<F>),
+    /// The operation at the location is forgotten.
+    #[error("the operation at {0} is forgotten")]
+    Pruned(Location<F>),
     /// Out of memory.
     #[error("out of memory")]
     Memory,

@@ -1,8 +1,9 @@
 //! Operations as they are written, each with its activity bit.
 
-ghost use Rattle.std.specs.Prelude.{◌≡◌, ℕ, ◌+◌, ◌-◌, ◌<◌, ◌≤◌, Bool, List, [], ◌∷◌, ◌++◌, drop, length, slice_set, take, false, IfOk, IfErr, IsTrue, OnOk, ◌↔◌, vec_len, vec_capacity};
+ghost use Rattle.std.specs.Prelude.{◌≡◌, ℕ, ◌+◌, ◌-◌, ◌<◌, ◌≤◌, Bool, List, [], ◌∷◌, ◌++◌, drop, length, map, slice_set, take, false, IfOk, IfErr, IsTrue, OnOk, ◌↔◌, vec_len, vec_capacity};
 ghost use Rattle.storage_merkle.specs.Shape.{max_leaves};
 ghost use Rattle.storage_db.specs.Floors.{IsFirstMarked, IsMarked};
+ghost use Rattle.storage_db.specs.Kept.{forgetting};
 ghost use Rattle.storage_db.specs.Logs.{AreCommitted, HaveRoom, IsTooMany, cleared_at};
 
 use crate::db::Error;
@@ -116,6 +117,21 @@ impl Log {
         self.bits.truncate(before);
     }
 
+    /// Forgets the operations from `before` to before `after`, so that nothing is kept of the first `after`: those before
+    /// `before` are forgotten already.
+    pub(crate) fn forget(&mut self, alloc: Global, before: u64, after: u64)
+        ensures operations { (all : List (List ℕ))
+            → map (λ v. v.items) self.old.operations.items ≡ forgetting before all
+            → before ≤ after → after ≤ length all
+            → map (λ v. v.items) self.new.operations.items ≡ forgetting after all }
+        ensures bits { self.new.bits.items ≡ self.old.bits.items }
+        ensures committed { self.new.committed ≡ self.old.committed }
+        ensures cleared { self.new.cleared.items ≡ self.old.cleared.items }
+    {
+        let end = after.min(self.operations.len() as u64);
+        forget_each(alloc, &mut self.operations, before, end);
+    }
+
     /// Clears the activity bit of the operation at `location`. There is room to tell it.
     pub(crate) fn clear(&mut self, location: u64)
         requires room { vec_len self.old.cleared < vec_capacity self.old.cleared }
@@ -146,6 +162,15 @@ impl Log {
         if let Some(bit) = self.bits.get_mut(location as usize) {
             *bit = false;
         }
+    }
+
+    /// Returns the operations from `location` on, as they are written; none past the last.
+    pub(crate) fn operations_from(&self, location: u64) -> &[Vec<u8>]
+        ensures { location ≤ length self.now.operations.items
+            → result.now ≡ drop location self.now.operations.items }
+    {
+        let count = self.len();
+        &self.operations[location.min(count) as usize..]
     }
 
     /// Returns the operations after the last commit, as they are written.
@@ -220,5 +245,20 @@ impl Log {
         }
         self.committed = self.len();
         self.cleared.clear();
+    }
+}
+
+/// Gives up those of `operations` from `before` to before `after`, which are there. Of those before `before` nothing is
+/// kept already.
+fn forget_each(alloc: Global, operations: &mut Vec<Vec<u8>>, before: u64, after: u64)
+    requires { after ≤ length operations.old.items }
+    ensures count { length operations.new.items ≡ length operations.old.items }
+    ensures texts { (all : List (List ℕ))
+        → map (λ v. v.items) operations.old.items ≡ forgetting before all
+        → before ≤ after → after ≤ length all
+        → map (λ v. v.items) operations.new.items ≡ forgetting after all }
+{
+    for location in before..after {
+        operations[location as usize] = Vec::new(alloc);
     }
 }

@@ -1,9 +1,9 @@
 //! A snapshot's own proofs: of one operation, and of a range of them with the chunks of bits that it touches.
 
-ghost use Rattle.std.specs.Prelude.{◌≡◌, ◌+◌, ◌-◌, ◌/◌, ◌^◌, Bool, List, length, option_map, IfOk};
+ghost use Rattle.std.specs.Prelude.{◌≡◌, ◌+◌, ◌-◌, ◌*◌, ◌/◌, ◌^◌, Bool, List, length, option_map, IfOk};
 ghost use Rattle.std.specs.List.{All};
 ghost use Rattle.storage_merkle.specs.Plans.{planned};
-ghost use Rattle.storage_bitmap.specs.Chunks.{IsChunkSize, chunks_from};
+ghost use Rattle.storage_bitmap.specs.Chunks.{IsChunkSize, IsRest, chunks_from};
 ghost use Rattle.storage_current.specs.BuiltProofs.{ArePartsOf};
 ghost use Rattle.storage_current.specs.Held.{operation_proof_of, range_proof_of};
 ghost use Rattle.storage_current.specs.KeptSnapshots.{StandsForSnapshot};
@@ -16,6 +16,7 @@ use storage_bitmap::bitmap::{Prunable, Readable};
 use storage_codec::NoMemory;
 use storage_codec::digest::{Digest, Hasher};
 use storage_current::qmdb::current::Snapshot;
+use storage_current::qmdb::current::grafting;
 use storage_current::qmdb::current::proof::constant::OperationProof;
 use storage_current::qmdb::current::proof::{RangeProof, touched_chunks};
 use storage_merkle::merkle::{ElementPlan, Graftable, Location, Position, RangePlan};
@@ -138,8 +139,8 @@ pub(crate) fn own_range<F: Graftable, H: Hasher, const N: usize>(
     range_by::<F, H::Digest, H, _, N>(alloc, status, plan, get_node, floor, ops_root)
 }
 
-/// Returns the chunks that the bits of `status` from `start` to before `end` touch. There are such bits, and no chunk is
-/// pruned.
+/// Returns the chunks that the bits of `status` from `start` to before `end` touch. There are such bits, and none of these
+/// chunks is pruned.
 pub(crate) fn chunks_touched<const N: usize>(
     alloc: Global,
     status: &Prunable<N>,
@@ -148,12 +149,28 @@ pub(crate) fn chunks_touched<const N: usize>(
 ) -> Result<Vec<[u8; N]>, NoMemory>
     requires { IsChunkSize N }
     ensures { (g : Grafting) (bits : List Bool) → g.bytes ≡ N
-        → status.now ≡ record { pruned = 0; bits = bits }
+        → IsRest N status.now bits
         → IfOk result (λ chunks. chunks.items ≡ chunks_from N bits
         ((end - 1) / 2 ^ height g - first_chunk g start + 1) (first_chunk g start)) }
 {
-    if end <= start || status.len() < end || status.pruned_chunks() > 0 {
+    if end <= start || status.len() < end {
+        return Err(NoMemory);
+    }
+    let pruned = status.pruned_chunks();
+    let chunk = (start >> grafting::height::<N>()) as usize;
+    if chunk < pruned {
         return Err(NoMemory);
     }
     Ok(touched_chunks(alloc, status, start, end)?)
+}
+
+/// Returns how many bits of `status` are pruned.
+pub(crate) fn pruned_bits<const N: usize>(status: &Prunable<N>) -> u64
+    ensures size { IsChunkSize N }
+    ensures count { result ≡ status.now.pruned * (8 * N) }
+{
+    let chunks = status.pruned_chunks() as u64;
+    let width = 8 * N as u64;
+    // they are not more than all bits
+    chunks.saturating_mul(width).min(status.len())
 }

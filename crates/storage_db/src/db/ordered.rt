@@ -9,12 +9,13 @@ ghost use Rattle.storage_current.specs.Keys.{keyed_by};
 ghost use Rattle.storage_current.specs.KeptSnapshots.{StandsForSnapshot};
 ghost use Rattle.storage_current.specs.Snapshots.{canonical_root, grafting_of};
 ghost use Rattle.storage_db.specs.Databases.{Committed, Database, Put, Delete, Commit as Committing, active_at, empty, value_at};
-ghost use Rattle.storage_db.specs.Kept.{IsDone, IsCommandRefused, IsMade, Keeps};
+ghost use Rattle.storage_db.specs.Kept.{IsDone, IsCommandRefused, IsMade, Keeps, pruned_of};
 ghost use Rattle.storage_db.specs.Ranges.{pairs_of, seen_pairs};
 ghost use Rattle.storage_db.specs.Shown.{IsAbsenceProof, IsPage, IsValueProof};
 
 mod compact;
 mod opening;
+mod prune;
 mod trusted;
 
 use crate::db::active::ActiveKeys;
@@ -370,7 +371,7 @@ impl<F: Graftable, H: Hasher, K: Key, V: OrderedCodec<F, K>, const N: usize> Ord
     /// # Errors
     ///
     /// The first of: `NotCommitted` before the first commit; `RangeOutOfBounds(start)` if `start` is not of an
-    /// operation of the last commit; `Memory`.
+    /// operation of the last commit; `Pruned(start)` if that operation is forgotten; `Memory`.
     pub fn range_proof(
         &self,
         start: Location<F>,
@@ -386,7 +387,8 @@ impl<F: Graftable, H: Hasher, K: Key, V: OrderedCodec<F, K>, const N: usize> Ord
             IfErr result (λ error. (d : Database K V.Value)
             → Keeps e V.Value.view H.hash_of (grafting_of F.shape N) self.now d
             → MatchOption d.last (error ≡ Error.NotCommitted) (λ commit. error
-            ≡ (if nat_lt start (length commit.snapshot.operations) then Error.Memory
+            ≡ (if nat_lt start (length commit.snapshot.operations)
+            then (if nat_lt start (pruned_of self.now.last) then Error.Pruned start else Error.Memory)
             else Error.RangeOutOfBounds start))) }
     {
         let Some(last) = &self.last else {
@@ -395,6 +397,9 @@ impl<F: Graftable, H: Hasher, K: Key, V: OrderedCodec<F, K>, const N: usize> Ord
         let first = start.as_u64();
         if first >= last.len() {
             return Err(Error::RangeOutOfBounds(start));
+        }
+        if first < last.pruned() {
+            return Err(Error::Pruned(start));
         }
         let end = first.saturating_add(max_ops).min(last.len());
         let operations = &self.log.operations[first as usize..end as usize];

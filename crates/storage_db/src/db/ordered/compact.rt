@@ -143,7 +143,8 @@ impl<F: Graftable, H: Hasher, K: Key, V: OrderedCodec<F, K>, const N: usize> Ord
         ensures why { let e = keyed_by K.text V.Value.text V.operation_text K.cmp in
             let reads = ReadsCommand (ReadsAs (V.operation_parse cfg.now) V.operation_view)
             (λ k v n. record { key = k; value = v; next_key = n }) in
-            IfErr result (λ error. (d : Database K V.Value)
+            location ≡ least_location self.old.entries (length self.old.operations)
+            → IfErr result (λ error. (d : Database K V.Value)
             → Keeps e V.Value.view H.hash_of (grafting_of F.shape N) self.old d
             → IsNotMoved e reads d location error) }
     {

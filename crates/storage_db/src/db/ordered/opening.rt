@@ -1,12 +1,12 @@
 //! A database that is opened again from its operations.
 
-ghost use Rattle.std.specs.Prelude.{◌≡◌, ◌<◌, ℕ, List, None, IfOk, IfErr, IsSomeAnd, MatchOption, length, map, vec_len};
+ghost use Rattle.std.specs.Prelude.{◌≡◌, ◌<◌, ℕ, List, None, IfOk, IfErr, IsSomeAnd, MatchOption, drop, length, map, vec_len};
 ghost use Rattle.storage_bitmap.specs.Chunks.{IsChunkSize};
 ghost use Rattle.storage_current.specs.Keys.{keyed_by};
 ghost use Rattle.storage_current.specs.Snapshots.{grafting_of};
 ghost use Rattle.storage_db.specs.declared.db.active.Active.{Active};
 ghost use Rattle.storage_db.specs.Databases.{Command, Database};
-ghost use Rattle.storage_db.specs.Kept.{Keeps, with_keys};
+ghost use Rattle.storage_db.specs.Kept.{Keeps, pruned_of, with_keys};
 ghost use Rattle.storage_db.specs.Opening.{IsOpened, IsOpenRefused, Leave, ReadsAs, ReadsCommand};
 ghost use Rattle.storage_db.specs.Parts.{IsCommitOf};
 ghost use Rattle.storage_db.specs.Replays.{IsOnPath, IsRemade};
@@ -158,26 +158,31 @@ impl<F: Graftable, H: Hasher, K: Key, V: OrderedCodec<F, K>, const N: usize> Ord
         Ok(Some(commit))
     }
 
-    /// Returns the operations, as they are written: those of the last commit, and what puts and deletions have appended
-    /// since. Allocates nothing.
+    /// Returns the operations that are not forgotten, as they are written: those of the last commit, and what puts and
+    /// deletions have appended since. The first of them stands at [`pruned`](Self::pruned). Allocates nothing.
     pub fn operations(&self) -> &[Vec<u8>]
         ensures { let e = keyed_by K.text V.Value.text V.operation_text K.cmp in
             (d : Database K V.Value)
             → Keeps e V.Value.view H.hash_of (grafting_of F.shape N) self.now d
-            → map (λ v. v.items) result.now ≡ d.operations }
+            → map (λ v. v.items) result.now ≡ drop (pruned_of self.now.last) d.operations }
     {
-        &self.log.operations
+        self.log.operations_from(self.pruned())
     }
 
-    /// Gives the operations back, as they are written: those of the last commit, and what puts and deletions have appended
-    /// since. Allocates nothing.
+    /// Gives the operations back that are not forgotten, as they are written: those of the last commit, and what puts and
+    /// deletions have appended since. Allocates nothing.
     pub fn into_operations(self) -> Vec<Vec<u8>>
         ensures { let e = keyed_by K.text V.Value.text V.operation_text K.cmp in
             (d : Database K V.Value)
             → Keeps e V.Value.view H.hash_of (grafting_of F.shape N) self d
-            → map (λ v. v.items) result.items ≡ d.operations }
+            → map (λ v. v.items) result.items ≡ drop (pruned_of self.last) d.operations }
     {
+        let pruned = self.pruned() as usize;
         let log = self.log;
-        log.operations
+        let mut operations = log.operations;
+        let kept = operations.len() - pruned;
+        operations.rotate_left(pruned);
+        operations.truncate(kept);
+        operations
     }
 }

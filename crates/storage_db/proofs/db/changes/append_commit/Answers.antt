@@ -15,7 +15,7 @@ use Rattle.storage_db.proofs.Remembering.{forgotten, since_any, some_with, with_
 use Rattle.storage_db.proofs.db.changes.append_commit.Goals as goal
 
 pub returns-clause-ok : goal.returns-clause-ok
-returns-clause-ok g c = λ since floor written.
+returns-clause-ok g c = λ since later floor written.
     let e : Keyed g.row.K.Denot g.row.V-Value.Denot
     = keyed_by g.K.Write.text g.V.Value.Write.text g.V.OperationCodec.operation_text g.K.Ord.cmp in
     let one : HasOneMore c.args.log.now c.append.new.self c.args.bytes
@@ -43,12 +43,12 @@ returns-clause-ok g c = λ since floor written.
     c.append.new.self c.settle.new.self c.args.active.now.present.entries (kept_with g.K.Ord.cmp c.args.active.now c.args.last.now) c.args.bytes one since
     c.location_of-before.result (c.location_of-before.ensures (committed_of g.K.Ord.cmp c.args.active.now)) settled c.args.metadata
     c.args.floor
-    (with_all c.args.active.now.present.entries c.keep.new.last) floor written (some_with _ c.args.active.now.present.entries c.keep.new.last
+    (with_all c.args.active.now.present.entries c.keep.new.last) later floor written (some_with _ c.args.active.now.present.entries c.keep.new.last
     (on_ok _ c.keep.result (sym c.if-is_err.ensures.value)
     (c.keep.ensures.ok (committed_of g.K.Ord.cmp c.args.active.now) c.args.active.now.present.entries made))) d keeps)
 
 pub returns-clause-since : goal.returns-clause-since
-returns-clause-since g c = λ since.
+returns-clause-since g c = λ since d keeps.
     let e : Keyed g.row.K.Denot g.row.V-Value.Denot
     = keyed_by g.K.Write.text g.V.Value.Write.text g.V.OperationCodec.operation_text g.K.Ord.cmp in
     let one : HasOneMore c.args.log.now c.append.new.self c.args.bytes
@@ -74,7 +74,7 @@ returns-clause-since g c = λ since.
     c.args.floor
     (with_all c.args.active.now.present.entries c.keep.new.last) (some_with _ c.args.active.now.present.entries c.keep.new.last
     (on_ok _ c.keep.result (sym c.if-is_err.ensures.value)
-    (c.keep.ensures.ok (committed_of g.K.Ord.cmp c.args.active.now) c.args.active.now.present.entries made))))
+    (c.keep.ensures.ok (committed_of g.K.Ord.cmp c.args.active.now) c.args.active.now.present.entries made))) d keeps)
 
 pub returns-then-is_err-clause-err : goal.returns-then-is_err-clause-err
 returns-then-is_err-clause-err g c =
@@ -92,7 +92,7 @@ returns-then-is_err-clause-err g c =
     (ap (with_all (committed_of g.K.Ord.cmp c.args.active.now)) (on_refused _ c.keep.result (sym c.if-is_err.ensures.value) c.keep.ensures.err))
 
 pub returns-then-is_err-clause-since : goal.returns-then-is_err-clause-since
-returns-then-is_err-clause-since g c = λ since.
+returns-then-is_err-clause-since g c = λ since d keeps.
     let one : HasOneMore c.args.log.now c.append.new.self c.args.bytes
     = record {
       operations = c.append.ensures.operations;

@@ -5,8 +5,8 @@ use Rattle.storage_db.specs.Databases.{Commit, commit}
 use Rattle.storage_db.specs.Floors.{floor_of}
 use Rattle.storage_db.specs.Parts.{committed_of, kept_of, kept_with, place_of}
 use Rattle.storage_db.proofs.Changing.{no_room, no_memory}
-use Rattle.storage_db.proofs.Commits.{HasRoomMore, commit_count, done_with_room, kept_same, since_same}
-use Rattle.storage_db.proofs.Floors.{floor_found}
+use Rattle.storage_db.proofs.Commits.{HasRoomMore, commit_count, done_with_room, keeps_with_room, kept_same, since_same}
+use Rattle.storage_db.proofs.Floors.{floor_found, floor_later}
 use Rattle.storage_db.proofs.Keeping.{on_err}
 use Rattle.storage_db.proofs.db.changes.put_commit.Goals as goal
 
@@ -24,6 +24,10 @@ returns-clause-ok g c = λ since marked.
     done_with_room e g.V.Value.Read.view g.H.Hasher.hash_of (grafting_of g.F.Family.shape g.row.N) c.args.log.now c.make_room.new.self
     c.args.active.now.present.entries (kept_with g.K.Ord.cmp c.args.active.now c.args.last.now) (kept_of c.append_commit.new.log c.append_commit.new.active.present.entries (kept_with g.K.Ord.cmp c.append_commit.new.active c.append_commit.new.last)) (Commit c.args.metadata) more
     (c.in_ok-append_commit.ensures.ok (since_same c.args.log.now c.make_room.new.self (kept_with g.K.Ord.cmp c.args.active.now c.args.last.now) (kept_with g.K.Ord.cmp c.args.active.now c.args.last.now) more refl since)
+    (floor_later c.args.log.now c.make_room.new.self c.args.active.now.present.entries
+    (place_of (kept_with g.K.Ord.cmp c.args.active.now c.args.last.now)) (floor_of (kept_with g.K.Ord.cmp c.args.active.now c.args.last.now)) marked c.in_ok-make_room.ensures.bits
+    c.location_of.result c.floor_of.result (c.floor_of.ensures (committed_of g.K.Ord.cmp c.args.active.now)) c.first_active.result c.first_active.ensures
+    c.new-floor.result c.new-floor.ensures)
     (c.new-floor.ensures ∙ floor_found g.met.K.Ord.total c.args.log.now c.make_room.new.self c.args.active.now.present.entries
     (place_of (kept_with g.K.Ord.cmp c.args.active.now c.args.last.now)) (floor_of (kept_with g.K.Ord.cmp c.args.active.now c.args.last.now)) marked c.in_ok-make_room.ensures.bits
     c.location_of.result (c.location_of.ensures (committed_of g.K.Ord.cmp c.args.active.now)) c.floor_of.result (c.floor_of.ensures (committed_of g.K.Ord.cmp c.args.active.now)) c.first_active.result c.first_active.ensures)
@@ -64,7 +68,7 @@ returns-in_err-bytes-clause-err g c =
     on_err c.from_residual-in_err-bytes.result (kept_same c.args.log.now c.make_room.new.self c.args.active.now.present.entries (kept_with g.K.Ord.cmp c.args.active.now c.args.last.now) (kept_with g.K.Ord.cmp c.args.active.now c.args.last.now) more refl)
 
 pub returns-in_err-make_room-clause-since : goal.returns-in_err-make_room-clause-since
-returns-in_err-make_room-clause-since g c = λ since.
+returns-in_err-make_room-clause-since g c = λ since d keeps.
     let more : HasRoomMore c.args.log.now c.make_room.new.self
     = record {
       operations = c.in_err-make_room.ensures.operations;
@@ -75,7 +79,7 @@ returns-in_err-make_room-clause-since g c = λ since.
     since_same c.args.log.now c.make_room.new.self (kept_with g.K.Ord.cmp c.args.active.now c.args.last.now) (kept_with g.K.Ord.cmp c.args.active.now c.args.last.now) more refl since
 
 pub returns-in_err-bytes-clause-since : goal.returns-in_err-bytes-clause-since
-returns-in_err-bytes-clause-since g c = λ since.
+returns-in_err-bytes-clause-since g c = λ since d keeps.
     let more : HasRoomMore c.args.log.now c.make_room.new.self
     = record {
       operations = c.in_ok-make_room.ensures.operations;
@@ -86,7 +90,9 @@ returns-in_err-bytes-clause-since g c = λ since.
     since_same c.args.log.now c.make_room.new.self (kept_with g.K.Ord.cmp c.args.active.now c.args.last.now) (kept_with g.K.Ord.cmp c.args.active.now c.args.last.now) more refl since
 
 pub returns-in_err-append_commit-clause-since : goal.returns-in_err-append_commit-clause-since
-returns-in_err-append_commit-clause-since g c = λ since.
+returns-in_err-append_commit-clause-since g c = λ since d keeps.
+    let e : Keyed g.row.K.Denot g.row.V-Value.Denot
+    = keyed_by g.K.Write.text g.V.Value.Write.text g.V.OperationCodec.operation_text g.K.Ord.cmp in
     let more : HasRoomMore c.args.log.now c.make_room.new.self
     = record {
       operations = c.in_ok-make_room.ensures.operations;
@@ -95,9 +101,13 @@ returns-in_err-append_commit-clause-since g c = λ since.
       cleared = c.in_ok-make_room.ensures.cleared;
     } in
     c.append_commit.ensures.since (since_same c.args.log.now c.make_room.new.self (kept_with g.K.Ord.cmp c.args.active.now c.args.last.now) (kept_with g.K.Ord.cmp c.args.active.now c.args.last.now) more refl since)
+    d (keeps_with_room e g.V.Value.Read.view g.H.Hasher.hash_of (grafting_of g.F.Family.shape g.row.N) c.args.log.now c.make_room.new.self
+    c.args.active.now.present.entries (kept_with g.K.Ord.cmp c.args.active.now c.args.last.now) more d keeps)
 
 pub returns-clause-since : goal.returns-clause-since
-returns-clause-since g c = λ since.
+returns-clause-since g c = λ since d keeps.
+    let e : Keyed g.row.K.Denot g.row.V-Value.Denot
+    = keyed_by g.K.Write.text g.V.Value.Write.text g.V.OperationCodec.operation_text g.K.Ord.cmp in
     let more : HasRoomMore c.args.log.now c.make_room.new.self
     = record {
       operations = c.in_ok-make_room.ensures.operations;
@@ -106,6 +116,8 @@ returns-clause-since g c = λ since.
       cleared = c.in_ok-make_room.ensures.cleared;
     } in
     c.append_commit.ensures.since (since_same c.args.log.now c.make_room.new.self (kept_with g.K.Ord.cmp c.args.active.now c.args.last.now) (kept_with g.K.Ord.cmp c.args.active.now c.args.last.now) more refl since)
+    d (keeps_with_room e g.V.Value.Read.view g.H.Hasher.hash_of (grafting_of g.F.Family.shape g.row.N) c.args.log.now c.make_room.new.self
+    c.args.active.now.present.entries (kept_with g.K.Ord.cmp c.args.active.now c.args.last.now) more d keeps)
 
 pub returns-in_err-make_room-clause-why : goal.returns-in_err-make_room-clause-why
 returns-in_err-make_room-clause-why g c =

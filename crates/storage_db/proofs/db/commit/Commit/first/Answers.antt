@@ -21,9 +21,10 @@ returns g c = λ entries.
       metadata_is = refl;
       floor_is = refl;
       count = c.len.ensures.count;
+      pruned = refl;
       copies = copy_itself e g.V.Value.Read.view entries;
-      status = ap (λ (r : Retained). r.bits) c.in-Ok.ensures.status ∙ bits;
       snapshot = subst (λ (b : List Bool). IsSnapshot (snapshot_with (texts log) b c.args.floor)
           × StandsForSnapshot g.H.Hasher.hash_of (grafting_of g.F.Family.shape g.row.N) c.in-Ok.snapshot
-          (snapshot_with (texts log) b c.args.floor)) bits stands;
+          (snapshot_with (texts log) b c.args.floor) × (c.in-Ok.snapshot.status.bits ≡ b)) bits
+          (stands.0, stands.1, ap (λ (r : Retained). r.bits) c.in-Ok.ensures.status);
     }

@@ -1,7 +1,7 @@
-use Rattle.std.proofs.Common.{ℕ, refl, ap₂, ◌∙◌}
+use Rattle.std.proofs.Common.{ℕ, refl, sym, ap₂, ◌∙◌, subst}
+use Rattle.storage_bitmap.specs.Chunks.{IsRest, Retained}
 use Rattle.storage_current.specs.Keys.{Keyed, keyed_by}
 use Rattle.storage_current.specs.Snapshots.{grafting_of, own_range_proof}
-use Rattle.storage_db.proofs.Planned.{unpruned_is}
 use Rattle.storage_db.proofs.Remembering.{view_with}
 use Rattle.storage_db.proofs.Shown.{keeps_inside}
 use Rattle.storage_db.proofs.db.commit.Commit.range_proof.Goals as goal
@@ -15,6 +15,6 @@ returns g c = λ entries commit keeps.
     let inside = keeps_inside e g.V.Value.Read.view h gr _ _ (view_with entries _ _ c.self.view_is) commit keeps in (
       c.in_ok-proof.ensures commit.snapshot inside.whole inside.snapshot (c.new-leaves.ensures ∙ inside.count) inside.floor
           ∙ ap₂ (λ (start end : ℕ). own_range_proof h gr commit.snapshot start end) c.new.ensures c.new-2.ensures,
-      c.in_ok-chunks.ensures gr commit.snapshot.bits refl (c.status.ensures
-          ∙ unpruned_is g.row.N _ commit.snapshot.bits inside.snapshot.status c.self.invariant.1),
+      c.in_ok-chunks.ensures gr commit.snapshot.bits refl
+          (subst (λ (r : Retained). IsRest g.row.N r commit.snapshot.bits) (sym c.status.ensures) inside.snapshot.status),
     )

@@ -4,6 +4,7 @@ use Rattle.storage_current.specs.Snapshots.{grafting_of}
 use Rattle.storage_db.specs.Databases.{Delete, delete}
 use Rattle.storage_db.proofs.Cases.{err_and}
 use Rattle.storage_db.specs.Parts.{committed_of, kept_of, kept_with}
+use Rattle.storage_db.proofs.Forgetting.{delete_change, delete_counted}
 use Rattle.storage_db.proofs.Keeping.{done_from, refused_from, kept_from, on_err}
 use Rattle.storage_db.proofs.Commands.{command_made, command_since}
 use Rattle.storage_db.proofs.Made.{made_over}
@@ -29,7 +30,7 @@ returns-clause-ok g c =
     (λ some. c.in_ok-remove.ensures.committed (c.is_some-noting.ensures ∙ some))
     (done_from e g.V.Value.Read.view g.H.Hasher.hash_of (grafting_of g.F.Family.shape g.row.N) (λ x. delete e x c.args.key.now)
     c.self.inside.log c.remove.new.log c.self.inside.active.present.entries c.remove.new.active.present.entries (kept_with g.K.Ord.cmp c.self.inside.active c.self.inside.last)
-    c.args.self.now c.self.view_is c.in_ok-remove.ensures.ok c.remove.ensures.few c.remove.ensures.on)
+    c.args.self.now c.self.view_is (delete_change e c.args.key.now) c.in_ok-remove.ensures.ok c.remove.ensures.few)
 
 pub returns-in_err-remove-clause-err : goal.returns-in_err-remove-clause-err
 returns-in_err-remove-clause-err g c =
@@ -50,7 +51,7 @@ returns-in_err-remove-clause-why g c =
     let why = c.in_err-remove.ensures.why in
     err_and _ _ c.from_residual.result (λ error same. refused_from e g.V.Value.Read.view g.H.Hasher.hash_of
     (grafting_of g.F.Family.shape g.row.N) (λ x. delete e x c.args.key.now) c.self.inside.log c.remove.new.log
-    c.self.inside.active.present.entries c.remove.new.active.present.entries (kept_with g.K.Ord.cmp c.self.inside.active c.self.inside.last) c.args.self.now c.self.view_is error
+    c.self.inside.active.present.entries c.remove.new.active.present.entries (kept_with g.K.Ord.cmp c.self.inside.active c.self.inside.last) c.args.self.now c.self.view_is (delete_counted e c.args.key.now) error
     (λ last. same ∙ why last)) c.from_residual.ensures.1
 
 pub returns-then-not-contains_key-clause-answer : goal.returns-then-not-contains_key-clause-answer

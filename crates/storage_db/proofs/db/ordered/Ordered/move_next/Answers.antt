@@ -18,7 +18,7 @@ returns-in_err-move_oldest-clause-err g c = λ low.
     err_and _ _ c.from_residual.result (λ error same.
     left_there e g.V.Value.Read.view g.H.Hasher.hash_of (grafting_of g.F.Family.shape g.row.N) reads c.args.self.now c.move_oldest.new.self
     c.oldest-location.result c.args.end (c.oldest-location.ensures low) c.if-location-end.false c.in_err-move_oldest.ensures.err error _ same
-    c.in_err-move_oldest.ensures.why) c.from_residual.ensures.1
+    (c.in_err-move_oldest.ensures.why (c.oldest-location.ensures low))) c.from_residual.ensures.1
 
 pub returns-clause-ok : goal.returns-clause-ok
 returns-clause-ok g c = λ low. (c.in_ok-move_oldest.ensures.ok (c.oldest-location.ensures low), c.if-location-end.false)

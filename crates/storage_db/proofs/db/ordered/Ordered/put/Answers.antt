@@ -3,6 +3,7 @@ use Rattle.storage_current.specs.Snapshots.{grafting_of}
 use Rattle.storage_db.specs.Databases.{Put, put}
 use Rattle.storage_db.specs.Parts.{committed_of, kept_of, kept_with}
 use Rattle.storage_db.proofs.Commands.{command_err, command_made, command_ok, command_since}
+use Rattle.storage_db.proofs.Forgetting.{put_counted}
 use Rattle.storage_db.proofs.Keeping.{refused_err}
 use Rattle.storage_db.proofs.Made.{made_over}
 use Rattle.std.proofs.Common.{sym}
@@ -36,7 +37,7 @@ returns-then-contains_key-clause-why g c =
     = keyed_by g.K.Write.text g.V.Value.Write.text g.V.OperationCodec.operation_text g.K.Ord.cmp in
     refused_err e g.V.Value.Read.view g.H.Hasher.hash_of (grafting_of g.F.Family.shape g.row.N) (λ x. put e x c.args.key c.args.value)
     c.self.inside.log c.put_active.new.log c.self.inside.active.present.entries c.put_active.new.active.present.entries
-    (kept_with g.K.Ord.cmp c.self.inside.active c.self.inside.last) c.args.self.now c.self.view_is c.put_active.result
+    (kept_with g.K.Ord.cmp c.self.inside.active c.self.inside.last) c.args.self.now c.self.view_is (put_counted e c.args.key c.args.value) c.put_active.result
     c.put_active.ensures.why
 
 pub invariant_of-self : goal.invariant_of-self
@@ -90,7 +91,7 @@ returns-else-contains_key-clause-why g c =
     = keyed_by g.K.Write.text g.V.Value.Write.text g.V.OperationCodec.operation_text g.K.Ord.cmp in
     refused_err e g.V.Value.Read.view g.H.Hasher.hash_of (grafting_of g.F.Family.shape g.row.N) (λ x. put e x c.args.key c.args.value)
     c.self.inside.log c.put_new.new.log c.self.inside.active.present.entries c.put_new.new.active.present.entries
-    (kept_with g.K.Ord.cmp c.self.inside.active c.self.inside.last) c.args.self.now c.self.view_is c.put_new.result
+    (kept_with g.K.Ord.cmp c.self.inside.active c.self.inside.last) c.args.self.now c.self.view_is (put_counted e c.args.key c.args.value) c.put_new.result
     c.put_new.ensures.why
 
 pub put_new-requires : goal.put_new-requires

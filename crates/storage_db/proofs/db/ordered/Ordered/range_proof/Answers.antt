@@ -7,8 +7,8 @@ use Rattle.storage_current.specs.Held.{range_proof_of}
 use Rattle.storage_current.specs.Keys.{Keyed, keyed_by}
 use Rattle.storage_current.specs.Served.{end_of}
 use Rattle.storage_current.specs.Snapshots.{grafting_of}
-use Rattle.storage_db.specs.declared.db.error.Error.TheVariants.{Memory, RangeOutOfBounds}
-use Rattle.storage_db.specs.Kept.{KeptCommit, with_keys}
+use Rattle.storage_db.specs.declared.db.error.Error.TheVariants.{Memory, Pruned, RangeOutOfBounds}
+use Rattle.storage_db.specs.Kept.{KeptCommit, KeptDatabase, pruned_of, with_keys}
 use Rattle.storage_db.specs.Parts.{committed_of, IsSince, IsSinceCommit, kept_of}
 use Rattle.storage_db.specs.Shown.{IsPage}
 use Rattle.storage_db.proofs.Remembering.{with_all}
@@ -30,18 +30,40 @@ returns-then-first-len-clause-why g c = λ d keeps.
     (with_keys c.in-Some.last (committed_of g.K.Ord.cmp c.self.inside.active)) (ap (with_all (committed_of g.K.Ord.cmp c.self.inside.active)) c.in-Some.is) _ _ (λ commit kept.
     let past : length commit.snapshot.operations ≤ c.args.start
     = omega (arith, c.if-first-len.true, c.as_u64-first.ensures, c.len.ensures, kept.count) in
-    sym (cond_no _ Memory (RangeOutOfBounds c.args.start) (le-ltb _ _ past)))
+    sym (cond_no _ _ (RangeOutOfBounds c.args.start) (le-ltb _ _ past)))
+
+pub returns-then-first-pruned-clause-why : goal.returns-then-first-pruned-clause-why
+returns-then-first-pruned-clause-why g c = λ d keeps.
+    let e : Keyed g.row.K.Denot g.row.V-Value.Denot
+    = keyed_by g.K.Write.text g.V.Value.Write.text g.V.OperationCodec.operation_text g.K.Ord.cmp in
+    let pruned : c.in-Some.last.pruned ≡ pruned_of c.args.self.now.last
+    = sym (ap pruned_of (ap (with_all (committed_of g.K.Ord.cmp c.self.inside.active)) c.in-Some.is))
+    ∙ ap (λ (k : KeptDatabase g.row.K.Denot g.row.V-Value.Denot). pruned_of k.last) c.self.view_is in
+    let behind : c.args.start < pruned_of c.args.self.now.last
+    = omega (arith, c.if-first-pruned.true, c.as_u64-first.ensures, c.pruned.ensures, pruned) in
+    told_at_last e g.V.Value.Read.view g.H.Hasher.hash_of (grafting_of g.F.Family.shape g.row.N) _ _ c.self.view_is d keeps
+    (with_keys c.in-Some.last (committed_of g.K.Ord.cmp c.self.inside.active)) (ap (with_all (committed_of g.K.Ord.cmp c.self.inside.active)) c.in-Some.is) _ _ (λ commit kept.
+    let within : c.args.start < length commit.snapshot.operations
+    = omega (arith, c.if-first-len.false, c.as_u64-first.ensures, c.len.ensures, kept.count) in
+    sym (cond_yes _ (Pruned c.args.start) Memory (lt-ltb _ _ behind))
+    ∙ sym (cond_yes _ _ (RangeOutOfBounds c.args.start) (lt-ltb _ _ within)))
 
 pub returns-in_err-proof-clause-why : goal.returns-in_err-proof-clause-why
 returns-in_err-proof-clause-why g c =
     let e : Keyed g.row.K.Denot g.row.V-Value.Denot
     = keyed_by g.K.Write.text g.V.Value.Write.text g.V.OperationCodec.operation_text g.K.Ord.cmp in
+    let pruned : c.in-Some.last.pruned ≡ pruned_of c.args.self.now.last
+    = sym (ap pruned_of (ap (with_all (committed_of g.K.Ord.cmp c.self.inside.active)) c.in-Some.is))
+    ∙ ap (λ (k : KeptDatabase g.row.K.Denot g.row.V-Value.Denot). pruned_of k.last) c.self.view_is in
+    let before : pruned_of c.args.self.now.last ≤ c.args.start
+    = omega (arith, c.if-first-pruned.false, c.as_u64-first.ensures, c.pruned.ensures, pruned) in
     err_and _ _ c.from_residual.result (λ error same d keeps.
     told_at_last e g.V.Value.Read.view g.H.Hasher.hash_of (grafting_of g.F.Family.shape g.row.N) _ _ c.self.view_is d keeps
     (with_keys c.in-Some.last (committed_of g.K.Ord.cmp c.self.inside.active)) (ap (with_all (committed_of g.K.Ord.cmp c.self.inside.active)) c.in-Some.is) _ _ (λ commit kept.
     let within : c.args.start < length commit.snapshot.operations
     = omega (arith, c.if-first-len.false, c.as_u64-first.ensures, c.len.ensures, kept.count) in
-    same ∙ sym (cond_yes _ Memory (RangeOutOfBounds c.args.start) (lt-ltb _ _ within)))) c.from_residual.ensures.1
+    same ∙ sym (cond_no _ (Pruned c.args.start) Memory (le-ltb _ _ before))
+    ∙ sym (cond_yes _ _ (RangeOutOfBounds c.args.start) (lt-ltb _ _ within)))) c.from_residual.ensures.1
 
 pub returns-clause-own : goal.returns-clause-own
 returns-clause-own g c = λ d keeps.
@@ -60,6 +82,7 @@ returns-clause-own g c = λ d keeps.
     let end_is : end ≡ end_of first c.args.max_ops last.count
     = omega (arith, c.saturating_add.ensures, c.len-2.ensures, c.min-end.ensures, few) in
     let within : first < last.count = omega (arith, c.if-first-len.false, c.len.ensures) in
+    let behind : last.pruned ≤ first = omega (arith, c.if-first-pruned.false, c.pruned.ensures) in
     let lent : map (λ (v : Vec ℕ). v.items) (slice_range c.deref.result.now first end)
     ≡ slice_range (map (λ (v : Vec ℕ). v.items) log.operations.items) first end
     = texts_between c.deref.result.now first end
@@ -67,7 +90,7 @@ returns-clause-own g c = λ d keeps.
     let proof = range_proof_of g.H.Digest.Digest.text c.in_ok-proof.proof in
     let page = page_at_last e g.V.Value.Read.view h gr
     (kept_of log c.self.inside.active.present.entries (with_all entries c.self.inside.last)) c.args.self.now c.self.view_is d keeps last (ap (with_all (committed_of g.K.Ord.cmp c.self.inside.active)) c.in-Some.is) first
-    c.args.max_ops end within c.requires end_is proof c.in_ok-proof.chunks.items (c.in_ok-proof.ensures entries)
+    c.args.max_ops end behind within c.requires end_is proof c.in_ok-proof.chunks.items (c.in_ok-proof.ensures entries)
     (map (λ (v : Vec ℕ). v.items) (slice_range c.deref.result.now first end)) lent in
     subst (λ (start : ℕ). IsSomeAnd d.last (λ x. IsPage h gr x.snapshot start c.args.max_ops proof
     (map (λ (v : Vec ℕ). v.items) (slice_range c.deref.result.now first end)) c.in_ok-proof.chunks.items))

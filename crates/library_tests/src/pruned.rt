@@ -1,0 +1,69 @@
+//! Databases that forget their first operations.
+
+use crate::database::tell_alike;
+use crate::database_calls::{page, prune, pruned};
+use crate::small::{Database, commit, log, put, two_commits};
+use crate::stops::{is_refused, some};
+use std::alloc::Global;
+use std::process::Abort;
+use storage_db::db::Error;
+use storage_merkle::merkle::{Graftable, Location, mmb, mmr};
+
+/// Gives each of the four keys its value again, and commits: the floor is 13 then, and there are 18 operations.
+fn renewed<F: Graftable>(rt: &impl Abort, alloc: Global) -> Database<F> {
+    let mut database = two_commits::<F>(rt, alloc);
+    for byte in [8, 2, 4, 5] {
+        put(rt, &mut database, byte, u64::from(byte) * 10);
+    }
+    commit(rt, &mut database, None);
+    database
+}
+
+/// Asserts that operations are not forgotten behind the floor.
+fn stops_at_the_floor<F: Graftable>(rt: &impl Abort, database: &mut Database<F>) {
+    let why = Error::RangeOutOfBounds(Location::new(14));
+    is_refused(rt, &prune(database, Location::new(14)), &why);
+    assert!(rt; pruned(database) == 0);
+}
+
+/// Asserts that the operations of the first chunk of eight are forgotten, as the floor stands in the second.
+fn forgets_one_chunk<F: Graftable>(rt: &impl Abort, database: &mut Database<F>) {
+    some(rt, prune(database, Location::new(13)));
+    assert!(rt; pruned(database) == 8);
+    assert!(rt; log(database).len() == 10);
+    let why = Error::Pruned(Location::new(7));
+    is_refused(rt, &page(database, Location::new(7), 3), &why);
+}
+
+/// Asserts that both have the same operations from the eighth on, and tell the same.
+fn are_alike_behind<F: Graftable>(
+    rt: &impl Abort,
+    alloc: Global,
+    one: &Database<F>,
+    other: &Database<F>,
+) {
+    assert!(rt; log(one) == &log(other)[8..]);
+    tell_alike(rt, alloc, one, other);
+}
+
+/// Asserts that a database that has forgotten operations goes on as one that has not.
+fn forgets<F: Graftable>(rt: &impl Abort, alloc: Global) {
+    let mut one = renewed::<F>(rt, alloc);
+    let mut other = renewed::<F>(rt, alloc);
+    stops_at_the_floor(rt, &mut one);
+    forgets_one_chunk(rt, &mut one);
+    are_alike_behind(rt, alloc, &one, &other);
+    put(rt, &mut one, 7, 70);
+    put(rt, &mut other, 7, 70);
+    commit(rt, &mut one, None);
+    commit(rt, &mut other, None);
+    are_alike_behind(rt, alloc, &one, &other);
+    drop(one);
+    drop(other);
+}
+
+#[test]
+fn first_operations_forgotten(rt: HostRuntime) {
+    forgets::<mmr::Family>(&rt, rt.alloc());
+    forgets::<mmb::Family>(&rt, rt.alloc());
+}
