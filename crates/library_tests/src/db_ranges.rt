@@ -27,7 +27,7 @@ fn committed<'a, F: Graftable>(rt: &impl Abort, database: &'a Database<F>) -> Ra
 }
 
 /// Returns the proof of three operations from the location `start` on, or of fewer at the end; those, and the chunks that they touch.
-fn three_from<F: Graftable>(
+pub fn three_from<F: Graftable>(
     database: &Database<F>,
     start: u64,
 ) -> Result<(RangeProof<F, Digest>, &[Vec<u8>], Vec<[u8; 1]>), Error<F>> {
@@ -160,7 +160,7 @@ fn raw(rt: &impl Abort, alloc: Global, operations: &[Vec<u8>]) -> Vec<FixedBytes
 }
 
 /// Asserts that the page of at most three operations from `start` on has `count` of them, and that a client accepts it.
-fn has_page<F: Graftable>(
+pub fn has_page<F: Graftable>(
     rt: &impl Abort,
     alloc: Global,
     database: &Database<F>,

@@ -1,8 +1,9 @@
 //! Databases that forget their first operations.
 
 use crate::database::tell_alike;
-use crate::database_calls::{page, prune, pruned};
-use crate::small::{Database, commit, log, put, two_commits};
+use crate::database_calls::{prune, pruned};
+use crate::db_ranges::{has_page, three_from};
+use crate::small::{Database, commit, log, put, root, two_commits};
 use crate::stops::{is_refused, some};
 use std::alloc::Global;
 use std::process::Abort;
@@ -26,13 +27,16 @@ fn stops_at_the_floor<F: Graftable>(rt: &impl Abort, database: &mut Database<F>)
     assert!(rt; pruned(database) == 0);
 }
 
-/// Asserts that the operations of the first chunk of eight are forgotten, as the floor stands in the second.
-fn forgets_one_chunk<F: Graftable>(rt: &impl Abort, database: &mut Database<F>) {
+/// Asserts that the operations of the first chunk of eight are forgotten, as the floor stands in the second, and that a client accepts a
+/// page behind them.
+fn forgets_one_chunk<F: Graftable>(rt: &impl Abort, alloc: Global, database: &mut Database<F>) {
     some(rt, prune(database, Location::new(13)));
     assert!(rt; pruned(database) == 8);
     assert!(rt; log(database).len() == 10);
     let why = Error::Pruned(Location::new(7));
-    is_refused(rt, &page(database, Location::new(7), 3), &why);
+    is_refused(rt, &three_from(database, 7), &why);
+    let root = root(rt, database);
+    has_page(rt, alloc, database, &root, 8, 3);
 }
 
 /// Asserts that both have the same operations from the eighth on, and tell the same.
@@ -51,7 +55,7 @@ fn forgets<F: Graftable>(rt: &impl Abort, alloc: Global) {
     let mut one = renewed::<F>(rt, alloc);
     let mut other = renewed::<F>(rt, alloc);
     stops_at_the_floor(rt, &mut one);
-    forgets_one_chunk(rt, &mut one);
+    forgets_one_chunk(rt, alloc, &mut one);
     are_alike_behind(rt, alloc, &one, &other);
     put(rt, &mut one, 7, 70);
     put(rt, &mut other, 7, 70);
