@@ -39,14 +39,21 @@ fn forgets_one_chunk<F: Graftable>(rt: &impl Abort, alloc: Global, database: &mu
     has_page(rt, alloc, database, &root, 8, 3);
 }
 
-/// Asserts that both have the same operations from the eighth on, and tell the same.
+/// Asserts that `rest` has the operations of `all` but the first eight.
+fn lacks_eight(rt: &impl Abort, rest: &[Vec<u8>], all: &[Vec<u8>]) {
+    assert!(rt; all.len() > 8);
+    let behind = &all[8..];
+    assert!(rt; rest == behind);
+}
+
+/// Asserts that `one` lacks the first eight operations of `other`, and that both tell the same.
 fn are_alike_behind<F: Graftable>(
     rt: &impl Abort,
     alloc: Global,
     one: &Database<F>,
     other: &Database<F>,
 ) {
-    assert!(rt; log(one) == &log(other)[8..]);
+    lacks_eight(rt, log(one), log(other));
     tell_alike(rt, alloc, one, other);
 }
 

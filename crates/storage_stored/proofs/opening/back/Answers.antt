@@ -17,3 +17,6 @@ returns g c =
     let opened = c.in-Ok.ensures.ok in
     let first = first_texts (λ b. b.items) _ _ d.operations _ (c.into_operations-operations.ensures d keeps ∙ ap (λ n. drop n d.operations) none) c.truncate.ensures.items in
     (opened_same e g.V.Value.Read.view h gr _ _ _ (take c.args.mark.now.operations d.operations) first opened, c.is_at.ensures c.if-not-is_at.false (run e empty opened.commands) opened.keeps)
+
+pub is_at-requires : goal.is_at-requires
+is_at-requires g c = let h = c.requires-raw in ?

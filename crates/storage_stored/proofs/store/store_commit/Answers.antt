@@ -19,8 +19,8 @@ returns-in_err-append-clause-crash g c =
     λ clean lists is d keeps on db may.
     let row = commit_of c.in_ok-row.row in
     let last : IsLastRow h gr (Some row) d.last = c.in_ok-row.ensures d keeps on.committed in
-    let rest = rest_is (λ b. b.items) c.in-Some.more.now c.counts.result.operations d.operations lists.operations
-    (ap (λ k. k.operations) c.counts.ensures ∙ is.counted.operations) on.first (c.in-Some.ensures d keeps) in
+    let rest = rest_is (λ b. b.items) c.in-Some.more.now c.counts-start.result.operations d.operations lists.operations
+    (ap (λ k. k.operations) c.counts-start.ensures ∙ is.counted.operations) on.first (c.in-Some.ensures d keeps) in
     holds_or_after h gr lists d _ row on rest last db (c.append.ensures.crash clean lists is db may)
 
 pub returns-clause-stored : goal.returns-clause-stored
@@ -30,8 +30,8 @@ returns-clause-stored g c =
     λ clean lists is d keeps on.
     let row = commit_of c.in_ok-row.row in
     let last : IsLastRow h gr (Some row) d.last = c.in_ok-row.ensures d keeps on.committed in
-    let rest = rest_is (λ b. b.items) c.in-Some.more.now c.counts.result.operations d.operations lists.operations
-    (ap (λ k. k.operations) c.counts.ensures ∙ is.counted.operations) on.first (c.in-Some.ensures d keeps) in
+    let rest = rest_is (λ b. b.items) c.in-Some.more.now c.counts-start.result.operations d.operations lists.operations
+    (ap (λ k. k.operations) c.counts-start.ensures ∙ is.counted.operations) on.first (c.in-Some.ensures d keeps) in
     shows_after h gr lists d _ row on rest last g.S.Store c.append.new.self (c.in_ok-append.ensures.added clean lists is)
 
 pub returns-clause-durable : goal.returns-clause-durable
@@ -41,8 +41,8 @@ returns-clause-durable g c =
     λ clean lists is d keeps on db may.
     let row = commit_of c.in_ok-row.row in
     let last : IsLastRow h gr (Some row) d.last = c.in_ok-row.ensures d keeps on.committed in
-    let rest = rest_is (λ b. b.items) c.in-Some.more.now c.counts.result.operations d.operations lists.operations
-    (ap (λ k. k.operations) c.counts.ensures ∙ is.counted.operations) on.first (c.in-Some.ensures d keeps) in
+    let rest = rest_is (λ b. b.items) c.in-Some.more.now c.counts-start.result.operations d.operations lists.operations
+    (ap (λ k. k.operations) c.counts-start.ensures ∙ is.counted.operations) on.first (c.in-Some.ensures d keeps) in
     holds_after h gr lists d _ row on rest last db (c.in_ok-append.ensures.durable clean lists is db may)
 
 pub returns-clause-crash : goal.returns-clause-crash
@@ -52,8 +52,8 @@ returns-clause-crash g c =
     λ clean lists is d keeps on db may.
     let row = commit_of c.in_ok-row.row in
     let last : IsLastRow h gr (Some row) d.last = c.in_ok-row.ensures d keeps on.committed in
-    let rest = rest_is (λ b. b.items) c.in-Some.more.now c.counts.result.operations d.operations lists.operations
-    (ap (λ k. k.operations) c.counts.ensures ∙ is.counted.operations) on.first (c.in-Some.ensures d keeps) in
+    let rest = rest_is (λ b. b.items) c.in-Some.more.now c.counts-start.result.operations d.operations lists.operations
+    (ap (λ k. k.operations) c.counts-start.ensures ∙ is.counted.operations) on.first (c.in-Some.ensures d keeps) in
     holds_or_after h gr lists d _ row on rest last db (c.append.ensures.crash clean lists is db may)
 
 pub returns-in_err-append-clause-kept : goal.returns-in_err-append-clause-kept
