@@ -19,4 +19,4 @@ returns g c =
     (opened_same e g.V.Value.Read.view h gr _ _ _ (take c.args.mark.now.operations d.operations) first opened, c.is_at.ensures c.if-not-is_at.false (run e empty opened.commands) opened.keeps)
 
 pub is_at-requires : goal.is_at-requires
-is_at-requires g c = let h = c.requires-raw in ?
+is_at-requires g c = c.requires-raw.1.1.1.1.1.1.1.1.1.1.0
