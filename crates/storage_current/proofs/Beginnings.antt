@@ -84,6 +84,12 @@ module _ {D : Type 0} (text : D → List ℕ) (S : Shape) (L : Laws S) (m : Kept
 abbrev pub IsRaisedIn : Grafting → ℕ → ℕ → ℕ → Type 0
 IsRaisedIn g n a k = g.shape.birth (a * 2 ^ height g) (k + height g) ≤ n
 
+pub each_raised : (g : Grafting) (n : ℕ) (hs : List ℕ) (b : ℕ) → EachPeak (IsRaisedIn g n) (places b hs) → (a k : ℕ)
+    → IsPeak hs b a k → IsRaisedIn g n a k
+each_raised g n [] b each a k peak = absurd peak
+each_raised g n (x ∷ hs) b each a k (inl here) = rw (← here.0, ← here.1) each.0
+each_raised g n (x ∷ hs) b each a k (inr later) = each_raised g n hs (b + 2 ^ x) each.1 a k later
+
 pub record Raised (g : Grafting) (a k : ℕ) : Type 0 where
   pub ends : a * 2 ^ height g + 2 ^ (k + height g) ≤ 2 ^ 62
   pub aligned : a * 2 ^ height g % 2 ^ (k + height g) ≡ 0
@@ -113,15 +119,9 @@ module _ (h : HashFunction) (g : Grafting) (s : Snapshot) (chunks : ℕ) where
     pub had : EachPeak (IsRaisedIn g (length s.operations)) left → HavePins g (length s.operations) chunks
     pub texts : read ++ digests_of (λ k a. grafted_node h g s a k) left ≡ chunk_pins h g s chunks
 
-  each_had : (hs : List ℕ) (b : ℕ) → EachPeak (IsRaisedIn g (length s.operations)) (places b hs) → (a k : ℕ) → IsPeak hs b a k
-      → IsRaisedIn g (length s.operations) a k
-  each_had [] b each a k peak = absurd peak
-  each_had (x ∷ hs) b each a k (inl here) = rw (← here.0, ← here.1) each.0
-  each_had (x ∷ hs) b each a k (inr later) = each_had hs (b + 2 ^ x) each.1 a k later
-
   pub none_seen : (left : List Peak) → left ≡ peaks_from g.shape 0 chunks → AreSeen [] left
   none_seen left all = rw all (record {
-    had = λ each a k peak. each_had (g.shape.peaks chunks) 0 each a k peak;
+    had = λ each a k peak. each_raised g (length s.operations) (g.shape.peaks chunks) 0 each a k peak;
     texts = refl;
   })
 

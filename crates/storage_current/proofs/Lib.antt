@@ -54,3 +54,4 @@ mod PinMeanings
 mod Openings
 mod Beginnings
 mod Tails
+mod SnapshotTails

@@ -103,6 +103,14 @@ pub over_all : {D : Type 0} (text : D → List ℕ) (h : HashFunction) (S : Shap
 over_all text h S m list rest count are over =
     subst (IsOver text h S m) (ap (λ xs. take count list ++ xs) are ∙ take-append-drop count list) over
 
+-- digests of peaks over the first leaves, where both have one digest of each node over these
+pub peaks_alike : (node other : ℕ → ℕ → List ℕ) (n : ℕ) → ((k a : ℕ) → a + 2 ^ k ≤ n → node k a ≡ other k a) → (hs : List ℕ) (b : ℕ)
+    → b + leaves_under hs ≤ n → at_peaks node b hs ≡ at_peaks other b hs
+unfolding leaves_under
+peaks_alike node other n same [] b within = refl
+peaks_alike node other n same (k ∷ hs) b within = ap₂ (λ x xs. x ∷ xs) (same k b (omega (arith, within)))
+    (peaks_alike node other n same hs (b + 2 ^ k) (omega (arith, within)))
+
 module _ (h : HashFunction) (g : Grafting) (s : Snapshot) where
   -- the digests of all graftable chunks
   abbrev pub grafted_list : List (List ℕ)
@@ -122,20 +130,12 @@ module _ (h : HashFunction) (g : Grafting) (s : Snapshot) where
         inside (omega arith);
   }
 
-  -- digests of peaks over chunks, by their tree and by the view
-  pins_over : (list : List (List ℕ)) → AreFirstGraftedLeaves h g s list → (hs : List ℕ) (b : ℕ) → b + leaves_under hs ≤ length list
-      → at_peaks (λ k a. grafted_node h g s a k) b hs ≡ at_peaks (λ k a. chunk_node h g list a k) b hs
-  unfolding leaves_under
-  pins_over list grafted [] b within = refl
-  pins_over list grafted (k ∷ hs) b within = ap₂ (λ x xs. x ∷ xs)
-      (sym (over_view h g s list grafted k b (omega (arith, within))))
-      (pins_over list grafted hs (b + 2 ^ k) (omega (arith, within)))
-
   pub pins_of_list : Laws g.shape → (chunks : ℕ) → chunks ≤ graftable g (length s.operations)
       → chunk_pins h g s chunks ≡ at_peaks (λ k a. chunk_node h g grafted_list a k) 0 (g.shape.peaks chunks)
   pins_of_list L chunks few =
       let all = grafted_all in
-      pins_over grafted_list (first_of_all h g s grafted_list all) (g.shape.peaks chunks) 0
+      peaks_alike (λ k a. grafted_node h g s a k) (λ k a. chunk_node h g grafted_list a k) (length grafted_list)
+      (λ k a within. sym (over_view h g s grafted_list (first_of_all h g s grafted_list all) k a within)) (g.shape.peaks chunks) 0
       (omega (arith, L.sum chunks, few, all.count))
 
   pub rest_of_list : (grafts : List (List ℕ)) (chunks : ℕ) → chunks + length grafts ≡ graftable g (length s.operations)
@@ -204,7 +204,7 @@ is_of (x ∷ hs) s a k (inl p) = inl (sym p.0, sym p.1)
 is_of (x ∷ hs) s a k (inr p) = inr (is_of hs (s + 2 ^ x) a k p)
 
 -- a peak of the view lies strictly inside no pin, if each pin covers the operations of a node of the view
-pin_top : (g : Grafting) → Laws g.shape → (n c : ℕ) → HavePins g n c → (a k : ℕ) → IsPeak (g.shape.peaks n) 0 a k
+pub pin_top : (g : Grafting) → Laws g.shape → (n c : ℕ) → HavePins g n c → (a k : ℕ) → IsPeak (g.shape.peaks n) 0 a k
     → (b j : ℕ) → b * 2 ^ height g ≡ a → j + height g ≡ k → Inside (g.shape.peaks c) 0 b j → IsPeak (g.shape.peaks c) 0 b j
 pin_top g L n c have a k peak b j eb ej inside =
     let S = g.shape in
@@ -354,22 +354,29 @@ greatest_left g L n low high c a k b j from have greatest eb ej inside =
     subst (λ x. IsPeak (S.peaks c) 0 x j) ef (subst (λ x. IsPeak (S.peaks c) 0 o.first x) eh pin)
 
 pub planned_left : GreatestNodesArePlanned → (g : Grafting) → PlannedNodesAreLeft g
-planned_left are g L n low high c p a k from few have there node =
+planned_left are g L n low high c b p a k order from few have there node =
     let S = g.shape in
     let G : ℕ = height g in
     let found = (are S L n low high p).0 there in
     let same = same_node S L p found.0 found.1 a k found.2 node in
     let greatest : IsGreatestApart S n low high a k = rw (same.0, same.1) at found.3 in
-    elim (planned_retained are g L n low high c p a k few from there node) [
-      | inr behind ↦ inl (subst (λ (q : ℕ). size S (c * 2 ^ G) ≤ q) (sym node.at) behind)
-      | inl high_enough ↦
+    let start : b * 2 ^ G ≤ low = omega (arith, mul-le-mul_right (2 ^ G) order, from) in
+    elim (cases_lt k G) [
+      | inl low_enough ↦ inl (
+        low_enough,
+        elim (planned_retained are g L n low high c p a k few from there node) [
+          | inr behind ↦ subst (λ (q : ℕ). size S (c * 2 ^ G) ≤ q) (sym node.at) behind
+          | inl high_enough ↦ absurd (omega (arith, low_enough, high_enough))
+        ],
+      )
+      | inr high_enough ↦
           let u = in_units a k G high_enough node.aligned in
-          elim (cases_lt (S.position (a / 2 ^ G) (k - G)) (size S c)) [
+          elim (cases_lt (S.position (a / 2 ^ G) (k - G)) (size S b)) [
             | inr later ↦ inr (high_enough, inl later)
             | inl early ↦ inr (
               high_enough,
-              inr (greatest_left g L n low high c a k (a / 2 ^ G) (k - G) from have greatest u.0
-                  (omega arith) (before_inside S L c (a / 2 ^ G) (k - G) u.1 early)),
+              inr (greatest_left g L n low high b a k (a / 2 ^ G) (k - G) start have greatest u.0
+                  (omega arith) (before_inside S L b (a / 2 ^ G) (k - G) u.1 early)),
             )
           ]
     ]

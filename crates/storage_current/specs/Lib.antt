@@ -33,3 +33,4 @@ pub mod Openings
 pub mod Beginnings
 pub mod Laws
 pub mod Tails
+pub mod SnapshotTails

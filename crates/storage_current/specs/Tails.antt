@@ -1,5 +1,5 @@
 -- The trees of a snapshot from an operation on, where what is before it is told by pins.
-use Rattle.std.specs.Prelude.{◌≡◌, ◌⊎◌, ℕ, ◌+◌, ◌-◌, ◌*◌, ◌/◌, ◌^◌, ◌≤◌, List, drop, length}
+use Rattle.std.specs.Prelude.{◌≡◌, ◌⊎◌, ℕ, ◌+◌, ◌-◌, ◌*◌, ◌/◌, ◌^◌, ◌<◌, ◌≤◌, List, drop, length}
 use Rattle.std.specs.List.{Contains}
 use Rattle.storage_codec.specs.Digests.{HashFunction}
 use Rattle.storage_merkle.specs.Kept.{Kept}
@@ -50,14 +50,16 @@ pub record AreTreesOf {D : Type 0} (bytes_of : D → List ℕ) (h : HashFunction
 
 -- ---- what is left to serve from
 
--- a node of height k with first leaf a stands behind the operations of c chunks of 2 ^ g; or it is as high as those of chunks, and stands
--- behind these chunks in their tree, or is a peak over them
-abbrev pub IsTailRetained : Shape → (g c a k : ℕ) → Type 0
-IsTailRetained S g c a k = (size S (c * 2 ^ g) ≤ S.position a k)
-    ⊎ ((g ≤ k) × ((size S c ≤ S.position (a / 2 ^ g) (k - g)) ⊎ IsPeak (S.peaks c) 0 (a / 2 ^ g) (k - g)))
+-- a node of height k with first leaf a is left where the operations of the first c chunks of 2 ^ g are forgotten, and the first b chunks are
+-- told by pins: below the height of chunks it stands behind those operations; from there on it stands behind those b chunks in their
+-- tree, or is a peak over them
+abbrev pub IsTailRetained : Shape → (g c b a k : ℕ) → Type 0
+IsTailRetained S g c b a k = ((k < g) × (size S (c * 2 ^ g) ≤ S.position a k))
+    ⊎ ((g ≤ k) × ((size S b ≤ S.position (a / 2 ^ g) (k - g)) ⊎ IsPeak (S.peaks b) 0 (a / 2 ^ g) (k - g)))
 
--- Where the first chunks are told by pins that are nodes of the view, each node that is planned of a range behind them is left.
+-- Where the first chunks are told by pins that are nodes of the view, each node that is planned of a range behind the operations that are
+-- forgotten is left.
 abbrev pub PlannedNodesAreLeft : Grafting → Type 0
 PlannedNodesAreLeft g =
-    Laws g.shape → (n low high c p a k : ℕ) → c * 2 ^ height g ≤ low → c ≤ graftable g n → HavePins g n c →
-    Contains (planned g.shape n low high) p → IsNode g.shape p a k → IsTailRetained g.shape (height g) c a k
+    Laws g.shape → (n low high c b p a k : ℕ) → b ≤ c → c * 2 ^ height g ≤ low → c ≤ graftable g n → HavePins g n b →
+    Contains (planned g.shape n low high) p → IsNode g.shape p a k → IsTailRetained g.shape (height g) c b a k

@@ -11,6 +11,7 @@ mod required;
 mod root;
 mod roots;
 mod snapshot;
+mod snapshot_tail;
 mod tail;
 mod view;
 
@@ -18,4 +19,5 @@ pub use contiguous::{Contiguous, LogError};
 pub use operation_tree::OperationTree;
 pub use required::{RequiredChunks, required_chunks};
 pub use snapshot::{Snapshot, chunk_pins};
+pub use snapshot_tail::SnapshotTail;
 pub use tail::Tail;

@@ -1,11 +1,13 @@
 //! The tree over a snapshot's graftable chunks: its leaves are these chunks grafted over the operations' nodes.
 
-ghost use Rattle.std.specs.Prelude.{◌≡◌, ℕ, ◌-◌, ◌*◌, ◌^◌, ◌<◌, ◌≤◌, List, length, map, IfOk, OnOk, IsOk};
+ghost use Rattle.std.specs.Prelude.{◌≡◌, ◌↔◌, ℕ, ◌-◌, ◌*◌, ◌^◌, ◌<◌, ◌≤◌, List, length, map, IfOk, OnOk, IsOk, IsTrue};
 ghost use Rattle.storage_merkle.specs.Kept.{HasRoomFor};
 ghost use Rattle.storage_merkle.specs.Shape.{max_leaves};
 ghost use Rattle.storage_bitmap.specs.Chunks.{IsChunkSize, IsRest, bit_count};
 ghost use Rattle.storage_current.specs.KeptTrees.{AreGraftsFrom, ArePruned, HasMoreGrafts, StandsForChunks};
-ghost use Rattle.storage_current.specs.NodeLists.{IsGrown, IsOver};
+ghost use Rattle.storage_current.specs.NodeLists.{IsOver};
+ghost use Rattle.storage_current.specs.Pins.{HavePins, chunk_pins};
+ghost use Rattle.storage_current.specs.SnapshotTails.{IsOverChunks};
 ghost use Rattle.storage_current.specs.Snapshots.{Snapshot as SnapshotOf, graftable, grafting_of, height, view_node};
 
 use crate::qmdb::current::grafting::{self, GraftedHasher, graft, graftable_chunks, power};
@@ -18,7 +20,7 @@ use storage_merkle::laws::kept::{
 };
 use storage_merkle::merkle::hasher::Standard;
 use storage_merkle::merkle::mem::Mem;
-use storage_merkle::merkle::{Graftable, Position};
+use storage_merkle::merkle::{Graftable, Location, PeakNodes, Position};
 use storage_ops::qmdb;
 
 /// Returns the digest of the node of the graftable chunk number `index` of `status` with the chunk grafted, from the
@@ -54,7 +56,7 @@ pub(crate) fn append_grafts<F: Graftable, H: Hasher, const N: usize>(
     chunks: &mut Mem<F, H::Digest>,
 ) -> Result<(), NoMemory>
     requires chunks { IsChunkSize N }
-    requires grown { IsGrown H.Digest.text H.hash_of F.shape operations.now }
+    requires few { operations.now.leaves ≤ max_leaves }
     requires bits { ArePruned (grafting_of F.shape N) operations.now status.now }
     requires kept { status.now.pruned ≤ chunks.old.leaves }
     requires within { chunks.old.leaves ≤ graftable (grafting_of F.shape N) operations.now.leaves }
@@ -106,4 +108,51 @@ pub(crate) fn grafts_behind<F: Graftable, H: Hasher, const N: usize>(
         grafts.push(digest)?;
     }
     Ok(grafts)
+}
+
+/// Returns the tree over the graftable chunks of `status`, grafted over the nodes that `operations` keeps, where `pins` are the
+/// digests of the peaks over those that are pruned, in leaf order.
+pub(crate) fn chunks_behind<F: Graftable, H: Hasher, const N: usize>(
+    alloc: Global,
+    pins: &[H::Digest],
+    operations: &Mem<F, H::Digest>,
+    status: &Prunable<N>,
+) -> Result<Mem<F, H::Digest>, NoMemory>
+    requires chunks { IsChunkSize N }
+    requires few { operations.now.leaves ≤ max_leaves }
+    requires bits { ArePruned (grafting_of F.shape N) operations.now status.now }
+    requires pins { length pins.now ≡ length (F.shape.peaks status.now.pruned) }
+    ensures place { IfOk result (λ m.
+        (m.leaves ≡ graftable (grafting_of F.shape N) operations.now.leaves)
+        × (m.boundary ≡ status.now.pruned) × (m.pinned ≡ pins.now)) }
+    ensures own { let g = grafting_of F.shape N in IfOk result (λ m. (s : SnapshotOf)
+        → IsRest N status.now s.bits
+        → IsOver H.Digest.text H.hash_of F.shape operations.now s.operations
+        → map H.Digest.text pins.now ≡ chunk_pins H.hash_of g s status.now.pruned
+        → IsOverChunks H.Digest.text H.hash_of g m s) }
+{
+    let pruned = status.pruned_chunks() as u64;
+    let mut chunks = match Mem::<F, H::Digest>::init(alloc, Location::new(pruned), pins) {
+        Ok(chunks) => chunks,
+        Err(_) => return Err(NoMemory),
+    };
+    append_grafts::<F, H, N>(operations, status, &mut chunks)?;
+    Ok(chunks)
+}
+
+/// Returns whether each peak over the first `chunks` chunks covers the operations of a node of the tree over `leaves` operations.
+pub(crate) fn have_pins<F: Graftable, const N: usize>(leaves: u64, chunks: u64) -> bool
+    requires size { IsChunkSize N }
+    requires few { leaves ≤ max_leaves }
+    requires within { chunks * 2 ^ height (grafting_of F.shape N) ≤ leaves }
+    ensures { IsTrue result ↔ HavePins (grafting_of F.shape N) leaves chunks }
+{
+    let size = F::nodes_over(leaves);
+    let above = grafting::height::<N>();
+    for (first, height) in PeakNodes::<F>::over(chunks) {
+        if F::position(first * power(above), height + above) >= size {
+            return false;
+        }
+    }
+    true
 }

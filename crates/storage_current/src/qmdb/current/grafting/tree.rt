@@ -142,6 +142,13 @@ impl<F: Graftable, D: Digest> GraftedTree<F, D> {
         self.pruned
     }
 
+    /// Returns the digests of the peaks over the pruned chunks, in leaf order. Allocates nothing.
+    pub(crate) fn pinned_nodes(&self) -> &[D]
+        ensures { result.now ≡ self.now.pinned }
+    {
+        self.pinned.as_slice()
+    }
+
     /// Returns the digest of the node at `position`, if it is a pin or a leaf that is not pruned; `None` for every
     /// other node. Allocates nothing.
     pub fn get_node(&self, position: Position<F>) -> Option<D>

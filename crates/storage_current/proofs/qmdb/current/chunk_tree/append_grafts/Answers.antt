@@ -25,7 +25,6 @@ graft_at-digest-requires g c =
     let within : c.loop-index.index < graftable G m.leaves = omega (arith, total, c.loop-index-test.true) in
     let from : c.args.status.now.pruned ≤ c.loop-index.index =
     omega (arith, c.requires.kept, c.loop-index.invariant.first) in
-    let few : m.leaves ≤ 2 ^ 62 = c.requires.grown.few in
     search rules
 
 pub add_leaf-requires : goal.add_leaf-requires
@@ -46,7 +45,7 @@ add_leaf-requires g c some p a k inner low high =
     let three : 3 ≤ r = c.height-height.ensures.low in
     rw c.new-hasher.ensures.height (graftable_raised S L (λ q. Unit {0}) c.as_u64.result count r p
     (g.met.F.Graftable.stays_within r (omega arith) c.height-height.ensures.high) (omega arith)
-    (omega (arith, leaves, c.requires.grown.few)) c.graftable_chunks-count.ensures (omega arith) (λ q k. tt))
+    (omega (arith, leaves, c.requires.few)) c.graftable_chunks-count.ensures (omega arith) (λ q k. tt))
 
 pub loop-index-init : goal.loop-index-init
 loop-index-init g c = record {
@@ -114,7 +113,7 @@ returns-then-is_err-clause-succeeds g c room =
     let start : size S k.boundary ≡ size S old.boundary = ap (size S) before.boundary in
     let one : HasRoomFor S 1 k = omega (arith, most, room, before.room, start) in
     let less : k.leaves < 2 ^ 62 =
-    omega (arith, before.count, c.loop-index-test.true, few, c.requires.grown.few) in
+    omega (arith, before.count, c.loop-index-test.true, few, c.requires.few) in
     absurd (not_refused c.add_leaf.result (sym c.if-is_err.ensures.value) (c.add_leaf.ensures.succeeds less one))
 
 pub returns-clause-count : goal.returns-clause-count

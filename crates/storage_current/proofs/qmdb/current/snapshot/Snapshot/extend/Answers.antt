@@ -1,4 +1,4 @@
-use Rattle.std.proofs.Common.{◌≡◌, ◌≤◌, ◌<◌, ◌+◌, ◌-◌, ◌*◌, ◌++◌, [], ℕ, List, Bool, All, length, map, ap, ap₂, sym, refl, ◌∙◌, arith, inr, length-append, rules}
+use Rattle.std.proofs.Common.{◌≡◌, ◌≤◌, ◌<◌, ◌+◌, ◌-◌, ◌*◌, ◌^◌, ◌++◌, [], ℕ, List, Bool, All, length, map, ap, ap₂, sym, refl, ◌∙◌, arith, inr, length-append, rules}
 use Rattle.std.proofs.lemmas.List.Elements.{All-weaker}
 use Rattle.storage_merkle.specs.Hashing.{leaf_digests}
 use Rattle.storage_merkle.specs.Kept.{HasRoomFor}
@@ -297,6 +297,7 @@ append_grafts-requires g c =
     let place = c.regraft.ensures.place in
     let up : k2.leaves ≤ graftable G m2.leaves = omega (arith, place.0, l1, old.count, grows) in
     let from : st2.pruned ≤ k2.leaves = omega (arith, place.0, l1, old.count, old.pruned.few, pr) in
+    let few : m2.leaves ≤ 2 ^ 62 = grown.few in
     search rules
 
 pub unwrap-requires : goal.unwrap-requires

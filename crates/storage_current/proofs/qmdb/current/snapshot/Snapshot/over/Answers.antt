@@ -1,4 +1,4 @@
-use Rattle.std.proofs.Common.{◌≡◌, ◌≤◌, ◌*◌, [], length, ap, sym, refl, ◌∙◌, arith, rules}
+use Rattle.std.proofs.Common.{◌≡◌, ◌≤◌, ◌*◌, ◌^◌, [], length, ap, sym, refl, ◌∙◌, arith, rules}
 use Rattle.std.proofs.Math.Nat.{zero-mul}
 use Rattle.storage_merkle.specs.Laws.Hashing.{length-leaf_digests}
 use Rattle.storage_merkle.specs.Trees.{ungrafted}
@@ -106,4 +106,5 @@ append_grafts-requires g c =
     let kept : c.args.bits.pruned ≤ c.new-chunks.result.leaves = omega (arith, c.requires.bits.unpruned) in
     let within : c.new-chunks.result.leaves ≤ graftable G m.leaves =
     omega (arith, ap (λ t. t.leaves) c.new-chunks.ensures.kept) in
+    let few : m.leaves ≤ 2 ^ 62 = c.requires.grown.few in
     search rules
