@@ -48,3 +48,5 @@ mod sync_keyed;
 mod sync_opened;
 #[cfg(test)]
 mod sync_served;
+#[cfg(test)]
+mod sync_tails;

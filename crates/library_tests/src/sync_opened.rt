@@ -14,7 +14,7 @@ use storage_current::qmdb::current::Tail;
 use storage_merkle::merkle::{Graftable, Location, mmb, mmr};
 use storage_sync::sync::{Limits, Opening, Replica, Server, Sync, Unanswered, Unfounded};
 
-type Told<F> = Opening<F, DigestOf<Sha256>>;
+pub type Told<F> = Opening<F, DigestOf<Sha256>>;
 
 /// Room for the openings of these tests.
 const LIMITS: Limits = Limits {
@@ -24,7 +24,7 @@ const LIMITS: Limits = Limits {
 };
 
 /// Returns what `server` answers for a copy that begins at `begin`.
-fn opening<F: Graftable>(
+pub fn opening<F: Graftable>(
     rt: &impl Abort,
     alloc: Global,
     server: &Server<F, Sha256, 1>,
@@ -176,7 +176,7 @@ fn assert_tail(rt: &impl Abort, copy: &Replica<DigestOf<Sha256>, 1>, chunks: u64
 }
 
 /// Takes a copy of what `server` has of nineteen operations from where `told` begins on, in `pages` pages of a chunk each.
-fn copy_from<F: Graftable>(
+pub fn copy_from<F: Graftable>(
     rt: &impl Abort,
     alloc: Global,
     server: &Server<F, Sha256, 1>,

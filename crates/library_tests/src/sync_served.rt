@@ -140,7 +140,7 @@ pub fn log_of(first: u64, past: u64, left: u64) -> Log
 }
 
 /// Returns what is asked for.
-fn request<F>(start: u64, max_ops: u64) -> Request<F> {
+pub fn request<F>(start: u64, max_ops: u64) -> Request<F> {
     Request {
         start_loc: Location::new(start),
         max_ops,
@@ -160,7 +160,7 @@ fn answer<F: Graftable, const N: usize>(
 }
 
 /// Returns the answer of `server` to `request`, as it is written.
-fn page_of<F: Graftable, const N: usize>(
+pub fn page_of<F: Graftable, const N: usize>(
     rt: &impl Abort,
     alloc: Global,
     server: &Server<F, Sha256, N>,

@@ -101,7 +101,7 @@ unread_at g n pruned first past b begin may_fail error is can why = not_read g n
 
 -- ---- what is refused for want of memory alone
 
-provable : (F : Type 0) (n start end : ℕ) → n ≤ 2 ^ 62 → start < end → end ≤ n → refusal F n start end ≡ None
+pub provable : (F : Type 0) (n start end : ℕ) → n ≤ 2 ^ 62 → start < end → end ≤ n → refusal F n start end ≡ None
 provable F n start end few some within = rw (
   le-ltb (2 ^ 62) n few,
   lt-leb end start some,

@@ -8,6 +8,7 @@ use Rattle.std.proofs.lemmas.List.{drop-drop, length-drop}
 use Rattle.std.proofs.lemmas.List.FromFn.{length-map-range_with_len, get_or-map-range_with_len}
 use Rattle.std.proofs.Math.Nat.{add-mul, div-mul-le_self, min-eq_left, mul-le-mul_right}
 use Rattle.storage_codec.specs.Digests.{HashFunction}
+use Rattle.storage_merkle.specs.Nodes.{IsNode}
 use Rattle.storage_merkle.specs.Plans.{GreatestNodesArePlanned, IsFirstAbsent, PlanOf, planned}
 use Rattle.storage_merkle.specs.RangeProofs.{StandAt}
 use Rattle.storage_merkle.specs.Shape.{Laws, size}
@@ -20,9 +21,11 @@ use Rattle.storage_current.specs.Laws.Grafting.{chunk_height}
 use Rattle.storage_current.specs.Laws.Retained.{planned_retained, told_true}
 use Rattle.storage_current.specs.NodeLists.{told_by}
 use Rattle.storage_current.specs.Served.{Counts, MayFailWithin}
-use Rattle.storage_current.specs.Snapshots.{Grafting, Snapshot, RangeProof, first_chunk, height, own_range_proof, view_node}
+use Rattle.storage_current.specs.SnapshotTails.{KeptTail}
+use Rattle.storage_current.specs.Snapshots.{Grafting, IsSnapshot, Snapshot, RangeProof, first_chunk, graftable, height, own_range_proof, view_node}
+use Rattle.storage_current.specs.Tails.{PlannedNodesAreLeft}
 use Rattle.storage_sync.specs.Messages.{Request}
-use Rattle.storage_sync.specs.Serving.{AreNeverAbsent, HasNoPage, HasPage, IsAnswer, IsFailedRead, IsLogFault, IsLogOf, IsServed, IsUnanswered, IsUnmade, answer_count, page_count}
+use Rattle.storage_sync.specs.Serving.{AreNeverAbsent, HasNoPage, HasPage, IsAnswer, IsFailedRead, IsLogFault, IsLogOf, IsServed, IsServedTail, IsUnanswered, IsUnmade, TellsLeft, answer_count, page_count}
 use Rattle.storage_sync.specs.declared.sync.unanswered.Unanswered.{Unanswered}
 use Rattle.storage_sync.specs.declared.sync.unanswered.Unanswered.TheVariants.{OutOfBounds, NotAtChunk, Pruned, TooFew, Corrupted, Log, Memory}
 
@@ -181,14 +184,117 @@ same_texts text same (v ∷ vs) =
     let tail = same_texts text same vs in
     cc
 
+-- ---- what is served
+
+-- what is left of a snapshot's bits, and of no more than its graftable chunks is anything forgotten
+pub record ArePageParts (g : Grafting) (status : Retained) (s : Snapshot) : Type 0 where
+  pub snapshot : IsSnapshot s
+  pub bits : IsRest g.bytes status s.bits
+  pub pruned : status.pruned ≤ graftable g (length s.operations)
+
+module _ (h : HashFunction) (g : Grafting) (status : Retained) (s : Snapshot) (parts : ArePageParts g status s) where
+  pub leaves_are : bit_count g.bytes status ≡ length s.operations
+  leaves_are = counted g.bytes status s.bits parts.bits ∙ parts.snapshot.bit_each
+
+  pub bits_are : AreBitsOf g (length s.operations) status
+  bits_are = record { all = leaves_are; pruned = parts.pruned }
+
+  -- a page of them answers a request
+  module _ (sized : IsChunkSize g.bytes) (r : Request) (first past end : ℕ)
+      (has : HasPage g.bytes (length s.operations) status.pruned first r)
+      (end_is : end ≡ r.start + answer_count g.bytes (length s.operations) r) where
+    wide : 2 ^ height g ≡ 8 * g.bytes
+    wide = (chunk_height g sized).bits
+
+    pub some : r.start < end
+    some = omega (arith, has.some, end_is)
+
+    pub within : end ≤ length s.operations
+    within =
+        omega (arith, end_is, count_left g.bytes (length s.operations - r.start) r.max_ops, has.begins.within)
+
+    pub from : status.pruned ≤ r.start / 2 ^ height g
+    from = subst (λ (b : ℕ). status.pruned ≤ r.start / b) (sym wide) has.kept.bits
+
+    pub behind : pruned_operations g status ≤ r.start
+    behind = omega (
+      arith,
+      div-mul-le_self r.start (2 ^ height g),
+      mul-le-mul_right (2 ^ height g) from,
+    )
+
+    chunks_are : (chunks : List (List ℕ)) → chunks ≡ chunks_from g.bytes status.bits
+        ((end - 1) / 2 ^ height g - r.start / 2 ^ height g + 1) (r.start / 2 ^ height g - status.pruned)
+        → chunks ≡ chunks_from g.bytes s.bits ((end - 1) / 2 ^ height g - first_chunk g r.start + 1) (first_chunk g r.start)
+    chunks_are chunks touched =
+        touched ∙ kept_chunks g.bytes status s.bits parts.bits
+        ((end - 1) / 2 ^ height g - r.start / 2 ^ height g + 1) (first_chunk g r.start)
+        (r.start / 2 ^ height g - status.pruned) from refl
+
+    module _ (text : Vec ℕ → List ℕ) (item : ℕ → List ℕ) (log : IsLogOf text item first past s) (held : end ≤ past)
+        (vs : List (Vec ℕ)) (read : map text vs ≡ map item (range_with_len r.start (end - r.start))) where
+      abbrev operations : List (List ℕ)
+      operations = map (λ v. v.items) vs
+
+      operations_are : operations ≡ map item (range_with_len r.start (end - r.start))
+      operations_are = same_texts text log.text_is vs ∙ read
+
+      count_is : length operations ≡ end - r.start
+      count_is = ap length operations_are ∙ length-map-range_with_len item r.start (end - r.start)
+
+      stand : StandAt s.operations r.start operations
+      stand = record {
+        within = omega (arith, count_is, some, within);
+        each = λ j less.
+            let inside : j < end - r.start = omega (arith, count_is, less) in
+            ap (λ (xs : List (List ℕ)). get_or xs j []) operations_are
+            ∙ get_or-map-range_with_len item r.start (end - r.start) j (r.start + j) [] inside refl
+            ∙ log.items (r.start + j) (omega (arith, has.kept.operations)) (omega (arith, held, inside))
+            (omega (arith, within, inside));
+      }
+
+      answer_is : (proof : RangeProof) (chunks : List (List ℕ)) → proof ≡ own_range_proof h g s r.start end
+          → chunks ≡ chunks_from g.bytes status.bits
+          ((end - 1) / 2 ^ height g - r.start / 2 ^ height g + 1) (r.start / 2 ^ height g - status.pruned)
+          → IsAnswer h g s r (record { proof = proof; operations = operations; chunks = chunks })
+      answer_is proof chunks own touched =
+          let last : r.start + length operations ≡ end = omega (arith, count_is, some) in
+          record {
+            begins = has.begins;
+            own = record {
+              proof_is = own ∙ ap (own_range_proof h g s r.start) (sym last);
+              holds = record {
+                some = omega (arith, count_is, some);
+                there = stand;
+                chunks_are = chunks_are chunks touched ∙ ap (λ (e : ℕ).
+                    chunks_from g.bytes s.bits ((e - 1) / 2 ^ height g - first_chunk g r.start + 1) (first_chunk g r.start)) (sym last);
+              };
+            };
+            count = omega (arith, last, end_is);
+          }
+
+    -- the parts, of the operations from where the request begins on
+    pub answer_at : (text : Vec ℕ → List ℕ) (item : ℕ → List ℕ) → IsLogOf text item first past s → end ≤ past → (start : ℕ)
+        → start ≡ r.start → (vs : List (Vec ℕ)) → map text vs ≡ map item (range_with_len start (end - start))
+        → (proof : RangeProof) → proof ≡ own_range_proof h g s start end → (told : Retained) → told ≡ status
+        → (chunks : List (List ℕ)) → ((k : ℕ) → 8 * g.bytes ≡ 2 ^ k
+        → chunks ≡ chunks_from g.bytes told.bits ((end - 1) / 2 ^ k - start / 2 ^ k + 1) (start / 2 ^ k - told.pruned))
+        → IsAnswer h g s r (record { proof = proof; operations = map (λ v. v.items) vs; chunks = chunks })
+    answer_at text item log held start at vs read proof own told status_is chunks touched =
+        answer_is text item log held vs
+        (subst (λ (a : ℕ). map text vs ≡ map item (range_with_len a (end - a))) at read) proof chunks
+        (subst (λ (a : ℕ). proof ≡ own_range_proof h g s a end) at own)
+        (subst (λ (a : ℕ). chunks ≡ chunks_from g.bytes status.bits
+        ((end - 1) / 2 ^ height g - a / 2 ^ height g + 1) (a / 2 ^ height g - status.pruned)) at
+        (subst (λ (q : Retained). chunks ≡ chunks_from g.bytes q.bits
+        ((end - 1) / 2 ^ height g - start / 2 ^ height g + 1) (start / 2 ^ height g - q.pruned)) status_is
+        (touched (height g) (sym wide))))
+
 -- ---- a snapshot that is served
 
 module _ (h : HashFunction) (g : Grafting) (kept : KeptSnapshot) (floor : ℕ) (s : Snapshot) (served : IsServed h g kept floor s) where
-  pub leaves_are : bit_count g.bytes kept.status ≡ length s.operations
-  leaves_are = counted g.bytes kept.status s.bits served.stands.status ∙ served.snapshot.bit_each
-
-  pub bits_are : AreBitsOf g (length s.operations) kept.status
-  bits_are = record { all = leaves_are; pruned = served.stands.pruned }
+  pub snapshot_parts : ArePageParts g kept.status s
+  snapshot_parts = record { snapshot = served.snapshot; bits = served.stands.status; pruned = served.stands.pruned }
 
   -- its parts, and the digests of its grafted view's nodes
   pub parts_of : {D : Type 0} (text : D → List ℕ) (answers : ℕ → Option D → Type 0) (plan : PlanOf) (status : Retained)
@@ -218,93 +324,46 @@ module _ (h : HashFunction) (g : Grafting) (kept : KeptSnapshot) (floor : ℕ) (
       let told = served.stands.nodes.are p found.0 found.1 found.2 inside stays in
       absurd (let clash = sym none ∙ told in cc)
 
-  -- a page of it answers a request
-  module _ (sized : IsChunkSize g.bytes) (r : Request) (first past end : ℕ)
-      (has : HasPage g.bytes (length s.operations) kept.status.pruned first r)
-      (end_is : end ≡ r.start + answer_count g.bytes (length s.operations) r) where
-    wide : 2 ^ height g ≡ 8 * g.bytes
-    wide = (chunk_height g sized).bits
+-- ---- one that is told by pins before an operation
 
-    pub some : r.start < end
-    some = omega (arith, has.some, end_is)
+module _ (h : HashFunction) (g : Grafting) (kept : KeptTail) (s : Snapshot) (served : IsServedTail h g kept s) where
+  pub tail_parts : ArePageParts g kept.status s
+  tail_parts = record { snapshot = served.snapshot; bits = served.stands.status; pruned = served.stands.pruned }
 
-    pub within : end ≤ length s.operations
-    within =
-        omega (arith, end_is, count_left g.bytes (length s.operations - r.start) r.max_ops, has.begins.within)
+  -- what is planned of a range behind the chunks that are pruned is told
+  planned_told : GreatestNodesArePlanned → PlannedNodesAreLeft g → Laws g.shape → (low high p : ℕ) → pruned_operations g kept.status ≤ low
+      → Contains (planned g.shape (length s.operations) low high) p → (o : Option (List ℕ)) → TellsLeft h g kept p o
+      → (a k : ℕ) → IsNode g.shape p a k → o ≡ Some (view_node h g s a k)
+  planned_told are left L low high p from there o told a k node =
+      let found = (are g.shape L (length s.operations) low high p).0 there in
+      let inside : p < size g.shape (length s.operations) = omega (arith, found.3.tree.inside, found.2.at) in
+      told s served inside a k node (left L (length s.operations) low high kept.status.pruned kept.chunks.boundary p a k
+      served.stands.behind from served.stands.pruned served.stands.have there node)
 
-    pub from : kept.status.pruned ≤ r.start / 2 ^ height g
-    from = subst (λ (b : ℕ). kept.status.pruned ≤ r.start / b) (sym wide) has.kept.bits
+  pub told_behind : GreatestNodesArePlanned → PlannedNodesAreLeft g → Laws g.shape → (low high p : ℕ) → pruned_operations g kept.status ≤ low
+      → Contains (planned g.shape (length s.operations) low high) p → TellsLeft h g kept p None → ⊥
+  told_behind are left L low high p from there told =
+      let found = (are g.shape L (length s.operations) low high p).0 there in
+      let clash = planned_told are left L low high p from there None told found.0 found.1 found.2 in absurd (cc)
 
-    pub behind : pruned_operations g kept.status ≤ r.start
-    behind = omega (
-      arith,
-      div-mul-le_self r.start (2 ^ height g),
-      mul-le-mul_right (2 ^ height g) from,
-    )
-
-    chunks_are : (chunks : List (List ℕ)) → chunks ≡ chunks_from g.bytes kept.status.bits
-        ((end - 1) / 2 ^ height g - r.start / 2 ^ height g + 1) (r.start / 2 ^ height g - kept.status.pruned)
-        → chunks ≡ chunks_from g.bytes s.bits ((end - 1) / 2 ^ height g - first_chunk g r.start + 1) (first_chunk g r.start)
-    chunks_are chunks touched =
-        touched ∙ kept_chunks g.bytes kept.status s.bits served.stands.status
-        ((end - 1) / 2 ^ height g - r.start / 2 ^ height g + 1) (first_chunk g r.start)
-        (r.start / 2 ^ height g - kept.status.pruned) from refl
-
-    module _ (text : Vec ℕ → List ℕ) (item : ℕ → List ℕ) (log : IsLogOf text item first past s) (held : end ≤ past)
-        (vs : List (Vec ℕ)) (read : map text vs ≡ map item (range_with_len r.start (end - r.start))) where
-      abbrev operations : List (List ℕ)
-      operations = map (λ v. v.items) vs
-
-      operations_are : operations ≡ map item (range_with_len r.start (end - r.start))
-      operations_are = same_texts text log.text_is vs ∙ read
-
-      count_is : length operations ≡ end - r.start
-      count_is = ap length operations_are ∙ length-map-range_with_len item r.start (end - r.start)
-
-      stand : StandAt s.operations r.start operations
-      stand = record {
-        within = omega (arith, count_is, some, within);
-        each = λ j less.
-            let inside : j < end - r.start = omega (arith, count_is, less) in
-            ap (λ (xs : List (List ℕ)). get_or xs j []) operations_are
-            ∙ get_or-map-range_with_len item r.start (end - r.start) j (r.start + j) [] inside refl
-            ∙ log.items (r.start + j) (omega (arith, has.kept.operations)) (omega (arith, held, inside))
-            (omega (arith, within, inside));
+  -- its parts
+  pub behind_parts : {D : Type 0} (text : D → List ℕ) (answers : ℕ → Option D → Type 0) → GreatestNodesArePlanned
+      → PlannedNodesAreLeft g → Laws g.shape → (plan : PlanOf) (status : Retained) (floor : ℕ) (ops_root : List ℕ)
+      → length s.operations ≡ plan.leaves → pruned_operations g kept.status ≤ plan.start → status ≡ kept.status → floor ≡ kept.floor
+      → ops_root ≡ kept.ops_root
+      → ((p : ℕ) (d : D) → answers p (Some d) → TellsLeft h g kept p (Some (text d)))
+      → ArePartsOf text answers h g plan status floor ops_root s
+  behind_parts {D} text answers are left L plan status floor ops_root count from status_is floor_is root_is told =
+      let fits : floor ≤ plan.leaves =
+      omega (arith, served.snapshot.floor_within, floor_is, served.stands.floor, count) in
+      record {
+        count = count;
+        bits = subst (λ (r : Retained). IsRest g.bytes r s.bits) (sym status_is) served.stands.status;
+        floor_is = sym (min-eq_left fits ∙ floor_is ∙ served.stands.floor);
+        ops_root_is = root_is ∙ served.stands.ops_root;
+        nodes = λ p a k d there node given.
+            let same = planned_told are left L plan.start plan.end p from
+            (subst (λ (n : ℕ). Contains (planned g.shape n plan.start plan.end) p) (sym count) there) (Some (text d)) (told p d given)
+            a k node in
+            let one : text d ≡ view_node h g s a k = cc in one;
       }
-
-      answer_is : (proof : RangeProof) (chunks : List (List ℕ)) → proof ≡ own_range_proof h g s r.start end
-          → chunks ≡ chunks_from g.bytes kept.status.bits
-          ((end - 1) / 2 ^ height g - r.start / 2 ^ height g + 1) (r.start / 2 ^ height g - kept.status.pruned)
-          → IsAnswer h g s r (record { proof = proof; operations = operations; chunks = chunks })
-      answer_is proof chunks own touched =
-          let last : r.start + length operations ≡ end = omega (arith, count_is, some) in
-          record {
-            begins = has.begins;
-            own = record {
-              proof_is = own ∙ ap (own_range_proof h g s r.start) (sym last);
-              holds = record {
-                some = omega (arith, count_is, some);
-                there = stand;
-                chunks_are = chunks_are chunks touched ∙ ap (λ (e : ℕ).
-                    chunks_from g.bytes s.bits ((e - 1) / 2 ^ height g - first_chunk g r.start + 1) (first_chunk g r.start)) (sym last);
-              };
-            };
-            count = omega (arith, last, end_is);
-          }
-
-    -- the parts, of the operations from where the request begins on
-    pub answer_at : (text : Vec ℕ → List ℕ) (item : ℕ → List ℕ) → IsLogOf text item first past s → end ≤ past → (start : ℕ)
-        → start ≡ r.start → (vs : List (Vec ℕ)) → map text vs ≡ map item (range_with_len start (end - start))
-        → (proof : RangeProof) → proof ≡ own_range_proof h g s start end → (status : Retained) → status ≡ kept.status
-        → (chunks : List (List ℕ)) → ((k : ℕ) → 8 * g.bytes ≡ 2 ^ k
-        → chunks ≡ chunks_from g.bytes status.bits ((end - 1) / 2 ^ k - start / 2 ^ k + 1) (start / 2 ^ k - status.pruned))
-        → IsAnswer h g s r (record { proof = proof; operations = map (λ v. v.items) vs; chunks = chunks })
-    answer_at text item log held start at vs read proof own status status_is chunks touched =
-        answer_is text item log held vs
-        (subst (λ (a : ℕ). map text vs ≡ map item (range_with_len a (end - a))) at read) proof chunks
-        (subst (λ (a : ℕ). proof ≡ own_range_proof h g s a end) at own)
-        (subst (λ (a : ℕ). chunks ≡ chunks_from g.bytes kept.status.bits
-        ((end - 1) / 2 ^ height g - a / 2 ^ height g + 1) (a / 2 ^ height g - kept.status.pruned)) at
-        (subst (λ (q : Retained). chunks ≡ chunks_from g.bytes q.bits
-        ((end - 1) / 2 ^ height g - start / 2 ^ height g + 1) (start / 2 ^ height g - q.pruned)) status_is
-        (touched (height g) (sym wide))))

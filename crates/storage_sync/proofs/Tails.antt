@@ -1,5 +1,5 @@
 -- A copy with pins, once they have the grafted root of its opening.
-use Rattle.std.proofs.Common.{◌≡◌, ◌⊎◌, ◌↔◌, true, ℕ, ◌*◌, ◌/◌, ◌%◌, ◌^◌, ◌<◌, Bool, List, drop, length, map, inl, inr, sym, ap, subst, ◌∙◌, arith, eqb, eqb-true, eq-eqb}
+use Rattle.std.proofs.Common.{◌≡◌, ◌⊎◌, ◌↔◌, true, ℕ, ◌*◌, ◌/◌, ◌%◌, ◌^◌, ◌<◌, ◌≤◌, Bool, List, drop, length, length-drop, map, refl, inl, inr, sym, ap, subst, ◌∙◌, arith, eqb, eqb-true, eq-eqb}
 use Rattle.std.specs.Global.{Vec}
 use Rattle.std.proofs.lemmas.List.{length-map}
 use Rattle.std.proofs.lemmas.Nat.{shl-shr}
@@ -8,18 +8,20 @@ use Rattle.storage_codec.specs.Digests.{HashFunction, IsSized}
 use Rattle.storage_merkle.specs.Kept.{Kept, kept_at}
 use Rattle.storage_merkle.specs.Laws.Multiples.{is_multiple, quotient}
 use Rattle.storage_merkle.specs.Shape.{Laws}
-use Rattle.storage_bitmap.specs.Chunks.{IsChunkSize, Retained}
+use Rattle.storage_bitmap.specs.Chunks.{IsChunkSize, IsRest, Retained, bit_count}
 use Rattle.storage_current.specs.GraftedTrees.{KeptChunks}
 use Rattle.storage_current.specs.Laws.Grafting.{chunk_height}
 use Rattle.storage_current.specs.Pins.{MeansPins, chunk_pins, operation_pins}
 use Rattle.storage_current.specs.Snapshots.{Grafting, IsSnapshot, Snapshot, height}
-use Rattle.storage_current.specs.Tails.{AreOwnParts, ArePinned}
+use Rattle.storage_current.specs.Tails.{AreOwnParts, ArePinned, AreTreesOf}
 use Rattle.storage_sync.specs.Beginnings.{IsBeginning}
 use Rattle.storage_sync.specs.Floors.{CopiesFromPins, IsCopyFrom}
 use Rattle.storage_sync.specs.Openings.{Opening}
 use Rattle.storage_sync.specs.Pages.{AreProved, FirstNames, bits_of, operations_of}
 use Rattle.storage_sync.specs.Syncs.{place}
-use Rattle.storage_sync.specs.Tails.{IsBehind, MeansCopyFrom}
+use Rattle.storage_sync.specs.Tails.{HasNoSnapshotTail, HasNoTail, IsBehind, MeansCopyFrom, with_floor_of}
+use Rattle.storage_sync.specs.declared.sync.unfounded.Unfounded.{Unfounded}
+use Rattle.storage_sync.specs.declared.sync.unfounded.Unfounded.TheVariants.{Malformed, FloorPastTheEnd, OtherRoots, Memory}
 
 -- the chunks before an opening are those of the operations before
 pub chunks_before : (g : Grafting) → IsChunkSize g.bytes → (o : Opening) (status : Retained)
@@ -91,3 +93,52 @@ module _ {D : Type 0} (text : D → List ℕ) (law : CopiesFromPins text) (d : �
             (subst (IsCopyFrom h g s o.begin (operations_of pages) (bits_of g.bytes pages) o.ops_root o.pins)
             (ap (map text) pinned.over_chunks_are ∙ texts) copy)))
       ]
+
+-- ---- the snapshot that a copy goes on as
+
+pub own_pinned : {D : Type 0} (g : Grafting) (pins over : List D) (status kept : Retained) (m : Kept D) (t : KeptChunks D)
+    → kept ≡ status → ArePinned g pins over status m t → ArePinned g m.pinned t.pinned kept m t
+own_pinned g pins over status kept m t same pinned = rw same (record {
+  pruned = pinned.pruned;
+  pins_are = refl;
+  place = pinned.place;
+  over_chunks_are = refl;
+  all = pinned.all;
+})
+
+pub no_snapshot_tail : (h : HashFunction) (g : Grafting) (o : Opening) (operations : List (List ℕ)) (status : Retained) (floor : ℕ)
+    (root : List ℕ) (why : Unfounded) → HasNoTail h g o operations status floor why
+    → HasNoSnapshotTail h g o operations status floor root why
+no_snapshot_tail h g o operations status floor root Malformed none = none
+no_snapshot_tail h g o operations status floor root FloorPastTheEnd none = none
+no_snapshot_tail h g o operations status floor root OtherRoots none =
+    (none.0, none.1, λ s snapshot begins copy same witness root_is. none.2 s snapshot begins copy same witness)
+no_snapshot_tail h g o operations status floor root Memory none = tt
+
+-- trees are of operations and bits, whatever the floor
+pub trees_of_floor : {D : Type 0} (text : D → List ℕ) (h : HashFunction) (g : Grafting) (s : Snapshot) (floor : ℕ) (m : Kept D)
+    (t : KeptChunks D) → AreTreesOf text h g s m t → AreTreesOf text h g (with_floor_of s floor) m t
+trees_of_floor text h g s floor m t of = record {
+  over = of.over;
+  list = of.list;
+  grafted = record { count = of.grafted.count; each = of.grafted.each };
+  keeps = of.keeps;
+}
+
+pub snapshot_of_floor : (g : Grafting) (status : Retained) (s : Snapshot) (floor : ℕ) → IsSnapshot s → IsRest g.bytes status s.bits
+    → floor ≤ bit_count g.bytes status → IsSnapshot (with_floor_of s floor)
+snapshot_of_floor g status s floor snapshot rest within = record {
+  bit_each = snapshot.bit_each;
+  floor_within = omega (
+    arith,
+    within,
+    rest.within,
+    ap length rest.rest,
+    length-drop (status.pruned * (8 * g.bytes)) s.bits,
+    snapshot.bit_each,
+  );
+  few = snapshot.few;
+}
+
+pub same_floor : (s : Snapshot) (floor : ℕ) → floor ≡ s.floor → with_floor_of s floor ≡ s
+same_floor s floor same = ap (with_floor_of s) same

@@ -1,10 +1,14 @@
 -- Requests that are answered from a snapshot and a log, the pages that answer them, and why there is none.
-use Rattle.std.specs.Prelude.{◌≡◌, ◌≢◌, ℕ, ◌+◌, ◌-◌, ◌*◌, ◌/◌, ◌%◌, ◌<◌, ◌≤◌, List, [], length, get_or, ltb, if◌then◌else◌, Contains, Option, None, Result, Err}
+use Rattle.std.specs.Prelude.{◌≡◌, ◌≢◌, ℕ, ◌+◌, ◌-◌, ◌*◌, ◌/◌, ◌%◌, ◌<◌, ◌≤◌, List, [], length, get_or, ltb, if◌then◌else◌, Contains, Option, None, Some, Result, Err}
 use Rattle.std.specs.Global.{Vec}
 use Rattle.storage_codec.specs.Digests.{HashFunction}
+use Rattle.storage_merkle.specs.Nodes.{IsNode}
+use Rattle.storage_merkle.specs.Shape.{size}
 use Rattle.storage_current.specs.KeptSnapshots.{KeptSnapshot, StandsForSnapshot}
 use Rattle.storage_current.specs.Served.{MayFailWithin}
-use Rattle.storage_current.specs.Snapshots.{Grafting, Snapshot, IsSnapshot}
+use Rattle.storage_current.specs.SnapshotTails.{KeptTail, StandsForTail}
+use Rattle.storage_current.specs.Snapshots.{Grafting, Snapshot, IsSnapshot, height, view_node}
+use Rattle.storage_current.specs.Tails.{IsTailRetained}
 use Rattle.storage_sync.specs.Messages.{Request}
 use Rattle.storage_sync.specs.Pages.{Page}
 use Rattle.storage_sync.specs.Refusals.{IsOwnPage}
@@ -16,6 +20,17 @@ pub record IsServed (h : HashFunction) (g : Grafting) (kept : KeptSnapshot) (flo
   pub snapshot : IsSnapshot s
   pub stands : StandsForSnapshot h g kept s
   pub floor_is : floor ≡ s.floor
+
+-- a snapshot in memory behind an operation is this snapshot's
+pub record IsServedTail (h : HashFunction) (g : Grafting) (kept : KeptTail) (s : Snapshot) : Type 0 where
+  pub snapshot : IsSnapshot s
+  pub stands : StandsForTail h g kept s
+
+-- what is answered at a position is the digest of the node there of each such snapshot's grafted view, if the node is left
+abbrev pub TellsLeft : HashFunction → Grafting → KeptTail → ℕ → Option (List ℕ) → Type 0
+TellsLeft h g kept position answer = (s : Snapshot) → IsServedTail h g kept s → position < size g.shape (length s.operations) →
+    (a k : ℕ) → IsNode g.shape position a k → IsTailRetained g.shape (height g) kept.status.pruned kept.chunks.boundary a k →
+    answer ≡ Some (view_node h g s a k)
 
 -- the items of a log are byte strings, and at each location that it holds there is the snapshot's operation
 pub record IsLogOf (text : Vec ℕ → List ℕ) (item : ℕ → List ℕ) (first past : ℕ) (s : Snapshot) : Type 0 where

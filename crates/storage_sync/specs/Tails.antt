@@ -50,3 +50,19 @@ HasNoTail h g o operations status floor OtherRoots =
     IsCopyFrom h g s o.begin operations status.bits o.ops_root o.pins o.over_chunks → floor ≡ s.floor →
     o.witness.grafted_root ≡ grafted_root_of h g s → ⊥)
 HasNoTail h g o operations status floor Memory = Unit {0}
+
+-- ---- the snapshot that such a copy goes on as
+
+-- a snapshot with another floor
+abbrev pub with_floor_of : Snapshot → ℕ → Snapshot
+with_floor_of s floor = record { operations = s.operations; bits = s.bits; floor = floor }
+
+-- why there is none with a canonical root: as there are no trees, or they have another root, unless it is that of such a snapshot
+abbrev pub HasNoSnapshotTail : HashFunction → Grafting → Opening → List (List ℕ) → Retained → (floor : ℕ) → (root : List ℕ) → Unfounded
+    → Type 0
+HasNoSnapshotTail h g o operations status floor root OtherRoots =
+    IsBehind g o (length operations) status × (floor ≤ bit_count g.bytes status)
+    × ((s : Snapshot) → IsSnapshot s → IsBeginning g (length s.operations) o.begin →
+    IsCopyFrom h g s o.begin operations status.bits o.ops_root o.pins o.over_chunks → floor ≡ s.floor →
+    o.witness.grafted_root ≡ grafted_root_of h g s → canonical_root h g s ≡ root → ⊥)
+HasNoSnapshotTail h g o operations status floor root why = HasNoTail h g o operations status floor why

@@ -21,6 +21,6 @@ pub use page::Page;
 pub use refusal::Refusal;
 pub use replica::Replica;
 pub use request::Request;
-pub use serve::Server;
+pub use serve::{Server, TailServer};
 pub use unanswered::Unanswered;
 pub use unfounded::Unfounded;

@@ -3,12 +3,14 @@
 ghost use Rattle.std.specs.Prelude.{◌≡◌, ◌⊎◌, ◌↔◌, ◌<◌, ◌≤◌, length, map, IsTrue, IfOk, IfErr};
 ghost use Rattle.storage_codec.specs.Digests.{Cross};
 ghost use Rattle.storage_merkle.specs.Shape.{max_leaves};
+ghost use Rattle.storage_bitmap.specs.Chunks.{IsChunkSize, bit_count};
 ghost use Rattle.storage_current.specs.KeptSnapshots.{StandsForSnapshot};
 ghost use Rattle.storage_current.specs.Snapshots.{IsSnapshot, Snapshot as SnapshotOf, canonical_root, grafting_of, ops_root_of, snapshot_strings};
 ghost use Rattle.storage_sync.specs.Alike.{ProveAlike};
 ghost use Rattle.storage_sync.specs.Founded.{AreCounted, HaveRoots, IsUnfounded};
 ghost use Rattle.storage_sync.specs.Pages.{IsCopy, with_floor};
 
+mod snapshot_tail;
 mod tail;
 
 use crate::laws::floors_prove_alike;
@@ -113,16 +115,17 @@ impl<D: Digest, const N: usize> Replica<D, N> {
     }
 }
 
-/// Returns the same bits, of which none is pruned.
+/// Returns the same bits, of which as many chunks are pruned.
 fn copied<const N: usize>(alloc: Global, status: &Prunable<N>) -> Result<Prunable<N>, NoMemory>
-    requires unpruned { status.now.pruned ≡ 0 }
-    requires few { length status.now.bits ≤ max_leaves }
-    ensures { IfOk result (λ copy. copy ≡ status.now) }
+    requires few { bit_count N status.now ≤ max_leaves }
+    ensures size { IsChunkSize N }
+    ensures same { IfOk result (λ copy. copy ≡ status.now) }
 {
-    let len = status.len();
-    let mut copy = Prunable::new(alloc);
-    for bit in 0..len {
-        copy.push(status.get_bit(bit))?;
+    let mut copy = Prunable::new_with_pruned_chunks(alloc, status.pruned_chunks());
+    let pruned = copy.len();
+    let kept = status.len() - pruned;
+    for index in 0..kept {
+        copy.push(status.get_bit(pruned + index))?;
     }
     Ok(copy)
 }

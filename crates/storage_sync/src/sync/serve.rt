@@ -20,6 +20,7 @@ ghost use Rattle.storage_sync.specs.Serving.{HasAnswer, HasNoPage, HasPage, IsAn
 mod opening;
 mod operations;
 mod proof;
+mod tail;
 
 use crate::sync::serve::operations::read_operations;
 use crate::sync::serve::proof::{chunks_between, own_proof};
@@ -29,6 +30,7 @@ use storage_bitmap::bitmap::{Prunable, Readable};
 use storage_codec::digest::Hasher;
 use storage_current::qmdb::current::{Contiguous, Snapshot};
 use storage_merkle::merkle::{Graftable, Location};
+pub use tail::TailServer;
 
 /// A snapshot in memory, which may be pruned, from which pages and openings are served.
 #[derive(Drop)]

@@ -3,7 +3,7 @@
 ghost use Rattle.std.specs.Prelude.{◌≡◌, ◌⊎◌, ◌↔◌, ◌*◌, ◌^◌, ◌≤◌, length, map, IsTrue, IfOk, IfErr, IfSome, MatchOption};
 ghost use Rattle.storage_merkle.specs.Kept.{kept_at};
 ghost use Rattle.storage_merkle.specs.Shape.{max_leaves};
-ghost use Rattle.storage_bitmap.specs.Chunks.{IsChunkSize};
+ghost use Rattle.storage_bitmap.specs.Chunks.{IsChunkSize, bit_count};
 ghost use Rattle.storage_current.specs.Pins.{HavePins, MeansPins};
 ghost use Rattle.storage_current.specs.Snapshots.{IsSnapshot, Snapshot as SnapshotOf, graftable, grafted_root_of, grafting_of, height};
 ghost use Rattle.storage_current.specs.Tails.{ArePinned, AreTreesOf};
@@ -43,6 +43,14 @@ impl<D: Digest, const N: usize> Replica<D, N> {
             IfOk result (λ tail. IsBehind g o (length self.now.operations.items) self.now.status
             × ArePinned g opening.now.pins.items opening.now.over_chunks.items self.now.status
             tail.operations tail.chunks) }
+        ensures own { let g = grafting_of F.shape N in
+            let o = opening_of D.text opening.now in
+            let operations = map (λ o. o.items) self.now.operations.items in
+            (s : SnapshotOf) → IsSnapshot s → IsBeginning g (length s.operations) o.begin
+            → IsCopyFrom H.hash_of g s o.begin operations self.now.status.bits
+            o.ops_root o.pins o.over_chunks
+            → IfOk result (λ tail. AreTreesOf D.text H.hash_of g s tail.operations tail.chunks) }
+        ensures floor { IfOk result (λ _. floor ≤ bit_count N self.now.status) }
         ensures promise { (D.size ≡ 32) ⊎ (D.size ≡ 64) → let g = grafting_of F.shape N in
             let o = opening_of D.text opening.now in
             let operations = map (λ o. o.items) self.now.operations.items in

@@ -9,7 +9,7 @@ ghost use Rattle.storage_current.specs.Held.{range_proof_of};
 ghost use Rattle.storage_current.specs.KeptSnapshots.{pruned_operations};
 ghost use Rattle.storage_current.specs.NodeLists.{told_by};
 ghost use Rattle.storage_current.specs.Snapshots.{Snapshot as SnapshotOf, grafting_of, own_range_proof};
-ghost use Rattle.storage_sync.specs.Serving.{AreNeverAbsent, IsServed, IsUnmade};
+ghost use Rattle.storage_sync.specs.Serving.{AreNeverAbsent, IsServed, IsServedTail, IsUnmade, TellsLeft};
 
 use crate::sync::Unanswered;
 use bytes::Bytes;
@@ -17,8 +17,9 @@ use std::alloc::Global;
 use storage_bitmap::bitmap::{Prunable, Readable};
 use storage_codec::NoMemory;
 use storage_codec::digest::{Digest, Hasher};
-use storage_current::qmdb::current::Snapshot;
+use storage_current::laws::pins::planned_nodes_behind_pins_are_left;
 use storage_current::qmdb::current::proof::{RangeProof, touched_chunks};
+use storage_current::qmdb::current::{Snapshot, SnapshotTail};
 use storage_merkle::laws::greatest_nodes_are_planned;
 use storage_merkle::merkle::{self, Graftable, Location, Position, RangePlan};
 use storage_ops::qmdb::Error;
@@ -61,6 +62,50 @@ pub(crate) fn own_proof<F: Graftable, H: Hasher, const N: usize>(
         ensures { option_map H.Digest.text result ≡ told_by snapshot.entry.now.nodes position }
     { snapshot.get_node(position) };
     let ops_root = snapshot.ops_root();
+    proof_by::<F, H::Digest, H, _, N>(alloc, status, plan, get_node, floor, ops_root)
+}
+
+/// Returns the own proof of the operations from `start` to before `end` of `snapshot`, whose first chunks are told by pins.
+/// Each digest is read if it is used.
+///
+/// # Errors
+///
+/// `Corrupted` if the snapshot is not one; `Memory`.
+pub(crate) fn own_proof_behind<F: Graftable, H: Hasher, const N: usize>(
+    alloc: Global,
+    snapshot: &SnapshotTail<F, H, N>,
+    start: u64,
+    end: u64,
+) -> Result<RangeProof<F, H::Digest>, Unanswered>
+    ensures own { let g = grafting_of F.shape N in
+        (s : SnapshotOf) → IsServedTail H.hash_of g snapshot.now s
+        → pruned_operations g snapshot.now.status ≤ start
+        → IfOk result (λ proof. range_proof_of H.Digest.text proof
+        ≡ own_range_proof H.hash_of g s start end) }
+    ensures why { let g = grafting_of F.shape N in
+        (s : SnapshotOf) → IsServedTail H.hash_of g snapshot.now s → start < end
+        → end ≤ length s.operations → pruned_operations g snapshot.now.status ≤ start
+        → IfErr result (λ error. error ≡ Unanswered.Memory) }
+    ensures kind { IfErr result IsUnmade }
+{
+    greatest_nodes_are_planned();
+    planned_nodes_behind_pins_are_left();
+    let status = snapshot.status();
+    let leaves = Location::new(status.len());
+    let range = Location::new(start)..Location::new(end);
+    let plan = match RangePlan::new(alloc, leaves, range) {
+        Ok(plan) => plan,
+        Err(error) => match error {
+            merkle::Error::Memory => return Err(Unanswered::Memory),
+            _ => return Err(Unanswered::Corrupted),
+        },
+    };
+    let get_node = |position: Position<F>|
+        ensures { TellsLeft H.hash_of (grafting_of F.shape N) snapshot.entry.now position
+            (option_map H.Digest.text result) }
+    { snapshot.get_node(position) };
+    let ops_root = snapshot.ops_root();
+    let floor = snapshot.floor();
     proof_by::<F, H::Digest, H, _, N>(alloc, status, plan, get_node, floor, ops_root)
 }
 

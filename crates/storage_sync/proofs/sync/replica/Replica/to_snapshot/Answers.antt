@@ -12,7 +12,7 @@ returns-then-not-has_roots-clause-why g c =
     let gr = grafting_of g.F.Family.shape g.row.N in
     let copy = c.args.self.now in
     let stands = snapshot_of_equal (StandsForSnapshot h gr c.in-Ok.snapshot) c.as_slice.result.now copy.operations.items
-    c.in_ok-status.status copy.status c.args.floor c.args.floor c.as_slice.ensures.value c.in_ok-status.ensures refl
+    c.in_ok-status.status copy.status c.args.floor c.args.floor c.as_slice.ensures.value c.in_ok-status.ensures.same refl
     c.in-Ok.ensures.stands.1 in (
       counted_items g.row.N copy.operations.items copy.status (c.is_counted.ensures.0 c.if-not-is_counted.false),
       omega (arith, c.if-as_u64-len.false, c.as_u64.ensures, c.len.ensures, length-map copy.operations.items (λ o. o.items)),
@@ -26,7 +26,7 @@ returns-clause-stands g c =
     let copy = c.args.self.now in
     let both = snapshot_of_equal (λ s. IsSnapshot s × StandsForSnapshot h gr c.in-Ok.snapshot s) c.as_slice.result.now
     copy.operations.items c.in_ok-status.status copy.status c.args.floor c.args.floor c.as_slice.ensures.value
-    c.in_ok-status.ensures refl c.in-Ok.ensures.stands in
+    c.in_ok-status.ensures.same refl c.in-Ok.ensures.stands in
     (both.0, both.1, (c.has_roots.ensures _ both.1).0 c.if-not-has_roots.false)
 
 pub returns-clause-promise : goal.returns-clause-promise

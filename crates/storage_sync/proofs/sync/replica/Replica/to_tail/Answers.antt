@@ -6,6 +6,16 @@ use Rattle.storage_sync.specs.Held.{opening_of}
 use Rattle.storage_sync.proofs.Tails.{behind_texts, chunks_before, copy_from}
 use Rattle.storage_sync.proofs.sync.replica.Replica.to_tail.Goals as goal
 
+pub returns-then-as_u64-len-clause-why : goal.returns-then-as_u64-len-clause-why
+returns-then-as_u64-len-clause-why g c =
+    let G = grafting_of g.F.Family.shape g.row.N in
+    let o = opening_of g.D.Digest.text c.args.opening.now in
+    let copy = c.args.self.now in
+    let found = rw (c.in-Some.is, c.deref.ensures.value) at c.in_ok-found.ensures.exact in (
+      behind_texts G o copy.operations.items copy.status found.0,
+      omega (arith, c.if-as_u64-len.true, c.as_u64.ensures, c.len.ensures.value),
+    )
+
 pub returns-then-not-same-clause-why : goal.returns-then-not-same-clause-why
 returns-then-not-same-clause-why g c =
     let h = g.H.Hasher.hash_of in
@@ -42,3 +52,10 @@ returns-clause-promise g c = λ width.
     c.in_ok-found.ensures.size o copy.status c.args.floor (map (λ v. v.items) copy.operations.items) opening.pins.items
     opening.over_chunks.items tail.operations tail.chunks (behind_texts G o copy.operations.items copy.status found.0) refl pinned
     (c.in_ok-same.ensures.bound width (omega (arith, pinned.pruned.few, pinned.place)) c.if-not-same.false)
+
+pub returns-clause-own : goal.returns-clause-own
+returns-clause-own g c = λ s snapshot begins copy.
+    (rw (c.in-Some.is, c.deref.ensures.value) at c.in_ok-found.ensures.own) s snapshot begins copy
+
+pub returns-clause-floor : goal.returns-clause-floor
+returns-clause-floor g c = omega (arith, c.if-as_u64-len.false, c.as_u64.ensures, c.len.ensures.value)

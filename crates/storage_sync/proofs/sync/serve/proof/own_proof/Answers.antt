@@ -5,7 +5,7 @@ use Rattle.storage_merkle.specs.Plans.{PlanOf, planned}
 use Rattle.storage_current.specs.BuiltProofs.{AreBitsOf}
 use Rattle.storage_current.specs.NodeLists.{told_by}
 use Rattle.storage_current.specs.Snapshots.{grafting_of, own_range_proof}
-use Rattle.storage_sync.proofs.Serving.{bits_are, if_ok, leaves_are, never_absent, parts_of, plan_is}
+use Rattle.storage_sync.proofs.Serving.{bits_are, if_ok, leaves_are, never_absent, parts_of, plan_is, snapshot_parts}
 use Rattle.storage_sync.proofs.sync.serve.proof.own_proof.Goals as goal
 
 pub returns-clause-own : goal.returns-clause-own
@@ -19,7 +19,7 @@ returns-clause-own g c = λ s served.
     = plan_is _ _ _ c.in-Ok.ensures in
     let count : length s.operations ≡ c.in-Ok.plan.leaves =
     sym (ap (λ (p : PlanOf). p.leaves) plan ∙ c.new-leaves.ensures ∙ c.len.ensures.value
-    ∙ ap (bit_count g.row.N) c.status-status.ensures ∙ leaves_are h gr kept c.args.floor s served) in
+    ∙ ap (bit_count g.row.N) c.status-status.ensures ∙ leaves_are h gr kept.status s (snapshot_parts h gr kept c.args.floor s served)) in
     if_ok _ _ c.proof_by.result (λ proof own.
     own s (parts_of h gr kept c.args.floor s served text _ c.in-Ok.plan c.status-status.result.now
     (text c.ops_root-ops_root.result) count c.status-status.ensures c.ops_root-ops_root.ensures.value
@@ -34,7 +34,7 @@ returns-clause-why g c = λ s served some within behind.
     let kept = c.args.snapshot.now in
     let nodes = kept.nodes in
     let all : c.new-leaves.result ≡ length s.operations = c.new-leaves.ensures ∙ c.len.ensures.value
-    ∙ ap (bit_count g.row.N) c.status-status.ensures ∙ leaves_are h gr kept c.args.floor s served in
+    ∙ ap (bit_count g.row.N) c.status-status.ensures ∙ leaves_are h gr kept.status s (snapshot_parts h gr kept c.args.floor s served) in
     let plan : c.in-Ok.plan ≡ record { leaves = length s.operations; start = c.args.start; end = c.args.end }
     = plan_is _ _ _ c.in-Ok.ensures ∙ ap (λ (n : ℕ). record { leaves = n; start = c.new.result; end = c.new-2.result }) all
     ∙ ap₂ (λ (a b : ℕ). record { leaves = length s.operations; start = a; end = b }) c.new.ensures c.new-2.ensures in
@@ -45,4 +45,4 @@ returns-clause-why g c = λ s served some within behind.
     (let e : None ≡ told_by nodes p = search rules in sym e))
     (subst (λ (q : PlanOf). AreBitsOf gr q.leaves c.status-status.result.now) (sym plan)
     (subst (λ (r : Retained). AreBitsOf gr (length s.operations) r) (sym c.status-status.ensures)
-    (bits_are h gr kept c.args.floor s served)))
+    (bits_are h gr kept.status s (snapshot_parts h gr kept c.args.floor s served))))
