@@ -32,10 +32,7 @@ pub(crate) fn operations_from<
     K: Key,
     V: OrderedCodec<F, K>,
     const N: usize,
->(
-    database: &Ordered<F, H, K, V, N>,
-    location: u64,
-) -> Option<&[Vec<u8>]>
+>(database: &Ordered<F, H, K, V, N>, location: u64) -> Option<&[Vec<u8>]>
     ensures { let e = keyed_by K.text V.Value.text V.operation_text K.cmp in
         IfSome result (λ more. (d : Database K V.Value)
         → Keeps e V.Value.view H.hash_of (grafting_of F.shape N) database.now d

@@ -15,10 +15,9 @@ use std::ops::Range;
 use storage_bitmap::bitmap::{Prunable, Readable};
 use storage_codec::NoMemory;
 use storage_codec::digest::{Digest, Hasher};
-use storage_current::qmdb::current::Snapshot;
-use storage_current::qmdb::current::grafting;
 use storage_current::qmdb::current::proof::constant::OperationProof;
 use storage_current::qmdb::current::proof::{RangeProof, touched_chunks};
+use storage_current::qmdb::current::{Snapshot, grafting};
 use storage_merkle::merkle::{ElementPlan, Graftable, Location, Position, RangePlan};
 
 /// Returns the proof of the location of `plan`, from the digests that `get_node` answers for the planned positions:
