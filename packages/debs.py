@@ -1,14 +1,14 @@
 #!/usr/bin/env python3
-"""Puts the library for C and the program `stateproof` into packages for Debian.
+"""Puts the library for C and the programs `gawerunoa` and `stateproof` into packages for Debian.
 
-    packages/debs.py FOLDER LIBRARY PROGRAM [--unproved]
+    packages/debs.py FOLDER LIBRARY PROGRAM.. [--unproved]
 
-LIBRARY is a folder with libgawerunoa.a and libgawerunoa.so, PROGRAM the program. With --unproved they are those of tools/unproved.py, and
-the packages say so in their names. Into FOLDER go
+LIBRARY is a folder with libgawerunoa.a and libgawerunoa.so, and each PROGRAM one of the programs. With --unproved they are those of
+tools/unproved.py, and the packages say so in their names. Into FOLDER go
 
     libgawerunoa0_VERSION_amd64.deb       the shared object
     libgawerunoa-dev_VERSION_amd64.deb    the header, the static library and the file for pkg-config
-    gawerunoa_VERSION_amd64.deb           the program, and its page of the manual
+    gawerunoa_VERSION_amd64.deb           the programs, and the page of the manual of each
 
 Two runs over the same files make the same bytes. It wants dpkg-deb, and strip of binutils.
 """
@@ -34,6 +34,8 @@ NOT_PROVED = """
  .
  This build has run-time checks in place of the proof."""
 LIB = "usr/lib/x86_64-linux-gnu"
+# the page of the manual of each program
+PAGES = {"gawerunoa": ROOT / "crates/gawerunoa/gawerunoa.1", "stateproof": HERE / "deb/stateproof.1"}
 
 
 class Package:
@@ -108,7 +110,17 @@ def stripped(path, work, *flags):
     return copy
 
 
-def make_debs(folder, library, program, unproved=False):
+def installed(programs, suffix, work):
+    """The places of the programs and of their pages, with what stands there."""
+    files = {}
+    for path in programs:
+        page = PAGES[path.name.removesuffix(suffix)]
+        files[f"usr/bin/{path.name}"] = stripped(path, work)
+        files[f"usr/share/man/man1/{path.name}.1.gz"] = packed(page.read_bytes())
+    return files
+
+
+def make_debs(folder, library, programs, unproved=False):
     """Makes all, and answers their paths."""
     suffix = "-unproved" if unproved else ""
     name, version = f"libgawerunoa{suffix}", make.version()
@@ -117,7 +129,6 @@ def make_debs(folder, library, program, unproved=False):
         work = pathlib.Path(room)
         shared = stripped(library / f"{name}.so", work, "--strip-unneeded")
         archive = stripped(library / f"{name}.a", work, "--strip-debug", "--enable-deterministic-archives")
-        tool = stripped(program, work)
         objects = {f"{LIB}/{name}.so.{version}": shared, f"{LIB}/{name}.so.0": f"{name}.so.{version}"}
         runtime = Package(f"{name}0", "libs", "proved checks for a light client of a database", "libc6 (>= 2.34)", objects, suffix)
         headers = {
@@ -129,23 +140,20 @@ def make_debs(folder, library, program, unproved=False):
         same = f"{runtime.name} (= {version}-1), libc6-dev"
         line = "proved checks for a light client of a database - development files"
         development = Package(f"{name}-dev", "libdevel", line, same, headers, suffix)
-        tools = {
-            f"usr/bin/stateproof{suffix}": tool,
-            f"usr/share/man/man1/stateproof{suffix}.1.gz": packed((HERE / "deb/stateproof.1").read_bytes()),
-        }
-        programs = Package(f"gawerunoa{suffix}", "utils", "make and check proofs of an authenticated database", "libc6 (>= 2.34)", tools, suffix)
+        line = "make and check proofs of an authenticated database"
+        tools = Package(f"gawerunoa{suffix}", "utils", line, "libc6 (>= 2.34)", installed(programs, suffix, work), suffix)
         shlibs = {"shlibs": f"{name} 0 {runtime.name} (>= {version})\n", "triggers": "activate-noawait ldconfig\n"}
-        return [runtime.write(folder, shlibs.items()), development.write(folder), programs.write(folder)]
+        return [runtime.write(folder, shlibs.items()), development.write(folder), tools.write(folder)]
 
 
 def main():
-    words = argparse.ArgumentParser(usage="debs.py FOLDER LIBRARY PROGRAM [--unproved]")
+    words = argparse.ArgumentParser(usage="debs.py FOLDER LIBRARY PROGRAM.. [--unproved]")
     words.add_argument("folder", type=pathlib.Path)
     words.add_argument("library", type=pathlib.Path)
-    words.add_argument("program", type=pathlib.Path)
+    words.add_argument("programs", type=pathlib.Path, nargs="+", metavar="program")
     words.add_argument("--unproved", action="store_true")
     given = words.parse_args()
-    for path in make_debs(given.folder, given.library, given.program, given.unproved):
+    for path in make_debs(given.folder, given.library, given.programs, given.unproved):
         print(path)
 
 

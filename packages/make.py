@@ -29,6 +29,7 @@ EXAMPLE = ROOT / "examples/data"
 # where each package, and what else is handed on, says the version
 VERSIONS = {
     "packages/deb/stateproof.1": r'"gawerunoa (.*?)"',
+    "crates/gawerunoa/gawerunoa.1": r'"gawerunoa (.*?)"',
     "packages/python/gawerunoa/__init__.py": r'__version__ = "(.*)"',
     "packages/rust/Cargo.toml": r'^version = "(.*)"',
     "packages/go/gawerunoa.go": r'Version = "(.*)"',

@@ -1,13 +1,13 @@
 #!/usr/bin/env python3
 """Tests the packages: makes each, installs it in an empty place, and asks it every case that the library for C is asked.
 
-    packages/test_packages.py [FOLDER] [--program FILE] [--unproved] [--only NAME]
+    packages/test_packages.py [FOLDER] [--programs FILE..] [--unproved] [--only NAME]
 
 FOLDER has what `tools/c_library.py FOLDER --built TREE` leaves, or with --unproved `tools/unproved.py FOLDER`: the library and the LLVM module
-of its code, of which the WebAssembly module is made here. Without it what `./build` left in dist/ is taken. FILE is the program `stateproof`
-for Debian's packages. A package whose language is not there (cargo, go; for JavaScript npm and a node that takes wasm64, or Chromium; for
-Debian dpkg, gcc and a program) is named and not tested. Each package has the names of the answers that the C header has, and says the
-same version. The last line is 'N passed, M failed'; the status is 77 where there is no library.
+of its code, of which the WebAssembly module is made here. Without it what `./build` left in dist/ is taken. The files are the programs
+`gawerunoa` and `stateproof` for Debian's packages. A package whose language is not there (cargo, go; for JavaScript npm and a node that
+takes wasm64, or Chromium; for Debian dpkg, gcc and the programs) is named and not tested. Each package has the names of the answers that
+the C header has, and says the same version. The last line is 'N passed, M failed'; the status is 77 where there is no library.
 """
 import argparse
 import functools
@@ -38,6 +38,7 @@ CONSTANTS = {
 }
 NOT_THERE = None
 NOT_RUN = 77
+UNPROVED = "-unproved"
 
 
 def run(*words, text=None, folder=None, **names):
@@ -154,7 +155,7 @@ def names():
 
 
 def debian(made, questions, work):
-    """The packages in an empty root: a program in C is linked with them, `stateproof` is run, and all of it is removed."""
+    """The packages in an empty root: a program in C is linked with them, the programs are run, and all of it is removed."""
     if not all(map(shutil.which, ("dpkg", "gcc"))):
         return NOT_THERE
     root = work / "root"
@@ -165,7 +166,8 @@ def debian(made, questions, work):
     # what they stand on is not there; nothing runs in that root
     dpkg = functools.partial(run, "dpkg", f"--root={root}", "--force-depends", "--force-not-root", "--force-bad-path", "--log=/dev/null")
     dpkg("--install", *made)
-    told = [asked_in_c(root, questions, work), checked_by_program(root), linted(made)]
+    programs = sorted((root / "usr/bin").iterdir())
+    told = [asked_in_c(root, questions, work), *(checked_by(it, root) for it in programs), linted(made)]
     names = [it.name.partition("_")[0] for it in made]
     dpkg("--purge", *reversed(names))
     left = [it for it in root.rglob("*") if not it.is_dir() and root / "var" not in it.parents]
@@ -187,12 +189,15 @@ def asked_in_c(root, questions, work):
     return compare(questions, "".join(f"{by_number.get(it, it)}\n" for it in told.split()))
 
 
-def checked_by_program(root):
-    """The example, by the installed program, whose page of the manual is there."""
-    program = next((root / "usr/bin").iterdir())
-    root_digest, operation, proof = ((EXAMPLE / f"{it}.bin").read_bytes().hex() for it in ("root", "operation", "proof"))
-    told = run(program, "check", "mmr", "1", root_digest, "3", text=f"{operation}\n{proof}\n")
-    if told != "yes\n" or not (root / f"usr/share/man/man1/{program.name}.1.gz").is_file():
+def checked_by(program, root):
+    """The example, by an installed program, whose page of the manual is there."""
+    digest, operation, proof = ((EXAMPLE / f"{it}.bin").read_bytes().hex() for it in ("root", "operation", "proof"))
+    words, given = {
+        "stateproof": (f"check mmr 1 {digest} 3", f"{operation}\n{proof}\n"),
+        "gawerunoa": (f"check operation --family mmr --chunk 1 --root {digest} --at 3 --operation {operation} --proof @-", f"{proof}\n"),
+    }[program.name.removesuffix(UNPROVED)]
+    told = run(program, *words.split(), text=given)
+    if not told.startswith("yes") or not (root / f"usr/share/man/man1/{program.name}.1.gz").is_file():
         raise AssertionError(f"{program.name} says {told}, or has no page")
     return f"{program.name} says yes"
 
@@ -216,27 +221,29 @@ TESTS = {"python": python, "rust": rust, "go": go, "javascript": javascript, "de
 
 def made_of(given, work):
     """Makes the packages, from what a build of the library left in a folder or else in dist/."""
-    suffix = "-unproved" if given.unproved else ""
+    suffix = UNPROVED if given.unproved else ""
     library, module = given.folder, work / "wasm"
-    program = given.program or (library / f"stateproof{suffix}" if library and suffix else ROOT / f"dist/bin/stateproof{suffix}")
+    folder = library if library and suffix else ROOT / "dist/bin"
+    # without a proof `stateproof` alone is made
+    programs = given.programs or [folder / f"{it}{suffix}" for it in debs.PAGES if it == "stateproof" or not suffix]
     if library is None:
         library, module = ROOT / "dist/lib", ROOT / "dist/wasm"
     else:
         run(ROOT / "examples/page/wasm", module, "--kept", library, *["--unproved"] * given.unproved)
     made = make.make(work / "made", library, module, suffix)
-    if shutil.which("dpkg-deb") and program.is_file():
-        made["debian"] = debs.make_debs(work / "made", library, program, given.unproved)
+    if shutil.which("dpkg-deb") and all(it.is_file() for it in programs):
+        made["debian"] = debs.make_debs(work / "made", library, programs, given.unproved)
     return made
 
 
 def main():
-    words = argparse.ArgumentParser(usage="test_packages.py [FOLDER] [--program FILE] [--unproved] [--only NAME]")
+    words = argparse.ArgumentParser(usage="test_packages.py [FOLDER] [--programs FILE..] [--unproved] [--only NAME]")
     words.add_argument("folder", type=lambda it: pathlib.Path(it).resolve(), nargs="?")
-    words.add_argument("--program", type=lambda it: pathlib.Path(it).resolve())
+    words.add_argument("--programs", type=lambda it: pathlib.Path(it).resolve(), nargs="+")
     words.add_argument("--unproved", action="store_true")
     words.add_argument("--only", choices=TESTS)
     given = words.parse_args()
-    if not (given.folder or ROOT / "dist/lib").joinpath(f"libgawerunoa{'-unproved' * given.unproved}.a").is_file():
+    if not (given.folder or ROOT / "dist/lib").joinpath(f"libgawerunoa{UNPROVED * given.unproved}.a").is_file():
         print("packages: there is no library: not run")
         return NOT_RUN
     questions = [(question(name, hash_of(it), it["in"]), it["out"]) for name in LISTS for it in whole_cases(name)]

@@ -37,8 +37,8 @@ fn tree<F: Graftable>(alloc: Global, count: u64) -> Result<OperationTree<F, Sha2
     Ok(tree)
 }
 
-/// `count` bits, which are all set.
-fn bits<const N: usize>(alloc: Global, count: u64) -> Result<Prunable<N>, Fault>
+/// Returns `count` bits, which are all set.
+pub fn bits<const N: usize>(alloc: Global, count: u64) -> Result<Prunable<N>, Fault>
     requires { IsChunkSize N }
 {
     let mut bits = Prunable::new(alloc);

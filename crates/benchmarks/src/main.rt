@@ -8,6 +8,7 @@ mod calls;
 mod cases;
 mod columns;
 mod commands;
+mod copied;
 mod database;
 mod extended;
 mod hash;
@@ -28,6 +29,7 @@ fn answer(alloc: Global, words: &[&str]) -> Result<String, Fault> {
         "snapshot" => snapshot::reply(alloc, words),
         "database" => database::reply(alloc, words),
         "commands" => commands::reply(alloc, words),
+        "served" | "kept" | "copied" => copied::reply(alloc, *work, words),
         "extend" | "prove" => extended::reply(alloc, *work, words),
         "check" => cases::check(alloc, words),
         row => cases::reply(alloc, row, words),

@@ -1,0 +1,258 @@
+//! Pages of a snapshot from a server in the same program. The words are what is done with each page (`served`, `kept` or `copied`), the
+//! family, how many operations there are, and how many a page has at most. An operation is its number, in eight bytes. All are active,
+//! the floor is half their number, chunks have 32 bytes, and digests are those of SHA-256.
+//!
+//! With `served` each page is made, written and let go; with `kept` its operations and chunks are kept as they are; with `copied` it is
+//! read and taken by one who trusts the canonical root alone. The answer is the canonical root, and how many operations came.
+
+ghost use Rattle.std.specs.Prelude.{◌≡◌, map, IfOk};
+ghost use Rattle.std.specs.Int.{to_be_bytes, w64};
+
+use crate::columns::{Fault, number};
+use crate::extended::bits;
+use commonware_storage::bitmap::{Prunable, Readable};
+use commonware_storage::codec::Encode;
+use commonware_storage::digest::{DigestOf, Sha256};
+use commonware_storage::merkle::{Graftable, Location, mmb, mmr};
+use commonware_storage::qmdb::current::{Contiguous, LogError, OperationTree, Snapshot};
+use commonware_storage::qmdb::sync::{Limits, Page, Refusal, Request, Server, Sync};
+use std::alloc::{AllocError, Global};
+use std::ops::Range;
+
+/// The size of a chunk, in bytes.
+const N: usize = 32;
+
+/// The operations before `past`.
+#[derive(Drop)]
+struct Log {
+    past: u64,
+}
+
+impl Contiguous for Log {
+    type Item = Vec<u8>;
+
+    ghost text = { λ item. item.items };
+
+    ghost item = { λ s l. to_be_bytes w64 l };
+
+    ghost first = { λ s. 0 };
+
+    ghost past = { λ s. s.past };
+
+    ghost failed = { λ s. 0 };
+
+    ghost may_fail = { λ s _ code. ⊥ };
+
+    fn failures(&self) -> u64 {
+        0
+    }
+
+    fn bounds(&self) -> Range<u64> {
+        0..self.past
+    }
+
+    fn read_many(&mut self, alloc: Global, locations: &[u64]) -> Result<Vec<Vec<u8>>, LogError> {
+        match operations_at(alloc, locations) {
+            Ok(operations) => Ok(operations),
+            Err(_) => Err(LogError::Memory),
+        }
+    }
+}
+
+/// Returns the operations at `locations`.
+fn operations_at(alloc: Global, locations: &[u64]) -> Result<Vec<Vec<u8>>, AllocError>
+    ensures { IfOk result (λ v. map (λ o. o.items) v.items ≡ map (to_be_bytes w64) locations.now) }
+{
+    let mut operations = Vec::new(alloc);
+    for location in locations {
+        operations.push(Vec::from_slice(alloc, &location.to_be_bytes())?)?;
+    }
+    Ok(operations)
+}
+
+/// Returns the tree over `count` operations.
+fn tree<F: Graftable>(alloc: Global, count: u64) -> Result<OperationTree<F, Sha256>, Fault> {
+    let mut tree = OperationTree::new(alloc);
+    for location in 0..count {
+        if tree.add(&location.to_be_bytes()).is_err() {
+            return Err(Fault::Memory);
+        }
+    }
+    Ok(tree)
+}
+
+/// Returns the server of the snapshot of `count` operations.
+fn server<F: Graftable>(alloc: Global, count: u64) -> Result<Server<F, Sha256, N>, Fault> {
+    let floor = Location::new(count / 2);
+    let (tree, bits) = (tree(alloc, count)?, bits(alloc, count)?);
+    match Snapshot::of_tree(alloc, tree, bits, floor) {
+        Ok(snapshot) => Ok(Server { snapshot, floor }),
+        Err(_) => Err(Fault::Malformed),
+    }
+}
+
+/// Returns the page that `server` answers to `request`.
+fn page<F: Graftable>(
+    alloc: Global,
+    server: &Server<F, Sha256, N>,
+    request: Request<F>,
+) -> Result<Page<F, DigestOf<Sha256>>, Fault> {
+    let mut log = Log {
+        past: server.snapshot.status().len(),
+    };
+    match server.answer(alloc, &mut log, request) {
+        Ok(page) => Ok(page),
+        Err(_) => Err(Fault::Malformed),
+    }
+}
+
+/// What is kept of pages as it is.
+#[derive(Drop)]
+struct Kept {
+    operations: Vec<Vec<u8>>,
+    status: Prunable<N>,
+}
+
+/// Adds what `page` has to `kept`.
+fn keep<F>(
+    alloc: Global,
+    kept: &mut Kept,
+    mut page: Page<F, DigestOf<Sha256>>,
+) -> Result<(), Fault> {
+    let bits = vec![in alloc; true; page.operations.len()]?;
+    kept.status.append(&bits)?;
+    kept.operations.append(&mut page.operations)?;
+    Ok(())
+}
+
+/// Makes each page of the snapshot of `server`, which has `count` operations, with at most `max_ops` of them, and keeps what it has if
+/// that is said. Returns how many operations came.
+fn served<F: Graftable>(
+    alloc: Global,
+    server: &Server<F, Sha256, N>,
+    count: u64,
+    max_ops: u64,
+    is_kept: bool,
+) -> Result<u64, Fault> {
+    let mut kept = Kept {
+        operations: Vec::new(alloc),
+        status: Prunable::new(alloc),
+    };
+    let mut came = 0u64;
+    // a page has an operation or more
+    for _ in 0..count {
+        if came >= count {
+            break;
+        }
+        let page = page(alloc, server, Request { start_loc: Location::new(came), max_ops })?;
+        let written = page.encode(alloc)?;
+        drop(written);
+        came = came.saturating_add(page.operations.len() as u64);
+        if is_kept {
+            keep(alloc, &mut kept, page)?;
+        }
+    }
+    Ok(came)
+}
+
+/// Begins a copy of the snapshot with the canonical root `root`, of pages of at most `max_ops` operations.
+fn begin<F: Graftable>(
+    alloc: Global,
+    root: DigestOf<Sha256>,
+    max_ops: u64,
+) -> Result<Sync<F, Sha256, N>, Fault> {
+    let limits = Limits {
+        max_ops,
+        max_operation_len: 8,
+        max_digests: 192,
+    };
+    Sync::new(alloc, root, limits).ok_or(Fault::Malformed)
+}
+
+/// Returns what `sync` wants next; nothing if it has all.
+fn next<F: Graftable>(sync: &Sync<F, Sha256, N>) -> Option<Request<F>> {
+    sync.next()
+}
+
+/// Takes `page`.
+fn take<F: Graftable>(
+    alloc: Global,
+    sync: &mut Sync<F, Sha256, N>,
+    page: &[u8],
+) -> Result<(), Fault> {
+    match sync.take(alloc, page) {
+        Ok(()) => Ok(()),
+        Err(Refusal::Memory) => Err(Fault::Memory),
+        Err(_) => Err(Fault::Malformed),
+    }
+}
+
+/// Returns how many operations the copy has.
+fn finish<F: Graftable>(sync: Sync<F, Sha256, N>) -> Result<u64, Fault> {
+    match sync.done() {
+        Ok(copy) => Ok(copy.operations.len() as u64),
+        Err(_) => Err(Fault::Malformed),
+    }
+}
+
+/// Copies the snapshot of `server`, which has `count` operations, by pages of at most `max_ops`. Returns how many operations the copy has.
+fn copied<F: Graftable>(
+    alloc: Global,
+    server: &Server<F, Sha256, N>,
+    count: u64,
+    max_ops: u64,
+) -> Result<u64, Fault> {
+    let mut sync = begin::<F>(alloc, server.snapshot.root(), max_ops)?;
+    // a page has an operation or more
+    for _ in 0..count {
+        let Some(request) = next(&sync) else {
+            break;
+        };
+        let page = page(alloc, server, request)?.encode(alloc)?;
+        take(alloc, &mut sync, &page)?;
+    }
+    finish(sync)
+}
+
+/// Returns how many operations come from `server`, which has `count`, by pages of at most `max_ops`.
+fn came<F: Graftable>(
+    alloc: Global,
+    server: &Server<F, Sha256, N>,
+    work: &str,
+    count: u64,
+    max_ops: u64,
+) -> Result<u64, Fault> {
+    match work {
+        "served" => served(alloc, server, count, max_ops, false),
+        "kept" => served(alloc, server, count, max_ops, true),
+        "copied" => copied(alloc, server, count, max_ops),
+        _ => Err(Fault::Malformed),
+    }
+}
+
+/// Returns the line to print for `count` operations of the family `F`.
+fn report<F: Graftable>(
+    alloc: Global,
+    work: &str,
+    count: u64,
+    max_ops: u64,
+) -> Result<String, Fault> {
+    let server = server::<F>(alloc, count)?;
+    let root = hex::encode(alloc, server.snapshot.root().bytes)?;
+    let came = came(alloc, &server, work, count, max_ops)?;
+    drop(server);
+    Ok(format!(in alloc; "{root} {came}")?)
+}
+
+/// Returns the line to print for `words`: the family, how many operations there are, and how many a page has at most.
+pub fn reply(alloc: Global, work: &str, words: &[&str]) -> Result<String, Fault> {
+    let [family, count, max_ops] = words else {
+        return Err(Fault::Malformed);
+    };
+    let (count, max_ops) = (number(*count)?, number(*max_ops)?);
+    match *family {
+        "mmr" => report::<mmr::Family>(alloc, work, count, max_ops),
+        "mmb" => report::<mmb::Family>(alloc, work, count, max_ops),
+        _ => Err(Fault::Malformed),
+    }
+}
