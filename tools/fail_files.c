@@ -2,21 +2,19 @@
    that return into the program's own image are numbered from 1, but for those on its standard input, output and error.
 
    FAILED_FILES names a file of three numbers, as the machine keeps a uint64_t: how many calls were made, which of them goes wrong, and
-   how. It is mapped, so that the first number stands there however the program ends.
+   how. With no such file nothing goes wrong.
 
    What pwrite and ftruncate change is noted until the file is synced, so that it can be lost as it is when the power is cut. */
 #define _GNU_SOURCE
 #include <dlfcn.h>
 #include <errno.h>
-#include <fcntl.h>
-#include <link.h>
 #include <signal.h>
 #include <stdint.h>
 #include <stdlib.h>
-#include <string.h>
-#include <sys/mman.h>
 #include <sys/stat.h>
 #include <unistd.h>
+
+#include "image.h"
 
 /* How a call goes wrong: it fails, it finds no room, it moves one byte; the program is killed before it, or when half of its bytes are
    moved; or it is killed before it, and what was not synced is lost, or all of that but the last change. */
@@ -41,7 +39,6 @@ struct change {
 static struct account nothing;
 static struct account *account;
 static struct change *changes;
-static uintptr_t image_start = UINTPTR_MAX, image_end;
 
 static ssize_t (*next_read)(int, void *, size_t);
 static ssize_t (*next_pread)(int, void *, size_t, off_t);
@@ -50,30 +47,6 @@ static ssize_t (*next_pwrite)(int, const void *, size_t, off_t);
 static int (*next_fsync)(int);
 static int (*next_fdatasync)(int);
 static int (*next_ftruncate)(int, off_t);
-
-/* Where the program's own image stands: it is the first that the loader names. */
-static int find_image(struct dl_phdr_info *info, size_t size, void *data) {
-  (void)size;
-  (void)data;
-  for (int i = 0; i < info->dlpi_phnum; i++) {
-    if (info->dlpi_phdr[i].p_type != PT_LOAD) continue;
-    uintptr_t start = info->dlpi_addr + info->dlpi_phdr[i].p_vaddr;
-    uintptr_t end = start + info->dlpi_phdr[i].p_memsz;
-    if (start < image_start) image_start = start;
-    if (end > image_end) image_end = end;
-  }
-  return 1;
-}
-
-/* The account in the named file; with no such file nothing goes wrong. */
-static struct account *open_account(void) {
-  const char *name = getenv("FAILED_FILES");
-  int file = name ? open(name, O_RDWR | O_CLOEXEC) : -1;
-  if (file < 0) return &nothing;
-  void *mapped = mmap(NULL, sizeof nothing, PROT_READ | PROT_WRITE, MAP_SHARED, file, 0);
-  close(file);
-  return mapped == MAP_FAILED ? &nothing : mapped;
-}
 
 __attribute__((constructor)) static void begin(void) {
   if (account) return;
@@ -84,8 +57,7 @@ __attribute__((constructor)) static void begin(void) {
   next_fsync = (int (*)(int))dlsym(RTLD_NEXT, "fsync");
   next_fdatasync = (int (*)(int))dlsym(RTLD_NEXT, "fdatasync");
   next_ftruncate = (int (*)(int, off_t))dlsym(RTLD_NEXT, "ftruncate");
-  dl_iterate_phdr(find_image, NULL);
-  account = open_account();
+  account = open_account("FAILED_FILES", &nothing, sizeof nothing);
 }
 
 /* Notes the bytes of a file that are about to be changed, which are so many, or all from there on. */
@@ -159,8 +131,7 @@ static void end(enum way way) {
 /* Counts the call on a file that returns to this place, if it is the program's own; how it goes wrong, if it does. */
 static enum way way_of(int file, void *place) {
   begin();
-  uintptr_t caller = (uintptr_t)place;
-  if (file <= STDERR_FILENO || caller < image_start || caller >= image_end) return 0;
+  if (file <= STDERR_FILENO || !is_own(place)) return 0;
   uint64_t number = __atomic_add_fetch(&account->made, 1, __ATOMIC_RELAXED);
   enum way way = number == account->wrong ? account->way : 0;
   end(way);
