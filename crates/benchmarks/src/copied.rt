@@ -1,9 +1,10 @@
 //! Pages of a snapshot from a server in the same program. The words are what is done with each page (`served`, `kept` or `copied`), the
-//! family, how many operations there are, and how many a page has at most. An operation is its number, in eight bytes. All are active,
-//! the floor is half their number, chunks have 32 bytes, and digests are those of SHA-256.
+//! family, how many operations there are, how many a page has at most, and the location of the first one that is asked for. An operation is
+//! its number, in eight bytes. All are active, the floor is half their number, chunks have 32 bytes, and digests are those of SHA-256.
 //!
-//! With `served` each page is made, written and let go; with `kept` its operations and chunks are kept as they are; with `copied` it is
-//! read and taken by one who trusts the canonical root alone. The answer is the canonical root, and how many operations came.
+//! With `served` each page is made, written and let go; with `kept` its operations and bits are kept as they are; with `copied` it is
+//! read and taken by one who trusts the canonical root alone, and who begins with an opening where the first operation is not asked for.
+//! The answer is the canonical root, and how many operations came.
 
 ghost use Rattle.std.specs.Prelude.{◌≡◌, map, IfOk};
 ghost use Rattle.std.specs.Int.{to_be_bytes, w64};
@@ -13,14 +14,22 @@ use crate::extended::bits;
 use commonware_storage::bitmap::{Prunable, Readable};
 use commonware_storage::codec::Encode;
 use commonware_storage::digest::{DigestOf, Sha256};
-use commonware_storage::merkle::{Graftable, Location, mmb, mmr};
+use commonware_storage::merkle::{Graftable, Location, MAX_LEAVES, mmb, mmr};
 use commonware_storage::qmdb::current::{Contiguous, LogError, OperationTree, Snapshot};
-use commonware_storage::qmdb::sync::{Limits, Page, Refusal, Request, Server, Sync};
+use commonware_storage::qmdb::sync::{Limits, Opening, Page, Refusal, Request, Server, Sync};
 use std::alloc::{AllocError, Global};
 use std::ops::Range;
 
 /// The size of a chunk, in bytes.
 const N: usize = 32;
+
+/// The pages that are asked for: of the operations from `begin` to before `past`, with at most `max_ops` of them.
+#[derive(Clone, Copy)]
+struct Pages {
+    begin: u64,
+    past: u64,
+    max_ops: u64,
+}
 
 /// The operations before `past`.
 #[derive(Drop)]
@@ -91,17 +100,35 @@ fn server<F: Graftable>(alloc: Global, count: u64) -> Result<Server<F, Sha256, N
     }
 }
 
+/// Returns the log of all operations of `server`.
+fn log<F: Graftable>(server: &Server<F, Sha256, N>) -> Log {
+    Log {
+        past: server.snapshot.status().len(),
+    }
+}
+
 /// Returns the page that `server` answers to `request`.
 fn page<F: Graftable>(
     alloc: Global,
     server: &Server<F, Sha256, N>,
     request: Request<F>,
 ) -> Result<Page<F, DigestOf<Sha256>>, Fault> {
-    let mut log = Log {
-        past: server.snapshot.status().len(),
-    };
+    let mut log = log(server);
     match server.answer(alloc, &mut log, request) {
         Ok(page) => Ok(page),
+        Err(_) => Err(Fault::Malformed),
+    }
+}
+
+/// Returns the opening that `server` answers of a copy that begins at `begin`.
+fn opening<F: Graftable>(
+    alloc: Global,
+    server: &Server<F, Sha256, N>,
+    begin: u64,
+) -> Result<Opening<F, DigestOf<Sha256>>, Fault> {
+    let mut log = log(server);
+    match server.opening(alloc, &mut log, Location::new(begin)) {
+        Ok(opening) => Ok(opening),
         Err(_) => Err(Fault::Malformed),
     }
 }
@@ -113,60 +140,85 @@ struct Kept {
     status: Prunable<N>,
 }
 
-/// Adds what `page` has to `kept`.
-fn keep<F>(
-    alloc: Global,
-    kept: &mut Kept,
-    mut page: Page<F, DigestOf<Sha256>>,
-) -> Result<(), Fault> {
-    let bits = vec![in alloc; true; page.operations.len()]?;
-    kept.status.append(&bits)?;
-    kept.operations.append(&mut page.operations)?;
-    Ok(())
+/// Appends `count` bits to `status`, which are all set.
+fn append_bits(alloc: Global, status: &mut Prunable<N>, count: usize) -> Result<(), Fault> {
+    let bits = vec![in alloc; true; count]?;
+    if status.len().saturating_add(count as u64) > MAX_LEAVES {
+        return Err(Fault::Memory);
+    }
+    Ok(status.append(&bits)?)
 }
 
-/// Makes each page of the snapshot of `server`, which has `count` operations, with at most `max_ops` of them, and keeps what it has if
-/// that is said. Returns how many operations came.
+/// Adds what `page` has to `kept`.
+fn keep<F: Graftable>(
+    alloc: Global,
+    kept: &mut Kept,
+    page: Page<F, DigestOf<Sha256>>,
+) -> Result<(), Fault> {
+    let mut operations = page.operations;
+    append_bits(alloc, &mut kept.status, operations.len())?;
+    Ok(kept.operations.append(&mut operations)?)
+}
+
+/// Makes each of `pages` of the snapshot of `server`, and keeps what it has if that is said. Returns how many operations came.
 fn served<F: Graftable>(
     alloc: Global,
     server: &Server<F, Sha256, N>,
-    count: u64,
-    max_ops: u64,
+    pages: Pages,
     is_kept: bool,
 ) -> Result<u64, Fault> {
     let mut kept = Kept {
         operations: Vec::new(alloc),
         status: Prunable::new(alloc),
     };
-    let mut came = 0u64;
+    let mut next = pages.begin;
     // a page has an operation or more
-    for _ in 0..count {
-        if came >= count {
+    for _ in pages.begin..pages.past {
+        if next >= pages.past {
             break;
         }
-        let page = page(alloc, server, Request { start_loc: Location::new(came), max_ops })?;
+        let request = Request {
+            start_loc: Location::new(next),
+            max_ops: pages.max_ops,
+        };
+        let page = page(alloc, server, request)?;
         let written = page.encode(alloc)?;
         drop(written);
-        came = came.saturating_add(page.operations.len() as u64);
+        next = next.saturating_add(page.operations.len() as u64);
         if is_kept {
             keep(alloc, &mut kept, page)?;
         }
     }
-    Ok(came)
+    Ok(next.saturating_sub(pages.begin))
 }
 
-/// Begins a copy of the snapshot with the canonical root `root`, of pages of at most `max_ops` operations.
-fn begin<F: Graftable>(
+/// Returns the copy of what the snapshots with the canonical root `root` have from where `opening` begins on.
+fn begin_at<F: Graftable>(
     alloc: Global,
     root: DigestOf<Sha256>,
-    max_ops: u64,
+    limits: Limits,
+    opening: &Opening<F, DigestOf<Sha256>>,
+) -> Result<Sync<F, Sha256, N>, Fault> {
+    Sync::from_opening(alloc, root, limits, opening)?.ok_or(Fault::Malformed)
+}
+
+/// Begins a copy of the snapshot of `server`, by `pages`.
+fn begin<F: Graftable>(
+    alloc: Global,
+    server: &Server<F, Sha256, N>,
+    pages: Pages,
 ) -> Result<Sync<F, Sha256, N>, Fault> {
     let limits = Limits {
-        max_ops,
+        max_ops: pages.max_ops,
         max_operation_len: 8,
         max_digests: 192,
     };
-    Sync::new(alloc, root, limits).ok_or(Fault::Malformed)
+    let root = server.snapshot.root();
+    if pages.begin == 0 {
+        return Sync::new(alloc, root, limits).ok_or(Fault::Malformed);
+    }
+    let opening = opening(alloc, server, pages.begin)?;
+    begin_at(alloc, root, limits, &opening)
 }
 
 /// Returns what `sync` wants next; nothing if it has all.
@@ -195,16 +247,15 @@ fn finish<F: Graftable>(sync: Sync<F, Sha256, N>) -> Result<u64, Fault> {
     }
 }
 
-/// Copies the snapshot of `server`, which has `count` operations, by pages of at most `max_ops`. Returns how many operations the copy has.
+/// Copies the snapshot of `server` by `pages`. Returns how many operations the copy has.
 fn copied<F: Graftable>(
     alloc: Global,
     server: &Server<F, Sha256, N>,
-    count: u64,
-    max_ops: u64,
+    pages: Pages,
 ) -> Result<u64, Fault> {
-    let mut sync = begin::<F>(alloc, server.snapshot.root(), max_ops)?;
+    let mut sync = begin(alloc, server, pages)?;
     // a page has an operation or more
-    for _ in 0..count {
+    for _ in pages.begin..pages.past {
         let Some(request) = next(&sync) else {
             break;
         };
@@ -214,45 +265,43 @@ fn copied<F: Graftable>(
     finish(sync)
 }
 
-/// Returns how many operations come from `server`, which has `count`, by pages of at most `max_ops`.
+/// Returns how many operations come from `server` by `pages`.
 fn came<F: Graftable>(
     alloc: Global,
     server: &Server<F, Sha256, N>,
     work: &str,
-    count: u64,
-    max_ops: u64,
+    pages: Pages,
 ) -> Result<u64, Fault> {
     match work {
-        "served" => served(alloc, server, count, max_ops, false),
-        "kept" => served(alloc, server, count, max_ops, true),
-        "copied" => copied(alloc, server, count, max_ops),
+        "served" => served(alloc, server, pages, false),
+        "kept" => served(alloc, server, pages, true),
+        "copied" => copied(alloc, server, pages),
         _ => Err(Fault::Malformed),
     }
 }
 
-/// Returns the line to print for `count` operations of the family `F`.
-fn report<F: Graftable>(
-    alloc: Global,
-    work: &str,
-    count: u64,
-    max_ops: u64,
-) -> Result<String, Fault> {
-    let server = server::<F>(alloc, count)?;
+/// Returns the line to print for `pages` of a snapshot of the family `F`.
+fn report<F: Graftable>(alloc: Global, work: &str, pages: Pages) -> Result<String, Fault> {
+    let server = server::<F>(alloc, pages.past)?;
     let root = hex::encode(alloc, server.snapshot.root().bytes)?;
-    let came = came(alloc, &server, work, count, max_ops)?;
+    let came = came(alloc, &server, work, pages)?;
     drop(server);
     Ok(format!(in alloc; "{root} {came}")?)
 }
 
-/// Returns the line to print for `words`: the family, how many operations there are, and how many a page has at most.
+/// Returns the line to print for `words`: the family, how many operations there are, how many a page has at most, and where they begin.
 pub fn reply(alloc: Global, work: &str, words: &[&str]) -> Result<String, Fault> {
-    let [family, count, max_ops] = words else {
+    let [family, past, max_ops, begin] = words else {
         return Err(Fault::Malformed);
     };
-    let (count, max_ops) = (number(*count)?, number(*max_ops)?);
+    let pages = Pages {
+        begin: number(*begin)?,
+        past: number(*past)?,
+        max_ops: number(*max_ops)?,
+    };
     match *family {
-        "mmr" => report::<mmr::Family>(alloc, work, count, max_ops),
-        "mmb" => report::<mmb::Family>(alloc, work, count, max_ops),
+        "mmr" => report::<mmr::Family>(alloc, work, pages),
+        "mmb" => report::<mmb::Family>(alloc, work, pages),
         _ => Err(Fault::Malformed),
     }
 }
