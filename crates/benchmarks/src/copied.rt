@@ -15,8 +15,11 @@ use commonware_storage::bitmap::{Prunable, Readable};
 use commonware_storage::codec::Encode;
 use commonware_storage::digest::{DigestOf, Sha256};
 use commonware_storage::merkle::{Graftable, Location, MAX_LEAVES, mmb, mmr};
+use commonware_storage::qmdb::Error;
 use commonware_storage::qmdb::current::{Contiguous, LogError, OperationTree, Snapshot};
-use commonware_storage::qmdb::sync::{Limits, Opening, Page, Refusal, Request, Server, Sync};
+use commonware_storage::qmdb::sync::{
+    Limits, Opening, Page, Refusal, Request, Server, Sync, Unanswered,
+};
 use std::alloc::{AllocError, Global};
 use std::ops::Range;
 
@@ -96,6 +99,7 @@ fn server<F: Graftable>(alloc: Global, count: u64) -> Result<Server<F, Sha256, N
     let (tree, bits) = (tree(alloc, count)?, bits(alloc, count)?);
     match Snapshot::of_tree(alloc, tree, bits, floor) {
         Ok(snapshot) => Ok(Server { snapshot, floor }),
+        Err(Error::Memory) => Err(Fault::Memory),
         Err(_) => Err(Fault::Malformed),
     }
 }
@@ -104,6 +108,14 @@ fn server<F: Graftable>(alloc: Global, count: u64) -> Result<Server<F, Sha256, N
 fn log<F: Graftable>(server: &Server<F, Sha256, N>) -> Log {
     Log {
         past: server.snapshot.status().len(),
+    }
+}
+
+/// Returns the fault of a request that is not answered.
+fn unanswered(why: Unanswered) -> Fault {
+    match why {
+        Unanswered::Memory => Fault::Memory,
+        _ => Fault::Malformed,
     }
 }
 
@@ -116,7 +128,7 @@ fn page<F: Graftable>(
     let mut log = log(server);
     match server.answer(alloc, &mut log, request) {
         Ok(page) => Ok(page),
-        Err(_) => Err(Fault::Malformed),
+        Err(why) => Err(unanswered(why)),
     }
 }
 
@@ -129,7 +141,7 @@ fn opening<F: Graftable>(
     let mut log = log(server);
     match server.opening(alloc, &mut log, Location::new(begin)) {
         Ok(opening) => Ok(opening),
-        Err(_) => Err(Fault::Malformed),
+        Err(why) => Err(unanswered(why)),
     }
 }
 
