@@ -105,7 +105,7 @@ fn server<F: Graftable>(alloc: Global, count: u64) -> Result<Server<F, Sha256, N
 }
 
 /// Returns the log of all operations of `server`.
-fn log<F: Graftable>(server: &Server<F, Sha256, N>) -> Log {
+fn log_of<F: Graftable>(server: &Server<F, Sha256, N>) -> Log {
     Log {
         past: server.snapshot.status().len(),
     }
@@ -125,7 +125,7 @@ fn page<F: Graftable>(
     server: &Server<F, Sha256, N>,
     request: Request<F>,
 ) -> Result<Page<F, DigestOf<Sha256>>, Fault> {
-    let mut log = log(server);
+    let mut log = log_of(server);
     match server.answer(alloc, &mut log, request) {
         Ok(page) => Ok(page),
         Err(why) => Err(unanswered(why)),
@@ -138,7 +138,7 @@ fn opening<F: Graftable>(
     server: &Server<F, Sha256, N>,
     begin: u64,
 ) -> Result<Opening<F, DigestOf<Sha256>>, Fault> {
-    let mut log = log(server);
+    let mut log = log_of(server);
     match server.opening(alloc, &mut log, Location::new(begin)) {
         Ok(opening) => Ok(opening),
         Err(why) => Err(unanswered(why)),
