@@ -24,7 +24,7 @@ use storage_merkle::merkle::{Graftable, Location};
 impl<D: Digest, const N: usize> Replica<D, N> {
     /// Returns the snapshot of the copy behind the pins of `opening`, with which it began, with the inactivity floor
     /// `floor`, if its trees are found by [`to_tail`](Self::to_tail) and it has the canonical root `root`. The copy goes
-    /// on as that: it is extended, pruned and served from.
+    /// on as that: it is pruned and served from.
     ///
     /// # Errors
     ///
